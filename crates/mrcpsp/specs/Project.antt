@@ -1,0 +1,62 @@
+-- A project of activities with several modes, as numbers, lists and records of these, and which of them are projects
+-- (Sprecher and Drexl 1998; the limits are this project's own). Activities are numbered from 1 in a list of successors.
+use Rattle.std.specs.Prelude.{ℕ, ◌+◌, Bool, true, not, ◌&&◌, List, [], ◌∷◌, ◌++◌, length, max, nat_le, nat_lt, ◌==◌}
+use Rattle.std.specs.List.{list_all, list_any}
+
+-- its duration in periods, its request of each renewable resource per period, its consumption of each nonrenewable one
+pub record ModeData : Type 0 where
+  pub duration : ℕ
+  pub renewable : List ℕ
+  pub nonrenewable : List ℕ
+
+pub record ActivityData : Type 0 where
+  pub modes : List ModeData
+  pub successors : List ℕ
+
+-- its activities, and the capacities of its resources
+pub record ProjectData : Type 0 where
+  pub activities : List ActivityData
+  pub renewable : List ℕ
+  pub nonrenewable : List ℕ
+
+abbrev pub is_between : ℕ → ℕ → ℕ → Bool
+is_between low high n = nat_le low n && nat_le n high
+
+-- the longest duration of an activity's modes
+abbrev pub longest : List ModeData → ℕ
+longest [] = 0
+longest (m ∷ ms) = max m.duration (longest ms)
+
+-- the horizon: the sum of the longest durations
+abbrev pub horizon : List ActivityData → ℕ
+horizon [] = 0
+horizon (a ∷ more) = longest a.modes + horizon more
+
+-- so many numbers, each at most 1,000,000
+abbrev pub are_amounts : ℕ → List ℕ → Bool
+are_amounts count amounts = (length amounts == count) && list_all (λ a. nat_le a 1000000) amounts
+
+-- a mode for r renewable and v nonrenewable resources
+abbrev pub is_mode : ℕ → ℕ → ModeData → Bool
+is_mode r v m = nat_le m.duration 1000 && are_amounts r m.renewable && are_amounts v m.nonrenewable
+
+-- successors of activity j of n, after those that were named before: each above j, at most n, and not named before
+abbrev pub are_successors : ℕ → ℕ → List ℕ → List ℕ → Bool
+are_successors n j before [] = true
+are_successors n j before (s ∷ more) =
+    nat_lt j s && nat_le s n && not (list_any (λ t. t == s) before) && are_successors n j (before ++ s ∷ []) more
+
+-- the activities from number j on, of n in all
+abbrev pub are_activities : ℕ → ℕ → ℕ → ℕ → List ActivityData → Bool
+are_activities r v n j [] = true
+are_activities r v n j (a ∷ more) =
+    is_between 1 10 (length a.modes) && list_all (is_mode r v) a.modes && are_successors n j [] a.successors
+    && are_activities r v n (j + 1) more
+
+-- 1 to 202 activities, at most 8 resources of either kind, and a horizon of at most 20,000
+abbrev pub is_project : ProjectData → Bool
+is_project p = is_between 1 202 (length p.activities)
+    && nat_le (length p.renewable) 8 && nat_le (length p.nonrenewable) 8
+    && list_all (λ a. nat_le a 1000000) p.renewable && list_all (λ a. nat_le a 1000000) p.nonrenewable
+    && are_activities (length p.renewable) (length p.nonrenewable) (length p.activities) 1 p.activities
+    && nat_le (horizon p.activities) 20000

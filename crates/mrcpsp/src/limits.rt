@@ -1,0 +1,89 @@
+//! The limits of a project, and the rule on successors.
+ghost use Rattle.std.specs.Prelude.{◌≡◌, ◌≤◌, [], length, nat_le};
+ghost use Rattle.std.specs.List.{list_all};
+ghost use Rattle.mrcpsp.specs.Project.{is_mode, are_amounts, are_successors, are_activities, horizon, longest};
+
+use crate::{Activity, Mode};
+
+/// The most that a request, a consumption or a capacity may be.
+const MOST_AMOUNT: u32 = 1_000_000;
+
+/// The longest duration of a mode, in periods.
+const MOST_DURATION: u32 = 1_000;
+
+pub(crate) fn are_small(amounts: &[u32]) -> bool
+    ensures { result ≡ list_all (λ a. nat_le a 1000000) amounts.now }
+{
+    amounts.iter().all(|amount| *amount <= MOST_AMOUNT)
+}
+
+fn are_limited(amounts: &[u32], count: usize) -> bool
+    ensures { result ≡ are_amounts count amounts.now }
+{
+    amounts.len() == count && are_small(amounts)
+}
+
+fn fits(mode: &Mode, renewable: usize, nonrenewable: usize) -> bool
+    ensures { result ≡ is_mode renewable nonrenewable mode.now }
+{
+    mode.duration <= MOST_DURATION
+        && are_limited(mode.renewable.as_slice(), renewable)
+        && are_limited(mode.nonrenewable.as_slice(), nonrenewable)
+}
+
+fn all_fit(modes: &[Mode], renewable: usize, nonrenewable: usize) -> bool
+    ensures { result ≡ list_all (is_mode renewable nonrenewable) modes.now }
+{
+    modes.iter().all(|mode| fits(mode, renewable, nonrenewable))
+}
+
+/// Whether these may be the successors of the activity with this number, of so many.
+fn may_follow(successors: &[u32], number: usize, activities: usize) -> bool
+    ensures { result ≡ are_successors activities number [] successors.now }
+{
+    for (i, &successor) in successors.iter().enumerate() {
+        let after = successor as usize;
+        if after <= number || activities < after || successors[..i].contains(&successor) {
+            return false;
+        }
+    }
+    true
+}
+
+/// Whether the activities' modes and successors keep the limits, at so many resources of either kind.
+pub(crate) fn all_keep(activities: &[Activity], renewable: usize, nonrenewable: usize) -> bool
+    ensures { result ≡ are_activities renewable nonrenewable (length activities.now) 1 activities.now }
+{
+    for (i, activity) in activities.iter().enumerate() {
+        let modes = activity.modes.as_slice();
+        if !(1..=10).contains(&modes.len())
+            || !all_fit(modes, renewable, nonrenewable)
+            || !may_follow(activity.successors.as_slice(), i + 1, activities.len())
+        {
+            return false;
+        }
+    }
+    true
+}
+
+fn longest_of(modes: &[Mode]) -> u32
+    ensures { result ≡ longest modes.now }
+{
+    let mut most = 0;
+    for mode in modes {
+        most = most.max(mode.duration);
+    }
+    most
+}
+
+/// The sum of the longest durations, in periods.
+pub(crate) fn horizon_of(activities: &[Activity]) -> u64
+    requires { length activities.now ≤ 202 }
+    ensures { result ≡ horizon activities.now }
+{
+    let mut sum = 0;
+    for activity in activities {
+        sum += u64::from(longest_of(activity.modes.as_slice()));
+    }
+    sum
+}

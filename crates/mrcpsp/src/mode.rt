@@ -1,0 +1,74 @@
+//! Modes: the ways to run an activity.
+ghost use Rattle.std.specs.Prelude.{◌≡◌, ◌↔◌, IsTrue, IfOk};
+
+use crate::Sequence;
+use crate::sequence::same_numbers;
+use std::alloc::{AllocError, Global};
+use std::marker::Model;
+
+/// One way to run an activity.
+#[derive(Debug, Drop)]
+pub struct Mode {
+    /// How many periods it takes.
+    pub duration: u32,
+    /// What it uses of each renewable resource in each of its periods.
+    pub renewable: Sequence<u32>,
+    /// What it consumes of each nonrenewable resource in all.
+    pub nonrenewable: Sequence<u32>,
+}
+
+impl Model for Mode {
+    ghost use Rattle.mrcpsp.specs.Project.{ModeData};
+
+    ghost Value = { ModeData };
+
+    ghost view = { λ m. record { duration = m.duration; renewable = m.renewable; nonrenewable = m.nonrenewable } };
+}
+
+impl Mode {
+    /// An equal mode, or an error where there is no memory for it.
+    pub(crate) fn clone_in(&self, alloc: Global) -> Result<Mode, AllocError>
+        ensures { IfOk result (λ copy. copy ≡ self.now) }
+    {
+        Ok(Mode {
+            duration: self.duration,
+            renewable: self.renewable.clone_in(alloc)?,
+            nonrenewable: self.nonrenewable.clone_in(alloc)?,
+        })
+    }
+}
+
+/// Whether two modes are equal.
+pub(crate) fn same_mode(one: &Mode, other: &Mode) -> bool
+    ensures { IsTrue result ↔ (one.now ≡ other.now) }
+{
+    one.duration == other.duration
+        && same_numbers(&one.renewable, &other.renewable)
+        && same_numbers(&one.nonrenewable, &other.nonrenewable)
+}
+
+/// Equal modes in the same order.
+pub(crate) fn clone_modes(alloc: Global, modes: &[Mode]) -> Result<Vec<Mode>, AllocError>
+    ensures { IfOk result (λ copy. copy.items ≡ modes.now) }
+{
+    let mut copy = Vec::with_capacity(alloc, modes.len())?;
+    for mode in modes {
+        copy.push(mode.clone_in(alloc)?)?;
+    }
+    Ok(copy)
+}
+
+/// Whether two lists have equal modes in the same order.
+pub(crate) fn same_modes(one: &[Mode], other: &[Mode]) -> bool
+    ensures { IsTrue result ↔ (one.now ≡ other.now) }
+{
+    if one.len() != other.len() {
+        return false;
+    }
+    for (i, mode) in one.iter().enumerate() {
+        if !same_mode(mode, &other[i]) {
+            return false;
+        }
+    }
+    true
+}
