@@ -1,6 +1,6 @@
 -- A project of activities with several modes, as numbers, lists and records of these, and which of them are projects
 -- (Sprecher and Drexl 1998; the limits are this project's own). Activities are numbered from 1 in a list of successors.
-use Rattle.std.specs.Prelude.{ℕ, ◌+◌, Bool, true, not, ◌&&◌, List, [], ◌∷◌, ◌++◌, length, max, nat_le, nat_lt, ◌==◌}
+use Rattle.std.specs.Prelude.{ℕ, ◌+◌, Bool, true, not, ◌&&◌, List, [], ◌∷◌, ◌++◌, length, get_or, max, nat_le, nat_lt, ◌==◌}
 use Rattle.std.specs.List.{list_all, list_any}
 
 -- its duration in periods, its request of each renewable resource per period, its consumption of each nonrenewable one
@@ -60,3 +60,52 @@ is_project p = is_between 1 202 (length p.activities)
     && list_all (λ a. nat_le a 1000000) p.renewable && list_all (λ a. nat_le a 1000000) p.nonrenewable
     && are_activities (length p.renewable) (length p.nonrenewable) (length p.activities) 1 p.activities
     && nat_le (horizon p.activities) 20000
+
+-- What follows names activities, modes and resources by their places in the lists, from 0.
+
+abbrev pub no_mode : ModeData
+no_mode = record { duration = 0; renewable = []; nonrenewable = [] }
+
+abbrev pub no_activity : ActivityData
+no_activity = record { modes = []; successors = [] }
+
+-- how many activities, renewable and nonrenewable resources there are
+unfoldable pub size : ProjectData → ℕ
+size p = length p.activities
+
+unfoldable pub renewables : ProjectData → ℕ
+renewables p = length p.renewable
+
+unfoldable pub nonrenewables : ProjectData → ℕ
+nonrenewables p = length p.nonrenewable
+
+-- the modes of activity j, and its successors, which are numbers from 1
+unfoldable pub modes : ProjectData → ℕ → List ModeData
+modes p j = (get_or p.activities j no_activity).modes
+
+unfoldable pub mode_count : ProjectData → ℕ → ℕ
+mode_count p j = length (modes p j)
+
+unfoldable pub successors : ProjectData → ℕ → List ℕ
+successors p j = (get_or p.activities j no_activity).successors
+
+-- the duration of activity j in mode m, its request of renewable resource r and its consumption of nonrenewable r
+unfoldable pub duration : ProjectData → ℕ → ℕ → ℕ
+duration p j m = (get_or (modes p j) m no_mode).duration
+
+unfoldable pub request : ProjectData → ℕ → ℕ → ℕ → ℕ
+request p j m r = get_or (get_or (modes p j) m no_mode).renewable r 0
+
+unfoldable pub consumption : ProjectData → ℕ → ℕ → ℕ → ℕ
+consumption p j m r = get_or (get_or (modes p j) m no_mode).nonrenewable r 0
+
+-- the capacity of a renewable resource in each period, and of a nonrenewable one in all
+unfoldable pub capacity : ProjectData → ℕ → ℕ
+capacity p r = get_or p.renewable r 0
+
+unfoldable pub stock : ProjectData → ℕ → ℕ
+stock p r = get_or p.nonrenewable r 0
+
+-- activity j is a direct successor of activity i
+unfoldable pub precedes : ProjectData → ℕ → ℕ → Bool
+precedes p i j = list_any (λ s. s == j + 1) (successors p i)

@@ -1,11 +1,12 @@
 //! Projects within the limits.
-ghost use Rattle.std.specs.Prelude.{◌≡◌, ◌↔◌, Some, None, IsTrue, IfOk, if◌then◌else◌};
-ghost use Rattle.mrcpsp.specs.Project.{ProjectData, is_project, horizon};
+ghost use Rattle.std.specs.Prelude.{◌≡◌, ◌↔◌, ◌<◌, ◌≤◌, ◌+◌, Some, None, IsTrue, IfOk, All, get_or, if◌then◌else◌};
+ghost use Rattle.mrcpsp.specs.Limits.{IsLimited, IsProject};
+ghost use Rattle.mrcpsp.specs.Project.{ProjectData, is_project, horizon, no_activity, no_mode, modes, size, renewables, nonrenewables, mode_count, successors, duration, request, consumption, capacity, stock};
 
 use crate::activity::{clone_activities, same_activities};
 use crate::limits::{all_keep, are_small, horizon_of};
 use crate::sequence::same_numbers;
-use crate::{Activity, Sequence};
+use crate::{Activity, Mode, Sequence};
 use std::alloc::{AllocError, Global};
 use std::marker::Model;
 
@@ -103,6 +104,130 @@ impl Project {
         ensures project { IsTrue (is_project self.now) }
     {
         horizon_of(self.activities.as_slice()) as u32
+    }
+
+    #[tactic(auto, unfolding(crate::specs::Project::size))]
+    fn activity(&self, activity: usize) -> &Activity
+        requires { activity < size self.now }
+        ensures exact { result.now ≡ get_or self.now.activities activity no_activity }
+        ensures kept { IsProject self.now }
+    {
+        &self.activities.as_slice()[activity]
+    }
+
+    #[tactic(auto, unfolding(crate::specs::Project::modes, crate::specs::Project::mode_count))]
+    fn mode(&self, activity: usize, mode: usize) -> &Mode
+        requires activity { activity < size self.now }
+        requires mode { mode < mode_count self.now activity }
+        ensures exact { result.now ≡ get_or (modes self.now activity) mode no_mode }
+        ensures limited { IsLimited self.now activity mode }
+    {
+        let activity = self.activity(activity);
+        &activity.modes.as_slice()[mode]
+    }
+
+    /// How many activities there are: 1 to 202.
+    #[tactic(auto, unfolding(crate::specs::Project::size))]
+    pub fn size(&self) -> usize
+        ensures exact { result ≡ size self.now }
+        ensures some { 0 < result }
+        ensures few { result ≤ 202 }
+    {
+        self.activities.as_slice().len()
+    }
+
+    /// How many renewable resources there are: 0 to 8.
+    #[tactic(auto, unfolding(crate::specs::Project::renewables))]
+    pub fn renewables(&self) -> usize
+        ensures exact { result ≡ renewables self.now }
+        ensures few { result ≤ 8 }
+    {
+        self.renewable.as_slice().len()
+    }
+
+    /// How many nonrenewable resources there are: 0 to 8.
+    #[tactic(auto, unfolding(crate::specs::Project::nonrenewables))]
+    pub fn nonrenewables(&self) -> usize
+        ensures exact { result ≡ nonrenewables self.now }
+        ensures few { result ≤ 8 }
+    {
+        self.nonrenewable.as_slice().len()
+    }
+
+    /// The capacity of a renewable resource in each period. Resources are named by their places, from 0.
+    #[tactic(auto, unfolding(crate::specs::Project::capacity, crate::specs::Project::renewables))]
+    pub fn capacity(&self, resource: usize) -> u32
+        requires { resource < renewables self.now }
+        ensures exact { result ≡ capacity self.now resource }
+        ensures most { result ≤ 1000000 }
+    {
+        self.renewable.as_slice()[resource]
+    }
+
+    /// The capacity of a nonrenewable resource in all.
+    #[tactic(auto, unfolding(crate::specs::Project::stock, crate::specs::Project::nonrenewables))]
+    pub fn stock(&self, resource: usize) -> u32
+        requires { resource < nonrenewables self.now }
+        ensures exact { result ≡ stock self.now resource }
+        ensures most { result ≤ 1000000 }
+    {
+        self.nonrenewable.as_slice()[resource]
+    }
+
+    /// How many modes an activity has: 1 to 10. Activities are named by their places, from 0.
+    #[tactic(auto, unfolding(crate::specs::Project::mode_count, crate::specs::Project::modes))]
+    pub fn mode_count(&self, activity: usize) -> usize
+        requires { activity < size self.now }
+        ensures exact { result ≡ mode_count self.now activity }
+        ensures some { 0 < result }
+        ensures few { result ≤ 10 }
+    {
+        self.activity(activity).modes.as_slice().len()
+    }
+
+    /// The numbers of an activity's direct successors, counted from 1, in the order in which they were given.
+    #[tactic(auto, unfolding(crate::specs::Project::successors))]
+    pub fn successors(&self, activity: usize) -> &[u32]
+        requires { activity < size self.now }
+        ensures exact { result.now ≡ successors self.now activity }
+        ensures later { All (λ s. (activity + 1 < s) × (s ≤ size self.now)) result.now }
+    {
+        self.activity(activity).successors.as_slice()
+    }
+
+    /// How many periods an activity takes in a mode. Modes are named by their places, from 0.
+    #[tactic(auto, unfolding(crate::specs::Project::duration))]
+    pub fn duration(&self, activity: usize, mode: usize) -> u32
+        requires activity { activity < size self.now }
+        requires mode { mode < mode_count self.now activity }
+        ensures exact { result ≡ duration self.now activity mode }
+        ensures most { result ≤ 1000 }
+    {
+        self.mode(activity, mode).duration
+    }
+
+    /// What an activity in a mode uses of a renewable resource in each of its periods.
+    #[tactic(auto, unfolding(crate::specs::Project::request))]
+    pub fn request(&self, activity: usize, mode: usize, resource: usize) -> u32
+        requires activity { activity < size self.now }
+        requires mode { mode < mode_count self.now activity }
+        requires resource { resource < renewables self.now }
+        ensures exact { result ≡ request self.now activity mode resource }
+        ensures most { result ≤ 1000000 }
+    {
+        self.mode(activity, mode).renewable.as_slice()[resource]
+    }
+
+    /// What an activity in a mode consumes of a nonrenewable resource in all.
+    #[tactic(auto, unfolding(crate::specs::Project::consumption))]
+    pub fn consumption(&self, activity: usize, mode: usize, resource: usize) -> u32
+        requires activity { activity < size self.now }
+        requires mode { mode < mode_count self.now activity }
+        requires resource { resource < nonrenewables self.now }
+        ensures exact { result ≡ consumption self.now activity mode resource }
+        ensures most { result ≤ 1000000 }
+    {
+        self.mode(activity, mode).nonrenewable.as_slice()[resource]
     }
 }
 

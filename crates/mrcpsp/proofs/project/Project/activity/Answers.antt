@@ -1,0 +1,5 @@
+use Rattle.mrcpsp.proofs.LimitLemmas.{kept}
+use Rattle.mrcpsp.proofs.project.Project.activity.Goals as goal
+
+pub returns-clause-kept : goal.returns-clause-kept
+returns-clause-kept c = rw (← c.self.view_is) (kept _ c.self.invariant)
