@@ -1,0 +1,179 @@
+-- The numbers of the three sections of a multi-mode file as records (ProGen's layout, Kolisch and Sprecher 1997),
+-- and the faults in them.
+use Rattle.std.specs.Prelude.{ℕ, zero, suc, ◌+◌, Bool, true, false, not, ◌||◌, ◌&&◌, List, [], ◌∷◌, ◌++◌, length, map, take, drop, Option, Some, None, Result, Ok, Err, nat_lt, nat_le, ◌==◌, if◌then◌else◌}
+use Rattle.std.specs.List.{find, list_any}
+use Rattle.mrcpsp.specs.Project.{ModeData, ActivityData, ProjectData, is_between, horizon}
+use Rattle.psplib_mm.specs.declared.cell.Cell.{Cell}
+use Rattle.psplib_mm.specs.declared.fault.MmFault.{MmFault}
+use Rattle.psplib_mm.specs.declared.fault.MmFault.TheVariants as fault
+use Rattle.psplib_mm.specs.declared.fault.SectionName.{SectionName}
+use Rattle.psplib_mm.specs.declared.fault.SectionName.TheVariants.{PrecedenceRelations, RequestsDurations, ResourceAvailabilities}
+use Rattle.psplib_mm.specs.declared.fault.LimitName.{LimitName}
+use Rattle.psplib_mm.specs.declared.fault.LimitName.TheVariants as limit
+
+infixl 10 ◌>>=◌
+abbrev pub ◌>>=◌ : {A B : Type 0} → Result A MmFault → (A → Result B MmFault) → Result B MmFault
+(Ok x) >>= f = f x
+(Err e) >>= f = Err e
+
+-- ---- the records of the sections
+
+-- the section's words are not as many as its contents need
+abbrev pub uneven : {A : Type 0} → SectionName → Result A MmFault
+uneven name = Err (fault.Count name)
+
+-- Reads n times, one after the other: what was read, and the cells after it.
+abbrev pub times : {X : Type 0} → (List Cell → Result (X × List Cell) MmFault) → ℕ → List Cell → Result (List X × List Cell) MmFault
+times read zero cells = Ok ([], cells)
+times read (suc n) cells = do
+  first ← read cells
+  more ← times read n first.1
+  Ok (first.0 ∷ more.0, more.1)
+
+-- and nothing more
+abbrev pub whole : {X : Type 0} → SectionName → Result (X × List Cell) MmFault → Result X MmFault
+whole name read = do
+  x ← read
+  if length x.1 == 0 then Ok x.0 else uneven name
+
+-- a job of the section on precedence
+pub record Job : Type 0 where
+  pub job : Cell
+  pub modes : Cell
+  pub successors : List Cell
+
+abbrev pub job_at : List Cell → Result (Job × List Cell) MmFault
+job_at [] = uneven PrecedenceRelations
+job_at (job ∷ []) = uneven PrecedenceRelations
+job_at (job ∷ modes ∷ []) = uneven PrecedenceRelations
+job_at (job ∷ modes ∷ count ∷ cells) = if nat_lt (length cells) count.number then uneven PrecedenceRelations else
+    Ok (record { job = job; modes = modes; successors = take count.number cells }, drop count.number cells)
+
+abbrev pub jobs_of : ℕ → List Cell → Result (List Job) MmFault
+jobs_of n cells = whole PrecedenceRelations (times job_at n cells)
+
+-- a mode, of r renewable and v nonrenewable resources
+pub record ModeLine : Type 0 where
+  pub mode : Cell
+  pub duration : Cell
+  pub renewable : List Cell
+  pub nonrenewable : List Cell
+
+abbrev pub mode_at : ℕ → ℕ → List Cell → Result (ModeLine × List Cell) MmFault
+mode_at r v [] = uneven RequestsDurations
+mode_at r v (mode ∷ []) = uneven RequestsDurations
+mode_at r v (mode ∷ duration ∷ cells) = if nat_lt (length cells) (r + v) then uneven RequestsDurations else
+    Ok (record { mode = mode; duration = duration; renewable = take r cells; nonrenewable = take v (drop r cells) }, drop v (drop r cells))
+
+-- a job of the section on requests, of so many modes
+pub record Group : Type 0 where
+  pub job : Cell
+  pub modes : List ModeLine
+
+abbrev pub group_at : ℕ → ℕ → ℕ → List Cell → Result (Group × List Cell) MmFault
+group_at r v n [] = uneven RequestsDurations
+group_at r v n (job ∷ cells) = do
+  modes ← times (mode_at r v) n cells
+  Ok (record { job = job; modes = modes.0 }, modes.1)
+
+-- a group for each job
+abbrev pub groups_at : ℕ → ℕ → List Job → List Cell → Result (List Group × List Cell) MmFault
+groups_at r v [] cells = Ok ([], cells)
+groups_at r v (j ∷ jobs) cells = do
+  first ← group_at r v j.modes.number cells
+  more ← groups_at r v jobs first.1
+  Ok (first.0 ∷ more.0, more.1)
+
+abbrev pub groups_of : ℕ → ℕ → List Job → List Cell → Result (List Group) MmFault
+groups_of r v jobs cells = whole RequestsDurations (groups_at r v jobs cells)
+
+-- ---- what is wrong in them, first in text order
+
+-- Checks each with its place, from i on.
+abbrev pub each : {X : Type 0} → (ℕ → X → Result (Unit {0}) MmFault) → ℕ → List X → Result (Unit {0}) MmFault
+each check i [] = Ok tt
+each check i (x ∷ xs) = do
+  _ ← check i x
+  each check (i + 1) xs
+
+-- the number is its place
+abbrev pub in_place : ℕ → Cell → Result (Unit {0}) MmFault
+in_place i c = if c.number == i then Ok tt else Err (fault.Numbering c.line)
+
+abbrev pub job_in_place : ℕ → Job → Result (Unit {0}) MmFault
+job_in_place i j = in_place i j.job
+
+abbrev pub mode_in_place : ℕ → ModeLine → Result (Unit {0}) MmFault
+mode_in_place k m = in_place k m.mode
+
+abbrev pub group_in_place : ℕ → Group → Result (Unit {0}) MmFault
+group_in_place i g = do
+  _ ← in_place i g.job
+  each mode_in_place 1 g.modes
+
+-- no successor of job i of n is at most i, above n, or was named before
+abbrev pub follow : ℕ → ℕ → List Cell → List Cell → Result (Unit {0}) MmFault
+follow n i before [] = Ok tt
+follow n i before (s ∷ cells) = if nat_le s.number i || nat_lt n s.number || list_any (λ t. t.number == s.number) before then Err (fault.Successor s.line) else
+    follow n i (before ++ s ∷ []) cells
+
+abbrev pub job_follows : ℕ → ℕ → Job → Result (Unit {0}) MmFault
+job_follows n i j = follow n i [] j.successors
+
+-- ---- the project, and the limits
+
+abbrev pub numbers_of : List Cell → List ℕ
+numbers_of cells = map (λ c. c.number) cells
+
+abbrev pub mode_of : ModeLine → ModeData
+mode_of m = record { duration = m.duration.number; renewable = numbers_of m.renewable; nonrenewable = numbers_of m.nonrenewable }
+
+abbrev pub activities_of : List Job → List Group → List ActivityData
+activities_of [] groups = []
+activities_of (j ∷ jobs) [] = []
+activities_of (j ∷ jobs) (g ∷ groups) = record { modes = map mode_of g.modes; successors = numbers_of j.successors } ∷ activities_of jobs groups
+
+abbrev pub any_mode : (ModeData → Bool) → ProjectData → Bool
+any_mode p project = list_any (λ a. list_any p a.modes) project.activities
+
+abbrev pub any_above : ℕ → List ℕ → Bool
+any_above most amounts = list_any (λ a. nat_lt most a) amounts
+
+-- the first of these that holds
+abbrev pub first_broken : List (Bool × LimitName) → Option LimitName
+first_broken [] = None
+first_broken (l ∷ limits) = if l.0 then Some l.1 else first_broken limits
+
+abbrev pub broken : ProjectData → Option LimitName
+broken p = first_broken (
+    (not (is_between 1 202 (length p.activities)), limit.Jobs)
+    ∷ (list_any (λ a. not (is_between 1 10 (length a.modes))) p.activities, limit.Modes)
+    ∷ (nat_lt 8 (length p.renewable), limit.Renewable)
+    ∷ (nat_lt 8 (length p.nonrenewable), limit.Nonrenewable)
+    ∷ (any_mode (λ m. nat_lt 1000 m.duration) p, limit.Duration)
+    ∷ (any_mode (λ m. any_above 1000000 m.renewable || any_above 1000000 m.nonrenewable) p, limit.Request)
+    ∷ (any_above 1000000 p.renewable || any_above 1000000 p.nonrenewable, limit.Capacity)
+    ∷ (nat_lt 20000 (horizon p.activities), limit.Horizon)
+    ∷ [])
+
+abbrev pub unless_broken : Option LimitName → ProjectData → Result ProjectData MmFault
+unless_broken None p = Ok p
+unless_broken (Some name) p = Err (fault.Limit name)
+
+abbrev pub limited : ProjectData → Result ProjectData MmFault
+limited p = unless_broken (broken p) p
+
+abbrev pub are_enough : ℕ → List Cell → Result (Unit {0}) MmFault
+are_enough count cells = if nat_lt (length cells) count then uneven ResourceAvailabilities else Ok tt
+
+-- ---- the numbers of the sections, for n jobs, r renewable and v nonrenewable resources
+
+abbrev pub contents : ℕ → ℕ → ℕ → List Cell → List Cell → List Cell → Result ProjectData MmFault
+contents n r v precedence requests availabilities = do
+  jobs ← jobs_of n precedence
+  groups ← groups_of r v jobs requests
+  _ ← are_enough (r + v) availabilities
+  _ ← each job_in_place 1 jobs
+  _ ← each group_in_place 1 groups
+  _ ← each (job_follows n) 1 jobs
+  limited (record { activities = activities_of jobs groups; renewable = numbers_of (take r availabilities); nonrenewable = numbers_of (take v (drop r availabilities)) })

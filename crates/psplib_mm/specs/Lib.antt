@@ -1,0 +1,5 @@
+pub mod Text
+pub mod Contents
+pub mod Reading
+pub mod Gives
+pub mod FaultText

@@ -1,0 +1,104 @@
+//! The limits of a project.
+
+ghost use Rattle.std.specs.Prelude.{◌≡◌, ◌≤◌, ℕ, length, not, nat_lt, ◌||◌};
+ghost use Rattle.std.specs.List.{list_any};
+ghost use Rattle.mrcpsp.specs.Project.{ProjectData, ActivityData, ModeData, is_between, longest, horizon};
+ghost use Rattle.psplib_mm.specs.Contents.{any_above, broken};
+
+use crate::fault::LimitName;
+use mrcpsp::{Activity, Mode};
+
+fn is_any_above(most: u32, amounts: &[u32]) -> bool
+    ensures { result ≡ any_above most amounts.now }
+{
+    amounts.iter().any(|amount| most < *amount)
+}
+
+fn is_any_long(modes: &[Mode]) -> bool
+    ensures { result ≡ list_any (λ m. nat_lt 1000 m.duration) modes.now }
+{
+    modes.iter().any(|mode| 1_000 < mode.duration)
+}
+
+fn is_any_large(modes: &[Mode]) -> bool
+    ensures { result ≡ list_any (λ m. any_above 1000000 m.renewable || any_above 1000000 m.nonrenewable) modes.now }
+{
+    modes.iter().any(|mode| {
+        is_any_above(1_000_000, mode.renewable.as_slice())
+            || is_any_above(1_000_000, mode.nonrenewable.as_slice())
+    })
+}
+
+fn are_modes_miscounted(activities: &[Activity]) -> bool
+    ensures { result ≡ list_any (λ a. not (is_between 1 10 (length a.modes))) activities.now }
+{
+    activities.iter().any(|activity| !(1..=10).contains(&activity.modes.as_slice().len()))
+}
+
+fn is_any_activity_long(activities: &[Activity]) -> bool
+    ensures { result ≡ list_any (λ a. list_any (λ m. nat_lt 1000 m.duration) a.modes) activities.now }
+{
+    activities
+        .iter()
+        .any(|activity| is_any_long(activity.modes.as_slice()))
+}
+
+fn is_any_activity_large(activities: &[Activity]) -> bool
+    ensures { result ≡ list_any (λ a. list_any (λ m. any_above 1000000 m.renewable || any_above 1000000 m.nonrenewable) a.modes) activities.now }
+{
+    activities
+        .iter()
+        .any(|activity| is_any_large(activity.modes.as_slice()))
+}
+
+fn longest_of(modes: &[Mode]) -> u32
+    ensures { result ≡ longest modes.now }
+{
+    let mut most = 0;
+    for mode in modes {
+        most = most.max(mode.duration);
+    }
+    most
+}
+
+/// The sum of the longest durations, in periods.
+fn horizon_of(activities: &[Activity]) -> u64
+    requires { length activities.now ≤ 202 }
+    ensures { result ≡ horizon activities.now }
+{
+    let mut sum = 0;
+    for activity in activities {
+        sum += u64::from(longest_of(activity.modes.as_slice()));
+    }
+    sum
+}
+
+/// The first limit that is broken.
+pub fn broken_limit(
+    activities: &[Activity],
+    renewable: &[u32],
+    nonrenewable: &[u32],
+) -> Option<LimitName>
+    ensures { let given : ProjectData = record { activities = activities.now; renewable = renewable.now; nonrenewable = nonrenewable.now } in
+        result ≡ broken given }
+{
+    if !(1..=202).contains(&activities.len()) {
+        Some(LimitName::Jobs)
+    } else if are_modes_miscounted(activities) {
+        Some(LimitName::Modes)
+    } else if renewable.len() > 8 {
+        Some(LimitName::Renewable)
+    } else if nonrenewable.len() > 8 {
+        Some(LimitName::Nonrenewable)
+    } else if is_any_activity_long(activities) {
+        Some(LimitName::Duration)
+    } else if is_any_activity_large(activities) {
+        Some(LimitName::Request)
+    } else if is_any_above(1_000_000, renewable) || is_any_above(1_000_000, nonrenewable) {
+        Some(LimitName::Capacity)
+    } else if horizon_of(activities) > 20_000 {
+        Some(LimitName::Horizon)
+    } else {
+        None
+    }
+}
