@@ -1,0 +1,36 @@
+-- What contracts see of a lease, by double entry (L. Pacioli, Summa de arithmetica, 1494): what it drew, used and handed back, and what is left of it, which is drawn - used - back.
+use Rattle.std.specs.Prelude.{◌≡◌, ℕ, ◌+◌, ◌-◌}
+use Rattle.atomic_table.specs.Seated.{TableId}
+use Rattle.quanta_till.specs.Till.{TillValue}
+
+-- the id is that of the till's table
+pub record LeaseValue : Type 0 where
+  pub id : TableId
+  pub tenant : ℕ
+  pub drawn : ℕ
+  pub used : ℕ
+  pub back : ℕ
+  pub left : ℕ
+
+-- nothing was drawn, used or handed back with it
+abbrev pub empty_lease : TillValue → LeaseValue
+empty_lease t = record { id = t.id; tenant = t.tenant; drawn = 0; used = 0; back = 0; left = 0 }
+
+abbrev pub after_draw : LeaseValue → ℕ → LeaseValue
+after_draw l n = record l { drawn = l.drawn + n; left = l.left + n }
+
+-- of a lease that has one left
+abbrev pub after_use : LeaseValue → LeaseValue
+after_use l = record l { used = l.used + 1; left = l.left - 1 }
+
+-- the rest is handed back
+abbrev pub after_settle : LeaseValue → LeaseValue
+after_settle l = record l { back = l.back + l.left; left = 0 }
+
+-- what a lease knows of itself but for its tenant
+pub record PurseValue : Type 0 where
+  pub id : TableId
+  pub drawn : ℕ
+  pub used : ℕ
+  pub back : ℕ
+  pub left : ℕ

@@ -1,0 +1,3 @@
+pub mod Till
+pub mod Desk
+pub mod Lease

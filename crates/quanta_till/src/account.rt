@@ -1,0 +1,13 @@
+//! What a till shares with its leases.
+ghost use Rattle.std.specs.Prelude.{◌≡◌};
+ghost use Rattle.quanta_till.specs.declared.rule.TheConstants.{WORDS};
+
+use crate::rule::Words;
+
+/// The words of a till, and whose they are.
+#[derive(Drop)]
+pub(crate) struct Account {
+    pub(crate) table: Words,
+    pub(crate) tenant: u32,
+    ghost has_words: { table.shared.table_id.words ≡ WORDS },
+}
