@@ -5,3 +5,4 @@ pub mod PlacedLemmas
 pub mod EarliestLemmas
 pub mod MeaningLemmas
 pub mod BoundLemmas
+pub mod BreachLemmas

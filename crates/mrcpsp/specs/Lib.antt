@@ -5,3 +5,5 @@ pub mod Schedule
 pub mod Values
 pub mod Placed
 pub mod Earliest
+pub mod Breach
+pub mod BreachText

@@ -1,7 +1,7 @@
 //! Projects within the limits.
 ghost use Rattle.std.specs.Prelude.{◌≡◌, ◌↔◌, ◌<◌, ◌≤◌, ◌+◌, Some, None, IsTrue, IfOk, All, get_or, if◌then◌else◌};
 ghost use Rattle.mrcpsp.specs.Limits.{IsLimited, IsProject};
-ghost use Rattle.mrcpsp.specs.Project.{ProjectData, is_project, horizon, no_activity, no_mode, modes, size, renewables, nonrenewables, mode_count, successors, duration, request, consumption, capacity, stock};
+ghost use Rattle.mrcpsp.specs.Project.{ProjectData, is_project, horizon, no_activity, no_mode, modes, size, renewables, nonrenewables, mode_count, successors, precedes, duration, request, consumption, capacity, stock};
 
 use crate::activity::{clone_activities, same_activities};
 use crate::limits::{all_keep, are_small, horizon_of};
@@ -193,6 +193,18 @@ impl Project {
         ensures later { All (λ s. (activity + 1 < s) × (s ≤ size self.now)) result.now }
     {
         self.activity(activity).successors.as_slice()
+    }
+
+    /// Whether an activity is a direct successor of another one.
+    #[tactic(auto, unfolding(crate::specs::Project::precedes))]
+    pub fn precedes(&self, before: usize, after: usize) -> bool
+        requires before { before < size self.now }
+        requires after { after < size self.now }
+        ensures { result ≡ precedes self.now before after }
+    {
+        let size = self.size();
+        prove!(after < size);
+        self.successors(before).contains(&(after as u32 + 1))
     }
 
     /// How many periods an activity takes in a mode. Modes are named by their places, from 0.

@@ -1,0 +1,86 @@
+-- What a schedule breaks, and what it breaks first. Activities and resources are numbered from 1 in a breach, periods
+-- from 0.
+use Rattle.std.specs.Prelude.{◌≡◌, ℕ, ◌-◌, ◌<◌, ◌≤◌, ◌⊎◌, true, List, [], ◌∷◌, length, All, Option, Some, None}
+use Rattle.mrcpsp.specs.Project.{ProjectData, size, renewables, nonrenewables, capacity, stock, precedes}
+use Rattle.mrcpsp.specs.Schedule.{ScheduleData, HasMode, start_of, finish, use_of, consumed}
+use Rattle.mrcpsp.specs.declared.breach.Breach.{Breach}
+use Rattle.mrcpsp.specs.declared.breach.Breach.TheVariants.{Shape, Mode, Precedence, Renewable, Nonrenewable}
+
+-- one mode and one start for each activity, and no start above 1,000,000,000
+pub record HasShape (p : ProjectData) (s : ScheduleData) : Type 0 where
+  pub modes : length s.modes ≡ size p
+  pub starts : length s.starts ≡ size p
+  pub early : All (λ t. t ≤ 1000000000) s.starts
+
+-- each activity has the mode that the schedule gives it
+abbrev pub HasModes : ProjectData → ScheduleData → Type 0
+HasModes p s = (j : ℕ) → j < size p → HasMode p s j
+
+abbrev pub IsNumber : ℕ → ℕ → Type 0
+IsNumber n i = (0 < i) × (i ≤ n)
+
+abbrev pub IsBroken : ProjectData → ScheduleData → Breach → Type 0
+IsBroken p s Shape = HasShape p s → ⊥
+IsBroken p s (Mode j) = IsNumber (size p) j × (HasMode p s (j - 1) → ⊥)
+IsBroken p s (Precedence i j) = IsNumber (size p) i × IsNumber (size p) j × (precedes p (i - 1) (j - 1) ≡ true) × (start_of s (j - 1) < finish p s (i - 1))
+IsBroken p s (Renewable r t) = IsNumber (renewables p) r × (capacity p (r - 1) < use_of p s (r - 1) t)
+IsBroken p s (Nonrenewable r) = IsNumber (nonrenewables p) r × (stock p (r - 1) < consumed p s (r - 1))
+
+-- the order in which breaches are told: by kind, then by the least arguments, the first one first
+abbrev pub kind_of : Breach → ℕ
+kind_of Shape = 1
+kind_of (Mode j) = 2
+kind_of (Precedence i j) = 3
+kind_of (Renewable r t) = 4
+kind_of (Nonrenewable r) = 5
+
+abbrev pub numbers_of : Breach → List ℕ
+numbers_of Shape = []
+numbers_of (Mode j) = j ∷ []
+numbers_of (Precedence i j) = i ∷ j ∷ []
+numbers_of (Renewable r t) = r ∷ t ∷ []
+numbers_of (Nonrenewable r) = r ∷ []
+
+abbrev pub IsBelow : List ℕ → List ℕ → Type 0
+IsBelow [] ys = ⊥
+IsBelow (x ∷ xs) [] = ⊥
+IsBelow (x ∷ xs) (y ∷ ys) = (x < y) ⊎ ((x ≡ y) × IsBelow xs ys)
+
+abbrev pub IsBefore : Breach → Breach → Type 0
+IsBefore b c = IsBelow (kind_of b ∷ numbers_of b) (kind_of c ∷ numbers_of c)
+
+-- the schedule breaks this, and nothing that is told before it
+pub record IsFirstBreach (p : ProjectData) (s : ScheduleData) (b : Breach) : Type 0 where
+  pub broken : IsBroken p s b
+  pub least : (c : Breach) → IsBroken p s c → IsBefore c b → ⊥
+
+-- a test of one kind tells the first breach of that kind, or none where there is none
+pub record IsFirstOf (k : ℕ) (p : ProjectData) (s : ScheduleData) (b : Breach) : Type 0 where
+  pub kind : kind_of b ≡ k
+  pub broken : IsBroken p s b
+  pub least : (c : Breach) → kind_of c ≡ k → IsBroken p s c → IsBelow (numbers_of c) (numbers_of b) → ⊥
+
+abbrev pub HasNone : ℕ → ProjectData → ScheduleData → Type 0
+HasNone k p s = (c : Breach) → kind_of c ≡ k → IsBroken p s c → ⊥
+
+abbrev pub TellsFirst : ℕ → ProjectData → ScheduleData → Option Breach → Type 0
+TellsFirst k p s None = HasNone k p s
+TellsFirst k p s (Some b) = IsFirstOf k p s b
+
+-- the first activity that is a successor of activity i and starts before it ends, by its place
+abbrev pub IsEarly : ProjectData → ScheduleData → ℕ → ℕ → Type 0
+IsEarly p s i j = (precedes p i j ≡ true) × (start_of s j < finish p s i)
+
+abbrev pub IsFirstEarly : ProjectData → ScheduleData → ℕ → Option ℕ → Type 0
+IsFirstEarly p s i None = (j : ℕ) → j < size p → IsEarly p s i j → ⊥
+IsFirstEarly p s i (Some j) = (j < size p) × IsEarly p s i j × ((k : ℕ) → k < j → IsEarly p s i k → ⊥)
+
+-- the first period in which a renewable resource is used above its capacity
+abbrev pub IsFirstOveruse : ProjectData → ScheduleData → ℕ → Option ℕ → Type 0
+IsFirstOveruse p s r None = (t : ℕ) → use_of p s r t ≤ capacity p r
+IsFirstOveruse p s r (Some t) = (capacity p r < use_of p s r t) × ((u : ℕ) → u < t → use_of p s r u ≤ capacity p r)
+
+-- the same, over the starts of the first n activities alone
+abbrev pub IsFirstStartOverused : ℕ → ProjectData → ScheduleData → ℕ → Option ℕ → Type 0
+IsFirstStartOverused n p s r None = (j : ℕ) → j < n → use_of p s r (start_of s j) ≤ capacity p r
+IsFirstStartOverused n p s r (Some t) = (capacity p r < use_of p s r t) × ((j : ℕ) → j < n → start_of s j < t → use_of p s r (start_of s j) ≤ capacity p r)
