@@ -1,8 +1,8 @@
 -- Each step of a till leaves it balanced.
-use Rattle.std.proofs.Common.{◌≡◌, ◌≢◌, ℕ, zero, suc, ◌+◌, ◌-◌, ◌%◌, ◌^◌, ◌<◌, ◌≤◌, List, [], ◌∷◌, ◌++◌, length, get_or, set, sum_by, sym, refl, ap, ◌∙◌, subst, ⊎_elim, arith, length-set, get_or-set_same, get_or-set_other}
+use Rattle.std.proofs.Common.{◌≡◌, ℕ, zero, suc, ◌+◌, ◌-◌, ◌%◌, ◌^◌, ◌<◌, ◌≤◌, List, [], ◌∷◌, ◌++◌, get_or, set, sum_by, sym, refl, ap, ◌∙◌, subst, ⊎_elim, arith, length-set, get_or-set_same, get_or-set_other}
 use Rattle.std.proofs.lemmas.List.{set-get_or}
 use Rattle.std.proofs.lemmas.List.Sums.{sum_by-cons, sum_by-append}
-use mathlib.Core.Option.{none, some, some-injective, some-ne-none}
+use mathlib.Core.Option.{some, some-injective, some-ne-none}
 use lib.ListN.{get_elem?}
 use Rattle.atomic_table.specs.Table.{State, Me, keeps, stepped, Allows, Splits}
 use Rattle.atomic_table.proofs.Lists.{at_set, at_snoc}
@@ -52,29 +52,55 @@ module _ (granted slots id : ℕ) (me : Me (Unit {0}) SeatView) where
   }
 
   pub draws : (n : ℕ) → n ≤ 2 ^ 64 → Allows Rule slots id me POOL (λ x. (x + (2 ^ 64 - n)) % 2 ^ 64) (λ _ m. m.0 ≡ after_draw me.0 n)
-  draws n small s k _ at _ = let y : ℕ = (get_or s.words POOL 0 + (2 ^ 64 - n)) % 2 ^ 64 in let w = after_draw me.0 n in
-      let h = k.covered id me.0 at in let p = k.pool in let q = k.spent in let wide = k.words in
-      let pool = get_or-set_same s.words POOL y 0 (omega arith) in let spent = get_or-set_other s.words POOL SPENT y 0 (omega arith) in let grant = get_or-set_other s.words POOL GRANTED y 0 (omega arith) in
+  draws n small s k _ at _ =
+      let y : ℕ = (get_or s.words POOL 0 + (2 ^ 64 - n)) % 2 ^ 64 in
+      let w = after_draw me.0 n in
+      let h = k.covered id me.0 at in
+      let p = k.pool in
+      let q = k.spent in
+      let wide = k.words in
+      let pool = get_or-set_same s.words POOL y 0 (omega arith) in
+      let spent = get_or-set_other s.words POOL SPENT y 0 (omega arith) in
+      let grant = get_or-set_other s.words POOL GRANTED y 0 (omega arith) in
       (w, keeps, tt, stays s k at POOL y w (λ t d b. omega arith) (λ t u. omega arith) (grant ∙ k.grant) (omega (arith, h.0), h.1), refl)
 
   pub hands_back : (n : ℕ) → (me.0.used + me.0.back) + n ≤ me.0.drawn → Allows Rule slots id me POOL (λ x. (x + n) % 2 ^ 64) (λ _ m. m.0 ≡ after_hand_back me.0 n)
-  hands_back n most s k _ at _ = let y : ℕ = (get_or s.words POOL 0 + n) % 2 ^ 64 in let w = after_hand_back me.0 n in
-      let h = k.covered id me.0 at in let p = k.pool in let q = k.spent in let wide = k.words in
-      let pool = get_or-set_same s.words POOL y 0 (omega arith) in let spent = get_or-set_other s.words POOL SPENT y 0 (omega arith) in let grant = get_or-set_other s.words POOL GRANTED y 0 (omega arith) in
+  hands_back n most s k _ at _ =
+      let y : ℕ = (get_or s.words POOL 0 + n) % 2 ^ 64 in
+      let w = after_hand_back me.0 n in
+      let h = k.covered id me.0 at in
+      let p = k.pool in
+      let q = k.spent in
+      let wide = k.words in
+      let pool = get_or-set_same s.words POOL y 0 (omega arith) in
+      let spent = get_or-set_other s.words POOL SPENT y 0 (omega arith) in
+      let grant = get_or-set_other s.words POOL GRANTED y 0 (omega arith) in
       (w, keeps, tt, stays s k at POOL y w (λ t d b. omega arith) (λ t u. omega arith) (grant ∙ k.grant) (omega (arith, most), h.1), refl)
 
   pub uses : me.0.used + me.0.back < me.0.drawn → Allows Rule slots id me SPENT (λ x. (x + 1) % 2 ^ 64) (λ _ m. m.0 ≡ after_use me.0)
-  uses most s k _ at _ = let y : ℕ = (get_or s.words SPENT 0 + 1) % 2 ^ 64 in let w = after_use me.0 in
-      let h = k.covered id me.0 at in let p = k.pool in let q = k.spent in let wide = k.words in
-      let pool = get_or-set_other s.words SPENT POOL y 0 (omega arith) in let spent = get_or-set_same s.words SPENT y 0 (omega arith) in let grant = get_or-set_other s.words SPENT GRANTED y 0 (omega arith) in
+  uses most s k _ at _ =
+      let y : ℕ = (get_or s.words SPENT 0 + 1) % 2 ^ 64 in
+      let w = after_use me.0 in
+      let h = k.covered id me.0 at in
+      let p = k.pool in
+      let q = k.spent in
+      let wide = k.words in
+      let pool = get_or-set_other s.words SPENT POOL y 0 (omega arith) in
+      let spent = get_or-set_same s.words SPENT y 0 (omega arith) in
+      let grant = get_or-set_other s.words SPENT GRANTED y 0 (omega arith) in
       (w, keeps, tt, stays s k at SPENT y w (λ t d b. omega arith) (λ t u. omega arith) (grant ∙ k.grant) (omega (arith, most), h.1), refl)
 
   -- a step that leaves the words as they are, and what was drawn, used and handed back with the seat
   looks : (s : State (Unit {0}) SeatView) → Rule s → get_elem? s.views id ≡ some me.0 → (i : ℕ) (w : SeatView) → w.drawn ≡ me.0.drawn → w.used ≡ me.0.used → w.back ≡ me.0.back → w.granted ≡ me.0.granted
       → Rule (stepped s i (get_or s.words i 0) id me.1 w keeps)
   looks s k at i w drawn used back grant =
-      let h = k.covered id me.0 at in let p = k.pool in let q = k.spent in let same = set-get_or s.words i 0 in
-      let pool = ap (λ ws. get_or ws POOL 0) same in let spent = ap (λ ws. get_or ws SPENT 0) same in let granted_word = ap (λ ws. get_or ws GRANTED 0) same in
+      let h = k.covered id me.0 at in
+      let p = k.pool in
+      let q = k.spent in
+      let same = set-get_or s.words i 0 in
+      let pool = ap (λ ws. get_or ws POOL 0) same in
+      let spent = ap (λ ws. get_or ws SPENT 0) same in
+      let granted_word = ap (λ ws. get_or ws GRANTED 0) same in
       stays s k at i (get_or s.words i 0) w (λ t d b. omega arith) (λ t u. omega arith) (granted_word ∙ k.grant) (omega (arith, h.0), grant ∙ h.1)
 
   pub loads_pool : Allows Rule slots id me POOL (λ x. x) (λ found m. m.0 ≡ after_pool_load me.0 found)
@@ -88,10 +114,19 @@ module _ (granted slots id : ℕ) (me : Me (Unit {0}) SeatView) where
 
 -- a seat that did nothing joins
 pub splits : (granted id : ℕ) (v : SeatView) → Splits (IsBalanced granted) id v (after_split v) (new_view v.granted)
-splits granted id v s k at = let a = after_split v in let w = new_view v.granted in let views = set s.views id a in
-    let h = k.covered id v at in let p = k.pool in let q = k.spent in
-    let d = sum_by-snoc (λ (u : SeatView). u.drawn) views w in let u = sum_by-snoc (λ (u : SeatView). u.used) views w in let b = sum_by-snoc (λ (u : SeatView). u.back) views w in
-    let d' = sum_by-set_at (λ (u : SeatView). u.drawn) s.views id v a at in let u' = sum_by-set_at (λ (u : SeatView). u.used) s.views id v a at in let b' = sum_by-set_at (λ (u : SeatView). u.back) s.views id v a at in
+splits granted id v s k at =
+    let a = after_split v in
+    let w = new_view v.granted in
+    let views = set s.views id a in
+    let h = k.covered id v at in
+    let p = k.pool in
+    let q = k.spent in
+    let d = sum_by-snoc (λ (u : SeatView). u.drawn) views w in
+    let u = sum_by-snoc (λ (u : SeatView). u.used) views w in
+    let b = sum_by-snoc (λ (u : SeatView). u.back) views w in
+    let d' = sum_by-set_at (λ (u : SeatView). u.drawn) s.views id v a at in
+    let u' = sum_by-set_at (λ (u : SeatView). u.used) s.views id v a at in
+    let b' = sum_by-set_at (λ (u : SeatView). u.back) s.views id v a at in
     record {
       words = k.words;
       pool = omega arith;

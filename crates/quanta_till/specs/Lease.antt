@@ -1,5 +1,5 @@
 -- What contracts see of a lease, by double entry (L. Pacioli, Summa de arithmetica, 1494): what it drew, used and handed back, and what is left of it, which is drawn - used - back.
-use Rattle.std.specs.Prelude.{◌≡◌, ℕ, ◌+◌, ◌-◌}
+use Rattle.std.specs.Prelude.{ℕ, ◌+◌, ◌-◌}
 use Rattle.atomic_table.specs.Seated.{TableId}
 use Rattle.quanta_till.specs.Till.{TillValue}
 

@@ -24,7 +24,14 @@ impl Model for Lease {
 
     ghost Value = { LeaseValue };
 
-    ghost view = { λ l. record { id = (arc_value l.account).table.shared.table_id; tenant = (arc_value l.account).tenant; drawn = l.purse.drawn; used = l.purse.used; back = l.purse.back; left = l.purse.left } };
+    ghost view = { λ l. record {
+      id = (arc_value l.account).table.shared.table_id;
+      tenant = (arc_value l.account).tenant;
+      drawn = l.purse.drawn;
+      used = l.purse.used;
+      back = l.purse.back;
+      left = l.purse.left;
+    } };
 
     // The purse is of the lease's own till.
     ghost invariant = { λ l. l.purse.id ≡ (arc_value l.account).table.shared.table_id };
@@ -33,7 +40,14 @@ impl Model for Lease {
 impl Lease {
     pub(crate) fn new(account: Arc<Account, Global>, purse: Purse) -> Lease
         requires { purse.id ≡ (arc_value account).table.shared.table_id }
-        ensures { result ≡ record { id = purse.id; tenant = (arc_value account).tenant; drawn = purse.drawn; used = purse.used; back = purse.back; left = purse.left } }
+        ensures { result ≡ record {
+          id = purse.id;
+          tenant = (arc_value account).tenant;
+          drawn = purse.drawn;
+          used = purse.used;
+          back = purse.back;
+          left = purse.left;
+        } }
     {
         Lease { account, purse }
     }

@@ -23,10 +23,19 @@ impl Model for Purse {
 
     ghost Value = { PurseValue };
 
-    ghost view = { λ p. record { id = p.seat.table_id; drawn = p.seat.me.0.drawn; used = p.seat.me.0.used; back = p.seat.me.0.back; left = p.left } };
+    ghost view = { λ p. record {
+      id = p.seat.table_id;
+      drawn = p.seat.me.0.drawn;
+      used = p.seat.me.0.used;
+      back = p.seat.me.0.back;
+      left = p.left;
+    } };
 
-    // No seat is made from that of a purse.
-    ghost invariant = { λ p. ((p.seat.me.0.used + p.seat.me.0.back) + p.left ≡ p.seat.me.0.drawn) × (p.left ≤ LEASE_LIMIT) × (p.seat.me.0.seats ≡ 0) };
+    // What was drawn was used, was handed back or is left. No seat is made from that of a purse.
+    ghost invariant = { λ p.
+        ((p.seat.me.0.used + p.seat.me.0.back) + p.left ≡ p.seat.me.0.drawn)
+        × (p.left ≤ LEASE_LIMIT)
+        × (p.seat.me.0.seats ≡ 0) };
 }
 
 impl Purse {
@@ -38,6 +47,7 @@ impl Purse {
         Purse { seat, left: 0 }
     }
 
+    /// How many quanta are left.
     pub(crate) fn left(&self) -> u64
         ensures left { result ≡ self.now.left }
         ensures counted { (self.now.used + self.now.back) + result ≡ self.now.drawn }
@@ -46,6 +56,7 @@ impl Purse {
         self.left
     }
 
+    /// Draws `n` quanta from POOL.
     pub(crate) fn draw(&mut self, words: &Words, n: u64)
         requires till { self.old.id ≡ words.now.shared.table_id }
         requires words { words.now.shared.table_id.words ≡ WORDS }
@@ -56,6 +67,7 @@ impl Purse {
         self.left += n;
     }
 
+    /// Uses one of those that are left: SPENT gains it.
     pub(crate) fn use_one(&mut self, words: &Words)
         requires till { self.old.id ≡ words.now.shared.table_id }
         requires words { words.now.shared.table_id.words ≡ WORDS }
@@ -66,6 +78,7 @@ impl Purse {
         self.left -= 1;
     }
 
+    /// Hands back to POOL what is left.
     pub(crate) fn settle(&mut self, words: &Words)
         requires till { self.old.id ≡ words.now.shared.table_id }
         requires words { words.now.shared.table_id.words ≡ WORDS }

@@ -15,17 +15,23 @@ pub(crate) const SPENT: usize = 8;
 /// The place of the word GRANTED: the quanta that the till was opened with.
 pub(crate) const GRANTED: usize = 9;
 
-/// What a seat knows: what was drawn, used and handed back with it, what the till was granted, how many seats were
-/// made from it, how many loads it made, and POOL and SPENT as it loaded them last. No value of it is made: its
-/// fields are numbers in clauses alone.
+/// What a seat knows. No value of it is made: its fields are numbers in clauses alone.
 pub struct SeatView {
+    /// Quanta that were drawn with it.
     pub drawn: u64,
+    /// Quanta that were used with it.
     pub used: u64,
+    /// Quanta that were handed back with it.
     pub back: u64,
+    /// What the till was opened with.
     pub granted: u64,
+    /// How many seats were made from it.
     pub seats: u64,
+    /// How many loads it made.
     pub loads: u64,
+    /// POOL, as it was loaded last.
     pub pool: u64,
+    /// SPENT, as it was loaded last.
     pub spent: u64,
 }
 

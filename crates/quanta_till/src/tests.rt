@@ -5,6 +5,7 @@ ghost use Rattle.quanta_till.specs.Desk.{DeskValue};
 
 use crate::{Desk, LEASE_LIMIT, Lease, Till, TillWords};
 use std::alloc::AllocError;
+use std::sync::{Mutex, Wait};
 use std::test::Fail;
 use std::thread;
 use std::thread::Threads;
@@ -173,6 +174,39 @@ fn leases_in_boxes_end_in_other_threads(rt: HostRuntime) -> Result<(), Fail> {
     assert!(rt; till.words(&mut desk) == words(997, 3, 1_000));
     end_elsewhere(&rt, second)?;
     assert!(rt; till.words(&mut desk) == words(995, 5, 1_000));
+    Ok(())
+}
+
+// Ten times: takes a box out of the lock, works with it outside, and puts it back.
+fn take_turns<R: Wait>(rt: &R, waiting: &Mutex<Vec<Box<dyn Work>>>) {
+    for _ in 0..10 {
+        let taken = waiting.lock(rt).pop();
+        if let Some(mut boxed) = taken {
+            boxed.advance();
+            let _ = waiting.lock(rt).push(boxed);
+        }
+    }
+}
+
+// Two threads take turns with three boxes, so that a box always waits.
+#[test]
+fn leases_in_boxes_wait_behind_a_lock(rt: HostRuntime) -> Result<(), Fail> {
+    let (till, mut desk) = Till::new(rt.alloc(), 1, 500)?;
+    let mut waiting: Vec<Box<dyn Work>> = Vec::with_capacity(rt.alloc(), 3)?;
+    let lease = till.lease(&mut desk)?;
+    waiting.push(Box::new(rt.alloc(), Worker { lease })?)?;
+    let lease = till.lease(&mut desk)?;
+    waiting.push(Box::new(rt.alloc(), Worker { lease })?)?;
+    let lease = till.lease(&mut desk)?;
+    waiting.push(Box::new(rt.alloc(), Worker { lease })?)?;
+    let waiting = Mutex::new(waiting);
+    thread::join(
+        &rt,
+        || take_turns(&rt, &waiting),
+        || take_turns(&rt, &waiting),
+    );
+    drop(waiting);
+    assert!(rt; till.words(&mut desk) == words(480, 20, 500));
     Ok(())
 }
 

@@ -27,7 +27,11 @@ impl Model for Till {
 
     ghost Value = { TillValue };
 
-    ghost view = { λ t. record { id = (arc_value t.account).table.shared.table_id; tenant = (arc_value t.account).tenant; granted = (arc_value t.account).table.shared.key } };
+    ghost view = { λ t. record {
+      id = (arc_value t.account).table.shared.table_id;
+      tenant = (arc_value t.account).tenant;
+      granted = (arc_value t.account).table.shared.key;
+    } };
 }
 
 /// One thread's seat at a till. A seat has no bytes, and slices of such values are not supported, so a desk has its
@@ -44,17 +48,30 @@ impl Model for Desk {
 
     ghost Value = { DeskValue };
 
-    ghost view = { λ d. record { id = d.seat.table_id; number = d.seat.id; tenant = d.tenant; granted = d.seat.me.0.granted; seats = d.seat.me.0.seats; loads = d.seat.me.0.loads; pool = d.seat.me.0.pool; spent = d.seat.me.0.spent } };
+    ghost view = { λ d. record {
+      id = d.seat.table_id;
+      number = d.seat.id;
+      tenant = d.tenant;
+      granted = d.seat.me.0.granted;
+      seats = d.seat.me.0.seats;
+      loads = d.seat.me.0.loads;
+      pool = d.seat.me.0.pool;
+      spent = d.seat.me.0.spent;
+    } };
 
     // Nothing is drawn, used or handed back at a desk.
-    ghost invariant = { λ d. (d.seat.me.0.drawn ≡ 0) × (d.seat.me.0.used ≡ 0) × (d.seat.me.0.back ≡ 0) };
+    ghost invariant = { λ d.
+        (d.seat.me.0.drawn ≡ 0) × (d.seat.me.0.used ≡ 0) × (d.seat.me.0.back ≡ 0) };
 }
 
 /// The words of a till, each as it was when a desk loaded it, in quanta, modulo 2^64.
 #[derive(Clone, Copy, Debug, PartialEq, Eq)]
 pub struct TillWords {
+    /// What nobody has drawn.
     pub pool: u64,
+    /// What was used.
     pub spent: u64,
+    /// What the till was opened with.
     pub granted: u64,
 }
 

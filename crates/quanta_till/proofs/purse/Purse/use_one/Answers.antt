@@ -1,4 +1,4 @@
-use Rattle.std.proofs.Common.{rules, arith}
+use Rattle.std.proofs.Common.{rules}
 use Rattle.quanta_till.proofs.TillLemmas.{uses}
 use Rattle.quanta_till.proofs.purse.Purse.use_one.Goals as goal
 
