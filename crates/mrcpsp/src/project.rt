@@ -68,7 +68,7 @@ impl Project {
         ensures { IfOk result (λ copy. copy ≡ self.now) }
     {
         Ok(Project {
-            activities: Sequence::from(clone_activities(alloc, self.activities.as_slice())?),
+            activities: Sequence::from(clone_activities(alloc, self.activities())?),
             renewable: self.renewable.clone_in(alloc)?,
             nonrenewable: self.nonrenewable.clone_in(alloc)?,
         })
@@ -103,7 +103,7 @@ impl Project {
         ensures sum { result ≡ horizon self.now.activities }
         ensures project { IsTrue (is_project self.now) }
     {
-        horizon_of(self.activities.as_slice()) as u32
+        horizon_of(self.activities()) as u32
     }
 
     #[tactic(auto, unfolding(crate::specs::Project::size))]
@@ -112,7 +112,7 @@ impl Project {
         ensures exact { result.now ≡ get_or self.now.activities activity no_activity }
         ensures kept { IsProject self.now }
     {
-        &self.activities.as_slice()[activity]
+        &self.activities()[activity]
     }
 
     #[tactic(auto, unfolding(crate::specs::Project::modes, crate::specs::Project::mode_count))]
@@ -133,7 +133,7 @@ impl Project {
         ensures some { 0 < result }
         ensures few { result ≤ 202 }
     {
-        self.activities.as_slice().len()
+        self.activities().len()
     }
 
     /// How many renewable resources there are: 0 to 8.
@@ -142,7 +142,7 @@ impl Project {
         ensures exact { result ≡ renewables self.now }
         ensures few { result ≤ 8 }
     {
-        self.renewable.as_slice().len()
+        self.renewable().len()
     }
 
     /// How many nonrenewable resources there are: 0 to 8.
@@ -151,7 +151,7 @@ impl Project {
         ensures exact { result ≡ nonrenewables self.now }
         ensures few { result ≤ 8 }
     {
-        self.nonrenewable.as_slice().len()
+        self.nonrenewable().len()
     }
 
     /// The capacity of a renewable resource in each period. Resources are named by their places, from 0.
@@ -161,7 +161,7 @@ impl Project {
         ensures exact { result ≡ capacity self.now resource }
         ensures most { result ≤ 1000000 }
     {
-        self.renewable.as_slice()[resource]
+        self.renewable()[resource]
     }
 
     /// The capacity of a nonrenewable resource in all.
@@ -171,7 +171,7 @@ impl Project {
         ensures exact { result ≡ stock self.now resource }
         ensures most { result ≤ 1000000 }
     {
-        self.nonrenewable.as_slice()[resource]
+        self.nonrenewable()[resource]
     }
 
     /// How many modes an activity has: 1 to 10. Activities are named by their places, from 0.

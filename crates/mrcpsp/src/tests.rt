@@ -3,6 +3,7 @@ ghost use Rattle.std.specs.Prelude.{◌<◌};
 
 use crate::{Activity, Breach, Mode, Project, Schedule, Sequence, check, same};
 use std::alloc::{AllocError, Global};
+use std::process::Abort;
 use std::test::Fail;
 
 fn numbers(alloc: Global, items: &[u32]) -> Result<Sequence<u32>, AllocError> {
@@ -54,75 +55,112 @@ fn schedule(alloc: Global, modes: &[u32], starts: &[u32]) -> Result<Schedule, Al
     })
 }
 
-fn checked(
+// What the check tells of a schedule of the example.
+fn tells(
+    rt: &impl Abort,
     alloc: Global,
     stock: u32,
     modes: &[u32],
     starts: &[u32],
-) -> Result<Result<u32, Breach>, Fail> {
+    expected: Result<u32, Breach>,
+) -> Result<(), Fail> {
     let project = example(alloc, stock)?.ok_or("no project")?;
-    Ok(check(&project, &schedule(alloc, modes, starts)?))
+    let found = check(&project, &schedule(alloc, modes, starts)?);
+    assert_eq!(rt; found, expected);
+    Ok(())
 }
 
 #[test]
 fn checks_of_the_example(rt: HostRuntime) -> Result<(), Fail> {
     let alloc = rt.alloc();
-    assert_eq!(rt; checked(alloc, 1, &[1, 1, 2, 1], &[0, 0, 0, 4])?, Ok(4));
-    assert_eq!(rt;
-        checked(alloc, 1, &[1, 1, 1, 1], &[0, 0, 0, 3])?,
-        Err(Breach::Renewable(1, 0))
-    );
-    assert_eq!(rt;
-        checked(alloc, 1, &[1, 1, 2, 1], &[0, 0, 0, 2])?,
-        Err(Breach::Precedence(2, 4))
-    );
-    assert_eq!(rt;
-        checked(alloc, 1, &[1, 1, 3, 1], &[0, 0, 0, 4])?,
-        Err(Breach::Mode(3))
-    );
-    assert_eq!(rt;
-        checked(alloc, 1, &[1, 1, 2, 1], &[0, 0, 0])?,
-        Err(Breach::Shape)
-    );
-    assert_eq!(rt;
-        checked(alloc, 0, &[1, 1, 1, 1], &[0, 0, 3, 5])?,
-        Err(Breach::Nonrenewable(1))
-    );
-    Ok(())
+    tells(&rt, alloc, 1, &[1, 1, 2, 1], &[0, 0, 0, 4], Ok(4))?;
+    tells(
+        &rt,
+        alloc,
+        1,
+        &[1, 1, 1, 1],
+        &[0, 0, 0, 3],
+        Err(Breach::Renewable(1, 0)),
+    )?;
+    tells(
+        &rt,
+        alloc,
+        1,
+        &[1, 1, 2, 1],
+        &[0, 0, 0, 2],
+        Err(Breach::Precedence(2, 4)),
+    )?;
+    tells(
+        &rt,
+        alloc,
+        1,
+        &[1, 1, 3, 1],
+        &[0, 0, 0, 4],
+        Err(Breach::Mode(3)),
+    )?;
+    tells(&rt, alloc, 1, &[1, 1, 2, 1], &[0, 0, 0], Err(Breach::Shape))?;
+    tells(
+        &rt,
+        alloc,
+        0,
+        &[1, 1, 1, 1],
+        &[0, 0, 3, 5],
+        Err(Breach::Nonrenewable(1)),
+    )
 }
 
 #[test]
-fn shapes_and_orders(rt: HostRuntime) -> Result<(), Fail> {
+fn shapes_before_anything_else(rt: HostRuntime) -> Result<(), Fail> {
     let alloc = rt.alloc();
     let most = 1_000_000_000;
-    assert_eq!(rt;
-        checked(alloc, 1, &[1, 1, 2, 1], &[0, 0, 0, most])?,
-        Ok(most)
-    );
-    assert_eq!(rt;
-        checked(alloc, 1, &[1, 1, 2, 1], &[0, 0, 0, most + 1])?,
-        Err(Breach::Shape)
-    );
-    assert_eq!(rt;
-        checked(alloc, 1, &[1, 1, 2, 1, 1], &[0, 0, 0, 4])?,
-        Err(Breach::Shape)
-    );
-    // Everything is broken: the shape is told, then the first mode, then the first precedence.
-    assert_eq!(rt;
-        checked(alloc, 0, &[0, 2, 1, 1], &[9, 0, 0, 0])?,
-        Err(Breach::Mode(1))
-    );
-    assert_eq!(rt;
-        checked(alloc, 0, &[1, 1, 1, 1], &[9, 8, 0, 0])?,
-        Err(Breach::Precedence(1, 2))
-    );
-    // The overuse is in the last period of the longer one alone.
-    assert_eq!(rt;
-        checked(alloc, 1, &[1, 1, 1, 1], &[0, 5, 7, 9])?,
-        Err(Breach::Renewable(1, 7))
-    );
-    assert_eq!(rt; checked(alloc, 1, &[1, 1, 1, 1], &[0, 5, 8, 10])?, Ok(10));
-    Ok(())
+    tells(&rt, alloc, 1, &[1, 1, 2, 1], &[0, 0, 0, most], Ok(most))?;
+    tells(
+        &rt,
+        alloc,
+        1,
+        &[1, 1, 2, 1],
+        &[0, 0, 0, most + 1],
+        Err(Breach::Shape),
+    )?;
+    tells(
+        &rt,
+        alloc,
+        1,
+        &[1, 1, 2, 1, 1],
+        &[0, 0, 0, 4],
+        Err(Breach::Shape),
+    )
+}
+
+#[test]
+fn the_first_of_several_breaches(rt: HostRuntime) -> Result<(), Fail> {
+    let alloc = rt.alloc();
+    tells(
+        &rt,
+        alloc,
+        0,
+        &[0, 2, 1, 1],
+        &[9, 0, 0, 0],
+        Err(Breach::Mode(1)),
+    )?;
+    tells(
+        &rt,
+        alloc,
+        0,
+        &[1, 1, 1, 1],
+        &[9, 8, 0, 0],
+        Err(Breach::Precedence(1, 2)),
+    )?;
+    // Too much is used in the last period of the longer activity alone, and then in none.
+    tells(
+        &rt,
+        alloc,
+        1,
+        &[1, 1, 1, 1],
+        &[0, 5, 7, 9],
+        Err(Breach::Renewable(1, 7)),
+    )?;
+    tells(&rt, alloc, 1, &[1, 1, 1, 1], &[0, 5, 8, 10], Ok(10))
 }
 
 #[test]
@@ -130,65 +168,67 @@ fn a_duration_of_0_uses_nothing(rt: HostRuntime) -> Result<(), Fail> {
     let alloc = rt.alloc();
     let modes = vec![in alloc; mode(alloc, 0, &[9], &[])?]?;
     let activities = vec![in alloc; activity(alloc, modes, &[])?]?;
-    let project = Project::new(
-        Sequence::from(activities),
-        numbers(alloc, &[3])?,
-        numbers(alloc, &[])?,
-    )
-    .ok_or("no project")?;
+    let capacities = numbers(alloc, &[3])?;
+    let project = Project::new(Sequence::from(activities), capacities, numbers(alloc, &[])?).ok_or(
+        "no project",
+    )?;
     assert_eq!(rt; check(&project, &schedule(alloc, &[1], &[5])?), Ok(5));
     Ok(())
 }
 
 #[test]
 fn breaches_as_text(rt: HostRuntime) -> Result<(), Fail> {
-    let alloc = rt.alloc();
-    assert_eq!(rt; format!(in alloc; "{}", Breach::Shape)?.as_str(), "Shape");
-    assert_eq!(rt;
-        format!(in alloc; "{}", Breach::Mode(3))?.as_str(),
-        "Mode(3)"
-    );
-    assert_eq!(rt;
-        format!(in alloc; "{}", Breach::Precedence(2, 4))?.as_str(),
-        "Precedence(2, 4)"
-    );
-    assert_eq!(rt;
-        format!(in alloc; "{}", Breach::Renewable(1, 0))?.as_str(),
-        "Renewable(1, 0)"
-    );
-    assert_eq!(rt;
-        format!(in alloc; "{}", Breach::Nonrenewable(1))?.as_str(),
-        "Nonrenewable(1)"
-    );
+    let texts = [
+        (Breach::Shape, "Shape"),
+        (Breach::Mode(3), "Mode(3)"),
+        (Breach::Precedence(2, 4), "Precedence(2, 4)"),
+        (Breach::Renewable(1, 0), "Renewable(1, 0)"),
+        (Breach::Nonrenewable(1), "Nonrenewable(1)"),
+    ];
+    for (breach, text) in texts.iter() {
+        assert_eq!(rt; format!(in rt.alloc(); "{breach}")?.as_str(), *text);
+    }
     Ok(())
 }
 
 #[test]
-fn fields_and_equality(rt: HostRuntime) -> Result<(), Fail> {
+fn equality_and_copies(rt: HostRuntime) -> Result<(), Fail> {
     let alloc = rt.alloc();
     let project = example(alloc, 1)?.ok_or("no project")?;
     let other = example(alloc, 2)?.ok_or("no project")?;
     assert!(rt; same(&project, &project.clone_in(alloc)?));
     assert!(rt; !same(&project, &other));
-    assert_eq!(rt; project.size(), 4);
-    assert_eq!(rt; project.activities().len(), 4);
+    Ok(())
+}
+
+#[test]
+fn sizes_and_capacities(rt: HostRuntime) -> Result<(), Fail> {
+    let project = example(rt.alloc(), 1)?.ok_or("no project")?;
+    assert_eq!(rt; (project.size(), project.activities().len()), (4, 4));
+    assert_eq!(rt; (project.renewables(), project.nonrenewables()), (1, 1));
     assert_eq!(rt; project.horizon(), 7);
-    assert_eq!(rt; project.renewables(), 1);
-    assert_eq!(rt; project.nonrenewables(), 1);
     assert_eq!(rt; project.renewable(), [3].as_slice());
     assert_eq!(rt; project.nonrenewable(), [1].as_slice());
-    let in_range = 2 < project.size() && 0 < project.renewables() && 0 < project.nonrenewables();
-    assert!(rt; in_range);
-    assert_eq!(rt; project.capacity(0), 3);
-    assert_eq!(rt; project.stock(0), 1);
+    if 0 < project.renewables() && 0 < project.nonrenewables() {
+        assert_eq!(rt; (project.capacity(0), project.stock(0)), (3, 1));
+    }
+    Ok(())
+}
+
+#[test]
+fn activities_and_modes(rt: HostRuntime) -> Result<(), Fail> {
+    let project = example(rt.alloc(), 1)?.ok_or("no project")?;
+    assert_eq!(rt; project.size(), 4);
     assert_eq!(rt; project.successors(0), [2, 3].as_slice());
-    assert!(rt; project.precedes(0, 2));
-    assert!(rt; !project.precedes(2, 0));
+    assert!(rt; project.precedes(0, 2) && !project.precedes(2, 0));
     assert_eq!(rt; project.mode_count(2), 2);
-    if 1 < project.mode_count(2) {
-        assert_eq!(rt; project.duration(2, 1), 4);
-        assert_eq!(rt; project.request(2, 1, 0), 1);
-        assert_eq!(rt; project.consumption(2, 0, 0), 1);
+    if 1 < project.mode_count(2) && 0 < project.renewables() && 0 < project.nonrenewables() {
+        let numbers = (
+            project.duration(2, 1),
+            project.request(2, 1, 0),
+            project.consumption(2, 0, 0),
+        );
+        assert_eq!(rt; numbers, (4, 1, 1));
     }
     Ok(())
 }
@@ -284,7 +324,7 @@ fn random_schedule(alloc: Global, dice: &mut Dice, size: usize) -> Result<Schedu
     for _ in 0..size {
         let odd = dice.below(40) == 0;
         modes.push(if odd { 4 } else { 1 + dice.below(2) })?;
-        start = (start + dice.below(4)) % 1_000;
+        start = start % 1_000 + dice.below(4);
         starts.push(start)?;
     }
     Ok(Schedule {

@@ -2,4 +2,4 @@ use Rattle.mrcpsp.proofs.LimitLemmas.{kept}
 use Rattle.mrcpsp.proofs.project.Project.activity.Goals as goal
 
 pub returns-clause-kept : goal.returns-clause-kept
-returns-clause-kept c = rw (← c.self.view_is) (kept _ c.self.invariant)
+returns-clause-kept c = kept _ c.activities.ensures.project

@@ -1,0 +1,28 @@
+//! Reading at most so many bytes of a file or of standard input.
+ghost use Rattle.std.specs.Prelude.{◌≡◌, IfOk, IfSome, take};
+
+use std::alloc::Global;
+use std::io::Read;
+use std::rt::Files;
+use std::{fs, io};
+
+/// The most bytes that are read of an input: one more than a text may have.
+pub const MOST_BYTES: u64 = 1_048_577;
+
+/// The first bytes of a reader, at most `MOST_BYTES` of them. An error is the reader's, or want of memory.
+pub fn read_front<R: Read + Drop>(alloc: Global, reader: R) -> io::Result<Vec<u8>>
+    ensures { IfOk result (λ bytes. IfSome (R.remaining reader) (λ all. bytes.items ≡ take MOST_BYTES all)) }
+{
+    let mut bytes = Vec::new(alloc);
+    reader.take(MOST_BYTES).read_to_end(&mut bytes)?;
+    Ok(bytes)
+}
+
+/// The first bytes of the file at the path, or of standard input at `-`.
+pub(crate) fn read_path<R: Files + Input + AllocGlobal>(rt: &R, path: &str) -> io::Result<Vec<u8>> {
+    if path == "-" {
+        return read_front(rt.alloc(), rt.reader());
+    }
+    let file = fs::open(rt, path)?;
+    read_front(rt.alloc(), file)
+}

@@ -1,0 +1,14 @@
+//! The command line of `farm`: what its words ask for, and the programs that answer.
+#![tactic(auto)]
+
+mod arguments;
+mod input;
+mod program;
+mod summary;
+#[cfg(test)]
+mod tests;
+
+pub use arguments::{Task, farm_command, parse_words};
+pub use input::{MOST_BYTES, read_front};
+pub use program::{run, run_words};
+pub use summary::{Summary, summarize};
