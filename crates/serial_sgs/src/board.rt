@@ -54,7 +54,7 @@ impl Board {
         ensures board { IsBoard self.now }
         ensures within { KeepsCapacities self.now.project self.now.placed }
     {
-        &self.placed
+        self.placed.as_slice()
     }
 
     /// How many activities are placed.
@@ -121,11 +121,12 @@ impl Board {
         requires start { start ≤ 1000000000 }
         ensures { self.new ≡ record self.old { placed = self.old.placed ++ record { activity = activity; mode = mode; start = start } ∷ [] } }
     {
-        self.placed.push_reserved(Place {
+        let place = Place {
             activity,
             mode,
             start,
-        });
+        };
+        self.placed.push_reserved(place);
     }
 
     /// Takes away the activity that was placed last.
