@@ -1,0 +1,5 @@
+pub mod FollowLemmas
+pub mod TreeLemmas
+pub mod SoundLemmas
+pub mod LawLemmas
+pub mod Row

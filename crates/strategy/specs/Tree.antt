@@ -1,0 +1,72 @@
+-- The precedence tree. One node examines one candidate, an eligible activity in one mode.
+use Rattle.std.specs.Prelude.{ℕ, zero, suc, ◌+◌, Bool, false, cond, not, ◌||◌, nat_lt, nat_le, List, [], ◌∷◌, ◌++◌, length, map, take, fold, filter, flat_map, Option, Some, None}
+use Rattle.std.specs.List.{range_with_len}
+use Rattle.mrcpsp.specs.Project.{ProjectData, size, mode_count}
+use Rattle.mrcpsp.specs.Schedule.{ScheduleData, makespan}
+use Rattle.mrcpsp.specs.Placed.{Placed, last_start, earliest, finish_of, is_eligible, is_executable, is_affordable, schedule_of}
+use Rattle.mrcpsp.specs.Values.{tail}
+
+pub record Candidate : Type 0 where
+  pub activity : ℕ
+  pub mode : ℕ
+
+-- by rising activity, then by rising mode
+abbrev pub modes_of : ProjectData → ℕ → List Candidate
+modes_of p j = map (λ m. record { activity = j; mode = m }) (range_with_len 0 (mode_count p j))
+
+unfoldable pub candidates : ProjectData → List Placed → List Candidate
+candidates p placed = flat_map (modes_of p) (filter (is_eligible p placed) (range_with_len 0 (size p)))
+
+-- the candidate at its earliest start
+unfoldable pub placing : ProjectData → List Placed → Candidate → Placed
+placing p placed c = record { activity = c.activity; mode = c.mode; start = earliest p placed c.activity c.mode (last_start placed) }
+
+abbrev pub is_too_late : ProjectData → Option ScheduleData → ℕ → Bool
+is_too_late p None at = false
+is_too_late p (Some best) at = nat_le (makespan p best) at
+
+unfoldable pub is_pruned : ProjectData → List Placed → Candidate → Option ScheduleData → Bool
+is_pruned p placed c best = not (is_executable p c.activity c.mode) || (not (is_affordable p placed c.activity c.mode) || is_too_late p best (finish_of p (placing p placed c) + tail p c.activity))
+
+-- the shorter schedule, the old one where they are equal
+abbrev pub improved : ProjectData → Option ScheduleData → ScheduleData → Option ScheduleData
+improved p None s = Some s
+improved p (Some best) s = cond (nat_lt (makespan p s) (makespan p best)) (Some s) (Some best)
+
+-- the incumbent after a node that leaves these activities placed
+unfoldable pub updated : ProjectData → List Placed → Option ScheduleData → Option ScheduleData
+updated p placed best = cond (nat_lt (length placed) (size p)) best (improved p best (schedule_of (size p) placed))
+
+-- the incumbent after a list of nodes
+abbrev pub after : Option ScheduleData → List (Option ScheduleData) → Option ScheduleData
+after best nodes = fold (λ _ x. x) best nodes
+
+-- the nodes of one candidate, and of a list of them on one level. `below` gives those of the levels below
+abbrev pub Below : Type 0
+Below = List Placed → Option ScheduleData → List (Option ScheduleData)
+
+unfoldable pub visit_one : Below → ProjectData → List Placed → Candidate → Option ScheduleData → List (Option ScheduleData)
+visit_one below p placed c best =
+    cond (is_pruned p placed c best) (best ∷ [])
+    (let next = placed ++ placing p placed c ∷ [] in
+    let kept = updated p next best in
+    kept ∷ below next kept)
+
+abbrev pub visit_all : Below → ProjectData → List Placed → List Candidate → Option ScheduleData → List (Option ScheduleData)
+visit_all below p placed [] best = []
+visit_all below p placed (c ∷ cs) best =
+    visit_one below p placed c best ++ visit_all below p placed cs (after best (visit_one below p placed c best))
+
+-- the nodes, each as the incumbent after it, where d activities are not placed
+abbrev pub visits : ProjectData → ℕ → List Placed → Option ScheduleData → List (Option ScheduleData)
+visits p zero placed best = []
+visits p (suc d) placed best = visit_all (visits p d) p placed (candidates p placed) best
+
+unfoldable pub all_visits : ProjectData → List (Option ScheduleData)
+all_visits p = visits p (size p) [] None
+
+unfoldable pub best_after : ProjectData → ℕ → Option ScheduleData
+best_after p k = after None (take k (all_visits p))
+
+unfoldable pub is_closed : ProjectData → ℕ → Bool
+is_closed p k = nat_le (length (all_visits p)) k

@@ -1,0 +1,13 @@
+//! What a search is: plans, verdicts, the meaning of each kind of search after so many nodes, and why 'optimal' is true.
+#![tactic(auto)]
+
+mod kind;
+pub mod laws;
+mod plan;
+
+mod verdict;
+
+pub use kind::Kind;
+pub use plan::{Plan, same_plan};
+
+pub use verdict::Verdict;
