@@ -1,9 +1,10 @@
 -- Numbers above the greatest u32 mean the same as that number, since a text has fewer words.
-use Rattle.std.proofs.Common.{◌≡◌, ℕ, zero, suc, ◌+◌, ◌-◌, ◌^◌, ◌<◌, ◌≤◌, Bool, true, false, not, cond, ◌||◌, ◌⊎◌, Option, Some, None, ltb, leb, eqb, min, List, [], ◌∷◌, ◌++◌, length, map, take, drop, Result, Ok, Err, refl, sym, ap, subst, ◌∙◌, inl, inr, arith}
+use Rattle.std.proofs.Common.{◌≡◌, ℕ, zero, suc, ◌+◌, ◌<◌, ◌≤◌, Bool, true, false, not, cond, ◌||◌, ◌⊎◌, Option, Some, None, ltb, leb, eqb, min, List, [], ◌∷◌, ◌++◌, length, map, take, drop, Result, Ok, Err, refl, sym, ap, ◌∙◌, inl, inr, arith}
 use Rattle.std.specs.List.{list_any}
 use Rattle.std.proofs.lemmas.Bool.{cases_lt, ltb-false}
 use Rattle.std.proofs.lemmas.Bool.Decides.{nat_tests}
-use Rattle.std.proofs.lemmas.List.{length-map, length-drop, map-append, take-map, drop-map, take_min, drop_min}
+use Rattle.std.proofs.lemmas.List.{length-map, length-drop, take-map, drop-map, take_min, drop_min}
+use Rattle.psplib_mm.specs.Scan.{cap, capped}
 use Rattle.psplib_mm.specs.declared.cell.Cell.{Cell}
 use Rattle.psplib_mm.specs.declared.fault.MmFault.{MmFault}
 use Rattle.psplib_mm.specs.declared.fault.MmFault.TheVariants as fault
@@ -12,7 +13,6 @@ use Rattle.psplib_mm.specs.declared.fault.SectionName.TheVariants.{PrecedenceRel
 use Rattle.psplib_mm.specs.declared.fault.LimitName.{LimitName}
 use Rattle.psplib_mm.specs.declared.fault.LimitName.TheVariants as limit
 use Rattle.psplib_mm.specs.Contents.{◌>>=◌, uneven, times, whole, Job, job_at, jobs_of, each, in_place, job_in_place, follow, job_follows, any_above, first_broken, broken, unless_broken, limited}
-use Rattle.psplib_mm.specs.Gives.{cap, capped}
 use Rattle.mrcpsp.specs.Project.{ModeData, ActivityData, ProjectData, is_between, longest, horizon}
 use Rattle.psplib_mm.proofs.Sound.{guard_ok, none_broken, or_false, is_long, is_large}
 

@@ -1,17 +1,17 @@
 -- The same for the section on requests, and for the whole contents.
-use Rattle.std.proofs.Common.{◌≡◌, ℕ, zero, suc, ◌+◌, ◌-◌, ◌<◌, ◌≤◌, Bool, true, false, cond, ◌||◌, ltb, leb, eqb, List, [], ◌∷◌, ◌++◌, length, map, take, drop, Result, Ok, Err, refl, sym, ap, subst, ◌∙◌, arith}
+use Rattle.std.proofs.Common.{◌≡◌, ℕ, zero, suc, ◌+◌, ◌<◌, ◌≤◌, Bool, true, false, cond, ◌||◌, ltb, leb, eqb, List, [], ◌∷◌, ◌++◌, length, map, take, drop, Result, Ok, Err, refl, ap, subst, ◌∙◌, arith}
 use Rattle.std.specs.List.{list_any}
 use Rattle.std.proofs.lemmas.Bool.{ltb-false}
 use Rattle.std.proofs.lemmas.Bool.Decides.{nat_tests}
 use Rattle.std.proofs.lemmas.List.{length-map, length-drop}
-use Rattle.mrcpsp.specs.Project.{ModeData, ActivityData, ProjectData}
+use Rattle.mrcpsp.specs.Project.{ActivityData, ProjectData}
+use Rattle.psplib_mm.specs.Scan.{cap, capped}
 use Rattle.psplib_mm.specs.declared.cell.Cell.{Cell}
 use Rattle.psplib_mm.specs.declared.fault.MmFault.{MmFault}
-use Rattle.psplib_mm.specs.declared.fault.SectionName.TheVariants.{RequestsDurations, ResourceAvailabilities, PrecedenceRelations}
+use Rattle.psplib_mm.specs.declared.fault.SectionName.TheVariants.{RequestsDurations, ResourceAvailabilities}
 use Rattle.psplib_mm.specs.Contents.{◌>>=◌, uneven, times, whole, Job, job_at, jobs_of, ModeLine, mode_at, Group, group_at, groups_at, groups_of, each, job_in_place, mode_in_place, group_in_place, in_place, follow, job_follows, are_enough, numbers_of, mode_of, activities_of, limited, contents}
-use Rattle.psplib_mm.specs.Gives.{cap, capped}
-use Rattle.psplib_mm.proofs.Sound.{bind_ok, guard_ok, guard_then, ok_is, whole_ok, times_length, or_false, done}
-use Rattle.psplib_mm.proofs.Capped.{IsFew, all, take_cap, drop_cap, onward, IsStep, mapped, with_first, times_cap, whole_capped, capped_job, job_step, jobs_capped, in_place_capped, each_capped, jobs_in_place_capped, all_follow_capped, capped_small, capped_mode, capped_activity, capped_project, limited_capped}
+use Rattle.psplib_mm.proofs.Sound.{bind_ok, guard_ok, guard_then, ok_is, whole_ok, times_length, or_false}
+use Rattle.psplib_mm.proofs.Capped.{IsFew, all, take_cap, drop_cap, onward, IsStep, mapped, with_first, times_cap, whole_capped, capped_job, job_step, jobs_capped, in_place_capped, each_capped, jobs_in_place_capped, all_follow_capped, capped_mode, capped_activity, capped_project, limited_capped}
 
 abbrev pub capped_line : ModeLine → ModeLine
 capped_line m = record { mode = capped m.mode; duration = capped m.duration; renewable = all m.renewable; nonrenewable = all m.nonrenewable }
@@ -169,7 +169,7 @@ pub under_same : {A B : Type 0} (read' read : Result A MmFault) (f' f : A → Re
 under_same read' (Ok x) f' f e h = ap (λ r. r >>= f') e ∙ h x refl
 under_same read' (Err d) f' f e h = ap (λ r. r >>= f') e
 
-abbrev at_groups : ℕ → ℕ → ℕ → List Cell → List Job → List Group → Result ProjectData MmFault
+abbrev pub at_groups : ℕ → ℕ → ℕ → List Cell → List Job → List Group → Result ProjectData MmFault
 at_groups n r v s jobs groups = do
   _ ← are_enough (r + v) s
   _ ← each job_in_place 1 jobs
@@ -177,7 +177,7 @@ at_groups n r v s jobs groups = do
   _ ← each (job_follows n) 1 jobs
   limited (record { activities = activities_of jobs groups; renewable = numbers_of (take r s); nonrenewable = numbers_of (take v (drop r s)) })
 
-abbrev at_jobs : ℕ → ℕ → ℕ → List Cell → List Cell → List Job → Result ProjectData MmFault
+abbrev pub at_jobs : ℕ → ℕ → ℕ → List Cell → List Cell → List Job → Result ProjectData MmFault
 at_jobs n r v q s jobs = groups_of r v jobs q >>= λ groups. at_groups n r v s jobs groups
 
 enough_same : (r v : ℕ) (s : List Cell) → IsFew s → are_enough (cap r + cap v) (all s) ≡ are_enough (r + v) s

@@ -1,21 +1,19 @@
 -- A text has few words, so the caps change nothing.
-use Rattle.std.proofs.Common.{◌≡◌, ℕ, zero, suc, ◌+◌, ◌-◌, ◌^◌, ◌<◌, ◌≤◌, Bool, true, false, not, cond, eqb, ltb, min, List, [], ◌∷◌, ◌++◌, length, get_or, map, take, drop, Option, Some, None, Result, Ok, Err, refl, sym, ap, subst, ◌∙◌, inl, inr, arith}
+use Rattle.std.proofs.Common.{◌≡◌, ℕ, zero, suc, ◌+◌, ◌-◌, ◌<◌, ◌≤◌, Bool, true, false, not, cond, eqb, ltb, min, List, [], ◌∷◌, length, get_or, map, take, drop, Ok, Err, refl, sym, ap, subst, ◌∙◌, arith}
 use Rattle.std.specs.Prelude.{is_some}
 use Rattle.std.specs.Option.{ok_or}
 use Rattle.std.specs.List.{filter, flat_map, position, position_or_len, before_first, after_first, slice_split, onto_first}
 use Rattle.std.specs.Str.Lines.{strip_carriage_return}
 use Rattle.std.proofs.lemmas.Bool.{le-ltb}
 use Rattle.std.proofs.lemmas.List.{length-map, length-take, length-append, take_min}
-use Rattle.mrcpsp.specs.Project.{ProjectData}
+use Rattle.psplib_mm.specs.Scan.{cap, capped, all_capped, capped_meaning}
 use Rattle.psplib_mm.specs.declared.cell.Cell.{Cell}
-use Rattle.psplib_mm.specs.declared.fault.MmFault.{MmFault}
 use Rattle.psplib_mm.specs.declared.fault.MmFault.TheVariants as fault
 use Rattle.psplib_mm.specs.declared.fault.SectionName.{SectionName}
 use Rattle.psplib_mm.specs.declared.fault.SectionName.TheVariants.{PrecedenceRelations, RequestsDurations, ResourceAvailabilities}
-use Rattle.psplib_mm.specs.Text.{Piece, lines_of, numbered, is_blank, is_word, words_of, is_skipped, number_of}
+use Rattle.psplib_mm.specs.Text.{Piece, lines_of, numbered, is_line_feed, is_text_end, is_blank, is_word, words_of, words_in, is_skipped, number_of}
 use Rattle.psplib_mm.specs.Contents.{◌>>=◌, contents}
-use Rattle.psplib_mm.specs.Reading.{Sizes, sizes_of, begins, is_section_line, lines_after, words_in, words_below, cells_of, meaning, reading}
-use Rattle.psplib_mm.specs.Gives.{cap, capped, all_capped, capped_sizes, capped_meaning}
+use Rattle.psplib_mm.specs.Reading.{Sizes, sizes_of, begins, is_section_line, lines_after, words_below, cells_of, meaning, reading}
 use Rattle.psplib_mm.proofs.Sound.{bind_ok, ok_is, done}
 use Rattle.psplib_mm.proofs.Capped.{IsFew}
 use Rattle.psplib_mm.proofs.CappedGroups.{under, under_same, contents_capped}
@@ -59,11 +57,11 @@ weight-numbered n (l ∷ ls) = ap (λ (k : ℕ). length l + 1 + k) (weight-numbe
 
 pub weight-lines_of : (text : List ℕ) → weight (lines_of text) ≤ length text + 1
 weight-lines_of text =
-    let shown = before_first (λ b. eqb b 26) text in
-    let parts = slice_split (λ b. eqb b 10) shown in
+    let shown = before_first is_text_end text in
+    let parts = slice_split is_line_feed shown in
     let a : weight (lines_of text) ≡ total (map strip_carriage_return parts) = weight-numbered 1 (map strip_carriage_return parts) in
-    let b : total parts ≡ length shown + 1 = total-slice_split (λ b. eqb b 10) shown in
-    let c : length shown ≤ length text = omega (arith, length-take (position_or_len (λ b. eqb b 26) text) text) in
+    let b : total parts ≡ length shown + 1 = total-slice_split is_line_feed shown in
+    let c : length shown ≤ length text = omega (arith, length-take (position_or_len is_text_end text) text) in
     omega (arith, a, b, c, total-strip parts)
 
 weight-take : (n : ℕ) (ps : List Piece) → weight (take n ps) ≤ weight ps

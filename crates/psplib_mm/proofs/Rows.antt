@@ -2,7 +2,7 @@
 use Rattle.std.specs.Prelude.{ℕ, List, [], ◌∷◌, ◌++◌, ◌≡◌, Ok, Err, codes}
 use Rattle.std.specs.List.{join_with_byte, flat_map}
 use Rattle.std.proofs.Common.{refl}
-use Rattle.mrcpsp.specs.Project.{ModeData, ActivityData, ProjectData}
+use Rattle.mrcpsp.specs.Project.{ProjectData}
 use Rattle.psplib_mm.specs.declared.fault.MmFault.TheVariants as fault
 use Rattle.psplib_mm.specs.declared.fault.SectionName.TheVariants.{PrecedenceRelations, RequestsDurations, ResourceAvailabilities}
 use Rattle.psplib_mm.specs.declared.fault.LimitName.TheVariants as limit

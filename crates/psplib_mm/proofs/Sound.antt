@@ -1,16 +1,15 @@
 -- What passes every check is a project.
-use Rattle.std.proofs.Common.{◌≡◌, ℕ, zero, suc, ◌+◌, ◌-◌, ◌≤◌, Bool, true, false, not, cond, ◌&&◌, ◌||◌, ltb, leb, eqb, min, List, [], ◌∷◌, ◌++◌, length, map, take, drop, Option, Some, None, Result, Ok, Err, refl, sym, ap, subst, ◌∙◌, arith}
+use Rattle.std.proofs.Common.{◌≡◌, ℕ, zero, suc, ◌+◌, ◌≤◌, Bool, true, false, not, cond, ◌&&◌, ◌||◌, ltb, leb, eqb, List, [], ◌∷◌, ◌++◌, length, map, take, drop, Option, Some, None, Result, Ok, Err, refl, sym, ap, subst, ◌∙◌, arith}
 use Rattle.std.specs.List.{list_all, list_any}
-use Rattle.std.proofs.lemmas.Bool.{ltb-false, le-ltb}
+use Rattle.std.proofs.lemmas.Bool.{ltb-false}
 use Rattle.std.proofs.lemmas.Bool.Decides.{nat_tests}
-use Rattle.std.proofs.lemmas.List.{length-take, length-drop, length-map, nil_from_length}
-use Rattle.mrcpsp.specs.Project.{ModeData, ActivityData, ProjectData, is_between, are_amounts, is_mode, are_successors, are_activities, is_project, horizon}
+use Rattle.std.proofs.lemmas.List.{length-take, length-drop, length-map}
+use Rattle.mrcpsp.specs.Project.{ModeData, ProjectData, is_between, are_amounts, is_mode, are_successors, are_activities, is_project, horizon}
 use Rattle.psplib_mm.specs.declared.cell.Cell.{Cell}
 use Rattle.psplib_mm.specs.declared.fault.MmFault.{MmFault}
 use Rattle.psplib_mm.specs.declared.fault.SectionName.{SectionName}
-use Rattle.psplib_mm.specs.declared.fault.LimitName.{LimitName}
 use Rattle.psplib_mm.specs.declared.fault.LimitName.TheVariants as limit
-use Rattle.psplib_mm.specs.Contents.{◌>>=◌, uneven, times, whole, Job, job_at, jobs_of, ModeLine, mode_at, Group, group_at, groups_at, groups_of, each, follow, job_follows, numbers_of, mode_of, activities_of, any_above, first_broken, broken, are_enough}
+use Rattle.psplib_mm.specs.Contents.{◌>>=◌, times, whole, Job, job_at, jobs_of, ModeLine, mode_at, Group, group_at, groups_at, groups_of, each, follow, job_follows, numbers_of, mode_of, activities_of, any_above, first_broken, broken}
 
 -- ---- steps that did not fail
 
@@ -77,11 +76,11 @@ amounts_sound count xs len e = and_true _ _ (grind (arith, nat_tests)) (all_smal
 
 -- ---- the modes
 
-abbrev AreSized : ℕ → ℕ → List ModeLine → Type 0
+abbrev pub AreSized : ℕ → ℕ → List ModeLine → Type 0
 AreSized r v [] = Unit {0}
 AreSized r v (m ∷ ms) = (length m.renewable ≡ r) × (length m.nonrenewable ≡ v) × AreSized r v ms
 
-abbrev AllSized : ℕ → ℕ → List Group → Type 0
+abbrev pub AllSized : ℕ → ℕ → List Group → Type 0
 AllSized r v [] = Unit {0}
 AllSized r v (g ∷ gs) = AreSized r v g.modes × AllSized r v gs
 
@@ -148,7 +147,7 @@ group_sized r v n (job ∷ cells) x e =
     let made : Group × List Cell = (record { job = job; modes = a.0.0 }, a.0.1) in
     subst (λ (y : Group × List Cell). AreSized r v y.0.modes) (ok_is made x a.2) (modes_sized r v n cells a.0 a.1)
 
-groups_sized : (r v : ℕ) (jobs : List Job) (cells : List Cell) (x : List Group × List Cell) → groups_at r v jobs cells ≡ Ok x → AllSized r v x.0 × (length x.0 ≡ length jobs)
+pub groups_sized : (r v : ℕ) (jobs : List Job) (cells : List Cell) (x : List Group × List Cell) → groups_at r v jobs cells ≡ Ok x → AllSized r v x.0 × (length x.0 ≡ length jobs)
 groups_sized r v [] cells x e =
     let made : List Group × List Cell = ([], cells) in
     subst (λ (y : List Group × List Cell). AllSized r v y.0 × (length y.0 ≡ 0)) (ok_is made x e) (tt, refl)
@@ -197,7 +196,7 @@ acts_sound n r v i (j ∷ jobs) (g ∷ groups) sized follows few long large =
     and_true _ _ (and_true _ _ (and_true _ _ (not_false _ a.0) (modes_sound r v g.modes sized.0 b.0 d.0)) (follow_sound n i [] j.successors f.1))
     (acts_sound n r v (i + 1) jobs groups sized.1 f.2 a.1 b.1 d.1)
 
-length-activities_of : (jobs : List Job) (groups : List Group) → length groups ≡ length jobs → length (activities_of jobs groups) ≡ length jobs
+pub length-activities_of : (jobs : List Job) (groups : List Group) → length groups ≡ length jobs → length (activities_of jobs groups) ≡ length jobs
 length-activities_of [] groups e = refl
 length-activities_of (j ∷ jobs) [] e = e
 length-activities_of (j ∷ jobs) (g ∷ groups) e = ap suc (length-activities_of jobs groups (omega arith))
@@ -228,3 +227,9 @@ contents_sound n r v precedence requests availabilities jobs groups p read_jobs 
 pub not_none : (b : Bool) (p : ProjectData) (r : Option ProjectData) → b ≡ true → r ≡ cond b (Some p) None → r ≡ None → ⊥
 not_none true p r e is none = absurd cc
 not_none false p r e is none = absurd cc
+
+pub some_is : (b : Bool) (p q : ProjectData) (r : Option ProjectData) → b ≡ true → r ≡ cond b (Some p) None → r ≡ Some q → p ≡ q
+some_is true p q r e is some =
+    let same : Some p ≡ Some q = sym is ∙ some in
+    cc
+some_is false p q r e is some = absurd cc

@@ -1,7 +1,7 @@
 -- The numbers of the three sections of a multi-mode file as records (ProGen's layout, Kolisch and Sprecher 1997),
 -- and the faults in them.
-use Rattle.std.specs.Prelude.{ℕ, zero, suc, ◌+◌, Bool, true, false, not, ◌||◌, ◌&&◌, List, [], ◌∷◌, ◌++◌, length, map, take, drop, Option, Some, None, Result, Ok, Err, nat_lt, nat_le, ◌==◌, if◌then◌else◌}
-use Rattle.std.specs.List.{find, list_any}
+use Rattle.std.specs.Prelude.{ℕ, zero, suc, ◌+◌, Bool, not, ◌||◌, List, [], ◌∷◌, ◌++◌, length, map, take, drop, Option, Some, None, Result, Ok, Err, nat_lt, nat_le, ◌==◌, if◌then◌else◌}
+use Rattle.std.specs.List.{list_any}
 use Rattle.mrcpsp.specs.Project.{ModeData, ActivityData, ProjectData, is_between, horizon}
 use Rattle.psplib_mm.specs.declared.cell.Cell.{Cell}
 use Rattle.psplib_mm.specs.declared.fault.MmFault.{MmFault}

@@ -2,4 +2,5 @@ pub mod Text
 pub mod Contents
 pub mod Reading
 pub mod Gives
+pub mod Scan
 pub mod FaultText

@@ -1,14 +1,14 @@
 -- What the text of a multi-mode file means: a project, or the first fault whose cause holds
 -- (ProGen's layout, Kolisch and Sprecher 1997).
-use Rattle.std.specs.Prelude.{ℕ, ◌+◌, Bool, not, ◌&&◌, ◌||◌, List, [], ◌∷◌, length, map, take, drop, is_some, Option, Some, None, Result, Ok, Err, nat_lt, ◌==◌, if◌then◌else◌, codes}
-use Rattle.std.specs.List.{find, position, filter, flat_map, list_any, before_first, after_first}
+use Rattle.std.specs.Prelude.{ℕ, ◌+◌, Bool, not, ◌&&◌, ◌||◌, List, [], ◌∷◌, length, take, drop, is_some, Option, Some, None, Result, Ok, Err, nat_lt, ◌==◌, if◌then◌else◌, codes}
+use Rattle.std.specs.List.{find, position, filter, flat_map, before_first, after_first}
 use Rattle.std.specs.Option.{ok_or}
 use Rattle.mrcpsp.specs.Project.{ProjectData}
 use Rattle.psplib_mm.specs.declared.fault.MmFault.{MmFault}
 use Rattle.psplib_mm.specs.declared.fault.MmFault.TheVariants as fault
 use Rattle.psplib_mm.specs.declared.fault.SectionName.{SectionName}
 use Rattle.psplib_mm.specs.declared.fault.SectionName.TheVariants.{PrecedenceRelations, RequestsDurations, ResourceAvailabilities}
-use Rattle.psplib_mm.specs.Text.{Piece, lines_of, words_of, first_word, without_blanks, is_same, is_skipped, number_of}
+use Rattle.psplib_mm.specs.Text.{Piece, lines_of, words_in, first_word, without_blanks, is_same, is_skipped, number_of}
 use Rattle.psplib_mm.specs.declared.cell.Cell.{Cell}
 use Rattle.psplib_mm.specs.Contents.{◌>>=◌, contents}
 
@@ -68,9 +68,6 @@ is_section_line line = is_titled (codes "PROJECTINFORMATION:") line || begins Pr
 -- the lines after the first one that begins this section
 abbrev pub lines_after : SectionName → List Piece → Result (List Piece) MmFault
 lines_after name lines = if is_some (position (begins name) lines) then Ok (after_first (begins name) lines) else Err (fault.Section name)
-
-abbrev pub words_in : Piece → List Piece
-words_in line = map (λ word. record { line = line.line; bytes = word }) (words_of line.bytes)
 
 -- the words of the lines that aren't skipped, but for the first of these, the column heads
 abbrev pub words_below : List Piece → List Piece

@@ -17,13 +17,27 @@ abbrev pub numbered : ℕ → List (List ℕ) → List Piece
 numbered n [] = []
 numbered n (l ∷ ls) = record { line = n; bytes = l } ∷ numbered (n + 1) ls
 
--- The text ends before its first byte 0x1A. A line ends with LF, and loses the CR at its end.
+abbrev pub is_line_feed : ℕ → Bool
+is_line_feed b = b == 10
+
+-- the lines of these bytes, the first of which has number n: a line ends with LF, and loses the CR at its end
+abbrev pub lines_from : ℕ → List ℕ → List Piece
+lines_from n bytes = numbered n (map strip_carriage_return (slice_split is_line_feed bytes))
+
+abbrev pub is_text_end : ℕ → Bool
+is_text_end b = b == 26
+
+-- the lines of a text, which ends before its first byte 0x1A
 abbrev pub lines_of : List ℕ → List Piece
-lines_of text = numbered 1 (map strip_carriage_return (slice_split (λ b. b == 10) (before_first (λ b. b == 26) text)))
+lines_of text = lines_from 1 (before_first is_text_end text)
 
 -- a space or a tab
 abbrev pub is_blank : ℕ → Bool
 is_blank b = (b == 32) || (b == 9)
+
+-- a byte of a word
+abbrev pub is_other : ℕ → Bool
+is_other b = not (is_blank b)
 
 abbrev pub is_word : List ℕ → Bool
 is_word part = not (length part == 0)
@@ -32,11 +46,15 @@ is_word part = not (length part == 0)
 abbrev pub words_of : List ℕ → List (List ℕ)
 words_of line = filter is_word (slice_split is_blank line)
 
+-- the words of a line, each with the line's number
+abbrev pub words_in : Piece → List Piece
+words_in line = map (λ word. record { line = line.line; bytes = word }) (words_of line.bytes)
+
 abbrev pub first_word : List ℕ → Option (List ℕ)
 first_word line = find is_word (slice_split is_blank line)
 
 abbrev pub without_blanks : List ℕ → List ℕ
-without_blanks line = filter (λ b. not (is_blank b)) line
+without_blanks line = filter is_other line
 
 abbrev pub is_same : List ℕ → List ℕ → Bool
 is_same a b = pointwise nat_eq a b

@@ -86,13 +86,13 @@ pub enum MmFault {
     /// The line that begins this section is missing below the one before.
     Section(SectionName),
     /// A word on this line is no number where one is needed.
-    Number(usize),
+    Number(u32),
     /// The section's words aren't as many as its contents need.
     Count(SectionName),
     /// A job's or a mode's number on this line isn't its place.
-    Numbering(usize),
+    Numbering(u32),
     /// A successor on this line isn't above its job, is above the number of jobs, or was named before.
-    Successor(usize),
+    Successor(u32),
     /// This limit of a project is broken.
     Limit(LimitName),
     /// There was no memory for what was read.

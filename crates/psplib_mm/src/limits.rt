@@ -1,12 +1,43 @@
 //! The limits of a project.
-
-ghost use Rattle.std.specs.Prelude.{◌≡◌, ◌≤◌, ℕ, length, not, nat_lt, ◌||◌};
+ghost use Rattle.std.specs.Prelude.{◌≡◌, ◌≤◌, ◌||◌, ◌∷◌, [], length, not, nat_lt};
 ghost use Rattle.std.specs.List.{list_any};
-ghost use Rattle.mrcpsp.specs.Project.{ProjectData, ActivityData, ModeData, is_between, longest, horizon};
-ghost use Rattle.psplib_mm.specs.Contents.{any_above, broken};
+ghost use Rattle.mrcpsp.specs.Project.{ProjectData, is_between, longest, horizon};
+ghost use Rattle.psplib_mm.specs.Contents.{any_above, first_broken};
+ghost use Rattle.psplib_mm.specs.Scan.{broken_count, broken_amount};
 
 use crate::fault::LimitName;
+use crate::groups::Resources;
+use crate::jobs::Jobs;
 use mrcpsp::{Activity, Mode};
+
+fn are_modes_miscounted(jobs: &Jobs<'_>) -> bool
+    ensures { result ≡ list_any (λ j. not (is_between 1 10 j.modes.number)) jobs.now }
+{
+    let mut left = jobs.again();
+    while let Some(job) = left.next_job() {
+        if !(1..=10).contains(&job.modes.number) {
+            return true;
+        }
+    }
+    false
+}
+
+/// The first limit on the numbers of jobs, modes and resources that is broken.
+pub fn broken_number(jobs: &Jobs<'_>, resources: Resources) -> Option<LimitName>
+    ensures { result ≡ broken_count jobs.now resources.renewable resources.nonrenewable }
+{
+    if !(1..=202).contains(&jobs.len()) {
+        Some(LimitName::Jobs)
+    } else if are_modes_miscounted(jobs) {
+        Some(LimitName::Modes)
+    } else if resources.renewable > 8 {
+        Some(LimitName::Renewable)
+    } else if resources.nonrenewable > 8 {
+        Some(LimitName::Nonrenewable)
+    } else {
+        None
+    }
+}
 
 fn is_any_above(most: u32, amounts: &[u32]) -> bool
     ensures { result ≡ any_above most amounts.now }
@@ -27,12 +58,6 @@ fn is_any_large(modes: &[Mode]) -> bool
         is_any_above(1_000_000, mode.renewable.as_slice())
             || is_any_above(1_000_000, mode.nonrenewable.as_slice())
     })
-}
-
-fn are_modes_miscounted(activities: &[Activity]) -> bool
-    ensures { result ≡ list_any (λ a. not (is_between 1 10 (length a.modes))) activities.now }
-{
-    activities.iter().any(|activity| !(1..=10).contains(&activity.modes.as_slice().len()))
 }
 
 fn is_any_activity_long(activities: &[Activity]) -> bool
@@ -73,24 +98,17 @@ fn horizon_of(activities: &[Activity]) -> u64
     sum
 }
 
-/// The first limit that is broken.
-pub fn broken_limit(
+/// The first limit on durations, requests, capacities and the horizon that is broken.
+pub fn broken_size(
     activities: &[Activity],
     renewable: &[u32],
     nonrenewable: &[u32],
 ) -> Option<LimitName>
+    requires { length activities.now ≤ 202 }
     ensures { let given : ProjectData = record { activities = activities.now; renewable = renewable.now; nonrenewable = nonrenewable.now } in
-        result ≡ broken given }
+        result ≡ broken_amount given }
 {
-    if !(1..=202).contains(&activities.len()) {
-        Some(LimitName::Jobs)
-    } else if are_modes_miscounted(activities) {
-        Some(LimitName::Modes)
-    } else if renewable.len() > 8 {
-        Some(LimitName::Renewable)
-    } else if nonrenewable.len() > 8 {
-        Some(LimitName::Nonrenewable)
-    } else if is_any_activity_long(activities) {
+    if is_any_activity_long(activities) {
         Some(LimitName::Duration)
     } else if is_any_activity_large(activities) {
         Some(LimitName::Request)

@@ -1,55 +1,60 @@
 //! The parts of a project, from the records of the sections.
-
-ghost use Rattle.std.specs.Prelude.{◌≡◌, ℕ, map, IfOk};
+ghost use Rattle.std.specs.Prelude.{◌≡◌, map, IfOk};
 ghost use Rattle.psplib_mm.specs.Contents.{numbers_of, mode_of, activities_of};
 
 use crate::cell::Cell;
-use crate::record::{Group, Job, ModeLine};
+use crate::groups::{Groups, ModeLine, Modes};
+use crate::jobs::Jobs;
 use mrcpsp::{Activity, Mode, Sequence};
 use std::alloc::{AllocError, Global};
 
-pub fn numbers(alloc: Global, cells: &[Cell]) -> Result<Vec<u32>, AllocError>
-    ensures { IfOk result (λ v. v.items ≡ numbers_of cells.now) }
+/// The numbers alone.
+pub fn numbers(alloc: Global, cells: &[Cell]) -> Result<Sequence<u32>, AllocError>
+    ensures { IfOk result (λ numbers. numbers ≡ numbers_of cells.now) }
 {
-    cells.iter().map(|cell| cell.number).collect(alloc)
+    let numbers: Vec<u32> = cells.iter().map(|cell| cell.number).collect(alloc)?;
+    Ok(Sequence::from(numbers))
 }
 
 fn mode(alloc: Global, line: &ModeLine<'_>) -> Result<Mode, AllocError>
-    ensures { IfOk result (λ m. m ≡ mode_of line.now) }
+    ensures { IfOk result (λ mode. mode ≡ mode_of line.now) }
 {
-    let renewable = numbers(alloc, line.renewable)?;
-    let nonrenewable = numbers(alloc, line.nonrenewable)?;
     Ok(Mode {
         duration: line.duration.number,
-        renewable: Sequence::from(renewable),
-        nonrenewable: Sequence::from(nonrenewable),
+        renewable: numbers(alloc, line.renewable)?,
+        nonrenewable: numbers(alloc, line.nonrenewable)?,
     })
 }
 
-fn modes(alloc: Global, lines: &[ModeLine<'_>]) -> Result<Vec<Mode>, AllocError>
-    ensures { IfOk result (λ v. v.items ≡ map mode_of lines.now) }
+fn modes(alloc: Global, lines: &Modes<'_>) -> Result<Sequence<Mode>, AllocError>
+    ensures { IfOk result (λ modes. modes ≡ map mode_of lines.now) }
 {
+    let mut left = lines.again();
     let mut modes = Vec::new(alloc);
-    for line in lines {
-        modes.push(mode(alloc, line)?)?;
+    while let Some(line) = left.next_mode() {
+        modes.push(mode(alloc, &line)?)?;
     }
-    Ok(modes)
+    Ok(Sequence::from(modes))
 }
 
+/// The activities: the modes from the groups, the successors from the jobs.
 pub fn activities(
     alloc: Global,
-    jobs: &[Job<'_>],
-    groups: &[Group<'_>],
+    jobs: &Jobs<'_>,
+    groups: &Groups<'_>,
 ) -> Result<Vec<Activity>, AllocError>
-    ensures { IfOk result (λ v. v.items ≡ activities_of jobs.now groups.now) }
+    ensures { IfOk result (λ activities. activities.items ≡ activities_of jobs.now groups.now) }
 {
+    let mut jobs_left = jobs.again();
+    let mut groups_left = groups.again();
     let mut activities = Vec::new(alloc);
-    for (job, group) in jobs.iter().zip(groups) {
-        let modes = modes(alloc, &group.modes)?;
-        let successors = numbers(alloc, job.successors)?;
+    while let Some(job) = jobs_left.next_job() {
+        let Some(group) = groups_left.next_group() else {
+            return Ok(activities);
+        };
         activities.push(Activity {
-            modes: Sequence::from(modes),
-            successors: Sequence::from(successors),
+            modes: modes(alloc, &group.modes)?,
+            successors: numbers(alloc, job.successors)?,
         })?;
     }
     Ok(activities)

@@ -1,27 +1,21 @@
 //! The project that the numbers of the sections spell.
-
-ghost use Rattle.std.specs.Prelude.{◌≡◌, ℕ, ◌+◌};
-ghost use Rattle.psplib_mm.specs.Contents.{contents, are_enough};
+ghost use Rattle.std.specs.Prelude.{◌≡◌, ◌+◌, ◌≤◌, length, take, drop};
+ghost use Rattle.mrcpsp.specs.Project.{ProjectData};
+ghost use Rattle.psplib_mm.specs.Contents.{contents, activities_of, numbers_of, limited};
 ghost use Rattle.psplib_mm.specs.Gives.{Gives};
 
 use crate::cell::Cell;
-use crate::fault::{MmFault, SectionName};
+use crate::checks::{all_follow, groups_are_numbered, jobs_are_numbered, suffice};
+use crate::fault::MmFault;
+use crate::groups::{Groups, Resources};
 use crate::head::Sizes;
-use crate::limits::broken_limit;
+use crate::jobs::Jobs;
+use crate::limits::{broken_number, broken_size};
 use crate::parts::{activities, numbers};
-use crate::record::{Resources, all_follow, groups, groups_are_numbered, jobs, jobs_are_numbered};
 use mrcpsp::{Project, Sequence};
 use std::alloc::Global;
 
-fn suffice(cells: &[Cell], count: usize) -> Result<(), MmFault>
-    ensures { Gives (λ _. tt) result (are_enough count cells.now) }
-{
-    if cells.len() < count {
-        return Err(MmFault::Count(SectionName::ResourceAvailabilities));
-    }
-    Ok(())
-}
-
+/// The project, or the first fault of what the sections count and number.
 pub fn project(
     alloc: Global,
     sizes: Sizes,
@@ -37,25 +31,24 @@ pub fn project(
     };
     let first = sizes.renewable as usize;
     let second = sizes.nonrenewable as usize;
-    let jobs = jobs(alloc, sizes.jobs, precedence)?;
-    let groups = groups(alloc, &jobs, requests, resources)?;
+    let jobs = Jobs::of(precedence, sizes.jobs)?;
+    let groups = Groups::of(&jobs, requests, resources)?;
     suffice(availabilities, first + second)?;
     jobs_are_numbered(&jobs)?;
     groups_are_numbered(&groups)?;
-    all_follow(&jobs, sizes.jobs as usize)?;
+    all_follow(&jobs, sizes.jobs)?;
+    if let Some(name) = broken_number(&jobs, resources) {
+        return Err(MmFault::Limit(name));
+    }
     let activities = activities(alloc, &jobs, &groups)?;
     let (renewable, others) = availabilities.split_at(first);
     let renewable = numbers(alloc, renewable)?;
     let nonrenewable = numbers(alloc, &others[..second])?;
-    match broken_limit(&activities, &renewable, &nonrenewable) {
-        Some(name) => Err(MmFault::Limit(name)),
-        None => match Project::new(
-            Sequence::from(activities),
-            Sequence::from(renewable),
-            Sequence::from(nonrenewable),
-        ) {
-            Some(project) => Ok(project),
-            None => unreachable!(),
-        },
+    if let Some(name) = broken_size(&activities, renewable.as_slice(), nonrenewable.as_slice()) {
+        return Err(MmFault::Limit(name));
+    }
+    match Project::new(Sequence::from(activities), renewable, nonrenewable) {
+        Some(project) => Ok(project),
+        None => unreachable!(),
     }
 }

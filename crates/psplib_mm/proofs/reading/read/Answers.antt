@@ -1,11 +1,9 @@
-use Rattle.std.proofs.Common.{◌≡◌, List, ap, subst, ◌∙◌, rules}
-use Rattle.mrcpsp.specs.Project.{ProjectData}
-use Rattle.psplib_mm.specs.Text.{Piece, lines_of}
-use Rattle.psplib_mm.specs.Gives.{Gives, capped_meaning}
+use Rattle.std.proofs.Common.{ap, subst, ◌∙◌}
+use Rattle.psplib_mm.specs.Gives.{Gives}
+use Rattle.psplib_mm.specs.Scan.{capped_meaning}
 use Rattle.psplib_mm.proofs.Few.{reading_capped}
 use Rattle.psplib_mm.proofs.reading.read.Goals as goal
 
 pub returns-clause-exact : goal.returns-clause-exact
 returns-clause-exact c =
-    let same : c.deref.result.now ≡ lines_of c.args.text.now = c.deref.ensures.value ∙ c.in_ok-lines.ensures in
-    subst (λ read. Gives (λ p. p) c.project_of.result read) (ap capped_meaning same ∙ reading_capped c.args.text.now c.if-text-gt1048576.false) c.project_of.ensures
+    subst (λ read. Gives (λ p. p) c.project_in.result read) (ap capped_meaning c.of.ensures ∙ reading_capped c.args.text.now c.if-text-gt-MOST_BYTES.false) c.project_in.ensures

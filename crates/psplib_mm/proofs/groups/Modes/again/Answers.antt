@@ -1,0 +1,7 @@
+use Rattle.std.proofs.Common.{rules}
+use Rattle.psplib_mm.specs.Contents.{mode_at}
+use Rattle.psplib_mm.proofs.Steps.{length-records}
+use Rattle.psplib_mm.proofs.groups.Modes.again.Goals as goal
+
+pub returns-clause-few : goal.returns-clause-few
+returns-clause-few c = rw (length-records (mode_at c.self.inside.resources.renewable c.self.inside.resources.nonrenewable) c.self.inside.left c.self.inside.cells.now c.self.invariant) (search rules)
