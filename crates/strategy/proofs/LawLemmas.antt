@@ -8,21 +8,21 @@ use Rattle.std.proofs.lemmas.List.FromFn.{get_or-range_with_len, length-range_wi
 use Rattle.mrcpsp.specs.Project.{ProjectData, size, mode_count}
 use Rattle.mrcpsp.specs.Schedule.{ScheduleData, IsFeasible, IsOptimal, IsInfeasible, makespan}
 use Rattle.mrcpsp.specs.Limits.{IsProject}
-use Rattle.mrcpsp.specs.Placed.{Placed, is_eligible, is_executable, is_affordable, schedule_of}
-use Rattle.strategy.specs.Tree.{Candidate, modes_of, candidates, placing, is_pruned, improved, updated, after, Below, visit_one, visit_all, visits, all_visits, best_after, is_closed}
-use Rattle.strategy.specs.Laws.{ClosedDecides, BestIsFeasible}
+use Rattle.mrcpsp.specs.Placed.{last_start, Placed, is_eligible, is_executable, is_affordable, schedule_of}
+use Rattle.strategy.specs.Tree.{modes_of, candidates, placing, is_pruned, improved, updated, after, Below, visit_one, visit_all, visits, all_visits, best_after, is_closed}
+use Rattle.strategy.specs.Candidate.{Candidate, placed_from}
 use Rattle.strategy.proofs.FollowLemmas.{follows-nil}
 use Rattle.strategy.proofs.TreeLemmas.{Reached, visits-reaches}
 use Rattle.strategy.proofs.SoundLemmas.{IsSound, IsOpen, sound-nil, sound-push, feasible-full}
 
-abbrev Good : ProjectData → Option ScheduleData → Type 0
+abbrev pub Good : ProjectData → Option ScheduleData → Type 0
 Good p best = IfSome best (λ s. IsFeasible p s)
 
 All-flat_map : {X Y : Type 0} (P : Y → Type 0) (f : X → List Y) (xs : List X) → All (λ x. All P (f x)) xs → All P (flat_map f xs)
 All-flat_map P f [] h = All-nil P
 All-flat_map P f (x ∷ xs) h = All-append P (f x) (flat_map f xs) (All-head (λ y. All P (f y)) x xs h) (All-flat_map P f xs (All-tail (λ y. All P (f y)) x xs h))
 
-All-range : (P : ℕ → Type 0) (n : ℕ) → ((i : ℕ) → i < n → P i) → All P (range_with_len 0 n)
+pub All-range : (P : ℕ → Type 0) (n : ℕ) → ((i : ℕ) → i < n → P i) → All P (range_with_len 0 n)
 All-range P n h k d l =
     let inside : k < n = subst (λ m. k < m) (length-range_with_len 0 n) l in
     subst P (let e : k ≡ get_or (range_with_len 0 n) k d = omega (arith, get_or-range_with_len 0 n k d inside) in e) (h k inside)
@@ -44,7 +44,7 @@ after-good : (p : ProjectData) (nodes : List (Option ScheduleData)) (best : Opti
 after-good p [] best h all = h
 after-good p (x ∷ nodes) best h all = after-good p nodes x (All-head (Good p) x nodes all) (All-tail (Good p) x nodes all)
 
-improved-good : (p : ProjectData) (best : Option ScheduleData) (s : ScheduleData) → Good p best → IsFeasible p s → Good p (improved p best s)
+pub improved-good : (p : ProjectData) (best : Option ScheduleData) (s : ScheduleData) → Good p best → IsFeasible p s → Good p (improved p best s)
 improved-good p None s h feasible = feasible
 improved-good p (Some best) s h feasible = cond_both (nat_lt (makespan p s) (makespan p best)) (Some s) (Some best) (Good p) (λ _. feasible) (λ _. h)
 
@@ -64,7 +64,7 @@ module _ (p : ProjectData) (ok : IsProject p) where
   kept-sound placed sound c able best kept =
       let first = or_parts (not (is_executable p c.activity c.mode)) _ kept in
       let second = or_parts (not (is_affordable p placed c.activity c.mode)) _ first.1 in
-      sound-push p placed c ok sound able (not-false (is_executable p c.activity c.mode) first.0) (not-false (is_affordable p placed c.activity c.mode) second.0)
+      sound-push p placed (last_start placed) c ok sound able (not-false (is_executable p c.activity c.mode) first.0) (not-false (is_affordable p placed c.activity c.mode) second.0)
 
   one-good : (d : ℕ) (below : Below) → SoundBelow d below → (placed : List Placed) → IsSound p placed → length placed + suc d ≡ size p → (c : Candidate) → IsOpen p placed c → (best : Option ScheduleData) → Good p best → All (Good p) (visit_one below p placed c best)
   unfolding visit_one
@@ -90,7 +90,7 @@ module _ (p : ProjectData) (ok : IsProject p) where
   visits-good zero placed best h sound count = All-nil (Good p)
   visits-good (suc d) placed best h sound count = all-good d (visits p d) (visits-good d) placed sound count (candidates p placed) (candidates-open p placed) best h
 
-pub best_is_feasible : BestIsFeasible
+pub best_is_feasible : (p : ProjectData) → IsProject p → (k : ℕ) → IfSome (best_after p k) (λ s. IsFeasible p s)
 unfolding best_after all_visits
 best_is_feasible p ok k =
     after-good p (take k (all_visits p)) None tt (All-take (Good p) k (all_visits p) (visits-good p ok (size p) [] None tt (sound-nil p) (omega arith)))
@@ -106,5 +106,5 @@ decides : (p : ProjectData) (best : Option ScheduleData) → Good p best → ((s
 decides p None h reaches = reaches
 decides p (Some s) h reaches = record { feasible = h; least = reaches }
 
-pub closed_decides : ClosedDecides
+pub closed_decides : (p : ProjectData) → IsProject p → (k : ℕ) → is_closed p k ≡ true → MatchOption (best_after p k) (IsInfeasible p) (λ s. IsOptimal p s)
 closed_decides p ok k closed = decides p (best_after p k) (best_is_feasible p ok k) (closed-reaches p ok k closed)

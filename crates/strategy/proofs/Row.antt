@@ -6,6 +6,7 @@ use Rattle.mrcpsp.specs.Values.{shortest, least}
 use Rattle.mrcpsp.specs.Placed.{placed_use, placed_consumption, last_start, are_ready, fits, is_allowed, earliest, is_eligible, is_executable, reserve, is_affordable, schedule_of}
 use Rattle.mrcpsp.specs.Values.{tail}
 use Rattle.strategy.specs.Tree.{candidates, placing, is_pruned, updated, visit_one, all_visits}
+use Rattle.strategy.specs.Candidate.{placed_from}
 
 abbrev mode : ℕ → ℕ → ℕ → ModeData
 mode d r n = record { duration = d; renewable = r ∷ []; nonrenewable = n ∷ [] }
@@ -27,5 +28,5 @@ unfolding all_visits makespan finish start_of mode_of duration size modes
 lengths p = map (λ o. option_map (makespan p) o) (all_visits p)
 
 row : lengths example ≡ None ∷ None ∷ None ∷ Some 5 ∷ Some 5 ∷ Some 4 ∷ Some 4 ∷ Some 4 ∷ Some 4 ∷ []
-unfolding all_visits makespan finish start_of mode_of duration size modes renewables nonrenewables mode_count successors request consumption capacity stock precedes load shortest least placed_use placed_consumption last_start are_ready fits is_allowed earliest is_eligible is_executable reserve is_affordable tail schedule_of candidates placing is_pruned updated visit_one
+unfolding all_visits makespan finish start_of mode_of duration size modes renewables nonrenewables mode_count successors request consumption capacity stock precedes load shortest least placed_use placed_consumption last_start are_ready fits is_allowed earliest is_eligible is_executable reserve is_affordable tail schedule_of candidates placed_from is_pruned updated visit_one
 row = refl

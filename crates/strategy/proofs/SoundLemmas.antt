@@ -10,7 +10,8 @@ use Rattle.mrcpsp.specs.Project.{ProjectData, size, renewables, nonrenewables, m
 use Rattle.mrcpsp.specs.Limits.{IsProject}
 use Rattle.mrcpsp.specs.Schedule.{IsFeasible, mode_of, start_of, finish, load, use_of, consumed}
 use Rattle.mrcpsp.specs.Placed.{Placed, is_placed, finish_of, placed_use, placed_consumption, last_start, are_ready, fits, is_allowed, is_eligible, is_executable, is_affordable, reserve, mode_in, start_in, schedule_of}
-use Rattle.strategy.specs.Tree.{Candidate, placing}
+use Rattle.strategy.specs.Tree.{placing}
+use Rattle.strategy.specs.Candidate.{Candidate, placed_from}
 use Rattle.mrcpsp.proofs.NumbersLemmas.{sum_below-same, sum_by-same-all, all_below-at}
 use Rattle.mrcpsp.proofs.ProjectLemmas.{precedes-rising, load-running, load-before, load-over}
 use Rattle.mrcpsp.proofs.PlacedLemmas.{IsDistinct, IsDistinct-push, is_placed_push, sum_split, all_placed, looked_up, looks_itself_up}
@@ -45,35 +46,35 @@ pub record IsOpen (p : ProjectData) (placed : List Placed) (c : Candidate) : Typ
   pub mode : c.mode < mode_count p c.activity
   pub eligible : is_eligible p placed c.activity ≡ true
 
-module _ (p : ProjectData) (placed : List Placed) (c : Candidate) (ok : IsProject p) (sound : IsSound p placed) (able : IsOpen p placed c) (executable : is_executable p c.activity c.mode ≡ true) (affordable : is_affordable p placed c.activity c.mode ≡ true) where
-  allowed : is_allowed p placed c.activity c.mode (placing p placed c).start ≡ true
-  unfolding placing
-  allowed = earliest-allowed p placed c.activity c.mode (last_start placed) executable
+module _ (p : ProjectData) (placed : List Placed) (from : ℕ) (c : Candidate) (ok : IsProject p) (sound : IsSound p placed) (able : IsOpen p placed c) (executable : is_executable p c.activity c.mode ≡ true) (affordable : is_affordable p placed c.activity c.mode ≡ true) where
+  allowed : is_allowed p placed c.activity c.mode (placed_from p placed from c).start ≡ true
+  unfolding placed_from
+  allowed = earliest-allowed p placed c.activity c.mode from executable
 
-  use-push : (r t : ℕ) → r < renewables p → placed_use p (placed ++ placing p placed c ∷ []) r t ≤ capacity p r
-  unfolding placed_use placing is_allowed
+  use-push : (r t : ℕ) → r < renewables p → placed_use p (placed ++ placed_from p placed from c ∷ []) r t ≤ capacity p r
+  unfolding placed_use placed_from is_allowed
   use-push r t inside =
-      let a = placing p placed c in
-      let room : a.start ≤ t → t < a.start + duration p c.activity c.mode → placed_use p placed r t + request p c.activity c.mode r ≤ capacity p r = λ from until. fits-at p placed c.activity c.mode a.start (and_parts (are_ready p placed c.activity a.start) (fits p placed c.activity c.mode a.start) allowed).1 r t inside from until in
+      let a = placed_from p placed from c in
+      let room : a.start ≤ t → t < a.start + duration p c.activity c.mode → placed_use p placed r t + request p c.activity c.mode r ≤ capacity p r = λ begun until. fits-at p placed c.activity c.mode a.start (and_parts (are_ready p placed c.activity a.start) (fits p placed c.activity c.mode a.start) allowed).1 r t inside begun until in
       rw (sum_by_push (λ (b : Placed). load p r t b.activity b.mode b.start) placed a)
       (⊎_elim (λ (early : t < a.start). omega (arith, load-before p r t c.activity c.mode a.start early, sound.renewable r t inside))
-      (λ (from : a.start ≤ t). ⊎_elim
-      (λ (until : t < a.start + duration p c.activity c.mode). omega (arith, load-running p r t c.activity c.mode a.start from until, room from until))
+      (λ (begun : a.start ≤ t). ⊎_elim
+      (λ (until : t < a.start + duration p c.activity c.mode). omega (arith, load-running p r t c.activity c.mode a.start begun until, room begun until))
       (λ (over : a.start + duration p c.activity c.mode ≤ t). omega (arith, load-over p r t c.activity c.mode a.start over, sound.renewable r t inside))
       (cases_lt t (a.start + duration p c.activity c.mode)))
       (cases_lt t a.start))
 
-  consumption-push : (r : ℕ) → r < nonrenewables p → placed_consumption p (placed ++ placing p placed c ∷ []) r ≤ stock p r
-  unfolding placed_consumption placing is_affordable
+  consumption-push : (r : ℕ) → r < nonrenewables p → placed_consumption p (placed ++ placed_from p placed from c ∷ []) r ≤ stock p r
+  unfolding placed_consumption placed_from is_affordable
   consumption-push r inside =
-      let a = placing p placed c in
+      let a = placed_from p placed from c in
       rw (sum_by_push (λ (b : Placed). consumption p b.activity b.mode r) placed a)
       (omega (arith, leb-true (placed_consumption p placed r + consumption p c.activity c.mode r + reserve p placed c.activity r) (stock p r) (all_below-at (λ r. nat_le (placed_consumption p placed r + consumption p c.activity c.mode r + reserve p placed c.activity r) (stock p r)) (nonrenewables p) r affordable inside)))
 
-  pub sound-push : IsSound p (placed ++ placing p placed c ∷ [])
-  unfolding placing is_allowed
+  pub sound-push : IsSound p (placed ++ placed_from p placed from c ∷ [])
+  unfolding placed_from is_allowed
   sound-push =
-      let new : Placed = placing p placed c in
+      let new : Placed = placed_from p placed from c in
       let j : ℕ = c.activity in
       let unplaced : is_placed placed j ≡ false = eligible-unplaced p placed j able.eligible in
       let grown : (i : ℕ) → is_placed placed i ≡ true → is_placed (placed ++ new ∷ []) i ≡ true = λ i h. is_placed_push placed new i ∙ or_left (is_placed placed i) (j == i) h in

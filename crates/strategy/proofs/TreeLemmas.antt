@@ -10,7 +10,8 @@ use Rattle.mrcpsp.specs.Schedule.{ScheduleData, IsFeasible, mode_of, start_of, f
 use Rattle.mrcpsp.specs.Limits.{IsProject}
 use Rattle.mrcpsp.specs.Placed.{Placed, is_placed, last_start, earliest, is_eligible, is_executable, is_affordable, schedule_of}
 use Rattle.mrcpsp.specs.Values.{tail}
-use Rattle.strategy.specs.Tree.{Candidate, modes_of, candidates, placing, is_too_late, is_pruned, improved, updated, after, Below, visit_one, visit_all, visits}
+use Rattle.strategy.specs.Tree.{modes_of, candidates, placing, is_too_late, is_pruned, improved, updated, after, Below, visit_one, visit_all, visits}
+use Rattle.strategy.specs.Candidate.{Candidate, placed_from}
 use Rattle.mrcpsp.proofs.NumbersLemmas.{sum_below-same}
 use Rattle.mrcpsp.proofs.ProjectLemmas.{tail-le}
 use Rattle.mrcpsp.proofs.PlacedLemmas.{count_split}
@@ -135,7 +136,7 @@ module _ (p : ProjectData) (s : ScheduleData) (ok : IsProject p) (feasible : IsF
   Reaches d = (placed : List Placed) (best : Option ScheduleData) → Follows p s placed → length placed + d ≡ size p → 0 < d → Reached p (makespan p s) (after best (visits p d placed best))
 
   pruned-reaches : (placed : List Placed) (g : ℕ) → Follows p s placed → IsNextBy p s placed g → (best : Option ScheduleData) → is_pruned p placed (record { activity = g; mode = mode_of s g }) best ≡ true → Reached p (makespan p s) best
-  unfolding is_pruned placing finish
+  unfolding is_pruned placed_from finish
   pruned-reaches placed g follows next best pruned =
       let early : earliest p placed g (mode_of s g) (last_start placed) ≤ start_of s g = next-earliest p s placed g ok feasible follows next in
       ⊎_elim (λ no. absurd (both_ways (not (is_executable p g (mode_of s g))) (not_from_true (is_executable p g (mode_of s g)) (next-executable p s placed g ok feasible follows next)) no))
@@ -149,7 +150,7 @@ module _ (p : ProjectData) (s : ScheduleData) (ok : IsProject p) (feasible : IsF
   follow_below (suc d) below placed best follows count = below placed (updated p placed best) follows count (omega arith)
 
   follow_one : (d : ℕ) → Reaches d → (placed : List Placed) (g : ℕ) → Follows p s placed → IsNextBy p s placed g → length placed + suc d ≡ size p → (best : Option ScheduleData) → Reached p (makespan p s) (after best (visit_one (visits p d) p placed (record { activity = g; mode = mode_of s g }) best))
-  unfolding visit_one placing
+  unfolding visit_one placed_from
   follow_one d below placed g follows next count best =
       let c : Candidate = record { activity = g; mode = mode_of s g } in
       let new : List Placed = placed ++ placing p placed c ∷ [] in

@@ -1,2 +1,7 @@
+pub mod Candidate
 pub mod Tree
+pub mod Words
+pub mod Pass
+pub mod Outcome
+pub mod Search
 pub mod Laws

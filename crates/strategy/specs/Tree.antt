@@ -1,14 +1,11 @@
--- The precedence tree. One node examines one candidate, an eligible activity in one mode.
+-- The precedence tree (Sprecher and Drexl 1998). One node examines one candidate, an eligible activity in one mode.
 use Rattle.std.specs.Prelude.{ℕ, zero, suc, ◌+◌, Bool, false, cond, not, ◌||◌, nat_lt, nat_le, List, [], ◌∷◌, ◌++◌, length, map, take, fold, filter, flat_map, Option, Some, None}
 use Rattle.std.specs.List.{range_with_len}
 use Rattle.mrcpsp.specs.Project.{ProjectData, size, mode_count}
 use Rattle.mrcpsp.specs.Schedule.{ScheduleData, makespan}
-use Rattle.mrcpsp.specs.Placed.{Placed, last_start, earliest, finish_of, is_eligible, is_executable, is_affordable, schedule_of}
+use Rattle.mrcpsp.specs.Placed.{Placed, last_start, finish_of, is_eligible, is_executable, is_affordable, schedule_of}
 use Rattle.mrcpsp.specs.Values.{tail}
-
-pub record Candidate : Type 0 where
-  pub activity : ℕ
-  pub mode : ℕ
+use Rattle.strategy.specs.Candidate.{Candidate, placed_from}
 
 -- by rising activity, then by rising mode
 abbrev pub modes_of : ProjectData → ℕ → List Candidate
@@ -17,9 +14,9 @@ modes_of p j = map (λ m. record { activity = j; mode = m }) (range_with_len 0 (
 unfoldable pub candidates : ProjectData → List Placed → List Candidate
 candidates p placed = flat_map (modes_of p) (filter (is_eligible p placed) (range_with_len 0 (size p)))
 
--- the candidate at its earliest start
-unfoldable pub placing : ProjectData → List Placed → Candidate → Placed
-placing p placed c = record { activity = c.activity; mode = c.mode; start = earliest p placed c.activity c.mode (last_start placed) }
+-- the candidate at its earliest start from the start that was chosen on the level above
+abbrev pub placing : ProjectData → List Placed → Candidate → Placed
+placing p placed c = placed_from p placed (last_start placed) c
 
 abbrev pub is_too_late : ProjectData → Option ScheduleData → ℕ → Bool
 is_too_late p None at = false
