@@ -9,14 +9,17 @@ use Rattle.mrcpsp.specs.Project.{ProjectData, size, mode_count}
 use Rattle.mrcpsp.specs.Schedule.{ScheduleData, IsFeasible, IsOptimal, IsInfeasible, makespan}
 use Rattle.mrcpsp.specs.Limits.{IsProject}
 use Rattle.mrcpsp.specs.Placed.{last_start, Placed, is_eligible, is_executable, is_affordable, schedule_of}
-use Rattle.strategy.specs.Tree.{modes_of, candidates, placing, is_pruned, improved, updated, after, Below, visit_one, visit_all, visits, all_visits, best_after, is_closed}
+use Rattle.strategy.specs.Tree.{Node, modes_of, candidates, placing, is_pruned, improved, updated, after, Below, visit_one, visit_all, visits, all_visits, best_after, is_closed}
 use Rattle.strategy.specs.Candidate.{Candidate, placed_from}
 use Rattle.strategy.proofs.FollowLemmas.{follows-nil}
-use Rattle.strategy.proofs.TreeLemmas.{Reached, visits-reaches}
+use Rattle.strategy.proofs.TreeLemmas.{Reached, pruned_node, placed_node, visits-reaches}
 use Rattle.strategy.proofs.SoundLemmas.{IsSound, IsOpen, sound-nil, sound-push, feasible-full}
 
 abbrev pub Good : ProjectData → Option ScheduleData → Type 0
 Good p best = IfSome best (λ s. IsFeasible p s)
+
+abbrev GoodNode : ProjectData → Node → Type 0
+GoodNode p n = Good p n.best
 
 All-flat_map : {X Y : Type 0} (P : Y → Type 0) (f : X → List Y) (xs : List X) → All (λ x. All P (f x)) xs → All P (flat_map f xs)
 All-flat_map P f [] h = All-nil P
@@ -40,9 +43,9 @@ candidates-open p placed =
     All-map (IsOpen p placed) (λ m. record { activity = j; mode = m }) (range_with_len 0 (mode_count p j))
     (All-range (λ m. IsOpen p placed (record { activity = j; mode = m })) (mode_count p j) (λ m h. record { inside = inside; mode = h; eligible = eligible })))
 
-after-good : (p : ProjectData) (nodes : List (Option ScheduleData)) (best : Option ScheduleData) → Good p best → All (Good p) nodes → Good p (after best nodes)
+after-good : (p : ProjectData) (nodes : List Node) (best : Option ScheduleData) → Good p best → All (GoodNode p) nodes → Good p (after best nodes)
 after-good p [] best h all = h
-after-good p (x ∷ nodes) best h all = after-good p nodes x (All-head (Good p) x nodes all) (All-tail (Good p) x nodes all)
+after-good p (x ∷ nodes) best h all = after-good p nodes x.best (All-head (GoodNode p) x nodes all) (All-tail (GoodNode p) x nodes all)
 
 pub improved-good : (p : ProjectData) (best : Option ScheduleData) (s : ScheduleData) → Good p best → IsFeasible p s → Good p (improved p best s)
 improved-good p None s h feasible = feasible
@@ -57,7 +60,7 @@ updated-good p placed best h sound short =
 
 module _ (p : ProjectData) (ok : IsProject p) where
   abbrev SoundBelow : ℕ → Below → Type 0
-  SoundBelow d below = (placed : List Placed) (best : Option ScheduleData) → Good p best → IsSound p placed → length placed + d ≡ size p → All (Good p) (below placed best)
+  SoundBelow d below = (placed : List Placed) (best : Option ScheduleData) → Good p best → IsSound p placed → length placed + d ≡ size p → All (GoodNode p) (below placed best)
 
   kept-sound : (placed : List Placed) → IsSound p placed → (c : Candidate) → IsOpen p placed c → (best : Option ScheduleData) → is_pruned p placed c best ≡ false → IsSound p (placed ++ placing p placed c ∷ [])
   unfolding is_pruned
@@ -66,34 +69,34 @@ module _ (p : ProjectData) (ok : IsProject p) where
       let second = or_parts (not (is_affordable p placed c.activity c.mode)) _ first.1 in
       sound-push p placed (last_start placed) c ok sound able (not-false (is_executable p c.activity c.mode) first.0) (not-false (is_affordable p placed c.activity c.mode) second.0)
 
-  one-good : (d : ℕ) (below : Below) → SoundBelow d below → (placed : List Placed) → IsSound p placed → length placed + suc d ≡ size p → (c : Candidate) → IsOpen p placed c → (best : Option ScheduleData) → Good p best → All (Good p) (visit_one below p placed c best)
+  one-good : (d : ℕ) (below : Below) → SoundBelow d below → (placed : List Placed) → IsSound p placed → length placed + suc d ≡ size p → (c : Candidate) → IsOpen p placed c → (best : Option ScheduleData) → Good p best → All (GoodNode p) (visit_one below p placed c best)
   unfolding visit_one
   one-good d below each placed sound count c able best h =
       let next : List Placed = placed ++ placing p placed c ∷ [] in
       let longer : length next ≡ length placed + 1 = length_push placed (placing p placed c) in
-      cond_both (is_pruned p placed c best) (best ∷ []) (updated p next best ∷ below next (updated p next best)) (All (Good p))
-      (λ _. All-cons (Good p) best [] h (All-nil (Good p)))
+      cond_both (is_pruned p placed c best) (pruned_node p placed c best ∷ []) (placed_node p placed c best ∷ below next (updated p next best)) (All (GoodNode p))
+      (λ _. All-cons (GoodNode p) (pruned_node p placed c best) [] h (All-nil (GoodNode p)))
       (λ kept.
       let grown : IsSound p next = kept-sound placed sound c able best kept in
       let good : Good p (updated p next best) = updated-good p next best h grown (omega arith) in
-      All-cons (Good p) (updated p next best) (below next (updated p next best)) good (each next (updated p next best) good grown (omega arith)))
+      All-cons (GoodNode p) (placed_node p placed c best) (below next (updated p next best)) good (each next (updated p next best) good grown (omega arith)))
 
-  all-good : (d : ℕ) (below : Below) → SoundBelow d below → (placed : List Placed) → IsSound p placed → length placed + suc d ≡ size p → (cs : List Candidate) → All (IsOpen p placed) cs → (best : Option ScheduleData) → Good p best → All (Good p) (visit_all below p placed cs best)
-  all-good d below each placed sound count [] able best h = All-nil (Good p)
+  all-good : (d : ℕ) (below : Below) → SoundBelow d below → (placed : List Placed) → IsSound p placed → length placed + suc d ≡ size p → (cs : List Candidate) → All (IsOpen p placed) cs → (best : Option ScheduleData) → Good p best → All (GoodNode p) (visit_all below p placed cs best)
+  all-good d below each placed sound count [] able best h = All-nil (GoodNode p)
   all-good d below each placed sound count (c ∷ cs) able best h =
       let here = visit_one below p placed c best in
-      let good : All (Good p) here = one-good d below each placed sound count c (All-head (IsOpen p placed) c cs able) best h in
-      All-append (Good p) here (visit_all below p placed cs (after best here)) good
+      let good : All (GoodNode p) here = one-good d below each placed sound count c (All-head (IsOpen p placed) c cs able) best h in
+      All-append (GoodNode p) here (visit_all below p placed cs (after best here)) good
       (all-good d below each placed sound count cs (All-tail (IsOpen p placed) c cs able) (after best here) (after-good p here best h good))
 
   visits-good : (d : ℕ) → SoundBelow d (visits p d)
-  visits-good zero placed best h sound count = All-nil (Good p)
+  visits-good zero placed best h sound count = All-nil (GoodNode p)
   visits-good (suc d) placed best h sound count = all-good d (visits p d) (visits-good d) placed sound count (candidates p placed) (candidates-open p placed) best h
 
 pub best_is_feasible : (p : ProjectData) → IsProject p → (k : ℕ) → IfSome (best_after p k) (λ s. IsFeasible p s)
 unfolding best_after all_visits
 best_is_feasible p ok k =
-    after-good p (take k (all_visits p)) None tt (All-take (Good p) k (all_visits p) (visits-good p ok (size p) [] None tt (sound-nil p) (omega arith)))
+    after-good p (take k (all_visits p)) None tt (All-take (GoodNode p) k (all_visits p) (visits-good p ok (size p) [] None tt (sound-nil p) (omega arith)))
 
 -- whatever is feasible, the closed tree's incumbent is at most as long
 closed-reaches : (p : ProjectData) → IsProject p → (k : ℕ) → is_closed p k ≡ true → (s : ScheduleData) → IsFeasible p s → Reached p (makespan p s) (best_after p k)

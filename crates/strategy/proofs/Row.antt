@@ -25,7 +25,7 @@ example = record {
 
 abbrev lengths : ProjectData → List (Option ℕ)
 unfolding all_visits makespan finish start_of mode_of duration size modes
-lengths p = map (λ o. option_map (makespan p) o) (all_visits p)
+lengths p = map (λ n. option_map (makespan p) n.best) (all_visits p)
 
 row : lengths example ≡ None ∷ None ∷ None ∷ Some 5 ∷ Some 5 ∷ Some 4 ∷ Some 4 ∷ Some 4 ∷ Some 4 ∷ []
 unfolding all_visits makespan finish start_of mode_of duration size modes renewables nonrenewables mode_count successors request consumption capacity stock precedes load shortest least placed_use placed_consumption last_start are_ready fits is_allowed earliest is_eligible is_executable reserve is_affordable tail schedule_of candidates placed_from is_pruned updated visit_one

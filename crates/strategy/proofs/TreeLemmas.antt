@@ -1,5 +1,5 @@
 -- The tree reaches a schedule that is no longer than any feasible one.
-use Rattle.std.proofs.Common.{◌≡◌, ℕ, zero, suc, ◌+◌, ◌<◌, ◌≤◌, Bool, true, cond, not, nat_lt, ◌⊎◌, inl, inr, List, [], ◌∷◌, ◌++◌, length, map, filter, flat_map, Option, Some, None, arith, refl, sym, ap, le_trans, ◌∙◌, subst, ⊎_elim}
+use Rattle.std.proofs.Common.{◌≡◌, ℕ, zero, suc, ◌+◌, ◌<◌, ◌≤◌, Bool, true, false, cond, not, nat_lt, ◌⊎◌, inl, inr, List, [], ◌∷◌, ◌++◌, length, map, filter, flat_map, Option, Some, None, arith, refl, sym, ap, le_trans, ◌∙◌, subst, ⊎_elim}
 use Rattle.std.specs.List.{range_with_len}
 use Rattle.std.proofs.lemmas.Bool.{or_cases, cond_both, cond-true, cond-false, cases_lt, both_ways, false≢true, leb-true, ltb-true, ltb-false, le-ltb, not_from_true}
 use Rattle.std.proofs.lemmas.List.{length_push}
@@ -10,7 +10,7 @@ use Rattle.mrcpsp.specs.Schedule.{ScheduleData, IsFeasible, mode_of, start_of, f
 use Rattle.mrcpsp.specs.Limits.{IsProject}
 use Rattle.mrcpsp.specs.Placed.{Placed, is_placed, last_start, earliest, is_eligible, is_executable, is_affordable, schedule_of}
 use Rattle.mrcpsp.specs.Values.{tail}
-use Rattle.strategy.specs.Tree.{modes_of, candidates, placing, is_too_late, is_pruned, improved, updated, after, Below, visit_one, visit_all, visits}
+use Rattle.strategy.specs.Tree.{Node, modes_of, candidates, placing, is_too_late, is_pruned, improved, updated, after, Below, visit_one, visit_all, visits}
 use Rattle.strategy.specs.Candidate.{Candidate, placed_from}
 use Rattle.mrcpsp.proofs.NumbersLemmas.{sum_below-same}
 use Rattle.mrcpsp.proofs.ProjectLemmas.{tail-le}
@@ -79,6 +79,13 @@ unfolding updated
 updated-reaches p k placed best full h =
     rw (cond-false (nat_lt (length placed) (size p)) best (improved p best (schedule_of (size p) placed)) (le-ltb (length placed) (size p) (omega arith))) (improved-reaches p k best (schedule_of (size p) placed) h)
 
+-- the node of a candidate that is pruned, and of one that is placed
+abbrev pub pruned_node : ProjectData → List Placed → Candidate → Option ScheduleData → Node
+pruned_node p placed c best = record { place = placing p placed c; pruned = true; best = best }
+
+abbrev pub placed_node : ProjectData → List Placed → Candidate → Option ScheduleData → Node
+placed_node p placed c best = record { place = placing p placed c; pruned = false; best = updated p (placed ++ placing p placed c ∷ []) best }
+
 -- what is reached stays reached
 abbrev Keeps : ProjectData → ℕ → Below → Type 0
 Keeps p k below = (placed : List Placed) (best : Option ScheduleData) → Reached p k best → Reached p k (after best (below placed best))
@@ -87,11 +94,11 @@ visit_one-keeps : (p : ProjectData) (k : ℕ) (below : Below) → Keeps p k belo
 unfolding visit_one
 visit_one-keeps p k below keeps placed c best h =
     let next : List Placed = placed ++ placing p placed c ∷ [] in
-    cond_both (is_pruned p placed c best) (best ∷ []) (updated p next best ∷ below next (updated p next best)) (λ nodes. Reached p k (after best nodes)) (λ _. h)
+    cond_both (is_pruned p placed c best) (pruned_node p placed c best ∷ []) (placed_node p placed c best ∷ below next (updated p next best)) (λ nodes. Reached p k (after best nodes)) (λ _. h)
     (λ _. keeps next (updated p next best) (updated-keeps p k next best h))
 
-pub after-append : (best : Option ScheduleData) (xs ys : List (Option ScheduleData)) → after best (xs ++ ys) ≡ after (after best xs) ys
-after-append best xs ys = fold-append (λ _ x. x) best xs ys
+pub after-append : (best : Option ScheduleData) (xs ys : List Node) → after best (xs ++ ys) ≡ after (after best xs) ys
+after-append best xs ys = fold-append (λ _ n. n.best) best xs ys
 
 visit_all-keeps : (p : ProjectData) (k : ℕ) (below : Below) → Keeps p k below → (placed : List Placed) (cs : List Candidate) (best : Option ScheduleData) → Reached p k best → Reached p k (after best (visit_all below p placed cs best))
 visit_all-keeps p k below keeps placed [] best h = h
@@ -154,7 +161,7 @@ module _ (p : ProjectData) (s : ScheduleData) (ok : IsProject p) (feasible : IsF
   follow_one d below placed g follows next count best =
       let c : Candidate = record { activity = g; mode = mode_of s g } in
       let new : List Placed = placed ++ placing p placed c ∷ [] in
-      cond_both (is_pruned p placed c best) (best ∷ []) (updated p new best ∷ visits p d new (updated p new best)) (λ nodes. Reached p (makespan p s) (after best nodes))
+      cond_both (is_pruned p placed c best) (pruned_node p placed c best ∷ []) (placed_node p placed c best ∷ visits p d new (updated p new best)) (λ nodes. Reached p (makespan p s) (after best nodes))
       (λ pruned. pruned-reaches placed g follows next best pruned)
       (λ _. follow_below d below new best (follows-push p s placed g ok feasible follows next (earliest p placed g (mode_of s g) (last_start placed)) (next-earliest p s placed g ok feasible follows next)) (omega (arith, length_push placed (placing p placed c))))
 

@@ -1,5 +1,5 @@
 -- The precedence tree (Sprecher and Drexl 1998). One node examines one candidate, an eligible activity in one mode.
-use Rattle.std.specs.Prelude.{ℕ, zero, suc, ◌+◌, Bool, false, cond, not, ◌||◌, nat_lt, nat_le, List, [], ◌∷◌, ◌++◌, length, map, take, fold, filter, flat_map, Option, Some, None}
+use Rattle.std.specs.Prelude.{ℕ, zero, suc, ◌+◌, Bool, true, false, cond, not, ◌||◌, nat_lt, nat_le, List, [], ◌∷◌, ◌++◌, length, map, take, fold, filter, flat_map, Option, Some, None}
 use Rattle.std.specs.List.{range_with_len}
 use Rattle.mrcpsp.specs.Project.{ProjectData, size, mode_count}
 use Rattle.mrcpsp.specs.Schedule.{ScheduleData, makespan}
@@ -34,32 +34,39 @@ improved p (Some best) s = cond (nat_lt (makespan p s) (makespan p best)) (Some 
 unfoldable pub updated : ProjectData → List Placed → Option ScheduleData → Option ScheduleData
 updated p placed best = cond (nat_lt (length placed) (size p)) best (improved p best (schedule_of (size p) placed))
 
+-- a node: where its candidate would be placed, whether it was pruned, and the incumbent after it
+pub record Node : Type 0 where
+  pub place : Placed
+  pub pruned : Bool
+  pub best : Option ScheduleData
+
 -- the incumbent after a list of nodes
-abbrev pub after : Option ScheduleData → List (Option ScheduleData) → Option ScheduleData
-after best nodes = fold (λ _ x. x) best nodes
+abbrev pub after : Option ScheduleData → List Node → Option ScheduleData
+after best nodes = fold (λ _ n. n.best) best nodes
 
 -- the nodes of one candidate, and of a list of them on one level. `below` gives those of the levels below
 abbrev pub Below : Type 0
-Below = List Placed → Option ScheduleData → List (Option ScheduleData)
+Below = List Placed → Option ScheduleData → List Node
 
-unfoldable pub visit_one : Below → ProjectData → List Placed → Candidate → Option ScheduleData → List (Option ScheduleData)
+unfoldable pub visit_one : Below → ProjectData → List Placed → Candidate → Option ScheduleData → List Node
 visit_one below p placed c best =
-    cond (is_pruned p placed c best) (best ∷ [])
-    (let next = placed ++ placing p placed c ∷ [] in
+    let place = placing p placed c in
+    cond (is_pruned p placed c best) (record { place = place; pruned = true; best = best } ∷ [])
+    (let next = placed ++ place ∷ [] in
     let kept = updated p next best in
-    kept ∷ below next kept)
+    record { place = place; pruned = false; best = kept } ∷ below next kept)
 
-abbrev pub visit_all : Below → ProjectData → List Placed → List Candidate → Option ScheduleData → List (Option ScheduleData)
+abbrev pub visit_all : Below → ProjectData → List Placed → List Candidate → Option ScheduleData → List Node
 visit_all below p placed [] best = []
 visit_all below p placed (c ∷ cs) best =
     visit_one below p placed c best ++ visit_all below p placed cs (after best (visit_one below p placed c best))
 
--- the nodes, each as the incumbent after it, where d activities are not placed
-abbrev pub visits : ProjectData → ℕ → List Placed → Option ScheduleData → List (Option ScheduleData)
+-- the nodes where d activities are not placed
+abbrev pub visits : ProjectData → ℕ → List Placed → Option ScheduleData → List Node
 visits p zero placed best = []
 visits p (suc d) placed best = visit_all (visits p d) p placed (candidates p placed) best
 
-unfoldable pub all_visits : ProjectData → List (Option ScheduleData)
+unfoldable pub all_visits : ProjectData → List Node
 all_visits p = visits p (size p) [] None
 
 unfoldable pub best_after : ProjectData → ℕ → Option ScheduleData
