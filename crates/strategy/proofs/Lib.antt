@@ -4,4 +4,4 @@ pub mod SoundLemmas
 pub mod LawLemmas
 pub mod PassLemmas
 pub mod OutcomeLemmas
-pub mod Row
+pub mod Examples
