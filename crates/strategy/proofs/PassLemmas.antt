@@ -58,15 +58,17 @@ IsAllowedMode p placed j m = (m < mode_count p j) × (is_allowed_mode p placed j
 
 eligible-hold : (p : ProjectData) (placed : List Placed) → All (IsEligibleOne p placed) (eligible_ones p placed)
 unfolding eligible_ones
-eligible-hold p placed k d l =
-    (All-filter (is_eligible p placed) (λ i. i < size p) (range_with_len 0 (size p)) (All-range (λ i. i < size p) (size p) (λ i h. h)) k d l,
-    filter_passes (is_eligible p placed) (range_with_len 0 (size p)) k d l)
+eligible-hold p placed k d l = (
+  All-filter (is_eligible p placed) (λ i. i < size p) (range_with_len 0 (size p)) (All-range (λ i. i < size p) (size p) (λ i h. h)) k d l,
+  filter_passes (is_eligible p placed) (range_with_len 0 (size p)) k d l,
+)
 
 allowed-hold : (p : ProjectData) (placed : List Placed) (j : ℕ) → All (IsAllowedMode p placed j) (allowed_modes p placed j)
 unfolding allowed_modes
-allowed-hold p placed j k d l =
-    (All-filter (is_allowed_mode p placed j) (λ i. i < mode_count p j) (range_with_len 0 (mode_count p j)) (All-range (λ i. i < mode_count p j) (mode_count p j) (λ i h. h)) k d l,
-    filter_passes (is_allowed_mode p placed j) (range_with_len 0 (mode_count p j)) k d l)
+allowed-hold p placed j k d l = (
+  All-filter (is_allowed_mode p placed j) (λ i. i < mode_count p j) (range_with_len 0 (mode_count p j)) (All-range (λ i. i < mode_count p j) (mode_count p j) (λ i h. h)) k d l,
+  filter_passes (is_allowed_mode p placed j) (range_with_len 0 (mode_count p j)) k d l,
+)
 
 pub record IsPlaceable (p : ProjectData) (placed : List Placed) (c : Candidate) : Type 0 where
   pub able : IsOpen p placed c

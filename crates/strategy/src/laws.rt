@@ -8,11 +8,9 @@ pub fn what_is_shown_is_true()
     ensures optimal { OptimalIsTrue }
     ensures infeasible { InfeasibleIsTrue }
     ensures alone { OnlyTreesDecide }
-{
-}
+{}
 
 /// The best schedule of each kind of search, after any number of nodes, is feasible.
 pub fn each_best_is_feasible()
     ensures { BestIsFeasible }
-{
-}
+{}

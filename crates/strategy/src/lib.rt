@@ -4,10 +4,10 @@
 mod kind;
 pub mod laws;
 mod plan;
-
+mod search;
 mod verdict;
 
 pub use kind::Kind;
 pub use plan::{Plan, same_plan};
-
+pub use search::Strategy;
 pub use verdict::Verdict;

@@ -1,0 +1,112 @@
+//! The trait of searches, and its implementation for a box.
+ghost use Rattle.std.specs.Prelude.{◌≡◌, ◌+◌, ◌≤◌, ◌<◌, IsFalse};
+ghost use Rattle.std.specs.Option.{option_copied};
+ghost use Rattle.strategy.specs.Search.{Meaning, shown_best, shown_closed, shown_verdict, funded, advanced, settled, emptied};
+
+use crate::{Plan, Verdict};
+use mrcpsp::Schedule;
+
+/// A search for one plan of one tenant, which runs a node at a time and pays a quantum for each. None of its calls takes
+/// memory.
+pub trait Strategy: Send + Drop {
+    /// What it is to those who use it: all that it shows follows from this.
+    ghost meaning: { Self → Meaning };
+
+    /// The number of the tenant whose search it is.
+    fn tenant(&self) -> u32
+        ensures { result ≡ (meaning self.now).tenant };
+
+    /// What it searches, and how.
+    fn plan(&self) -> &Plan
+        ensures { result.now ≡ (meaning self.now).plan };
+
+    /// How many nodes it has run.
+    fn nodes(&self) -> u64
+        ensures { result ≡ (meaning self.now).nodes };
+
+    /// How many quanta it holds: how many nodes it may still run.
+    fn left(&self) -> u64
+        ensures { result ≡ (meaning self.now).left };
+
+    /// Whether it runs no more nodes.
+    fn closed(&self) -> bool
+        ensures { result ≡ shown_closed (meaning self.now) };
+
+    /// What it has shown.
+    fn verdict(&self) -> Verdict
+        ensures { result ≡ shown_verdict (meaning self.now) };
+
+    /// The best schedule that it knows, until that is taken.
+    fn best(&self) -> Option<&Schedule>
+        ensures { option_copied result ≡ shown_best (meaning self.now) };
+
+    /// Draws so many quanta from the tenant's till.
+    fn fund(&mut self, quanta: u64)
+        requires going { IsFalse (shown_closed (meaning self.old)) }
+        requires limited { (meaning self.old).nodes + (meaning self.old).left + quanta ≤ 1000000000000 }
+        ensures { meaning self.new ≡ funded quanta (meaning self.old) };
+
+    /// Runs one node, and pays one quantum for it.
+    fn advance(&mut self)
+        requires going { IsFalse (shown_closed (meaning self.old)) }
+        requires paid { 0 < (meaning self.old).left }
+        ensures { meaning self.new ≡ advanced (meaning self.old) };
+
+    /// Hands back all quanta that it holds.
+    fn settle(&mut self)
+        ensures { meaning self.new ≡ settled (meaning self.old) };
+
+    /// Hands out the best schedule that it knows. From then on it has none and is closed; the rest stays.
+    fn take_best(&mut self) -> Option<Schedule>
+        ensures best { result ≡ shown_best (meaning self.old) }
+        ensures taken { meaning self.new ≡ emptied (meaning self.old) };
+}
+
+/// A boxed search is the search in the box.
+impl Strategy for Box<dyn Strategy> {
+    ghost meaning = { λ b. (Strategy-box b).meaning b.value };
+
+    fn tenant(&self) -> u32 {
+        (**self).tenant()
+    }
+
+    fn plan(&self) -> &Plan {
+        (**self).plan()
+    }
+
+    fn nodes(&self) -> u64 {
+        (**self).nodes()
+    }
+
+    fn left(&self) -> u64 {
+        (**self).left()
+    }
+
+    fn closed(&self) -> bool {
+        (**self).closed()
+    }
+
+    fn verdict(&self) -> Verdict {
+        (**self).verdict()
+    }
+
+    fn best(&self) -> Option<&Schedule> {
+        (**self).best()
+    }
+
+    fn fund(&mut self, quanta: u64) {
+        (**self).fund(quanta)
+    }
+
+    fn advance(&mut self) {
+        (**self).advance()
+    }
+
+    fn settle(&mut self) {
+        (**self).settle()
+    }
+
+    fn take_best(&mut self) -> Option<Schedule> {
+        (**self).take_best()
+    }
+}
