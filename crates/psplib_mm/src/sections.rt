@@ -83,13 +83,13 @@ pub fn read_last_section(
     ensures { IfOk result (λ numbers. numbers ≡ kept_cells (take most (words_below lines.old))) }
 {
     let mut numbers = Numbers::new(alloc);
-    let mut heads = false;
+    let mut heads_passed = false;
     while let Some(line) = lines.next_line() {
         if !is_rule(line.bytes) {
-            if heads {
+            if heads_passed {
                 numbers.push_line_up_to(&line, most)?;
             }
-            heads = true;
+            heads_passed = true;
         }
     }
     Ok(numbers)
