@@ -7,3 +7,6 @@ mod measures;
 mod values;
 
 pub use measures::Measures;
+
+#[cfg(test)]
+mod tests;

@@ -1,5 +1,6 @@
 //! Measures: the values of each activity of a project.
 ghost use Rattle.std.specs.Prelude.{◌≡◌, ◌<◌, IfOk, length, slice_index};
+ghost use Rattle.mrcpsp.specs.Project.{ProjectData, size};
 ghost use Rattle.mrcpsp.specs.Values.{shortest, least, tail, lft, mts};
 ghost use Rattle.measures.specs.Measures.{IsOf, measures_of, values_at};
 
@@ -36,6 +37,14 @@ impl Measures {
             values[activity] = values_of(project, &values, &mut followers, activity);
         }
         Ok(Measures { values })
+    }
+
+    /// How many activities there are.
+    pub fn count(&self) -> usize
+        ensures exact { result ≡ length self.now }
+        ensures measure { (p : ProjectData) → self.now ≡ measures_of p → result ≡ size p }
+    {
+        self.values.len()
     }
 
     /// The longest chain of the activity's successors, by shortest durations, in periods.
