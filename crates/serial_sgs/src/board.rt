@@ -4,7 +4,7 @@ ghost use Rattle.mrcpsp.specs.Project.{size, mode_count};
 ghost use Rattle.mrcpsp.specs.Placed.{Placed, finish_of, is_placed, latest, is_allowed, earliest, is_eligible, is_executable};
 
 use crate::Place;
-use crate::sums::{earliest_start, finish_of, is_executable, latest_finish, precedes};
+use crate::sums::{earliest_start, finish_of, is_executable, latest_finish};
 use mrcpsp::Project;
 use std::alloc::{AllocError, Global};
 use std::marker::Model;
@@ -32,7 +32,7 @@ impl Board {
     ghost use Rattle.serial_sgs.specs.Board.{IsBoard, KeepsCapacities, finish_in};
 
     /// A board of the project on which nothing is placed, or an error where there is no memory for it.
-    /// It has all the memory that it will need.
+    /// It copies the project, and has all the memory that it will need: no other call takes any.
     pub fn new(alloc: Global, project: &Project) -> Result<Board, AllocError>
         ensures { IfOk result (λ board. board ≡ record { project = project.now; placed = [] }) }
     {
@@ -81,7 +81,7 @@ impl Board {
             return false;
         }
         for before in 0..self.project.size() {
-            if precedes(&self.project, before, activity) && !self.is_placed(before) {
+            if self.project.precedes(before, activity) && !self.is_placed(before) {
                 return false;
             }
         }
@@ -97,8 +97,9 @@ impl Board {
         is_executable(&self.project, activity, mode)
     }
 
-    /// The least start, `from` or later, at which the placed predecessors of the activity have finished and, in each
-    /// of its periods in the mode, each renewable capacity is kept beside what is placed.
+    /// The earliest start of the activity in the mode: the least period, `from` or later, by which its
+    /// placed predecessors have finished and from which on, in each of its periods, each renewable
+    /// capacity is kept beside what is placed. The activity may be placed there.
     pub fn earliest(&self, activity: usize, mode: usize, from: u32) -> u32
         requires activity { activity < size self.now.project }
         requires mode { mode < mode_count self.now.project activity }
@@ -112,7 +113,8 @@ impl Board {
         earliest_start(&self.project, &self.placed, activity, mode, from)
     }
 
-    /// Places the activity in the mode at the start, after those that are placed already.
+    /// Places the activity in the mode, to start in this period, after those that are placed already.
+    /// Takes no memory.
     pub fn place(&mut self, activity: usize, mode: usize, start: u32)
         requires activity { activity < size self.old.project }
         requires mode { mode < mode_count self.old.project activity }
@@ -129,7 +131,7 @@ impl Board {
         self.placed.push_reserved(place);
     }
 
-    /// Takes away the activity that was placed last.
+    /// Takes away the activity that was placed last. Gives back no memory.
     pub fn unplace_last(&mut self)
         requires { 0 < length self.old.placed }
         ensures project { self.new.project ≡ self.old.project }

@@ -1,23 +1,11 @@
 //! What the placed activities use and when they finish, computed from their list.
 ghost use Rattle.std.specs.Prelude.{◌≡◌, ℕ, ◌+◌, ◌<◌, ◌≤◌, ◌↔◌, IsTrue, nat_le, length, max};
-ghost use Rattle.mrcpsp.specs.Project.{size, renewables, mode_count, capacity, precedes};
+ghost use Rattle.mrcpsp.specs.Project.{size, renewables, mode_count};
 ghost use Rattle.mrcpsp.specs.Placed.{placed_use, are_ready, is_allowed, earliest, is_executable, is_placed, latest};
 ghost use Rattle.serial_sgs.specs.Board.{IsBoard, HasRoom, finish_in};
 
 use crate::Place;
 use mrcpsp::Project;
-
-/// Whether one activity is a direct successor of another.
-#[tactic(auto, unfolding(mrcpsp::specs::Project::precedes))]
-pub(crate) fn precedes(project: &Project, before: usize, after: usize) -> bool
-    requires before { before < size project.now }
-    requires after { after < size project.now }
-    requires few { size project.now ≤ 202 }
-    ensures { result ≡ precedes project.now before after }
-{
-    let number = after as u32 + 1;
-    project.successors(before).contains(&number)
-}
 
 /// Whether an activity in a mode fits into an idle project.
 #[tactic(auto, unfolding(mrcpsp::specs::Placed::is_executable))]
@@ -51,7 +39,7 @@ fn use_at(project: &Project, placed: &[Place], resource: usize, time: u32) -> u3
     total
 }
 
-/// Whether the activity in the mode keeps each renewable capacity in a period, beside the placed ones.
+/// Whether the activity in the mode keeps each capacity in a period, beside the placed ones.
 fn has_room(project: &Project, placed: &[Place], activity: usize, mode: usize, time: u32) -> bool
     requires board { IsBoard (record { project = project.now; placed = placed.now }) }
     requires activity { activity < size project.now }
@@ -79,7 +67,7 @@ fn ready_from(project: &Project, placed: &[Place], activity: usize, from: u32) -
 {
     let mut ready = from;
     for place in placed {
-        if precedes(project, place.activity, activity) {
+        if project.precedes(place.activity, activity) {
             ready = ready.max(place.finish(project));
         }
     }
@@ -114,7 +102,8 @@ pub(crate) fn latest_finish(project: &Project, placed: &[Place]) -> u32
     latest
 }
 
-/// The least start, `from` or later, at which the activity in the mode may be added to the placed ones.
+/// The least start, `from` or later, at which the activity in the mode may be added to the placed
+/// ones. Each period is looked at once: behind one without room the search starts anew.
 pub(crate) fn earliest_start(
     project: &Project,
     placed: &[Place],

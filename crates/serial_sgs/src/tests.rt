@@ -128,7 +128,8 @@ fn some(
     Ok(list)
 }
 
-/// An activity with one to three modes, for so many resources of one kind, that some of the later ones follow.
+/// An activity with one to three modes, for so many renewable resources, and some of the later ones
+/// as its successors.
 fn some_activity(
     alloc: Global,
     numbers: &mut Numbers,
@@ -150,7 +151,7 @@ fn some_activity(
     activity(alloc, modes, &successors)
 }
 
-/// A project of one to five such activities, and no, one or two renewable resources of capacities up to 5.
+/// A project of one to five such activities, with at most two renewable resources.
 fn some_project(alloc: Global, numbers: &mut Numbers) -> Result<Option<Project>, AllocError> {
     let size = 1 + numbers.next(4);
     let resources = numbers.next(2);
