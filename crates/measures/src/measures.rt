@@ -87,8 +87,8 @@ impl Measures {
         values.shortest
     }
 
-    /// The least consumption of a nonrenewable resource in the activity's modes. There are at most eight resources;
-    /// of one that the project does not have it is 0.
+    /// The least consumption of a nonrenewable resource in the activity's modes. A project has at most
+    /// eight such resources; of one that it does not have the least consumption is 0.
     pub fn least(&self, activity: usize, resource: usize) -> u32
         requires activity { activity < length self.now }
         requires resource { resource < 8 }
