@@ -4,4 +4,3 @@ pub mod Reading
 pub mod Gives
 pub mod Scan
 pub mod FaultText
-pub mod Laws

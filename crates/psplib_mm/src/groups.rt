@@ -14,16 +14,22 @@ use std::marker::Model;
 /// How many resources there are of each kind.
 #[derive(Clone, Copy, Debug)]
 pub struct Resources {
+    /// How many renewable ones.
     pub renewable: u32,
+    /// How many nonrenewable ones.
     pub nonrenewable: u32,
 }
 
 /// A mode of the section on requests.
 #[derive(Debug, Drop)]
 pub struct ModeLine<'a> {
+    /// Its number.
     pub mode: Cell,
+    /// Its duration, in periods.
     pub duration: Cell,
+    /// Its request of each renewable resource.
     pub renewable: &'a [Cell],
+    /// Its consumption of each nonrenewable resource.
     pub nonrenewable: &'a [Cell],
 }
 
@@ -85,7 +91,9 @@ impl<'a> Modes<'a> {
 /// A job of the section on requests.
 #[derive(Debug, Drop)]
 pub struct Group<'a> {
+    /// Its number.
     pub job: Cell,
+    /// Its modes.
     pub modes: Modes<'a>,
 }
 

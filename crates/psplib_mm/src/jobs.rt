@@ -13,8 +13,11 @@ use std::marker::Model;
 /// A job of the section on precedence.
 #[derive(Debug, Drop)]
 pub struct Job<'a> {
+    /// Its number.
     pub job: Cell,
+    /// How many modes it has.
     pub modes: Cell,
+    /// The numbers of its successors.
     pub successors: &'a [Cell],
 }
 
@@ -29,7 +32,9 @@ impl<'a> Model for Job<'a> {
 /// The jobs that are still to come, whose words are known to be as many as they need.
 #[derive(Debug, Drop)]
 pub struct Jobs<'a> {
+    /// The words from the next job on.
     cells: &'a [Cell],
+    /// How many jobs are still to come.
     left: u32,
 }
 

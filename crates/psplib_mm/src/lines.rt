@@ -10,7 +10,9 @@ use std::marker::Model;
 /// A line or a word, with the number of the line, from 1.
 #[derive(Debug, Drop)]
 pub struct Piece<'a> {
+    /// The number of the line.
     pub line: u32,
+    /// Its bytes, without the end of the line.
     pub bytes: &'a [u8],
 }
 

@@ -14,7 +14,9 @@ use std::marker::Model;
 /// The numbers that a section's words write, or the line of the first word that writes none.
 #[derive(Debug, Drop)]
 pub struct Numbers {
+    /// The numbers, up to the first word that is none.
     cells: Vec<Cell>,
+    /// The line of that word.
     stray: Option<u32>,
 }
 

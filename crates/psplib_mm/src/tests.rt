@@ -157,76 +157,78 @@ fn small_project(rt: HostRuntime) -> Result<(), Fail> {
     Ok(())
 }
 
+/// The short text with one line changed: the line's number from 1, the line, and the answer.
+const CHANGES: [(usize, &str, &str); 44] = [
+    (4, "", "Section(PRECEDENCE RELATIONS)"),
+    (10, "REQUESTS/DURATION:", "Section(REQUESTS/DURATIONS)"),
+    (17, "", "Section(RESOURCEAVAILABILITIES)"),
+    (
+        17,
+        "resourceavailabilities:",
+        "Section(RESOURCEAVAILABILITIES)",
+    ),
+    (1, "jobs: 4", "Header"),
+    (1, "jobs (incl. supersource/sink ):", "Header"),
+    (1, "jobs (incl. supersource/sink ): 4a", "Header"),
+    (
+        1,
+        "PROJECT INFORMATION:\njobs (incl. supersource/sink ): 4",
+        "Header",
+    ),
+    (
+        1,
+        "jobs (incl. supersource/sink ): x\njobs (incl. supersource/sink ): 4",
+        "Header",
+    ),
+    (
+        1,
+        "jobs (incl. supersource/sink ): 4\njobs (incl. supersource/sink ): x",
+        "Ok(7)",
+    ),
+    (1, "\tjobs(incl.\tsupersource/sink)\t:\t4 : 5", "Ok(7)"),
+    (
+        1,
+        "jobs (incl. supersource/sink ): 5",
+        "Count(PRECEDENCE RELATIONS)",
+    ),
+    (2, "projects : 2", "Projects"),
+    (2, "projects : 1\n- renewable : 1", "Ok(7)"),
+    (2, "- doubly constrained : 1", "Doubly"),
+    (2, "- doubly constrained : 1\nprojects : 0", "Projects"),
+    (14, "3 1 x 2 1", "Number(14)"),
+    (14, "3 1 -2 2 1", "Number(14)"),
+    (16, "4 1\r0 0 0", "Number(16)"),
+    (5, "PRECEDENCE RELATIONS:", "Ok(7)"),
+    (9, "PRECEDENCE RELATIONS:\n4 1 0", "Number(9)"),
+    (9, "4 1 0 0", "Count(PRECEDENCE RELATIONS)"),
+    (8, "3 3 1 4", "Count(REQUESTS/DURATIONS)"),
+    (16, "4 1 0 0 0 9", "Count(REQUESTS/DURATIONS)"),
+    (19, "3", "Count(RESOURCEAVAILABILITIES)"),
+    (19, "3 x", "Number(19)"),
+    (19, "3 1 more words", "Ok(7)"),
+    (15, "3 4 1 0", "Numbering(15)"),
+    (6, "2 1 2 2 3", "Numbering(6)"),
+    (7, "2 1 1 2", "Successor(7)"),
+    (7, "2 1 1 1", "Successor(7)"),
+    (7, "2 1 1 5", "Successor(7)"),
+    (6, "1 1 2 3 3", "Successor(6)"),
+    (6, "1 1 2 2 4294967297", "Successor(6)"),
+    (13, "2 1 1001 2 0", "Limit(duration)"),
+    (13, "2 1 1001 1000001 0", "Limit(duration)"),
+    (13, "2 1 1000 2 0", "Ok(1004)"),
+    (13, "2 1 3 1000001 0", "Limit(request)"),
+    (13, "2 1 3 0 1000001", "Limit(request)"),
+    (13, "2 1 3 0 1000000", "Ok(7)"),
+    (19, "3 1000001", "Limit(capacity)"),
+    (19, "1000001 1", "Limit(capacity)"),
+    (5, "1 2 3", "Ok(7)"),
+    (5, " ** *\n\t\nh\n - --", "Ok(7)"),
+];
+
 #[test]
 fn one_line_changed(rt: HostRuntime) -> Result<(), Fail> {
     let alloc = rt.alloc();
-    let table = [
-        (4, "", "Section(PRECEDENCE RELATIONS)"),
-        (10, "REQUESTS/DURATION:", "Section(REQUESTS/DURATIONS)"),
-        (17, "", "Section(RESOURCEAVAILABILITIES)"),
-        (
-            17,
-            "resourceavailabilities:",
-            "Section(RESOURCEAVAILABILITIES)",
-        ),
-        (1, "jobs: 4", "Header"),
-        (1, "jobs (incl. supersource/sink ):", "Header"),
-        (1, "jobs (incl. supersource/sink ): 4a", "Header"),
-        (
-            1,
-            "PROJECT INFORMATION:\njobs (incl. supersource/sink ): 4",
-            "Header",
-        ),
-        (
-            1,
-            "jobs (incl. supersource/sink ): x\njobs (incl. supersource/sink ): 4",
-            "Header",
-        ),
-        (
-            1,
-            "jobs (incl. supersource/sink ): 4\njobs (incl. supersource/sink ): x",
-            "Ok(7)",
-        ),
-        (1, "\tjobs(incl.\tsupersource/sink)\t:\t4 : 5", "Ok(7)"),
-        (
-            1,
-            "jobs (incl. supersource/sink ): 5",
-            "Count(PRECEDENCE RELATIONS)",
-        ),
-        (2, "projects : 2", "Projects"),
-        (2, "projects : 1\n- renewable : 1", "Ok(7)"),
-        (2, "- doubly constrained : 1", "Doubly"),
-        (2, "- doubly constrained : 1\nprojects : 0", "Projects"),
-        (14, "3 1 x 2 1", "Number(14)"),
-        (14, "3 1 -2 2 1", "Number(14)"),
-        (16, "4 1\r0 0 0", "Number(16)"),
-        (5, "PRECEDENCE RELATIONS:", "Ok(7)"),
-        (9, "PRECEDENCE RELATIONS:\n4 1 0", "Number(9)"),
-        (9, "4 1 0 0", "Count(PRECEDENCE RELATIONS)"),
-        (8, "3 3 1 4", "Count(REQUESTS/DURATIONS)"),
-        (16, "4 1 0 0 0 9", "Count(REQUESTS/DURATIONS)"),
-        (19, "3", "Count(RESOURCEAVAILABILITIES)"),
-        (19, "3 x", "Number(19)"),
-        (19, "3 1 more words", "Ok(7)"),
-        (15, "3 4 1 0", "Numbering(15)"),
-        (6, "2 1 2 2 3", "Numbering(6)"),
-        (7, "2 1 1 2", "Successor(7)"),
-        (7, "2 1 1 1", "Successor(7)"),
-        (7, "2 1 1 5", "Successor(7)"),
-        (6, "1 1 2 3 3", "Successor(6)"),
-        (6, "1 1 2 2 4294967297", "Successor(6)"),
-        (13, "2 1 1001 2 0", "Limit(duration)"),
-        (13, "2 1 1001 1000001 0", "Limit(duration)"),
-        (13, "2 1 1000 2 0", "Ok(1004)"),
-        (13, "2 1 3 1000001 0", "Limit(request)"),
-        (13, "2 1 3 0 1000001", "Limit(request)"),
-        (13, "2 1 3 0 1000000", "Ok(7)"),
-        (19, "3 1000001", "Limit(capacity)"),
-        (19, "1000001 1", "Limit(capacity)"),
-        (5, "1 2 3", "Ok(7)"),
-        (5, " ** *\n\t\nh\n - --", "Ok(7)"),
-    ];
-    for (number, line, wanted) in table {
+    for (number, line, wanted) in CHANGES {
         let text = text_with(alloc, &SHORT, number, line, "\n")?;
         assert_eq!(rt;
             answer(alloc, &text)?.as_str(),
@@ -366,56 +368,58 @@ fn limits_on_jobs_and_horizon(rt: HostRuntime) -> Result<(), Fail> {
     Ok(())
 }
 
+/// Texts with one job: more of the head, the words of the three sections, and the answer.
+const ONE_JOB: [(&str, &str, &str, &str, &str); 8] = [
+    ("", "1 0 0", "1", "", "Limit(modes)"),
+    ("", "1 0 0", "", "", "Count(REQUESTS/DURATIONS)"),
+    (
+        "",
+        "1 10 0",
+        "1 1 0 2 0 3 0 4 0 5 0 6 0 7 0 8 0 9 0 10 0",
+        "",
+        "Ok(0)",
+    ),
+    (
+        "",
+        "1 11 0",
+        "1 1 0 2 0 3 0 4 0 5 0 6 0 7 0 8 0 9 0 10 0 11 0",
+        "",
+        "Limit(modes)",
+    ),
+    (
+        "- renewable : 8\n",
+        "1 1 0",
+        "1 1 0 1 2 3 4 5 6 7 8",
+        "8 7 6 5 4 3 2 1",
+        "Ok(0)",
+    ),
+    (
+        "- renewable : 9\n",
+        "1 1 0",
+        "1 1 0 1 2 3 4 5 6 7 8 9",
+        "9 8 7 6 5 4 3 2 1",
+        "Limit(renewable)",
+    ),
+    (
+        "- nonrenewable : 8\n",
+        "1 1 0",
+        "1 1 0 1 2 3 4 5 6 7 8",
+        "8 7 6 5 4 3 2 1",
+        "Ok(0)",
+    ),
+    (
+        "- nonrenewable : 9\n",
+        "1 1 0",
+        "1 1 0 1 2 3 4 5 6 7 8 9",
+        "9 8 7 6 5 4 3 2 1",
+        "Limit(nonrenewable)",
+    ),
+];
+
 #[test]
 fn limits_on_modes_and_resources(rt: HostRuntime) -> Result<(), Fail> {
     let alloc = rt.alloc();
-    let table = [
-        ("", "1 0 0", "1", "", "Limit(modes)"),
-        ("", "1 0 0", "", "", "Count(REQUESTS/DURATIONS)"),
-        (
-            "",
-            "1 10 0",
-            "1 1 0 2 0 3 0 4 0 5 0 6 0 7 0 8 0 9 0 10 0",
-            "",
-            "Ok(0)",
-        ),
-        (
-            "",
-            "1 11 0",
-            "1 1 0 2 0 3 0 4 0 5 0 6 0 7 0 8 0 9 0 10 0 11 0",
-            "",
-            "Limit(modes)",
-        ),
-        (
-            "- renewable : 8\n",
-            "1 1 0",
-            "1 1 0 1 2 3 4 5 6 7 8",
-            "8 7 6 5 4 3 2 1",
-            "Ok(0)",
-        ),
-        (
-            "- renewable : 9\n",
-            "1 1 0",
-            "1 1 0 1 2 3 4 5 6 7 8 9",
-            "9 8 7 6 5 4 3 2 1",
-            "Limit(renewable)",
-        ),
-        (
-            "- nonrenewable : 8\n",
-            "1 1 0",
-            "1 1 0 1 2 3 4 5 6 7 8",
-            "8 7 6 5 4 3 2 1",
-            "Ok(0)",
-        ),
-        (
-            "- nonrenewable : 9\n",
-            "1 1 0",
-            "1 1 0 1 2 3 4 5 6 7 8 9",
-            "9 8 7 6 5 4 3 2 1",
-            "Limit(nonrenewable)",
-        ),
-    ];
-    for (head, precedence, requests, availabilities, wanted) in table {
+    for (head, precedence, requests, availabilities, wanted) in ONE_JOB {
         let text = format!(in alloc;
             "{head}jobs (incl. supersource/sink ): 1\nPRECEDENCE RELATIONS:\nh\n{precedence}\nREQUESTS/DURATIONS:\nh\n{requests}\nRESOURCEAVAILABILITIES:\nh\n{availabilities}"
         )?;
