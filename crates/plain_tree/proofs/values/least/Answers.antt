@@ -1,0 +1,23 @@
+use Rattle.std.proofs.Common.{arith, get_or, ◌≡◌, ◌∙◌}
+use Rattle.mrcpsp.specs.Project.{ModeData, consumption}
+use Rattle.mrcpsp.specs.Values.{least}
+use Rattle.plain_tree.proofs.ValueLemmas.{lowest_first, lowest_more, lowest_all}
+use Rattle.plain_tree.proofs.values.least.Goals as goal
+
+pub loop-mode-init : goal.loop-mode-init
+unfolding consumption
+loop-mode-init c =
+    let first = lowest_first (λ (m : ModeData). get_or m.nonrenewable c.args.resource 0) c.args.project.now c.args.activity (omega (arith, c.mode_count-modes.ensures)) in
+    (omega (arith, first, c.consumption-lowest.ensures.exact), c.consumption-lowest.ensures.most)
+
+pub loop-mode-preserved : goal.loop-mode-preserved
+unfolding consumption
+loop-mode-preserved c =
+    let more = lowest_more (λ (m : ModeData). get_or m.nonrenewable c.args.resource 0) c.args.project.now c.args.activity c.loop-mode.mode (omega arith) (omega (arith, c.mode_count-modes.ensures)) in
+    (omega (arith, more, c.loop-mode.invariant.0, c.min-lowest.ensures, c.consumption.ensures.exact), omega (arith, c.loop-mode.invariant.1, c.min-lowest.ensures))
+
+pub returns-clause-exact : goal.returns-clause-exact
+unfolding least
+returns-clause-exact c =
+    let every : c.loop-mode.mode ≡ c.mode_count-modes.result = omega (arith, c.mode_count-modes.ensures.some) in
+    rw (every, c.mode_count-modes.ensures.exact) at c.loop-mode.invariant.0 ∙ lowest_all (λ (m : ModeData). get_or m.nonrenewable c.args.resource 0) c.args.project.now c.args.activity

@@ -1,0 +1,64 @@
+//! The values of an activity, each by its definition.
+ghost use Rattle.std.specs.Prelude.{◌≡◌, ◌*◌, ◌<◌, ◌≤◌};
+ghost use Rattle.mrcpsp.specs.Project.{size, nonrenewables};
+ghost use Rattle.mrcpsp.specs.Values.{shortest, least, chain, tail};
+
+use mrcpsp::Project;
+
+/// The shortest duration of an activity, in periods.
+fn shortest(project: &Project, activity: usize) -> u32
+    requires { activity < size project.now }
+    ensures exact { result ≡ shortest project.now activity }
+    ensures most { result ≤ 1000 }
+{
+    let modes = project.mode_count(activity);
+    let mut lowest = project.duration(activity, 0);
+    for mode in 1..modes {
+        lowest = lowest.min(project.duration(activity, mode));
+    }
+    lowest
+}
+
+/// The least that an activity consumes of a nonrenewable resource.
+pub(crate) fn least(project: &Project, activity: usize, resource: usize) -> u32
+    requires activity { activity < size project.now }
+    requires resource { resource < nonrenewables project.now }
+    ensures exact { result ≡ least project.now activity resource }
+    ensures most { result ≤ 1000000 }
+{
+    let modes = project.mode_count(activity);
+    let mut lowest = project.consumption(activity, 0, resource);
+    for mode in 1..modes {
+        lowest = lowest.min(project.consumption(activity, mode, resource));
+    }
+    lowest
+}
+
+/// The longest chain of at most so many successors after an activity, by shortest durations, in periods.
+fn chain(project: &Project, steps: usize, activity: usize) -> u32
+    requires activity { activity < size project.now }
+    requires few { steps ≤ 202 }
+    ensures exact { result ≡ chain project.now steps activity }
+    ensures most { result ≤ 1000 * steps }
+{
+    if steps == 0 {
+        return 0;
+    }
+    let mut longest = 0;
+    let successors = project.successors(activity);
+    for number in successors {
+        let next = *number as usize - 1;
+        longest = longest.max(shortest(project, next) + chain(project, steps - 1, next));
+    }
+    longest
+}
+
+/// The longest chain of successors after an activity, by shortest durations, in periods.
+#[tactic(auto, unfolding(mrcpsp::specs::Values::tail))]
+pub(crate) fn tail(project: &Project, activity: usize) -> u32
+    requires { activity < size project.now }
+    ensures exact { result ≡ tail project.now activity }
+    ensures most { result ≤ 202000 }
+{
+    chain(project, project.size(), activity)
+}
