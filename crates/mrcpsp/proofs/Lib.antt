@@ -6,3 +6,4 @@ pub mod EarliestLemmas
 pub mod MeaningLemmas
 pub mod BoundLemmas
 pub mod BreachLemmas
+pub mod Examples

@@ -56,7 +56,7 @@ largest-same f g (x ∷ xs) h =
     cc
 
 -- past the last activity there are no successors
-none_past : (p : ProjectData) (j : ℕ) → size p ≤ j → successors p j ≡ []
+pub none_past : (p : ProjectData) (j : ℕ) → size p ≤ j → successors p j ≡ []
 unfolding successors size
 none_past p j past = ap (λ (a : ActivityData). a.successors) (get_or_past p.activities j no_activity past)
 

@@ -1,19 +1,13 @@
 -- Lists of placed activities: who is placed, look-ups, counts and sums.
 use Rattle.std.proofs.Common.{◌≡◌, ℕ, zero, suc, ◌+◌, ◌<◌, ◌≤◌, true, false, cond, ◌||◌, ◌==◌, List, [], ◌∷◌, ◌++◌, length, get_or, All, sum_by, arith, refl, sym, ◌∙◌, subst, ⊎_elim}
-use Rattle.std.specs.Prelude.{⊤}
 use Rattle.std.proofs.lemmas.Bool.Decides.{nat_tests}
 use Rattle.std.proofs.lemmas.Bool.{both_ways, or_cases, or_parts, or_from, or_left, or_right, cond-true, cond-false, cases_Bool, false≢true, eqb-true, eqb-false, eq-eqb, ne_eqb}
 use Rattle.std.proofs.lemmas.List.Elements.{All-head, All-tail, All-nil, All-cons}
 use Rattle.std.proofs.lemmas.List.Sums.{sum_by-cons, fold_push}
 use Rattle.std.proofs.lemmas.List.Recursion.{or_push}
 use Rattle.mrcpsp.specs.Numbers.{sum_below}
-use Rattle.mrcpsp.specs.Placed.{Placed, is_placed, mode_in, start_in, last_start}
+use Rattle.mrcpsp.specs.Placed.{IsDistinct, Placed, is_placed, mode_in, start_in, last_start}
 use Rattle.mrcpsp.proofs.NumbersLemmas.{sum_below-same, sum_below-without, at-le-sum_below}
-
--- no activity is placed twice
-abbrev pub IsDistinct : List Placed → Type 0
-IsDistinct [] = ⊤
-IsDistinct (a ∷ placed) = (is_placed placed a.activity ≡ false) × IsDistinct placed
 
 pub is_placed_push : (placed : List Placed) (a : Placed) (j : ℕ) → is_placed (placed ++ a ∷ []) j ≡ (is_placed placed j || (a.activity == j))
 is_placed_push placed a j = or_push (λ xs. is_placed xs j) (λ (b : Placed). b.activity == j) refl (λ _ _. refl) placed a

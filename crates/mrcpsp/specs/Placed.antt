@@ -1,6 +1,6 @@
 -- A partial schedule: the placed activities, in the order in which they were placed, and what may be placed next
 -- (Kolisch 1996, the serial schedule generation scheme; Sprecher and Drexl 1998).
-use Rattle.std.specs.Prelude.{ℕ, ◌+◌, Bool, cond, not, ◌&&◌, ◌||◌, nat_le, ◌==◌, List, [], ◌∷◌, map, fold, sum_by}
+use Rattle.std.specs.Prelude.{◌≡◌, ℕ, ◌+◌, Bool, false, ⊤, cond, not, ◌&&◌, ◌||◌, nat_le, ◌==◌, List, [], ◌∷◌, map, fold, sum_by}
 use Rattle.std.specs.List.{list_any, list_all, range_with_len}
 use Rattle.mrcpsp.specs.Numbers.{sum_below, all_below, first_from, largest}
 use Rattle.mrcpsp.specs.Project.{ProjectData, size, renewables, nonrenewables, duration, request, consumption, capacity, stock, precedes}
@@ -25,6 +25,11 @@ placed_consumption p placed r = sum_by (λ a. consumption p a.activity a.mode r)
 
 abbrev pub is_placed : List Placed → ℕ → Bool
 is_placed placed j = list_any (λ a. a.activity == j) placed
+
+-- no activity is placed twice
+abbrev pub IsDistinct : List Placed → Type 0
+IsDistinct [] = ⊤
+IsDistinct (a ∷ placed) = (is_placed placed a.activity ≡ false) × IsDistinct placed
 
 -- the latest finish, 0 where nothing is placed
 abbrev pub latest : ProjectData → List Placed → ℕ

@@ -7,9 +7,9 @@ use Rattle.std.proofs.Math.Seq.{take-length}
 use Rattle.std.proofs.lemmas.List.Elements.{All-push, All-nil}
 use Rattle.mrcpsp.specs.Project.{ProjectData, size, duration, capacity, mode_count, precedes}
 use Rattle.mrcpsp.specs.Limits.{IsProject}
-use Rattle.mrcpsp.specs.Placed.{Placed, placed_use, is_placed, is_allowed, is_eligible, finish_of, latest}
+use Rattle.mrcpsp.specs.Placed.{IsDistinct, Placed, placed_use, is_placed, is_allowed, is_eligible, finish_of, latest}
 use Rattle.mrcpsp.proofs.NumbersLemmas.{at-le-sum_below}
-use Rattle.mrcpsp.proofs.PlacedLemmas.{IsDistinct, IsDistinct-push, is_placed_push, count_split, looks_itself_up}
+use Rattle.mrcpsp.proofs.PlacedLemmas.{IsDistinct-push, is_placed_push, count_split, looks_itself_up}
 use Rattle.mrcpsp.proofs.NumbersLemmas.{largest-le}
 use Rattle.mrcpsp.proofs.EarliestLemmas.{eligible-unplaced, eligible-after}
 use Rattle.serial_sgs.specs.Board.{BoardData, IsInside, IsBoard, WasAllowed, KeepsCapacities, finish_in}

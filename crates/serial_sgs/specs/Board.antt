@@ -3,8 +3,7 @@
 use Rattle.std.specs.Prelude.{◌≡◌, ℕ, ◌+◌, ◌<◌, ◌≤◌, true, List, length, get_or, take, All}
 use Rattle.mrcpsp.specs.Project.{ProjectData, size, renewables, mode_count, duration, request, capacity}
 use Rattle.mrcpsp.specs.Limits.{IsProject}
-use Rattle.mrcpsp.specs.Placed.{Placed, placed_use, is_allowed, mode_in, start_in}
-use Rattle.mrcpsp.proofs.PlacedLemmas.{IsDistinct}
+use Rattle.mrcpsp.specs.Placed.{IsDistinct, Placed, placed_use, is_allowed, mode_in, start_in}
 
 pub record BoardData : Type 0 where
   pub project : ProjectData

@@ -9,10 +9,10 @@ use Rattle.mrcpsp.specs.Project.{ProjectData, size, renewables, nonrenewables, d
 use Rattle.mrcpsp.specs.Schedule.{ScheduleData, IsFeasible, mode_of, start_of, finish, load, use_of, consumed, makespan}
 use Rattle.mrcpsp.specs.Limits.{IsProject}
 use Rattle.mrcpsp.specs.Values.{least}
-use Rattle.mrcpsp.specs.Placed.{Placed, placed_use, placed_consumption, is_placed, last_start, are_ready, fits, is_allowed, earliest, is_eligible, is_executable, is_affordable, reserve, mode_in, start_in, schedule_of}
+use Rattle.mrcpsp.specs.Placed.{IsDistinct, Placed, placed_use, placed_consumption, is_placed, last_start, are_ready, fits, is_allowed, earliest, is_eligible, is_executable, is_affordable, reserve, mode_in, start_in, schedule_of}
 use Rattle.mrcpsp.proofs.NumbersLemmas.{sum_below-le, at-le-sum_below, sum_below-without, sum_by-le-all, sum_by-same-all, all_below-from, max_below-le, at-le-max_below}
 use Rattle.mrcpsp.proofs.ProjectLemmas.{precedes-rising, load-le-later, load-running, least-le}
-use Rattle.mrcpsp.proofs.PlacedLemmas.{IsDistinct, IsDistinct-push, is_placed_push, last_start_push, sum_split, looked_up, all_placed}
+use Rattle.mrcpsp.proofs.PlacedLemmas.{IsDistinct-push, is_placed_push, last_start_push, sum_split, looked_up, all_placed}
 use Rattle.mrcpsp.proofs.EarliestLemmas.{eligible-from, ready-from, fits-from, earliest-le}
 
 -- the least of the numbers below n that are not taken, by key and then by number
