@@ -4,3 +4,4 @@ pub mod Reading
 pub mod Gives
 pub mod Scan
 pub mod FaultText
+pub mod Laws
