@@ -1,15 +1,15 @@
 -- What is told first, and that a schedule with nothing to tell is feasible.
-use Rattle.std.proofs.Common.{◌≡◌, ℕ, zero, suc, ◌+◌, ◌-◌, ◌<◌, ◌≤◌, ◌⊎◌, true, List, [], ◌∷◌, length, get_or, Option, Some, None, arith, refl, inl, inr, ⊎_elim, ◌∙◌}
+use Rattle.std.proofs.Common.{◌≡◌, ℕ, zero, suc, ◌+◌, ◌-◌, ◌<◌, ◌≤◌, ◌⊎◌, true, [], ◌∷◌, Option, Some, None, arith, refl, inl, inr, ⊎_elim, ◌∙◌}
 use Rattle.std.proofs.lemmas.Bool.{cases_lt, cases_eq}
 use Rattle.std.proofs.lemmas.Bool.Decides.{nat_tests}
 use Rattle.mrcpsp.specs.Numbers.{sum_below}
-use Rattle.mrcpsp.specs.Project.{ProjectData, size, renewables, nonrenewables, mode_count, request, duration, capacity, stock, precedes}
+use Rattle.mrcpsp.specs.Project.{ProjectData, size, renewables, nonrenewables, capacity, stock, precedes}
 use Rattle.mrcpsp.specs.Schedule.{ScheduleData, IsFeasible, HasMode, mode_of, start_of, finish, load, use_of, consumed}
-use Rattle.mrcpsp.specs.Breach.{HasShape, HasModes, IsNumber, IsBroken, IsBefore, IsBelow, IsFirstBreach, IsFirstOf, HasNone, IsEarly, IsFirstOveruse, IsFirstStartOverused, kind_of, numbers_of}
+use Rattle.mrcpsp.specs.Breach.{HasShape, HasModes, IsBroken, IsBefore, IsBelow, IsFirstBreach, IsFirstOf, HasNone, IsEarly, IsFirstOveruse, IsFirstStartOverused, kind_of, numbers_of}
 use Rattle.mrcpsp.specs.declared.breach.Breach.{Breach}
 use Rattle.mrcpsp.specs.declared.breach.Breach.TheVariants.{Shape, Mode, Precedence, Renewable, Nonrenewable}
 use Rattle.mrcpsp.proofs.NumbersLemmas.{sum_below-le, sum_below-same}
-use Rattle.mrcpsp.proofs.ProjectLemmas.{load-le-later, load-before}
+use Rattle.mrcpsp.proofs.ProjectLemmas.{load-before}
 
 -- ---- modes
 

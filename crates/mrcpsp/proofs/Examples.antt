@@ -1,9 +1,9 @@
 -- The definitions on a small project, computed. Activities and modes are named by their places, from 0.
-use Rattle.std.proofs.Common.{◌≡◌, ℕ, Bool, true, false, List, [], ◌∷◌, map, refl}
-use Rattle.mrcpsp.specs.Project.{ProjectData, ModeData, ActivityData, is_project, horizon, size, renewables, nonrenewables, modes, mode_count, successors, duration, request, consumption, capacity, stock, precedes}
+use Rattle.std.proofs.Common.{◌≡◌, ℕ, true, false, List, [], ◌∷◌, map, refl}
+use Rattle.mrcpsp.specs.Project.{ProjectData, ModeData, ActivityData, is_project, horizon, size, renewables, nonrenewables, modes, successors, duration, request, consumption, capacity, stock, precedes}
 use Rattle.mrcpsp.specs.Schedule.{ScheduleData, mode_of, start_of, finish, load, use_of, consumed, makespan}
 use Rattle.mrcpsp.specs.Values.{shortest, least, tail, lft, mts}
-use Rattle.mrcpsp.specs.Placed.{Placed, placed_use, placed_consumption, are_ready, fits, is_allowed, earliest, is_eligible, is_executable, reserve, is_affordable}
+use Rattle.mrcpsp.specs.Placed.{Placed, placed_use, placed_consumption, are_ready, fits, is_allowed, earliest, is_eligible, reserve, is_affordable}
 
 abbrev activity : List ModeData → List ℕ → ActivityData
 activity modes successors = record { modes = modes; successors = successors }

@@ -1,9 +1,9 @@
 -- The test of projects gives each fact that a project keeps.
-use Rattle.std.proofs.Common.{◌≡◌, ℕ, zero, suc, ◌+◌, ◌<◌, ◌≤◌, Bool, true, false, ◌&&◌, not, nat_le, nat_lt, ◌==◌, List, [], ◌∷◌, ◌++◌, length, get_or, All, arith}
+use Rattle.std.proofs.Common.{◌≡◌, ℕ, zero, suc, ◌+◌, ◌<◌, ◌≤◌, Bool, true, ◌&&◌, not, nat_le, nat_lt, ◌==◌, List, [], ◌∷◌, ◌++◌, length, get_or, All, arith}
 use Rattle.std.specs.List.{list_all, list_any}
 use Rattle.std.proofs.lemmas.Bool.{and_parts, leb-true, ltb-true, eqb-true}
 use Rattle.std.proofs.lemmas.List.Elements.{All-nil, All-cons}
-use Rattle.mrcpsp.specs.Project.{ModeData, ActivityData, ProjectData, is_between, are_amounts, is_mode, are_successors, are_activities, is_project, horizon, no_mode, no_activity, size, renewables, nonrenewables, modes, mode_count, successors}
+use Rattle.mrcpsp.specs.Project.{ActivityData, ProjectData, is_between, are_amounts, is_mode, are_successors, are_activities, is_project, horizon, no_mode, no_activity, size, renewables, nonrenewables, modes, mode_count, successors}
 use Rattle.mrcpsp.specs.Limits.{IsLimited, IsProject}
 
 -- what a test of all says of each

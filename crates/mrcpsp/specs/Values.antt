@@ -1,9 +1,9 @@
 -- Values of an activity, by the recursions of the field (Kolisch 1996; Sprecher and Drexl 1998). Successors come after
 -- their predecessors, so as many steps as there are activities reach the end of every chain.
-use Rattle.std.specs.Prelude.{ℕ, zero, suc, ◌+◌, ◌-◌, Bool, false, ◌||◌, ◌==◌, List, [], map, get_or, cond, length}
+use Rattle.std.specs.Prelude.{ℕ, zero, suc, ◌+◌, ◌-◌, Bool, false, ◌||◌, ◌==◌, map, get_or, cond, length}
 use Rattle.std.specs.List.{list_any}
 use Rattle.mrcpsp.specs.Numbers.{smallest, largest, count_below}
-use Rattle.mrcpsp.specs.Project.{ProjectData, ModeData, size, modes, successors, horizon}
+use Rattle.mrcpsp.specs.Project.{ProjectData, size, modes, successors, horizon}
 
 -- the shortest duration of activity j, and its least consumption of nonrenewable resource r
 unfoldable pub shortest : ProjectData → ℕ → ℕ

@@ -10,7 +10,7 @@ use Rattle.mrcpsp.specs.Schedule.{ScheduleData, IsFeasible, IsOptimal, IsInfeasi
 use Rattle.mrcpsp.specs.Limits.{IsProject}
 use Rattle.mrcpsp.specs.Placed.{last_start, Placed, is_eligible, is_executable, is_affordable, schedule_of}
 use Rattle.strategy.specs.Tree.{Node, modes_of, candidates, placing, is_pruned, improved, updated, after, Below, visit_one, visit_all, visits, all_visits, best_after, is_closed}
-use Rattle.strategy.specs.Candidate.{Candidate, placed_from}
+use Rattle.strategy.specs.Candidate.{Candidate}
 use Rattle.strategy.proofs.FollowLemmas.{follows-nil}
 use Rattle.strategy.proofs.TreeLemmas.{Reached, pruned_node, placed_node, visits-reaches}
 use Rattle.strategy.proofs.SoundLemmas.{IsSound, IsOpen, sound-nil, sound-push, feasible-full}

@@ -1,16 +1,15 @@
 -- What each kind of search shows is true.
-use Rattle.std.proofs.Common.{◌≡◌, ℕ, ◌/◌, Bool, true, false, cond, nat_lt, Option, Some, None, IfSome, MatchOption, arith, refl, ⊎_elim, ◌⊎◌}
-use Rattle.std.specs.Prelude.{IsTrue, IsSomeAnd, is_some}
+use Rattle.std.proofs.Common.{◌≡◌, ℕ, ◌/◌, Bool, true, false, cond, nat_lt, Option, Some, None, MatchOption, refl, ⊎_elim, ◌⊎◌}
+use Rattle.std.specs.Prelude.{IsSomeAnd, is_some}
 use Rattle.std.proofs.lemmas.Bool.{cond_both}
-use Rattle.mrcpsp.specs.Project.{ProjectData, is_project, size}
-use Rattle.mrcpsp.specs.Schedule.{ScheduleData, IsFeasible, IsOptimal, IsInfeasible}
+use Rattle.mrcpsp.specs.Project.{ProjectData, size}
+use Rattle.mrcpsp.specs.Schedule.{ScheduleData, IsOptimal, IsInfeasible}
 use Rattle.mrcpsp.specs.Limits.{IsProject}
 use Rattle.mrcpsp.proofs.LimitLemmas.{kept}
 use Rattle.strategy.specs.Tree as tree
 use Rattle.strategy.specs.Pass.{pass}
-use Rattle.strategy.specs.Outcome.{best_pass, rule_best, best_of, closed_of, final_verdict, best_after, is_closed, verdict_after}
+use Rattle.strategy.specs.Outcome.{rule_best, best_of, closed_of, final_verdict, best_after, is_closed, verdict_after}
 use Rattle.strategy.specs.Laws.{ClosedTreeDecides, BestIsFeasible, OptimalIsTrue, InfeasibleIsTrue, OnlyTreesDecide}
-use Rattle.strategy.specs.declared.plan.Plan.{Plan}
 use Rattle.strategy.specs.declared.kind.Kind.{Kind}
 use Rattle.strategy.specs.declared.kind.Kind.TheVariants.{Tree, RuleLft, RuleMts, RuleSpt, Sample}
 use Rattle.strategy.specs.declared.verdict.Verdict.{Verdict}

@@ -1,19 +1,18 @@
 -- Each whole pass that is not void is a feasible schedule.
-use Rattle.std.proofs.Common.{◌≡◌, ℕ, zero, suc, ◌+◌, ◌-◌, ◌*◌, ◌/◌, ◌%◌, ◌<◌, ◌≤◌, Bool, true, false, nat_lt, nat_le, cond, List, [], ◌∷◌, ◌++◌, length, map, get_or, filter, fold, sum_by, All, Option, Some, None, IfSome, option_map, arith, refl, subst, ⊎_elim}
+use Rattle.std.proofs.Common.{◌≡◌, ℕ, zero, suc, ◌+◌, ◌-◌, ◌*◌, ◌%◌, ◌<◌, Bool, true, nat_lt, nat_le, List, [], ◌∷◌, ◌++◌, length, map, fold, sum_by, All, Option, Some, None, IfSome, option_map, arith}
 use Rattle.std.specs.Prelude.{option_and_then, slice_get}
 use Rattle.std.specs.List.{find, list_all, range_with_len}
 use Rattle.std.proofs.lemmas.Bool.{and_parts, cond_both}
 use Rattle.std.proofs.lemmas.List.{length_push}
 use Rattle.std.proofs.lemmas.List.Elements.{All-nil, All-cons, All-head, All-tail, All-filter, filter_passes}
 use Rattle.mrcpsp.specs.Project.{ProjectData, size, mode_count, duration}
-use Rattle.mrcpsp.specs.Schedule.{ScheduleData, IsFeasible}
+use Rattle.mrcpsp.specs.Schedule.{ScheduleData}
 use Rattle.mrcpsp.specs.Values.{shortest, lft, mts}
 use Rattle.mrcpsp.specs.Limits.{IsProject}
 use Rattle.mrcpsp.specs.Placed.{Placed, is_eligible, is_executable, is_affordable, schedule_of}
-use Rattle.strategy.specs.Tree.{improved}
 use Rattle.strategy.specs.Candidate.{Candidate, placed_from, eligible_ones, is_allowed_mode, allowed_modes}
 use Rattle.strategy.specs.Words.{word_at}
-use Rattle.strategy.specs.Pass.{first_least, first_greatest, weight_of, drawn_at, drawn_activity, drawn_mode, activity_at, mode_at, chosen_at, placed_after, pass}
+use Rattle.strategy.specs.Pass.{weight_of, drawn_at, activity_at, mode_at, chosen_at, placed_after, pass}
 use Rattle.strategy.specs.Outcome.{better, best_pass}
 use Rattle.strategy.specs.declared.kind.Kind.{Kind}
 use Rattle.strategy.specs.declared.kind.Kind.TheVariants.{Tree, RuleLft, RuleMts, RuleSpt, Sample}

@@ -1,5 +1,5 @@
 -- Why what a search shows is true.
-use Rattle.std.specs.Prelude.{◌≡◌, ℕ, true, ◌⊎◌, IsTrue, MatchOption, IfSome, IsSomeAnd, Option}
+use Rattle.std.specs.Prelude.{◌≡◌, ℕ, ◌⊎◌, IsTrue, MatchOption, IfSome, IsSomeAnd}
 use Rattle.mrcpsp.specs.Project.{ProjectData, is_project}
 use Rattle.mrcpsp.specs.Schedule.{IsFeasible, IsOptimal, IsInfeasible}
 use Rattle.strategy.specs.Tree.{best_after, is_closed}

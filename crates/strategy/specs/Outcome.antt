@@ -1,5 +1,5 @@
 -- What a search for a plan has found after k nodes: its best schedule, whether it is over, and what that shows.
-use Rattle.std.specs.Prelude.{ℕ, ◌/◌, Bool, false, cond, is_some, nat_lt, nat_le, List, [], ◌∷◌, map, fold, Option, Some, None}
+use Rattle.std.specs.Prelude.{ℕ, ◌/◌, Bool, false, cond, is_some, nat_lt, nat_le, map, fold, Option, Some, None}
 use Rattle.std.specs.List.{range_with_len}
 use Rattle.mrcpsp.specs.Project.{ProjectData, size}
 use Rattle.mrcpsp.specs.Schedule.{ScheduleData}
