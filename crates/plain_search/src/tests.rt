@@ -1,4 +1,6 @@
 //! A search of four activities, node by node, and what it leaves in its till.
+ghost use Rattle.plain_search.specs.Search.{IsEmpty};
+
 use crate::{PlainSearch, Refused};
 use mrcpsp::{Activity, Mode, Project, Sequence};
 use quanta_till::{Lease, Till};
@@ -40,7 +42,9 @@ fn diamond(alloc: Global) -> Result<Option<Project>, AllocError> {
     ))
 }
 
-fn search(alloc: Global, lease: Lease) -> Result<PlainSearch, Fail> {
+fn search(alloc: Global, lease: Lease) -> Result<PlainSearch, Fail>
+    requires { IsEmpty lease }
+{
     let project = diamond(alloc)?.ok_or("no project")?;
     let plan = Plan {
         project,
