@@ -1,6 +1,7 @@
 //! The precedence tree as a list of all its nodes, and a place in it.
-ghost use Rattle.std.specs.Prelude.{◌≡◌, ◌≤◌, Some, None, IfOk, IfErr, length, take, is_some, nat_le, if◌then◌else◌};
+ghost use Rattle.std.specs.Prelude.{◌≡◌, ◌<◌, ◌≤◌, Some, None, IfOk, IfErr, length, take, is_some, nat_le, if◌then◌else◌};
 ghost use Rattle.std.specs.Option.{option_copied};
+ghost use Rattle.quanta_till.specs.Lease.{after_use};
 ghost use Rattle.strategy.specs.Tree.{after};
 ghost use Rattle.strategy.specs.declared.kind.Kind.TheVariants.{Tree};
 ghost use Rattle.strategy.specs.declared.verdict.Verdict.TheVariants.{Going, Optimal, Infeasible};
@@ -67,6 +68,21 @@ impl PlainSearch {
     }
 }
 
+/// Pays one node with a quantum of the lease.
+fn pay(lease: &mut Lease)
+    requires { 0 < lease.old.left }
+    ensures { lease.new ≡ after_use lease.old }
+{
+    lease.use_one();
+}
+
+/// Whether so many nodes are all.
+fn are_all(visits: &[Visit], nodes: usize) -> bool
+    ensures { result ≡ nat_le (length visits.now) nodes }
+{
+    visits.len() <= nodes
+}
+
 /// The incumbent after so many nodes.
 fn best_at(visits: &[Visit], nodes: usize) -> Option<&Schedule>
     requires { nodes ≤ length visits.now }
@@ -129,8 +145,7 @@ impl Strategy for PlainSearch {
     }
 
     fn closed(&self) -> bool {
-        let visits: &[Visit] = &self.visits;
-        self.taken || visits.len() <= self.nodes
+        self.taken || are_all(&self.visits, self.nodes)
     }
 
     fn verdict(&self) -> Verdict {
@@ -149,7 +164,7 @@ impl Strategy for PlainSearch {
     }
 
     fn advance(&mut self) {
-        self.lease.use_one();
+        pay(&mut self.lease);
         self.nodes += 1;
         self.shown = verdict_at(&self.visits, self.nodes);
     }

@@ -16,7 +16,7 @@ invariant_of-self c =
     let shown : c.verdict_at-self-inside.result ≡ verdict_in s.visits.items (s.nodes + 1) = rw c.deref.ensures.value at c.verdict_at-self-inside.ensures in
     record {
       kind = c.self.invariant.kind;
-      paid = ap (λ (l : LeaseValue). l.used) c.use_one.ensures ∙ ap (λ n. n + 1) c.self.invariant.paid;
+      paid = ap (λ (l : LeaseValue). l.used) c.pay.ensures ∙ ap (λ n. n + 1) c.self.invariant.paid;
       shown = shown ∙ sym (verdict-tree s.plan s.visits.items (s.nodes + 1) c.self.invariant.kind (c.self.invariant.listed going.untaken));
       listed = c.self.invariant.listed;
       within = λ _. going.within;
