@@ -1,0 +1,2 @@
+//! The searches of one pass by a priority rule.
+#![tactic(auto)]

@@ -1,0 +1,2 @@
+//! The search of passes drawn from the words of a seed.
+#![tactic(auto)]

@@ -1,0 +1,2 @@
+//! The search of the precedence tree, a node at a time.
+#![tactic(auto)]
