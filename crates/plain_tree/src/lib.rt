@@ -5,7 +5,6 @@
 mod incumbent;
 mod place;
 mod pruning;
-mod stock;
 mod tree;
 mod values;
 mod visit;

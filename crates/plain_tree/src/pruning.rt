@@ -7,7 +7,6 @@ ghost use Rattle.plain_tree.specs.Level.{IsEarly, IsKnown};
 use crate::Visit;
 use crate::incumbent::incumbent;
 use crate::place::place_of;
-use crate::stock::is_affordable;
 use crate::values::tail;
 use crate::visit::Candidate;
 use mrcpsp::{Project, makespan};
@@ -39,7 +38,7 @@ pub(crate) fn is_pruned(board: &Board, candidate: Candidate, nodes: &[Visit]) ->
     if !board.is_executable(activity, mode) {
         return true;
     }
-    if !is_affordable(board, candidate) {
+    if !board.is_affordable(activity, mode) {
         return true;
     }
     let finish = place_of(board, candidate).start + project.duration(activity, mode);

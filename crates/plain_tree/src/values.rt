@@ -1,7 +1,7 @@
 //! The values of an activity, each by its definition.
 ghost use Rattle.std.specs.Prelude.{◌≡◌, ◌*◌, ◌<◌, ◌≤◌};
-ghost use Rattle.mrcpsp.specs.Project.{size, nonrenewables};
-ghost use Rattle.mrcpsp.specs.Values.{shortest, least, chain, tail};
+ghost use Rattle.mrcpsp.specs.Project.{size};
+ghost use Rattle.mrcpsp.specs.Values.{shortest, chain, tail};
 
 use mrcpsp::Project;
 
@@ -15,21 +15,6 @@ fn shortest(project: &Project, activity: usize) -> u32
     let mut lowest = project.duration(activity, 0);
     for mode in 1..modes {
         lowest = lowest.min(project.duration(activity, mode));
-    }
-    lowest
-}
-
-/// The least that an activity consumes of a nonrenewable resource.
-pub(crate) fn least(project: &Project, activity: usize, resource: usize) -> u32
-    requires activity { activity < size project.now }
-    requires resource { resource < nonrenewables project.now }
-    ensures exact { result ≡ least project.now activity resource }
-    ensures most { result ≤ 1000000 }
-{
-    let modes = project.mode_count(activity);
-    let mut lowest = project.consumption(activity, 0, resource);
-    for mode in 1..modes {
-        lowest = lowest.min(project.consumption(activity, mode, resource));
     }
     lowest
 }

@@ -1,9 +1,10 @@
 //! Boards: partial schedules that grow and shrink at their end.
 ghost use Rattle.std.specs.Prelude.{◌≡◌, ℕ, ◌+◌, ◌<◌, ◌≤◌, [], ◌∷◌, ◌++◌, IsTrue, IsFalse, IfOk, All, length, max};
 ghost use Rattle.mrcpsp.specs.Project.{size, mode_count};
-ghost use Rattle.mrcpsp.specs.Placed.{Placed, finish_of, is_placed, latest, is_allowed, earliest, is_eligible, is_executable};
+ghost use Rattle.mrcpsp.specs.Placed.{Placed, finish_of, is_placed, latest, is_allowed, earliest, is_eligible, is_executable, is_affordable};
 
 use crate::Place;
+use crate::stock::is_affordable;
 use crate::sums::{earliest_start, finish_of, is_executable, latest_finish};
 use mrcpsp::Project;
 use std::alloc::{AllocError, Global};
@@ -95,6 +96,16 @@ impl Board {
         ensures { result ≡ is_executable self.now.project activity mode }
     {
         is_executable(&self.project, activity, mode)
+    }
+
+    /// Whether the activity in the mode leaves enough of each nonrenewable resource, beside what is
+    /// placed, for the least consumption of the other activities.
+    pub fn is_affordable(&self, activity: usize, mode: usize) -> bool
+        requires activity { activity < size self.now.project }
+        requires mode { mode < mode_count self.now.project activity }
+        ensures { result ≡ is_affordable self.now.project self.now.placed activity mode }
+    {
+        is_affordable(self, activity, mode)
     }
 
     /// The earliest start of the activity in the mode: the least period, `from` or later, by which its

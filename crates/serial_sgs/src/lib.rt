@@ -3,6 +3,7 @@
 
 mod board;
 mod place;
+mod stock;
 mod sums;
 
 pub use board::Board;

@@ -1,8 +1,8 @@
 use Rattle.std.proofs.Common.{arith, get_or, ◌≡◌, ◌∙◌}
 use Rattle.mrcpsp.specs.Project.{ModeData, consumption}
 use Rattle.mrcpsp.specs.Values.{least}
-use Rattle.plain_tree.proofs.ValueLemmas.{lowest_first, lowest_more, lowest_all}
-use Rattle.plain_tree.proofs.values.least.Goals as goal
+use Rattle.serial_sgs.proofs.StockLemmas.{lowest_first, lowest_more, lowest_all}
+use Rattle.serial_sgs.proofs.stock.least.Goals as goal
 
 pub loop-mode-init : goal.loop-mode-init
 unfolding consumption

@@ -1,6 +1,6 @@
 use Rattle.std.proofs.Common.{◌≡◌, ◌≤◌, ◌*◌, length, take}
 use Rattle.mrcpsp.specs.Placed.{placed_consumption}
-use Rattle.plain_tree.proofs.stock.consumption.Given as goal
+use Rattle.serial_sgs.proofs.stock.consumption.Given as goal
 
 abbrev pub invariant-loop-place : goal.invariant-loop-place
 invariant-loop-place l = record {

@@ -1,11 +1,26 @@
-//! The nonrenewable test.
+//! What is consumed of the nonrenewable resources, and what has to be left for the rest.
 ghost use Rattle.std.specs.Prelude.{◌≡◌, ◌<◌, ◌≤◌};
 ghost use Rattle.mrcpsp.specs.Project.{size, nonrenewables, mode_count};
+ghost use Rattle.mrcpsp.specs.Values.{least};
 ghost use Rattle.mrcpsp.specs.Placed.{placed_consumption, reserve, is_affordable};
 
-use crate::values::least;
-use crate::visit::Candidate;
-use serial_sgs::Board;
+use crate::Board;
+use mrcpsp::Project;
+
+/// The least that an activity consumes of a nonrenewable resource.
+fn least(project: &Project, activity: usize, resource: usize) -> u32
+    requires activity { activity < size project.now }
+    requires resource { resource < nonrenewables project.now }
+    ensures exact { result ≡ least project.now activity resource }
+    ensures most { result ≤ 1000000 }
+{
+    let modes = project.mode_count(activity);
+    let mut lowest = project.consumption(activity, 0, resource);
+    for mode in 1..modes {
+        lowest = lowest.min(project.consumption(activity, mode, resource));
+    }
+    lowest
+}
 
 /// What the placed activities consume of a nonrenewable resource.
 fn consumption(board: &Board, resource: usize) -> u32
@@ -39,13 +54,12 @@ fn reserve(board: &Board, activity: usize, resource: usize) -> u32
     total
 }
 
-/// Whether the candidate leaves enough of each nonrenewable resource for the least consumption of the others.
-pub(crate) fn is_affordable(board: &Board, candidate: Candidate) -> bool
-    requires activity { candidate.activity < size board.now.project }
-    requires mode { candidate.mode < mode_count board.now.project candidate.activity }
-    ensures { result ≡ is_affordable board.now.project board.now.placed candidate.activity candidate.mode }
+/// Whether the activity in the mode leaves enough of each nonrenewable resource for the least consumption of the others.
+pub(crate) fn is_affordable(board: &Board, activity: usize, mode: usize) -> bool
+    requires activity { activity < size board.now.project }
+    requires mode { mode < mode_count board.now.project activity }
+    ensures { result ≡ is_affordable board.now.project board.now.placed activity mode }
 {
-    let Candidate { activity, mode } = candidate;
     let project = board.project();
     for resource in 0..project.nonrenewables() {
         let total = consumption(board, resource)

@@ -2,8 +2,8 @@ use Rattle.std.proofs.Common.{◌≡◌, arith, sym, ap, ◌∙◌, length}
 use Rattle.mrcpsp.specs.Project.{consumption}
 use Rattle.mrcpsp.specs.Placed.{Placed}
 use Rattle.serial_sgs.proofs.BoardLemmas.{few_placed}
-use Rattle.plain_tree.proofs.StockLemmas.{consumption_nil, consumption_more}
-use Rattle.plain_tree.proofs.stock.consumption.Goals as goal
+use Rattle.serial_sgs.proofs.StockLemmas.{consumption_nil, consumption_more}
+use Rattle.serial_sgs.proofs.stock.consumption.Goals as goal
 
 pub loop-place-init : goal.loop-place-init
 loop-place-init c = record {

@@ -1,7 +1,7 @@
 use Rattle.std.proofs.Common.{ℕ, ◌+◌, ◌<◌, ◌≤◌}
 use Rattle.mrcpsp.specs.Project.{consumption, stock}
 use Rattle.mrcpsp.specs.Placed.{placed_consumption, reserve}
-use Rattle.plain_tree.proofs.stock.is_affordable.Given as goal
+use Rattle.serial_sgs.proofs.stock.is_affordable.Given as goal
 
 abbrev pub invariant-loop-resource : goal.invariant-loop-resource
 invariant-loop-resource l =
