@@ -1,0 +1,113 @@
+//! Books: prepaid quanta, and where each of them is.
+ghost use Rattle.std.specs.Prelude.{◌≡◌, ◌≤◌, ◌<◌, ◌↔◌, IsOk, IfOk, IfErr, OnErr, OnOk};
+ghost use Rattle.tenant_book.specs.Book.{IsBook, opened, after_hold, after_spend, after_free_up};
+
+use std::marker::Model;
+
+/// A tenant's ledger, in quanta: granted are always free, held and spent together.
+#[derive(Clone, Copy, Debug)]
+pub struct Book {
+    granted: u64,
+    free: u64,
+    held: u64,
+    spent: u64,
+}
+
+impl Model for Book {
+    ghost use Rattle.tenant_book.specs.Book.{BookData, IsBook};
+
+    ghost Value = { BookData };
+
+    ghost view = { λ b. record { granted = b.granted; free = b.free; held = b.held; spent = b.spent } };
+
+    ghost inverse = { λ b. record { granted = b.granted; free = b.free; held = b.held; spent = b.spent } };
+
+    ghost invariant = { λ b. IsBook (record { granted = b.granted; free = b.free; held = b.held; spent = b.spent }) };
+}
+
+/// More quanta were asked for than are free.
+#[derive(Clone, Copy, Debug, PartialEq, Eq)]
+pub struct Short {
+    /// How many are free.
+    pub free: u64,
+}
+
+impl Book {
+    /// A book of so many quanta, at most 10^12, that are all free.
+    pub fn new(granted: u64) -> Book
+        requires { granted ≤ 1000000000000 }
+        ensures { result ≡ opened granted }
+    {
+        Book {
+            granted,
+            free: granted,
+            held: 0,
+            spent: 0,
+        }
+    }
+
+    /// How many quanta the tenant was granted.
+    pub fn granted(&self) -> u64
+        ensures exact { result ≡ self.now.granted }
+        ensures book { IsBook self.now }
+    {
+        self.granted
+    }
+
+    /// How many quanta no job holds and no node was paid with.
+    pub fn free(&self) -> u64
+        ensures exact { result ≡ self.now.free }
+        ensures book { IsBook self.now }
+    {
+        self.free
+    }
+
+    /// How many quanta the tenant's jobs hold.
+    pub fn held(&self) -> u64
+        ensures exact { result ≡ self.now.held }
+        ensures book { IsBook self.now }
+    {
+        self.held
+    }
+
+    /// How many quanta were paid for nodes.
+    pub fn spent(&self) -> u64
+        ensures exact { result ≡ self.now.spent }
+        ensures book { IsBook self.now }
+    {
+        self.spent
+    }
+
+    /// Gives so many free quanta to a job, or tells how many are free where these are fewer. Then nothing changes.
+    pub fn hold(&mut self, quanta: u64) -> Result<(), Short>
+        ensures enough { IsOk result ↔ (quanta ≤ self.old.free) }
+        ensures held { OnOk result (self.new ≡ after_hold quanta self.old) }
+        ensures short { IfErr result (λ short. short.free ≡ self.old.free) }
+        ensures kept { OnErr result (self.new ≡ self.old) }
+    {
+        if self.free < quanta {
+            return Err(Short { free: self.free });
+        }
+        self.free -= quanta;
+        self.held += quanta;
+        Ok(())
+    }
+
+    /// Pays for so many nodes with held quanta.
+    pub fn spend(&mut self, quanta: u64)
+        requires { quanta ≤ self.old.held }
+        ensures { self.new ≡ after_spend quanta self.old }
+    {
+        self.held -= quanta;
+        self.spent += quanta;
+    }
+
+    /// Takes so many held quanta back from a job.
+    pub fn free_up(&mut self, quanta: u64)
+        requires { quanta ≤ self.old.held }
+        ensures { self.new ≡ after_free_up quanta self.old }
+    {
+        self.held -= quanta;
+        self.free += quanta;
+    }
+}

@@ -1,0 +1,11 @@
+//! The ledger of one tenant: how many of its quanta are free, held by its jobs, and spent on nodes.
+//!
+//! Whoever keeps a [`Book`] may rest on this: what was granted is always what is free, held and spent together, and each
+//! call changes exactly the amounts that it names.
+#![tactic(auto)]
+
+mod book;
+#[cfg(test)]
+mod tests;
+
+pub use book::{Book, Short};

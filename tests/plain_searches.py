@@ -1,0 +1,257 @@
+#!/usr/bin/env python3
+"""The five searches, node by node, by their definitions alone: a second program to compare with.
+
+    plain_searches.py KIND FILE [NODES]     what the search of a .mm file shows after each node
+    plain_searches.py table SEED COUNT      a table of small random projects and what each kind of search finds
+
+KIND is tree, rule:lft, rule:mts, rule:spt or sample:SEED. Nothing here is shared with the service: no code, no
+tables. Activities and modes are counted from 0 inside, and from 1 in what is printed.
+"""
+import sys
+from itertools import islice
+
+
+class Project:
+    """`modes[j]` is a list of (duration, requests, consumptions), `successors[j]` a list of places."""
+
+    def __init__(self, modes, successors, capacities, stocks):
+        self.modes, self.successors = modes, successors
+        self.capacities, self.stocks = capacities, stocks
+        self.n = len(modes)
+        self.predecessors = [[i for i in range(self.n) if j in successors[i]] for j in range(self.n)]
+        self.horizon = sum(max(m[0] for m in ms) for ms in modes)
+        self.shortest = [min(m[0] for m in ms) for ms in modes]
+        self.tail = [0] * self.n
+        self.lft = [0] * self.n
+        followers = [set() for _ in modes]
+        for j in reversed(range(self.n)):
+            self.tail[j] = max((self.shortest[s] + self.tail[s] for s in successors[j]), default=0)
+            self.lft[j] = min((self.lft[s] - self.shortest[s] for s in successors[j]), default=self.horizon)
+            for s in successors[j]:
+                followers[j] |= {s} | followers[s]
+        self.mts = [len(f) for f in followers]
+
+    def least(self, j, k):
+        return min(m[2][k] for m in self.modes[j])
+
+    def executable(self, j, m):
+        d, requests, _ = self.modes[j][m]
+        return d == 0 or all(q <= c for q, c in zip(requests, self.capacities))
+
+    def affordable(self, placed, j, m):
+        there = {a for a, _, _ in placed}
+        for k, stock in enumerate(self.stocks):
+            used = sum(self.modes[a][b][2][k] for a, b, _ in placed)
+            rest = sum(self.least(i, k) for i in range(self.n) if i not in there and i != j)
+            if used + self.modes[j][m][2][k] + rest > stock:
+                return False
+        return True
+
+    def eligible(self, placed):
+        there = {a for a, _, _ in placed}
+        return [j for j in range(self.n) if j not in there and all(i in there for i in self.predecessors[j])]
+
+    def finish(self, place):
+        return place[2] + self.modes[place[0]][place[1]][0]
+
+    def use(self, placed, r, t):
+        return sum(self.modes[a][b][1][r] for a, b, s in placed if s <= t < s + self.modes[a][b][0])
+
+    def earliest(self, placed, j, m, start):
+        d, requests, _ = self.modes[j][m]
+        start = max([start] + [self.finish(p) for p in placed if p[0] in self.predecessors[j]])
+        while not all(self.use(placed, r, t) + q <= self.capacities[r]
+                      for r, q in enumerate(requests) for t in range(start, start + d)):
+            start += 1
+        return start
+
+    def makespan(self, placed):
+        return max((self.finish(p) for p in placed), default=0)
+
+
+def tree(p):
+    """Yields the incumbent (a list of places, or None) after each node."""
+    best = [None]
+
+    def level(placed):
+        bound = placed[-1][2] if placed else 0
+        for j in p.eligible(placed):
+            for m in range(len(p.modes[j])):
+                if p.executable(j, m) and p.affordable(placed, j, m):
+                    start = p.earliest(placed, j, m, bound)
+                    place = (j, m, start)
+                    known = best[0]
+                    if known is None or p.finish(place) + p.tail[j] < p.makespan(known):
+                        deeper = placed + [place]
+                        if len(deeper) == p.n and (known is None or p.makespan(deeper) < p.makespan(known)):
+                            best[0] = deeper
+                        yield best[0]
+                        if len(deeper) < p.n:
+                            yield from level(deeper)
+                        continue
+                yield best[0]
+
+    yield from level([])
+
+
+def words(seed):
+    a, mask = 6364136223846793005, (1 << 64) - 1
+    x = ((seed + 109) * a + 109) & mask
+    while True:
+        low = (((x >> 18) ^ x) >> 27) & 0xFFFFFFFF
+        turn = x >> 59
+        yield ((low >> turn) | (low << (32 - turn))) & 0xFFFFFFFF
+        x = (x * a + 109) & mask
+
+
+def draw(p, xs, word):
+    greatest = max(p.lft[j] for j in xs)
+    weights = [greatest - p.lft[j] + 1 for j in xs]
+    x = word % sum(weights)
+    for j, w in zip(xs, weights):
+        if x < w:
+            return j
+        x -= w
+
+
+def passes(p, choose, source):
+    """Yields, node by node, None or the schedule that the pass completed at this node."""
+    while True:
+        placed, void = [], False
+        for _ in range(p.n):
+            first, second = next(source), next(source)
+            if not void:
+                j = choose(p.eligible(placed), first)
+                allowed = [m for m in range(len(p.modes[j])) if p.executable(j, m) and p.affordable(placed, j, m)]
+                if allowed:
+                    m = mode_of(p, j, allowed, second)
+                    placed = placed + [(j, m, p.earliest(placed, j, m, 0))]
+                else:
+                    void = True
+            yield placed if not void and len(placed) == p.n else None
+
+
+def mode_of(p, j, allowed, second):
+    if second is None:
+        return min(allowed, key=lambda m: (p.modes[j][m][0], m))
+    return allowed[second % len(allowed)]
+
+
+def nothing():
+    while True:
+        yield None
+
+
+def search(p, kind):
+    """Yields (best, closed, verdict) after each node."""
+    if kind == "tree":
+        nodes = list(tree(p))
+        for k, best in enumerate(nodes, 1):
+            closed = k == len(nodes)
+            yield best, closed, ("optimal" if best else "infeasible") if closed else "open"
+    elif kind.startswith("rule:"):
+        key = {"lft": lambda j: p.lft[j], "mts": lambda j: -p.mts[j], "spt": lambda j: p.shortest[j]}[kind[5:]]
+        choose = lambda xs, _: min(xs, key=lambda j: (key(j), j))
+        for k, found in enumerate(islice(passes(p, choose, nothing()), p.n), 1):
+            yield found, k == p.n, "ended" if k == p.n else "open"
+    else:
+        best = None
+        for found in passes(p, lambda xs, word: draw(p, xs, word), words(int(kind[7:]))):
+            if found is not None and (best is None or p.makespan(found) < p.makespan(best)):
+                best = found
+            yield best, False, "open"
+
+
+def shown(p, best):
+    if best is None:
+        return "none"
+    of = {a: (b, s) for a, b, s in best}
+    return " ".join([str(p.makespan(best))] + [f"{j + 1}:{of[j][0] + 1}:{of[j][1]}" for j in range(p.n)])
+
+
+def read(path):
+    """A well-formed .mm file; faults are not this program's matter."""
+    lines = [line.split() for line in open(path)]
+    at = lambda *head: next(i for i, w in enumerate(lines) if w[:len(head)] == list(head))
+    count = lambda word: next(int("".join(w).split(":")[1].rstrip("RND")) for w in lines if w[:2] == ["-", word])
+    try:
+        n = next(int("".join(w).split(":")[1]) for w in lines if w[:1] == ["jobs"])
+        r = count("renewable") if any(w[:2] == ["-", "renewable"] for w in lines) else 0
+        k = count("nonrenewable") if any(w[:2] == ["-", "nonrenewable"] for w in lines) else 0
+    except ValueError as fault:
+        sys.exit(f"{path}: {fault}")
+    numbers = lambda i: [int(w) for w in lines[i]]
+    first = at("PRECEDENCE") + 2
+    rows = [numbers(first + j) for j in range(n)]
+    second = at("REQUESTS/DURATIONS:") + 2
+    while lines[second] and lines[second][0].startswith("-"):
+        second += 1
+    modes = []
+    for row in rows:
+        modes.append([])
+        for m in range(row[1]):
+            w = numbers(second)
+            w = w[1:] if m == 0 else w
+            modes[-1].append((w[1], w[2:2 + r], w[2 + r:2 + r + k]))
+            second += 1
+    last = at("RESOURCEAVAILABILITIES:") + 2
+    amounts = numbers(last) if r + k else []
+    return Project(modes, [[s - 1 for s in row[3:]] for row in rows], amounts[:r], amounts[r:])
+
+
+class Drawn:
+    """Numbers for the random projects: x becomes (x * 1103515245 + 12345) modulo 2^31, and gives x div 2^16."""
+
+    def __init__(self, seed):
+        self.x = seed
+
+    def below(self, n):
+        self.x = (self.x * 1103515245 + 12345) % 2 ** 31
+        return (self.x >> 16) % n
+
+
+def random_project(drawn):
+    """1 to 6 activities, 1 to 3 modes, 0 to 2 resources of each sort."""
+    n, r, k = 1 + drawn.below(6), drawn.below(3), drawn.below(3)
+    modes, successors = [], []
+    for j in range(n):
+        modes.append([])
+        for _ in range(1 + drawn.below(3)):
+            d = drawn.below(5)
+            requests = [drawn.below(4) for _ in range(r)]
+            modes[-1].append((d, requests, [drawn.below(3) for _ in range(k)]))
+        successors.append([s for s in range(j + 1, n) if drawn.below(3) == 0])
+    return Project(modes, successors, [1 + drawn.below(4) for _ in range(r)], [drawn.below(2 * n) for _ in range(k)])
+
+
+def digest(p, kind, most):
+    """How many nodes were looked at, and a sum over what was shown after each: h becomes h * 31 + value modulo 2^32,
+    where the value of a node is 0 without a best schedule and otherwise 1 more than its makespan, then its modes and
+    starts by rising activity, and last 1 where the search is closed."""
+    h, nodes = 0, 0
+    for best, closed, _ in islice(search(p, kind), most):
+        values = [0]
+        if best is not None:
+            of = {a: (b, s) for a, b, s in best}
+            values = [p.makespan(best) + 1] + [x for j in range(p.n) for x in (of[j][0] + 1, of[j][1])]
+        for value in values + [1 if closed else 0]:
+            h = (h * 31 + value) % 2 ** 32
+        nodes += 1
+    return nodes, h
+
+
+def main():
+    if sys.argv[1] == "table":
+        drawn = Drawn(int(sys.argv[2]))
+        for i in range(int(sys.argv[3])):
+            p = random_project(drawn)
+            kinds = ["tree", "rule:lft", "rule:mts", "rule:spt", f"sample:{i}"]
+            print(i, p.n, *[value for kind in kinds for value in digest(p, kind, 4 * p.n if kind.startswith("sample") else 400)])
+        return
+    p = read(sys.argv[2])
+    most = int(sys.argv[3]) if len(sys.argv) > 3 else None
+    for k, (best, closed, verdict) in enumerate(islice(search(p, sys.argv[1]), most), 1):
+        print(k, shown(p, best), "closed" if closed else "going", verdict)
+
+
+main()
