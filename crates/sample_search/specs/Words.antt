@@ -1,0 +1,13 @@
+-- The words of a seed, as they are drawn one after another.
+use Rattle.std.specs.Prelude.{ℕ}
+use Rattle.rand_pcg.specs.Lcg.{Lcg}
+use Rattle.strategy.specs.Words.{state_at}
+
+-- whose words they are, and how many were drawn
+pub record WordsData : Type 0 where
+  pub seed : ℕ
+  pub drawn : ℕ
+
+-- the generator that gives word i of a seed next
+abbrev pub generator_at : ℕ → ℕ → Lcg
+generator_at seed i = record { state = state_at seed i; increment = 109 }

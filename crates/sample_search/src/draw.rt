@@ -1,0 +1,95 @@
+//! What the words of a seed draw: one of the eligible activities, and one of its allowed modes.
+ghost use Rattle.std.specs.Prelude.{◌≡◌, ◌+◌, ◌-◌, ◌<◌, ◌≤◌, Some, length, map, sum_by};
+ghost use Rattle.mrcpsp.specs.Numbers.{largest};
+ghost use Rattle.mrcpsp.specs.Project.{ProjectData, size};
+ghost use Rattle.mrcpsp.specs.Values.{lft};
+ghost use Rattle.strategy.specs.Pass.{weight_of, drawn_activity, drawn_mode};
+ghost use Rattle.sample_search.specs.Draw.{AreMeasures, AreActivities};
+
+use measures::Measures;
+
+/// The latest finish time of an activity.
+fn latest_finish(measures: &Measures, activity: usize) -> u32
+    ghost project: { ProjectData }
+    requires measures { AreMeasures project measures.now }
+    requires activity { activity < size project }
+    ensures exact { result ≡ lft project activity }
+    ensures most { result ≤ 20000 }
+{
+    measures.lft(activity)
+}
+
+/// The greatest latest finish time of these activities.
+#[tactic(auto, using(crate::proofs::DrawLemmas::largest_more))]
+fn greatest(measures: &Measures, activities: &[usize]) -> u32
+    ghost project: { ProjectData }
+    requires measures { AreMeasures project measures.now }
+    requires activities { AreActivities project activities.now }
+    ensures exact { result ≡ largest (map (lft project) activities.now) }
+    ensures most { result ≤ 20000 }
+{
+    let mut greatest = 0;
+    for activity in activities {
+        greatest = greatest.max(latest_finish(measures, *activity));
+    }
+    greatest
+}
+
+/// How much sooner than this period an activity has to finish, and one more.
+fn weight(measures: &Measures, greatest: u32, activity: usize) -> u32
+    ghost project: { ProjectData }
+    requires measures { AreMeasures project measures.now }
+    requires activity { activity < size project }
+    requires sooner { lft project activity ≤ greatest }
+    requires most { greatest ≤ 20000 }
+    ensures exact { result ≡ greatest - lft project activity + 1 }
+    ensures most { result ≤ 20001 }
+{
+    greatest - latest_finish(measures, activity) + 1
+}
+
+/// The sum of the weights of these activities, whose greatest latest finish time is given.
+fn total(measures: &Measures, activities: &[usize], greatest: u32) -> u32
+    ghost project: { ProjectData }
+    requires measures { AreMeasures project measures.now }
+    requires activities { AreActivities project activities.now }
+    requires greatest { greatest ≡ largest (map (lft project) activities.now) }
+    requires most { greatest ≤ 20000 }
+    ensures exact { result ≡ sum_by (weight_of project activities.now) activities.now }
+    ensures some { 0 < length activities.now → 0 < result }
+{
+    let mut total = 0;
+    for activity in activities {
+        total += weight(measures, greatest, *activity);
+    }
+    total
+}
+
+/// The activity that a word draws from these: the first at which the running sum of their weights exceeds the word
+/// modulo the sum of them all.
+pub(crate) fn draw_activity(measures: &Measures, activities: &[usize], word: u32) -> usize
+    ghost project: { ProjectData }
+    requires measures { AreMeasures project measures.now }
+    requires activities { AreActivities project activities.now }
+    requires some { 0 < length activities.now }
+    ensures { drawn_activity project word activities.now ≡ Some result }
+{
+    let greatest = greatest(measures, activities);
+    let mut rest = word % total(measures, activities, greatest);
+    for activity in activities {
+        let weight = weight(measures, greatest, *activity);
+        if rest < weight {
+            return *activity;
+        }
+        rest -= weight;
+    }
+    unreachable!()
+}
+
+/// The mode that a word draws from these: the one whose place is the word modulo the number of them all.
+pub(crate) fn draw_mode(modes: &[usize], word: u32) -> usize
+    requires { 0 < length modes.now }
+    ensures { drawn_mode word modes.now ≡ Some result }
+{
+    modes[word as usize % modes.len()]
+}

@@ -1,0 +1,53 @@
+//! The words of a seed.
+ghost use Rattle.std.specs.Prelude.{◌≡◌, ◌+◌, ◌<◌, ◌^◌};
+ghost use Rattle.strategy.specs.Words.{word_at};
+
+use rand_core::utils::NextWord;
+use rand_pcg::Pcg32;
+use std::marker::Model;
+
+/// The stream of the generator: its increment is twice this and one.
+const STREAM: u64 = 54;
+
+/// The words of a seed, one after another. Contracts see the seed and how many words were drawn.
+#[derive(Drop)]
+pub(crate) struct Words {
+    seed: u64,
+    drawn: u64,
+    generator: Pcg32,
+}
+
+impl Model for Words {
+    ghost use Rattle.std.specs.Prelude.{◌≡◌};
+    ghost use Rattle.sample_search.specs.Words.{WordsData, generator_at};
+
+    ghost Value = { WordsData };
+
+    ghost view = { λ w. record { seed = w.seed; drawn = w.drawn } };
+
+    ghost invariant = { λ w. w.generator ≡ generator_at w.seed w.drawn };
+}
+
+impl Words {
+    /// The words of a seed, none of them drawn.
+    pub(crate) fn new(seed: u64) -> Words
+        ensures { result ≡ record { seed = seed; drawn = 0 } }
+    {
+        Words {
+            seed,
+            drawn: 0,
+            generator: Pcg32::new(seed, STREAM),
+        }
+    }
+
+    /// Draws the next word.
+    #[tactic(auto, unfolding(strategy::specs::Words::word_at))]
+    pub(crate) fn next(&mut self) -> u32
+        requires { self.old.drawn + 1 < 2 ^ 64 }
+        ensures word { result ≡ word_at self.old.seed self.old.drawn }
+        ensures drawn { self.new ≡ record self.old { drawn = self.old.drawn + 1 } }
+    {
+        self.drawn += 1;
+        self.generator.next_word()
+    }
+}
