@@ -1,0 +1,6 @@
+pub mod Name
+pub mod Config
+pub mod Tenant
+pub mod Step
+pub mod World
+pub mod Laws

@@ -1,0 +1,18 @@
+-- The names of tenants.
+use Rattle.std.specs.Prelude.{ℕ, Bool, true, false, ◌&&◌, ◌||◌, nat_le, nat_lt, ◌==◌, List, [], ◌∷◌, length}
+use Rattle.std.specs.List.{list_all}
+
+-- a small letter, and a byte that may follow one: a small letter, a digit, _ or -
+abbrev pub is_letter : ℕ → Bool
+is_letter b = nat_le 97 b && nat_le b 122
+
+abbrev pub is_mark : ℕ → Bool
+is_mark b = is_letter b || ((nat_le 48 b && nat_le b 57) || ((b == 95) || (b == 45)))
+
+abbrev pub begins_well : List ℕ → Bool
+begins_well [] = false
+begins_well (b ∷ bytes) = is_letter b
+
+-- 1 to 32 bytes, the first a letter
+unfoldable pub is_name : List ℕ → Bool
+is_name bytes = nat_le (length bytes) 32 && (begins_well bytes && list_all is_mark bytes)

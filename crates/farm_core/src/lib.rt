@@ -1,0 +1,14 @@
+//! The farm: one table of jobs, one journal and one waiting list for all tenants, and yet each tenant's replies are those
+//! of a farm of its own.
+#![tactic(auto)]
+
+mod config;
+mod entry;
+pub mod laws;
+mod name;
+mod reply;
+
+pub use config::TenantLine;
+pub use entry::{Entry, Event};
+pub use name::Name;
+pub use reply::{Line, NoTurn, Reply};

@@ -1,0 +1,77 @@
+//! The names of tenants.
+ghost use Rattle.std.specs.Prelude.{◌≡◌, ◌↔◌, Some, None, IsTrue, if◌then◌else◌, length};
+ghost use Rattle.std.specs.List.{list_all};
+ghost use Rattle.farm_core.specs.Name.{is_mark, is_letter, is_name, begins_well};
+
+use std::marker::Model;
+
+/// A tenant's name: 1 to 32 bytes of `a` to `z`, `0` to `9`, `_` and `-`, the first a letter. Contracts see its bytes.
+#[derive(Debug, Drop)]
+pub struct Name {
+    bytes: [u8; 32],
+    len: usize,
+}
+
+impl Model for Name {
+    ghost use Rattle.std.specs.Prelude.{List, ℕ, take, ◌≤◌, IsTrue};
+    ghost use Rattle.farm_core.specs.Name.{is_name};
+
+    ghost Value = { List ℕ };
+
+    ghost view = { λ n. take n.len n.bytes };
+
+    ghost invariant = { λ n. (n.len ≤ 32) × IsTrue (is_name (take n.len n.bytes)) };
+}
+
+/// Whether a byte may stand in a name.
+fn is_mark(byte: u8) -> bool
+    ensures { result ≡ is_mark byte }
+{
+    matches!(byte, b'a'..=b'z' | b'0'..=b'9' | b'_' | b'-')
+}
+
+/// Whether a name begins like this.
+fn begins_well(bytes: &[u8]) -> bool
+    ensures { result ≡ begins_well bytes.now }
+{
+    match bytes.first() {
+        Some(first) => first.is_ascii_lowercase(),
+        None => false,
+    }
+}
+
+/// Whether each of these bytes may stand in a name.
+fn are_marks(bytes: &[u8]) -> bool
+    ensures { result ≡ list_all is_mark bytes.now }
+{
+    for byte in bytes {
+        if !is_mark(*byte) {
+            return false;
+        }
+    }
+    true
+}
+
+impl Name {
+    /// The name of these bytes, or `None` where it is ill formed.
+    #[tactic(auto, unfolding(crate::specs::Name::is_name))]
+    pub fn new(given: &[u8]) -> Option<Name>
+        ensures { result ≡ (if is_name given.now then Some given.now else None) }
+    {
+        let len = given.len();
+        if 32 < len || !begins_well(given) || !are_marks(given) {
+            return None;
+        }
+        let mut bytes = [0; 32];
+        bytes[..len].copy_from_slice(given);
+        Some(Name { bytes, len })
+    }
+
+    /// Its bytes.
+    pub fn as_bytes(&self) -> &[u8]
+        ensures bytes { result.now ≡ self.now }
+        ensures name { IsTrue (is_name self.now) }
+    {
+        &self.bytes[..self.len]
+    }
+}

@@ -1,0 +1,40 @@
+-- The rows of all tenants' jobs: a finite map by tenant and number, as a list in the order in which the jobs came.
+use Rattle.std.specs.Prelude.{◌≡◌, ℕ, Bool, true, false, ⊤, cond, not, ◌&&◌, ◌==◌, List, [], ◌∷◌, Option, Some, None}
+use Rattle.strategy.specs.declared.plan.Plan.{Plan}
+use Rattle.job_table.specs.declared.phase.Phase.{Phase}
+use Rattle.job_table.specs.declared.phase.Phase.TheVariants.{Waiting, Out, Leaving, Dry, Closed, Cancelled}
+
+-- a job: its number, what is searched and how, its phase, how many nodes were paid, and how many quanta it holds
+pub record JobData : Type 0 where
+  pub seq : ℕ
+  pub plan : Plan
+  pub phase : Phase
+  pub nodes : ℕ
+  pub left : ℕ
+
+-- a job, and whose it is
+pub record Row : Type 0 where
+  pub tenant : ℕ
+  pub job : JobData
+
+-- the row of a tenant's job of that number
+abbrev pub is_row : ℕ → ℕ → Row → Bool
+is_row t s row = (row.tenant == t) && (row.job.seq == s)
+
+-- in these phases a worker holds the turn
+abbrev pub is_out : Phase → Bool
+is_out Waiting = false
+is_out (Out slice) = true
+is_out (Leaving slice) = true
+is_out Dry = false
+is_out Closed = false
+is_out Cancelled = false
+
+-- in these the job has come to its end
+abbrev pub is_ended : Phase → Bool
+is_ended Waiting = false
+is_ended (Out slice) = false
+is_ended (Leaving slice) = false
+is_ended Dry = false
+is_ended Closed = true
+is_ended Cancelled = true

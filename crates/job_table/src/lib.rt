@@ -1,0 +1,6 @@
+//! The rows of all tenants' jobs.
+#![tactic(auto)]
+
+mod phase;
+
+pub use phase::Phase;
