@@ -1,1 +1,3 @@
 pub mod AloneLemmas
+pub mod TruthLemmas
+pub mod RunLemmas

@@ -4,3 +4,4 @@ pub mod Tenant
 pub mod Step
 pub mod World
 pub mod Laws
+pub mod Truth

@@ -1,5 +1,6 @@
 //! Laws of the farm: each is the proved contract of a function that does nothing.
 ghost use Rattle.farm_core.specs.Laws.{EachIsAlone, EachIsIsolated};
+ghost use Rattle.farm_core.specs.Truth.{EachAnswerIsTrue};
 
 /// In every run of calls of all tenants, the answers to one tenant's calls, and its jobs and ledger at the end, are those
 /// of its own calls alone in a farm that no one else uses.
@@ -11,4 +12,11 @@ pub fn each_tenant_is_alone()
 /// tenants do.
 pub fn each_tenant_is_isolated()
     ensures { EachIsIsolated }
+{}
+
+/// In every run of calls, each answer about a job is true of the plan that its tenant has submitted under that number:
+/// a schedule is feasible and has the makespan that is named, with 'optimal' no feasible schedule is shorter, and with
+/// 'infeasible' there is none.
+pub fn each_answer_is_true()
+    ensures { EachAnswerIsTrue }
 {}
