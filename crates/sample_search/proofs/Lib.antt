@@ -1,1 +1,3 @@
 pub mod DrawLemmas
+pub mod NodeLemmas
+pub mod SearchLemmas

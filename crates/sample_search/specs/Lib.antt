@@ -1,2 +1,4 @@
 pub mod Words
 pub mod Draw
+pub mod Best
+pub mod Search

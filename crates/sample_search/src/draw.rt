@@ -1,5 +1,5 @@
 //! What the words of a seed draw: one of the eligible activities, and one of its allowed modes.
-ghost use Rattle.std.specs.Prelude.{◌≡◌, ◌+◌, ◌-◌, ◌<◌, ◌≤◌, Some, length, map, sum_by};
+ghost use Rattle.std.specs.Prelude.{◌≡◌, ◌+◌, ◌-◌, ◌<◌, ◌≤◌, IfSome, length, map, sum_by};
 ghost use Rattle.mrcpsp.specs.Numbers.{largest};
 ghost use Rattle.mrcpsp.specs.Project.{ProjectData, size};
 ghost use Rattle.mrcpsp.specs.Values.{lft};
@@ -65,31 +65,36 @@ fn total(measures: &Measures, activities: &[usize], greatest: u32) -> u32
     total
 }
 
-/// The activity that a word draws from these: the first at which the running sum of their weights exceeds the word
-/// modulo the sum of them all.
-pub(crate) fn draw_activity(measures: &Measures, activities: &[usize], word: u32) -> usize
+/// The activity that a word draws from these, none where there are none: the first at which the running sum of their
+/// weights exceeds the word modulo the sum of them all.
+pub(crate) fn draw_activity(measures: &Measures, activities: &[usize], word: u32) -> Option<usize>
     ghost project: { ProjectData }
     requires measures { AreMeasures project measures.now }
     requires activities { AreActivities project activities.now }
-    requires some { 0 < length activities.now }
-    ensures { drawn_activity project word activities.now ≡ Some result }
+    ensures exact { result ≡ drawn_activity project word activities.now }
+    ensures inside { IfSome result (λ j. j < size project) }
 {
+    if activities.is_empty() {
+        return None;
+    }
     let greatest = greatest(measures, activities);
     let mut rest = word % total(measures, activities, greatest);
     for activity in activities {
         let weight = weight(measures, greatest, *activity);
         if rest < weight {
-            return *activity;
+            return Some(*activity);
         }
         rest -= weight;
     }
-    unreachable!()
+    None
 }
 
-/// The mode that a word draws from these: the one whose place is the word modulo the number of them all.
-pub(crate) fn draw_mode(modes: &[usize], word: u32) -> usize
-    requires { 0 < length modes.now }
-    ensures { drawn_mode word modes.now ≡ Some result }
+/// The mode that a word draws from these, none where there are none: the one whose place is the word modulo their number.
+pub(crate) fn draw_mode(modes: &[usize], word: u32) -> Option<usize>
+    ensures { result ≡ drawn_mode word modes.now }
 {
-    modes[word as usize % modes.len()]
+    if modes.is_empty() {
+        return None;
+    }
+    modes.get(word as usize % modes.len()).copied()
 }

@@ -8,7 +8,7 @@ weight-weight-requires g c =
     let here : i < length c.args.activities.now = c.loop-activity-test.true in (
       c.requires.0,
       (
-        c.requires.1.0.inside i 0 here,
+        c.requires.1.inside i 0 here,
         (omega (arith, lft-le-greatest g.project c.args.activities.now i here, c.greatest-greatest.ensures.exact), c.greatest-greatest.ensures.most),
       ),
     )

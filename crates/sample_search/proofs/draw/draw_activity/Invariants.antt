@@ -1,5 +1,4 @@
-use Rattle.std.proofs.Common.{◌≡◌, ◌<◌, drop}
-use Rattle.std.specs.Prelude.{sum_by}
+use Rattle.std.proofs.Common.{◌≡◌, drop}
 use Rattle.strategy.specs.Pass.{weight_of, drawn_at, drawn_activity}
 use Rattle.sample_search.proofs.draw.draw_activity.Given as goal
 
@@ -13,7 +12,4 @@ abbrev pub ghost-weight : goal.ghost-weight
 ghost-weight g a = g.project
 
 abbrev pub invariant-loop-activity : goal.invariant-loop-activity
-invariant-loop-activity g l = record {
-  same : drawn_activity g.project l.fn.word l.activities ≡ drawn_at (weight_of g.project l.activities) l.rest (drop l.activity-index l.activities);
-  within : l.rest < sum_by (weight_of g.project l.activities) (drop l.activity-index l.activities);
-}
+invariant-loop-activity g l = drawn_activity g.project l.fn.word l.activities ≡ drawn_at (weight_of g.project l.activities) l.rest (drop l.activity-index l.activities)

@@ -1,0 +1,47 @@
+-- A search of passes drawn from the words of a seed.
+use Rattle.std.specs.Prelude.{◌≡◌, ℕ, ◌+◌, ◌*◌, ◌/◌, ◌%◌, ◌≤◌, false, List, []}
+use Rattle.mrcpsp.specs.Project.{size}
+use Rattle.quanta_till.specs.Lease.{LeaseValue}
+use Rattle.measures.specs.Measures.{ValuesData, measures_of}
+use Rattle.strategy.specs.Pass.{placed_after}
+use Rattle.strategy.specs.Outcome.{best_pass}
+use Rattle.strategy.specs.Search.{Meaning}
+use Rattle.strategy.specs.declared.plan.Plan.{Plan}
+use Rattle.strategy.specs.declared.kind.Kind.{Kind}
+use Rattle.strategy.specs.declared.kind.Kind.TheVariants.{Tree, RuleLft, RuleMts, RuleSpt, Sample}
+use Rattle.serial_pass.specs.Pass.{PassData}
+use Rattle.sample_search.specs.Words.{WordsData}
+use Rattle.sample_search.specs.Best.{best_in, is_taken, IsKept}
+use Rattle.sample_search.specs.declared.best.Best.{Best}
+
+-- passes are drawn from a seed
+abbrev pub IsSample : Kind → Type 0
+IsSample Tree = ⊥
+IsSample RuleLft = ⊥
+IsSample RuleMts = ⊥
+IsSample RuleSpt = ⊥
+IsSample (Sample seed) = Unit {0}
+
+-- nothing was drawn, used or handed back with the lease
+pub record IsEmpty (lease : LeaseValue) : Type 0 where
+  pub drawn : lease.drawn ≡ 0
+  pub used : lease.used ≡ 0
+  pub back : lease.back ≡ 0
+  pub left : lease.left ≡ 0
+
+-- a search that has run no node
+abbrev pub fresh : Plan → LeaseValue → Meaning
+fresh plan lease = record { tenant = lease.tenant; plan = plan; nodes = 0; left = lease.left; taken = false }
+
+-- what the search's fields keep. Two words were drawn for each node, and each node was paid. The pass is the one that the
+-- last node belongs to, or the next one where that was whole, and until the best was taken it is that of all whole passes
+pub record IsSearch (plan : Plan) (lease : LeaseValue) (measures : List ValuesData) (words : WordsData) (pass : PassData) (nodes : ℕ) (best : Best) : Type 0 where
+  pub kind : plan.kind ≡ Sample words.seed
+  pub drawn : words.drawn ≡ 2 * nodes
+  pub paid : lease.used ≡ nodes
+  pub limited : nodes + lease.left ≤ 1000000000000
+  pub measured : measures ≡ measures_of plan.project
+  pub project : pass.project ≡ plan.project
+  pub placed : pass.placed ≡ placed_after plan.project plan.kind (nodes % size plan.project) (nodes / size plan.project * size plan.project) []
+  pub kept : IsKept plan.project best
+  pub shortest : is_taken best ≡ false → best_in best ≡ best_pass plan.project plan.kind (nodes / size plan.project)

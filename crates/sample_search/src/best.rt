@@ -1,0 +1,94 @@
+//! The best schedule of a search, in memory that is taken once.
+ghost use Rattle.std.specs.Prelude.{◌≡◌, false, length, IfSome, IsSome, IsTrue, Some, option_map};
+ghost use Rattle.std.specs.Option.{option_copied};
+ghost use Rattle.mrcpsp.specs.Project.{size};
+ghost use Rattle.mrcpsp.specs.Placed.{schedule_of};
+ghost use Rattle.strategy.specs.Outcome.{better};
+ghost use Rattle.serial_pass.specs.Pass.{HasRoom};
+ghost use Rattle.sample_search.specs.Best.{best_in, is_taken, IsKept};
+
+use mrcpsp::Schedule;
+use serial_pass::Pass;
+use std::mem;
+
+/// The best schedule of the passes that have ended.
+#[derive(Drop)]
+pub(crate) enum Best {
+    /// No pass has been a schedule yet. This one is only memory.
+    Unknown(Schedule),
+    /// The shortest schedule, and its makespan.
+    Known(Schedule, u32),
+    /// It was handed out.
+    Taken,
+}
+
+impl Best {
+    /// Whether it was handed out.
+    pub(crate) fn is_taken(&self) -> bool
+        ensures { result ≡ is_taken self.now }
+    {
+        match self {
+            Best::Taken => true,
+            _ => false,
+        }
+    }
+
+    /// The schedule, until it is handed out.
+    pub(crate) fn schedule(&self) -> Option<&Schedule>
+        ensures { option_copied result ≡ best_in self.now }
+    {
+        match self {
+            Best::Known(schedule, _) => Some(schedule),
+            _ => None,
+        }
+    }
+
+    /// Hands out the schedule.
+    pub(crate) fn take(&mut self) -> Option<Schedule>
+        ensures best { result ≡ best_in self.old }
+        ensures taken { self.new ≡ Best.Taken }
+    {
+        match mem::replace(self, Best::Taken) {
+            Best::Known(schedule, _) => Some(schedule),
+            _ => None,
+        }
+    }
+}
+
+/// The schedule of a pass that is not void, in the memory of another one.
+fn rewritten(room: Schedule, pass: &Pass) -> Schedule
+    requires room { HasRoom (size pass.now.project) room }
+    requires some { IsSome pass.now.placed }
+    ensures exact { Some result ≡ option_map (schedule_of (size pass.now.project)) pass.now.placed }
+    ensures room { HasRoom (size pass.now.project) result }
+{
+    match pass.schedule(room) {
+        Some(schedule) => schedule,
+        None => unreachable!(),
+    }
+}
+
+/// The best schedule after a pass that has ended: the pass's where that is shorter than the best one so far, or there is
+/// none. Takes no memory.
+pub(crate) fn better(best: Best, pass: &Pass) -> Best
+    requires kept { IsKept pass.now.project best }
+    requires whole { IfSome pass.now.placed (λ placed. length placed ≡ size pass.now.project) }
+    ensures kept { IsKept pass.now.project result }
+    ensures taken { is_taken result ≡ is_taken best }
+    ensures best { is_taken best ≡ false → best_in result ≡ better pass.now.project (best_in best) (option_map (schedule_of (size pass.now.project)) pass.now.placed) }
+{
+    let Some(makespan) = pass.makespan() else {
+        return best;
+    };
+    match best {
+        Best::Unknown(room) => Best::Known(rewritten(room, pass), makespan),
+        Best::Known(schedule, shortest) => {
+            if makespan < shortest {
+                Best::Known(rewritten(schedule, pass), makespan)
+            } else {
+                Best::Known(schedule, shortest)
+            }
+        }
+        Best::Taken => Best::Taken,
+    }
+}
