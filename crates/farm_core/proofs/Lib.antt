@@ -1,3 +1,4 @@
+pub mod NameLemmas
 pub mod AloneLemmas
 pub mod TruthLemmas
 pub mod RunLemmas

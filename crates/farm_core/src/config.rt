@@ -1,5 +1,11 @@
 //! What a farm is made for.
+ghost use Rattle.std.specs.Prelude.{◌≡◌, ◌↔◌, IsTrue, Some, None, if◌then◌else◌, drop};
+ghost use Rattle.std.specs.List.{list_all};
+ghost use Rattle.farm_core.specs.Config.{ConfigData, are_terms, has_name, are_distinct, is_config};
+
 use crate::Name;
+use mrcpsp::Sequence;
+use std::marker::Model;
 
 /// A tenant's line of the configuration.
 #[derive(Debug, Drop)]
@@ -12,4 +18,118 @@ pub struct TenantLine {
     pub jobs: u64,
     /// How many entries of the journal it may use, 1 to 1,000,000.
     pub entries: u64,
+}
+
+/// What a farm is made for: 1 to 64 tenants of different names within the limits of their lines, 1 to 16 workers, and
+/// turns of 1 to 1,000,000 nodes.
+#[derive(Debug, Drop)]
+pub struct Config {
+    tenants: Sequence<TenantLine>,
+    workers: u64,
+    slice: u64,
+}
+
+impl Model for Config {
+    ghost use Rattle.std.specs.Prelude.{IsTrue};
+    ghost use Rattle.farm_core.specs.Config.{ConfigData, is_config};
+
+    ghost Value = { ConfigData };
+
+    ghost view = { λ c. record { tenants = c.tenants; workers = c.workers; slice = c.slice } };
+
+    ghost invariant = { λ c. IsTrue (is_config (record { tenants = c.tenants; workers = c.workers; slice = c.slice })) };
+}
+
+/// Whether a tenant's line keeps its limits.
+#[tactic(auto, unfolding(crate::specs::Config::are_terms))]
+fn are_terms(line: &TenantLine) -> bool
+    ensures { result ≡ are_terms line.now }
+{
+    line.quanta <= 1_000_000_000_000
+        && (1..=1_000).contains(&line.jobs)
+        && (1..=1_000_000).contains(&line.entries)
+}
+
+/// Whether each of these keeps its limits.
+fn are_all_terms(lines: &[TenantLine]) -> bool
+    ensures { result ≡ list_all are_terms lines.now }
+{
+    for line in lines {
+        if !are_terms(line) {
+            return false;
+        }
+    }
+    true
+}
+
+/// Whether one of these lines has the name.
+fn has_name(name: &Name, lines: &[TenantLine]) -> bool
+    ensures { result ≡ has_name name.now lines.now }
+{
+    for line in lines {
+        if name.is_same(&line.name) {
+            return true;
+        }
+    }
+    false
+}
+
+/// Whether no two of these lines have the same name.
+fn are_distinct(lines: &[TenantLine]) -> bool
+    ensures { result ≡ are_distinct lines.now }
+{
+    for (i, line) in lines.iter().enumerate() {
+        if has_name(&line.name, &lines[i + 1..]) {
+            return false;
+        }
+    }
+    true
+}
+
+impl Config {
+    /// The configuration of these tenants, or `None` where a limit is broken or two have the same name. The list is then
+    /// dropped. Takes no memory.
+    #[tactic(auto, unfolding(crate::specs::Config::is_config))]
+    pub fn new(tenants: Sequence<TenantLine>, workers: u64, slice: u64) -> Option<Config>
+        ensures { let given : ConfigData = record { tenants = tenants; workers = workers; slice = slice } in
+            result ≡ (if is_config given then Some given else None) }
+    {
+        let lines = tenants.as_slice();
+        let holds = (1..=64).contains(&lines.len())
+            && are_all_terms(lines)
+            && are_distinct(lines)
+            && (1..=16).contains(&workers)
+            && (1..=1_000_000).contains(&slice);
+        if holds {
+            Some(Config {
+                tenants,
+                workers,
+                slice,
+            })
+        } else {
+            None
+        }
+    }
+
+    /// The tenants' lines, in the order of their numbers.
+    pub fn tenants(&self) -> &[TenantLine]
+        ensures all { result.now ≡ self.now.tenants }
+        ensures config { IsTrue (is_config self.now) }
+    {
+        self.tenants.as_slice()
+    }
+
+    /// How many workers there are.
+    pub fn workers(&self) -> u64
+        ensures { result ≡ self.now.workers }
+    {
+        self.workers
+    }
+
+    /// How many nodes a worker's turn has at most.
+    pub fn slice(&self) -> u64
+        ensures { result ≡ self.now.slice }
+    {
+        self.slice
+    }
 }

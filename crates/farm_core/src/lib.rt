@@ -8,7 +8,7 @@ pub mod laws;
 mod name;
 mod reply;
 
-pub use config::TenantLine;
+pub use config::{Config, TenantLine};
 pub use entry::{Entry, Event};
 pub use name::Name;
 pub use reply::{Line, NoTurn, Reply};

@@ -2,6 +2,7 @@
 ghost use Rattle.std.specs.Prelude.{◌≡◌, ◌↔◌, Some, None, IsTrue, if◌then◌else◌, length};
 ghost use Rattle.std.specs.List.{list_all};
 ghost use Rattle.farm_core.specs.Name.{is_mark, is_letter, is_name, begins_well};
+ghost use Rattle.farm_core.specs.Config.{same_bytes};
 
 use std::marker::Model;
 
@@ -52,6 +53,15 @@ fn are_marks(bytes: &[u8]) -> bool
     true
 }
 
+/// Whether these are the same bytes.
+#[tactic(auto, using(crate::proofs::NameLemmas::same_bytes_is))]
+fn are_same(one: &[u8], other: &[u8]) -> bool
+    ensures value { result ≡ same_bytes one.now other.now }
+    ensures same { IsTrue result ↔ (one.now ≡ other.now) }
+{
+    one == other
+}
+
 impl Name {
     /// The name of these bytes, or `None` where it is ill formed.
     #[tactic(auto, unfolding(crate::specs::Name::is_name))]
@@ -73,5 +83,13 @@ impl Name {
         ensures name { IsTrue (is_name self.now) }
     {
         &self.bytes[..self.len]
+    }
+
+    /// Whether it is the same name.
+    pub fn is_same(&self, other: &Name) -> bool
+        ensures value { result ≡ same_bytes self.now other.now }
+        ensures same { IsTrue result ↔ (self.now ≡ other.now) }
+    {
+        are_same(self.as_bytes(), other.as_bytes())
     }
 }
