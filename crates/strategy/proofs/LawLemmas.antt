@@ -8,15 +8,20 @@ use Rattle.std.proofs.lemmas.List.FromFn.{get_or-range_with_len, length-range_wi
 use Rattle.mrcpsp.specs.Project.{ProjectData, size, mode_count}
 use Rattle.mrcpsp.specs.Schedule.{ScheduleData, IsFeasible, IsOptimal, IsInfeasible, makespan}
 use Rattle.mrcpsp.specs.Limits.{IsProject}
+use Rattle.mrcpsp.specs.Breach.{HasShape}
 use Rattle.mrcpsp.specs.Placed.{last_start, Placed, is_eligible, is_executable, is_affordable, schedule_of}
 use Rattle.strategy.specs.Tree.{Node, modes_of, candidates, placing, is_pruned, improved, updated, after, Below, visit_one, visit_all, visits, all_visits, best_after, is_closed}
 use Rattle.strategy.specs.Candidate.{Candidate}
 use Rattle.strategy.proofs.FollowLemmas.{follows-nil}
 use Rattle.strategy.proofs.TreeLemmas.{Reached, pruned_node, placed_node, visits-reaches}
-use Rattle.strategy.proofs.SoundLemmas.{IsSound, IsOpen, sound-nil, sound-push, feasible-full}
+use Rattle.strategy.proofs.SoundLemmas.{IsSound, IsOpen, sound-nil, sound-push, feasible-full, shaped-full, last_start-le-latest}
+
+-- feasible, with starts that fit
+abbrev pub Fine : ProjectData → ScheduleData → Type 0
+Fine p s = IsFeasible p s × HasShape p s
 
 abbrev pub Good : ProjectData → Option ScheduleData → Type 0
-Good p best = IfSome best (λ s. IsFeasible p s)
+Good p best = IfSome best (Fine p)
 
 abbrev GoodNode : ProjectData → Node → Type 0
 GoodNode p n = Good p n.best
@@ -47,15 +52,15 @@ after-good : (p : ProjectData) (nodes : List Node) (best : Option ScheduleData) 
 after-good p [] best h all = h
 after-good p (x ∷ nodes) best h all = after-good p nodes x.best (All-head (GoodNode p) x nodes all) (All-tail (GoodNode p) x nodes all)
 
-pub improved-good : (p : ProjectData) (best : Option ScheduleData) (s : ScheduleData) → Good p best → IsFeasible p s → Good p (improved p best s)
+pub improved-good : (p : ProjectData) (best : Option ScheduleData) (s : ScheduleData) → Good p best → Fine p s → Good p (improved p best s)
 improved-good p None s h feasible = feasible
 improved-good p (Some best) s h feasible = cond_both (nat_lt (makespan p s) (makespan p best)) (Some s) (Some best) (Good p) (λ _. feasible) (λ _. h)
 
-updated-good : (p : ProjectData) (placed : List Placed) (best : Option ScheduleData) → Good p best → IsSound p placed → length placed ≤ size p → Good p (updated p placed best)
+updated-good : (p : ProjectData) (placed : List Placed) (best : Option ScheduleData) → IsProject p → Good p best → IsSound p placed → length placed ≤ size p → Good p (updated p placed best)
 unfolding updated
-updated-good p placed best h sound short =
+updated-good p placed best ok h sound short =
     ⊎_elim (λ (l : length placed < size p). cond_both (nat_lt (length placed) (size p)) best (improved p best (schedule_of (size p) placed)) (Good p) (λ _. h) (λ e. absurd (omega (arith, ltb-false (length placed) (size p) e))))
-    (λ (full : size p ≤ length placed). rw (cond-false (nat_lt (length placed) (size p)) best (improved p best (schedule_of (size p) placed)) (le-ltb (length placed) (size p) full)) (improved-good p best (schedule_of (size p) placed) h (feasible-full p placed sound (omega arith))))
+    (λ (full : size p ≤ length placed). rw (cond-false (nat_lt (length placed) (size p)) best (improved p best (schedule_of (size p) placed)) (le-ltb (length placed) (size p) full)) (improved-good p best (schedule_of (size p) placed) h (feasible-full p placed sound (omega arith), shaped-full p placed ok sound (omega arith))))
     (cases_lt (length placed) (size p))
 
 module _ (p : ProjectData) (ok : IsProject p) where
@@ -67,7 +72,7 @@ module _ (p : ProjectData) (ok : IsProject p) where
   kept-sound placed sound c able best kept =
       let first = or_parts (not (is_executable p c.activity c.mode)) _ kept in
       let second = or_parts (not (is_affordable p placed c.activity c.mode)) _ first.1 in
-      sound-push p placed (last_start placed) c ok sound able (not-false (is_executable p c.activity c.mode) first.0) (not-false (is_affordable p placed c.activity c.mode) second.0)
+      sound-push p placed (last_start placed) c ok sound able (not-false (is_executable p c.activity c.mode) first.0) (not-false (is_affordable p placed c.activity c.mode) second.0) (last_start-le-latest p placed)
 
   one-good : (d : ℕ) (below : Below) → SoundBelow d below → (placed : List Placed) → IsSound p placed → length placed + suc d ≡ size p → (c : Candidate) → IsOpen p placed c → (best : Option ScheduleData) → Good p best → All (GoodNode p) (visit_one below p placed c best)
   unfolding visit_one
@@ -78,7 +83,7 @@ module _ (p : ProjectData) (ok : IsProject p) where
       (λ _. All-cons (GoodNode p) (pruned_node p placed c best) [] h (All-nil (GoodNode p)))
       (λ kept.
       let grown : IsSound p next = kept-sound placed sound c able best kept in
-      let good : Good p (updated p next best) = updated-good p next best h grown (omega arith) in
+      let good : Good p (updated p next best) = updated-good p next best ok h grown (omega arith) in
       All-cons (GoodNode p) (placed_node p placed c best) (below next (updated p next best)) good (each next (updated p next best) good grown (omega arith)))
 
   all-good : (d : ℕ) (below : Below) → SoundBelow d below → (placed : List Placed) → IsSound p placed → length placed + suc d ≡ size p → (cs : List Candidate) → All (IsOpen p placed) cs → (best : Option ScheduleData) → Good p best → All (GoodNode p) (visit_all below p placed cs best)
@@ -93,9 +98,9 @@ module _ (p : ProjectData) (ok : IsProject p) where
   visits-good zero placed best h sound count = All-nil (GoodNode p)
   visits-good (suc d) placed best h sound count = all-good d (visits p d) (visits-good d) placed sound count (candidates p placed) (candidates-open p placed) best h
 
-pub best_is_feasible : (p : ProjectData) → IsProject p → (k : ℕ) → IfSome (best_after p k) (λ s. IsFeasible p s)
+pub best_is_fine : (p : ProjectData) → IsProject p → (k : ℕ) → Good p (best_after p k)
 unfolding best_after all_visits
-best_is_feasible p ok k =
+best_is_fine p ok k =
     after-good p (take k (all_visits p)) None tt (All-take (GoodNode p) k (all_visits p) (visits-good p ok (size p) [] None tt (sound-nil p) (omega arith)))
 
 -- whatever is feasible, the closed tree's incumbent is at most as long
@@ -107,7 +112,7 @@ closed-reaches p ok k closed s feasible =
 
 decides : (p : ProjectData) (best : Option ScheduleData) → Good p best → ((s : ScheduleData) → IsFeasible p s → Reached p (makespan p s) best) → MatchOption best (IsInfeasible p) (λ s. IsOptimal p s)
 decides p None h reaches = reaches
-decides p (Some s) h reaches = record { feasible = h; least = reaches }
+decides p (Some s) h reaches = record { feasible = h.0; least = reaches }
 
 pub closed_decides : (p : ProjectData) → IsProject p → (k : ℕ) → is_closed p k ≡ true → MatchOption (best_after p k) (IsInfeasible p) (λ s. IsOptimal p s)
-closed_decides p ok k closed = decides p (best_after p k) (best_is_feasible p ok k) (closed-reaches p ok k closed)
+closed_decides p ok k closed = decides p (best_after p k) (best_is_fine p ok k) (closed-reaches p ok k closed)

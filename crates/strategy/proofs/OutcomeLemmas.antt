@@ -1,20 +1,21 @@
 -- What each kind of search shows is true.
-use Rattle.std.proofs.Common.{◌≡◌, ℕ, ◌/◌, Bool, true, false, cond, nat_lt, Option, Some, None, MatchOption, refl, ⊎_elim, ◌⊎◌}
+use Rattle.std.proofs.Common.{◌≡◌, ℕ, ◌/◌, Bool, true, false, cond, nat_lt, Option, Some, None, IfSome, MatchOption, refl, ⊎_elim, ◌⊎◌}
 use Rattle.std.specs.Prelude.{IsSomeAnd, is_some}
 use Rattle.std.proofs.lemmas.Bool.{cond_both}
 use Rattle.mrcpsp.specs.Project.{ProjectData, size}
-use Rattle.mrcpsp.specs.Schedule.{ScheduleData, IsOptimal, IsInfeasible}
+use Rattle.mrcpsp.specs.Schedule.{ScheduleData, IsFeasible, IsOptimal, IsInfeasible}
+use Rattle.mrcpsp.specs.Breach.{HasShape}
 use Rattle.mrcpsp.specs.Limits.{IsProject}
 use Rattle.mrcpsp.proofs.LimitLemmas.{kept}
 use Rattle.strategy.specs.Tree as tree
 use Rattle.strategy.specs.Pass.{pass}
 use Rattle.strategy.specs.Outcome.{rule_best, best_of, closed_of, final_verdict, best_after, is_closed, verdict_after}
-use Rattle.strategy.specs.Laws.{ClosedTreeDecides, BestIsFeasible, OptimalIsTrue, InfeasibleIsTrue, OnlyTreesDecide}
+use Rattle.strategy.specs.Laws.{ClosedTreeDecides, BestIsFeasible, BestHasShape, OptimalIsTrue, InfeasibleIsTrue, OnlyTreesDecide}
 use Rattle.strategy.specs.declared.kind.Kind.{Kind}
 use Rattle.strategy.specs.declared.kind.Kind.TheVariants.{Tree, RuleLft, RuleMts, RuleSpt, Sample}
 use Rattle.strategy.specs.declared.verdict.Verdict.{Verdict}
 use Rattle.strategy.specs.declared.verdict.Verdict.TheVariants.{Going, Optimal, Infeasible, Ended}
-use Rattle.strategy.proofs.LawLemmas.{Good, best_is_feasible, closed_decides}
+use Rattle.strategy.proofs.LawLemmas.{Good, Fine, best_is_fine, closed_decides}
 use Rattle.strategy.proofs.PassLemmas.{pass-feasible, best_pass-feasible}
 
 pub tree_decides : ClosedTreeDecides
@@ -24,15 +25,27 @@ rule-good : (p : ProjectData) → IsProject p → (kind : Kind) (k : ℕ) → Go
 rule-good p ok kind k = cond_both (nat_lt k (size p)) None (pass p kind 0) (Good p) (λ _. tt) (λ _. pass-feasible p ok kind 0)
 
 good-of : (p : ProjectData) → IsProject p → (kind : Kind) (k : ℕ) → Good p (best_of p kind k)
-good-of p ok Tree k = best_is_feasible p ok k
+good-of p ok Tree k = best_is_fine p ok k
 good-of p ok RuleLft k = rule-good p ok RuleLft k
 good-of p ok RuleMts k = rule-good p ok RuleMts k
 good-of p ok RuleSpt k = rule-good p ok RuleSpt k
 good-of p ok (Sample seed) k = best_pass-feasible p ok (Sample seed) (k / size p)
 
+feasible-of : (p : ProjectData) (best : Option ScheduleData) → Good p best → IfSome best (λ s. IsFeasible p s)
+feasible-of p None h = tt
+feasible-of p (Some s) h = h.0
+
+shaped-of : (p : ProjectData) (best : Option ScheduleData) → Good p best → IfSome best (λ s. HasShape p s)
+shaped-of p None h = tt
+shaped-of p (Some s) h = h.1
+
 pub each_best : BestIsFeasible
 unfolding best_after
-each_best plan ok k = good-of plan.project (kept plan.project ok) plan.kind k
+each_best plan ok k = feasible-of plan.project (best_of plan.project plan.kind k) (good-of plan.project (kept plan.project ok) plan.kind k)
+
+pub each_shaped : BestHasShape
+unfolding best_after
+each_shaped plan ok k = shaped-of plan.project (best_of plan.project plan.kind k) (good-of plan.project (kept plan.project ok) plan.kind k)
 
 -- what a verdict tells of the tree that shows it
 abbrev Tells : ProjectData → Option ScheduleData → Verdict → Type 0

@@ -1,5 +1,5 @@
 -- Each whole pass that is not void is a feasible schedule.
-use Rattle.std.proofs.Common.{◌≡◌, ℕ, zero, suc, ◌+◌, ◌-◌, ◌*◌, ◌%◌, ◌<◌, Bool, true, nat_lt, nat_le, List, [], ◌∷◌, ◌++◌, length, map, fold, sum_by, All, Option, Some, None, IfSome, option_map, arith}
+use Rattle.std.proofs.Common.{◌≡◌, ℕ, zero, suc, ◌+◌, ◌-◌, ◌*◌, ◌%◌, ◌<◌, Bool, true, nat_lt, nat_le, List, [], ◌∷◌, ◌++◌, length, map, fold, sum_by, All, Option, Some, None, IfSome, option_map, arith, zero-le}
 use Rattle.std.specs.Prelude.{option_and_then, slice_get}
 use Rattle.std.specs.List.{find, list_all, range_with_len}
 use Rattle.std.proofs.lemmas.Bool.{and_parts, cond_both}
@@ -16,7 +16,7 @@ use Rattle.strategy.specs.Pass.{weight_of, drawn_at, activity_at, mode_at, chose
 use Rattle.strategy.specs.Outcome.{better, best_pass}
 use Rattle.strategy.specs.declared.kind.Kind.{Kind}
 use Rattle.strategy.specs.declared.kind.Kind.TheVariants.{Tree, RuleLft, RuleMts, RuleSpt, Sample}
-use Rattle.strategy.proofs.SoundLemmas.{IsSound, IsOpen, sound-nil, sound-push, feasible-full}
+use Rattle.strategy.proofs.SoundLemmas.{IsSound, IsOpen, sound-nil, sound-push, feasible-full, shaped-full}
 use Rattle.strategy.proofs.LawLemmas.{Good, All-range, improved-good}
 
 -- ---- what is chosen is one of the list
@@ -109,7 +109,7 @@ module _ (p : ProjectData) (ok : IsProject p) (kind : Kind) where
   step-whole d i placed (Some c) able sound count more =
       let next : List Placed = placed ++ placed_from p placed 0 c ∷ [] in
       let longer : length next ≡ length placed + 1 = length_push placed (placed_from p placed 0 c) in
-      more next (sound-push p placed 0 c ok sound able.able able.executable able.affordable) (omega arith)
+      more next (sound-push p placed 0 c ok sound able.able able.executable able.affordable zero-le) (omega arith)
 
   after-whole : (d i : ℕ) (placed : List Placed) → IsSound p placed → length placed + d ≡ size p → IfSome (placed_after p kind d i placed) (IsWhole p)
   after-whole zero i placed sound count = (sound, omega arith)
@@ -117,7 +117,7 @@ module _ (p : ProjectData) (ok : IsProject p) (kind : Kind) where
 
   whole-feasible : (found : Option (List Placed)) → IfSome found (IsWhole p) → Good p (option_map (schedule_of (size p)) found)
   whole-feasible None h = tt
-  whole-feasible (Some placed) h = feasible-full p placed h.0 h.1
+  whole-feasible (Some placed) h = (feasible-full p placed h.0 h.1, shaped-full p placed ok h.0 h.1)
 
   pub pass-feasible : (q : ℕ) → Good p (pass p kind q)
   unfolding pass

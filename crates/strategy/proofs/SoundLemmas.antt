@@ -1,21 +1,24 @@
 -- Each incumbent of the tree is feasible.
-use Rattle.std.proofs.Common.{◌≡◌, ℕ, zero, suc, ◌+◌, ◌<◌, ◌≤◌, true, false, cond, ◌==◌, nat_le, List, [], ◌∷◌, ◌++◌, length, map, get_or, All, sum_by, arith, refl, ap, zero-le, ◌∙◌, ⊎_elim}
+use Rattle.std.proofs.Common.{◌≡◌, ℕ, zero, suc, ◌+◌, ◌<◌, ◌≤◌, true, false, cond, ◌==◌, nat_le, List, [], ◌∷◌, ◌++◌, length, map, get_or, All, sum_by, arith, refl, ap, zero-le, max, fold, ◌*◌, ◌∙◌, ⊎_elim}
 use Rattle.std.specs.List.{range_with_len}
-use Rattle.std.proofs.lemmas.Bool.{or_left, cond-true, cases_lt, both_ways, leb-true, and_parts}
-use Rattle.std.proofs.lemmas.List.Elements.{All-push, All-nil}
+use Rattle.std.proofs.lemmas.Bool.{or_left, cond-true, cond_both, cases_lt, both_ways, leb-true, and_parts}
+use Rattle.std.proofs.lemmas.List.{length_push}
+use Rattle.std.proofs.lemmas.List.Elements.{All-push, All-nil, All-cons, All-head, All-tail}
 use Rattle.std.proofs.lemmas.List.Sums.{sum_by_push}
 use Rattle.std.proofs.lemmas.List.FromFn.{length-map-range_with_len, get_or-map-range_with_len}
 use Rattle.mrcpsp.specs.Numbers.{sum_below}
 use Rattle.mrcpsp.specs.Project.{ProjectData, size, renewables, nonrenewables, mode_count, duration, request, consumption, capacity, stock, precedes}
 use Rattle.mrcpsp.specs.Limits.{IsProject}
 use Rattle.mrcpsp.specs.Schedule.{IsFeasible, mode_of, start_of, finish, load, use_of, consumed}
-use Rattle.mrcpsp.specs.Placed.{IsDistinct, Placed, is_placed, finish_of, placed_use, placed_consumption, are_ready, fits, is_allowed, is_eligible, is_executable, is_affordable, reserve, mode_in, start_in, schedule_of}
+use Rattle.mrcpsp.specs.Placed.{IsDistinct, Placed, is_placed, finish_of, placed_use, placed_consumption, are_ready, fits, is_allowed, is_eligible, is_executable, is_affordable, reserve, mode_in, start_in, schedule_of, latest, last_start, earliest}
 use Rattle.strategy.specs.Candidate.{Candidate, placed_from}
 use Rattle.mrcpsp.proofs.NumbersLemmas.{sum_below-same, sum_by-same-all, all_below-at}
 use Rattle.mrcpsp.proofs.ProjectLemmas.{precedes-rising, load-running, load-before, load-over}
 use Rattle.mrcpsp.proofs.PlacedLemmas.{IsDistinct-push, is_placed_push, sum_split, all_placed, looked_up, looks_itself_up}
 use Rattle.mrcpsp.proofs.EarliestLemmas.{eligible-unplaced, eligible-after, ready-at, fits-at, earliest-allowed}
 use Rattle.strategy.proofs.FollowLemmas.{mode_of-schedule_of, start_of-schedule_of}
+use Rattle.mrcpsp.specs.Breach.{HasShape}
+use Rattle.mrcpsp.proofs.BoundLemmas.{earliest-le-latest, latest_push}
 
 -- the placed ones keep precedence and capacities, and so do their predecessors
 pub record IsSound (p : ProjectData) (placed : List Placed) : Type 0 where
@@ -26,6 +29,7 @@ pub record IsSound (p : ProjectData) (placed : List Placed) : Type 0 where
   pub ordered : All (λ b. All (λ a. precedes p a.activity b.activity ≡ true → finish_of p a ≤ b.start) placed) placed
   pub renewable : (r t : ℕ) → r < renewables p → placed_use p placed r t ≤ capacity p r
   pub nonrenewable : (r : ℕ) → r < nonrenewables p → placed_consumption p placed r ≤ stock p r
+  pub short : latest p placed ≤ 1000 * length placed
 
 pub sound-nil : (p : ProjectData) → IsSound p []
 unfolding placed_use placed_consumption
@@ -37,7 +41,20 @@ sound-nil p = record {
   ordered = All-nil (λ (b : Placed). All (λ a. precedes p a.activity b.activity ≡ true → finish_of p a ≤ b.start) []);
   renewable = λ r t inside. zero-le;
   nonrenewable = λ r inside. zero-le;
+  short = omega arith;
 }
+
+start-le : (p : ProjectData) (placed : List Placed) (s : ℕ) → fold (λ _ (a : Placed). a.start) s placed ≤ max s (latest p placed)
+start-le p [] s = omega arith
+start-le p (a ∷ placed) s = omega (arith, start-le p placed a.start)
+
+pub last_start-le-latest : (p : ProjectData) (placed : List Placed) → last_start placed ≤ latest p placed
+unfolding last_start
+last_start-le-latest p placed = omega (arith, start-le p placed 0)
+
+duration-le : (p : ProjectData) (j m : ℕ) → IsProject p → j < size p → m < mode_count p j → duration p j m ≤ 1000
+unfolding duration
+duration-le p j m ok inside known = (ok.limited j m inside known).duration
 
 -- a candidate that is not pruned
 pub record IsOpen (p : ProjectData) (placed : List Placed) (c : Candidate) : Type 0 where
@@ -45,7 +62,7 @@ pub record IsOpen (p : ProjectData) (placed : List Placed) (c : Candidate) : Typ
   pub mode : c.mode < mode_count p c.activity
   pub eligible : is_eligible p placed c.activity ≡ true
 
-module _ (p : ProjectData) (placed : List Placed) (from : ℕ) (c : Candidate) (ok : IsProject p) (sound : IsSound p placed) (able : IsOpen p placed c) (executable : is_executable p c.activity c.mode ≡ true) (affordable : is_affordable p placed c.activity c.mode ≡ true) where
+module _ (p : ProjectData) (placed : List Placed) (from : ℕ) (c : Candidate) (ok : IsProject p) (sound : IsSound p placed) (able : IsOpen p placed c) (executable : is_executable p c.activity c.mode ≡ true) (affordable : is_affordable p placed c.activity c.mode ≡ true) (sooner : from ≤ latest p placed) where
   allowed : is_allowed p placed c.activity c.mode (placed_from p placed from c).start ≡ true
   unfolding placed_from
   allowed = earliest-allowed p placed c.activity c.mode from executable
@@ -94,6 +111,7 @@ module _ (p : ProjectData) (placed : List Placed) (from : ℕ) (c : Candidate) (
             (λ before. absurd (let h : j < j = (precedes-rising p j j ok before).0 in omega arith)));
         renewable = use-push;
         nonrenewable = consumption-push;
+        short = omega (arith, sound.short, sooner, latest_push p placed new, length_push placed new, earliest-le-latest p placed j c.mode from executable, duration-le p j c.mode ok able.inside able.mode);
       }
 
 -- where all are placed, a sum over all is one over the placed ones
@@ -143,3 +161,27 @@ module _ (p : ProjectData) (placed : List Placed) (sound : IsSound p placed) (fu
         renewable = λ r t inside. rw (use-full r t) (sound.renewable r t inside);
         nonrenewable = λ r inside. rw (consumed-full r) (sound.nonrenewable r inside);
       }
+
+-- each starts by period 1,000,000,000
+start_in-le : (placed : List Placed) (j n : ℕ) → All (λ a. a.start ≤ n) placed → start_in placed j ≤ n
+start_in-le [] j n h = omega arith
+start_in-le (a ∷ placed) j n h =
+    cond_both (a.activity == j) a.start (start_in placed j) (λ x. x ≤ n)
+    (λ _. All-head (λ (b : Placed). b.start ≤ n) a placed h)
+    (λ _. start_in-le placed j n (All-tail (λ (b : Placed). b.start ≤ n) a placed h))
+
+starts-le : (p : ProjectData) (placed : List Placed) (n : ℕ) → latest p placed ≤ n → All (λ a. a.start ≤ n) placed
+starts-le p [] n h = All-nil (λ (a : Placed). a.start ≤ n)
+starts-le p (a ∷ placed) n h = All-cons (λ (b : Placed). b.start ≤ n) a placed (omega arith) (starts-le p placed n (omega arith))
+
+pub shaped-full : (p : ProjectData) (placed : List Placed) → IsProject p → IsSound p placed → length placed ≡ size p → HasShape p (schedule_of (size p) placed)
+unfolding schedule_of
+shaped-full p placed ok sound full =
+    record {
+      modes = length-map-range_with_len (λ j. mode_in placed j + 1) 0 (size p);
+      starts = length-map-range_with_len (start_in placed) 0 (size p);
+      early = λ k d l.
+          let inside : k < size p = omega (arith, length-map-range_with_len (start_in placed) 0 (size p)) in
+          rw (get_or-map-range_with_len (start_in placed) 0 (size p) k k d inside (omega arith))
+          (start_in-le placed k 1000000000 (starts-le p placed 1000000000 (omega (arith, sound.short, full, ok.few))));
+    }

@@ -2,6 +2,7 @@
 use Rattle.std.specs.Prelude.{◌≡◌, ℕ, ◌⊎◌, IsTrue, MatchOption, IfSome, IsSomeAnd}
 use Rattle.mrcpsp.specs.Project.{ProjectData, is_project}
 use Rattle.mrcpsp.specs.Schedule.{IsFeasible, IsOptimal, IsInfeasible}
+use Rattle.mrcpsp.specs.Breach.{HasShape}
 use Rattle.strategy.specs.Tree.{best_after, is_closed}
 use Rattle.strategy.specs.Outcome as outcome
 use Rattle.strategy.specs.declared.plan.Plan.{Plan}
@@ -17,6 +18,11 @@ ClosedTreeDecides = (p : ProjectData) → IsTrue (is_project p) → (k : ℕ) �
 abbrev pub BestIsFeasible : Type 0
 BestIsFeasible = (plan : Plan) → IsTrue (is_project plan.project) → (k : ℕ) →
     IfSome (outcome.best_after plan k) (λ s. IsFeasible plan.project s)
+
+-- it has a mode and a start for each activity, each start by period 1,000,000,000,
+abbrev pub BestHasShape : Type 0
+BestHasShape = (plan : Plan) → IsTrue (is_project plan.project) → (k : ℕ) →
+    IfSome (outcome.best_after plan k) (λ s. HasShape plan.project s)
 
 -- 'optimal' is shown only with a schedule than which no feasible one is shorter,
 abbrev pub OptimalIsTrue : Type 0
