@@ -1,5 +1,5 @@
 -- What the stack of the search keeps, and what its steps do.
-use Rattle.std.specs.Prelude.{◌≡◌, ℕ, ◌+◌, ◌*◌, ◌<◌, ◌≤◌, ◌⊎◌, true, false, cond, List, [], ◌∷◌, ◌++◌, length, get_or, Option, Some, None, vec_capacity}
+use Rattle.std.specs.Prelude.{◌≡◌, ℕ, ◌+◌, ◌*◌, ◌<◌, ◌≤◌, ◌⊎◌, true, false, cond, List, [], ◌∷◌, ◌++◌, length, get_or, take, Option, Some, None, vec_capacity}
 use Rattle.mrcpsp.specs.Project.{ProjectData, size, mode_count}
 use Rattle.mrcpsp.specs.Schedule.{ScheduleData, makespan}
 use Rattle.mrcpsp.specs.Placed.{Placed, finish_of, last_start, is_allowed, earliest, is_eligible}
@@ -10,10 +10,15 @@ use Rattle.tree_search.specs.declared.cursor.Cursor.{Cursor}
 use Rattle.tree_search.specs.declared.incumbent.Incumbent.{Incumbent}
 use Rattle.tree_search.specs.declared.tree.Tree.{Tree}
 
+-- an activity of which a mode was examined is eligible
+abbrev pub IsKnown : ProjectData → List Placed → Cursor → Type 0
+IsKnown p placed c = 0 < c.mode → is_eligible p placed c.activity ≡ true
+
 -- a cursor for each level, and an activity still to place
 pub record IsLevelled (p : ProjectData) (placed : List Placed) (cursors : List Cursor) : Type 0 where
   pub count : length cursors ≡ length placed + 1
   pub room : length placed < size p
+  pub known : (i : ℕ) → i < length cursors → IsKnown p (take i placed) (get_or cursors i first_cursor)
 
 abbrev pub top_cursor : List Placed → List Cursor → Cursor
 top_cursor placed cursors = get_or cursors (length placed) first_cursor

@@ -1,8 +1,9 @@
 //! Cursors: where the search goes on, on each level of the tree.
-ghost use Rattle.std.specs.Prelude.{◌≡◌, ◌+◌, [], ◌∷◌, ◌++◌, ◌<◌, ◌≤◌, ◌⊎◌, MatchOption, length, vec_capacity};
-ghost use Rattle.mrcpsp.specs.Project.{size};
+ghost use Rattle.std.specs.Prelude.{◌≡◌, ◌+◌, [], ◌∷◌, ◌++◌, ◌<◌, ◌≤◌, ◌⊎◌, ◌↔◌, IsTrue, true, MatchOption, length, vec_capacity};
+ghost use Rattle.mrcpsp.specs.Project.{size, mode_count};
+ghost use Rattle.mrcpsp.specs.Placed.{is_eligible};
 ghost use Rattle.tree_search.specs.Machine.{candidates_from};
-ghost use Rattle.tree_search.specs.Tree.{IsCandidate, IsEarly, IsLevelled, IsReady, KeepsPlace};
+ghost use Rattle.tree_search.specs.Tree.{IsCandidate, IsEarly, IsKnown, IsLevelled, IsReady, KeepsPlace};
 
 use serial_sgs::Board;
 
@@ -13,17 +14,29 @@ pub(crate) struct Cursor {
     pub(crate) mode: usize,
 }
 
+/// Whether a cursor is at a candidate: an eligible activity in one of its modes. An activity of which a mode was
+/// examined is not tested again.
+fn is_candidate(board: &Board, cursor: Cursor) -> bool
+    requires activity { cursor.activity < size board.now.project }
+    requires known { IsKnown board.now.project board.now.placed cursor }
+    ensures exact { IsTrue result ↔ ((cursor.mode < mode_count board.now.project cursor.activity) × (is_eligible board.now.project board.now.placed cursor.activity ≡ true)) }
+    ensures few { IsTrue result → cursor.mode < 10 }
+{
+    cursor.mode < board.project().mode_count(cursor.activity)
+        && (0 < cursor.mode || board.is_eligible(cursor.activity))
+}
+
 /// The first candidate from a cursor on, or none where the level has no more.
-pub(crate) fn seek(board: &Board, from: Cursor) -> Option<Cursor>
+fn seek(board: &Board, from: Cursor) -> Option<Cursor>
+    requires { IsKnown board.now.project board.now.placed from }
     ensures { MatchOption result (candidates_from board.now.project board.now.placed from.activity from.mode ≡ []) (λ found.
         IsCandidate board.now.project board.now.placed found
         × (candidates_from board.now.project board.now.placed found.activity found.mode ≡ candidates_from board.now.project board.now.placed from.activity from.mode)) }
 {
-    let project = board.project();
-    let size = project.size();
+    let size = board.project().size();
     let mut cursor = from;
     while cursor.activity < size {
-        if cursor.mode < project.mode_count(cursor.activity) && board.is_eligible(cursor.activity) {
+        if is_candidate(board, cursor) {
             return Some(cursor);
         }
         cursor = Cursor {

@@ -1,9 +1,10 @@
 //! The incumbent: the best schedule that the search has found, in memory that was taken beforehand.
-ghost use Rattle.std.specs.Prelude.{◌≡◌, false, length, IfOk};
+ghost use Rattle.std.specs.Prelude.{◌≡◌, Some, false, length, IfOk, is_some, if◌then◌else◌};
 ghost use Rattle.std.specs.Option.{option_copied};
 ghost use Rattle.mrcpsp.specs.Project.{ProjectData, size};
+ghost use Rattle.mrcpsp.specs.Schedule.{ScheduleData, makespan as greatest_finish};
 ghost use Rattle.mrcpsp.specs.Placed.{schedule_of};
-ghost use Rattle.strategy.specs.Tree.{is_too_late, updated};
+ghost use Rattle.strategy.specs.Tree.{is_too_late, improved, updated};
 ghost use Rattle.tree_search.specs.Tree.{IsIncumbent, best_in};
 
 use mrcpsp::{Schedule, Sequence};
@@ -79,11 +80,25 @@ impl Incumbent {
         }
     }
 
+    /// Whether a schedule was found.
+    pub(crate) fn is_found(&self) -> bool
+        ensures { result ≡ is_some (best_in self.now) }
+    {
+        self.found
+    }
+
     /// Whether no schedule that ends in this period or later is shorter.
     pub(crate) fn is_reached(&self, period: u64) -> bool
         ensures { (p : ProjectData) → IsIncumbent p self.now → result ≡ is_too_late p (best_in self.now) period }
     {
         self.found && u64::from(self.makespan) <= period
+    }
+
+    /// Whether a schedule of this makespan is shorter, or there is none yet.
+    fn is_beaten_by(&self, makespan: u32) -> bool
+        ensures { (p : ProjectData) (s : ScheduleData) → IsIncumbent p self.now → makespan ≡ greatest_finish p s → improved p (best_in self.now) s ≡ (if result then Some s else best_in self.now) }
+    {
+        !self.found || makespan < self.makespan
     }
 
     /// Takes over the schedule of a full board, if that is shorter. Takes no memory.
@@ -96,7 +111,7 @@ impl Incumbent {
             return;
         }
         let makespan = board.makespan();
-        if self.found && self.makespan <= makespan {
+        if !self.is_beaten_by(makespan) {
             return;
         }
         let memory = mem::replace(&mut self.schedule, no_schedule(self.alloc));

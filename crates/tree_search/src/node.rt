@@ -1,7 +1,8 @@
 //! One node of the tree: the next candidate is examined.
-ghost use Rattle.std.specs.Prelude.{◌≡◌, ◌+◌, [], ◌∷◌, ◌++◌, ◌<◌, ◌≤◌, true, MatchOption, length, vec_capacity};
+ghost use Rattle.std.specs.Prelude.{◌≡◌, ◌+◌, [], ◌∷◌, ◌++◌, ◌<◌, ◌≤◌, true, IsTrue, MatchOption, length, vec_capacity};
 ghost use Rattle.mrcpsp.specs.Project.{size};
-ghost use Rattle.mrcpsp.specs.Placed.{last_start};
+ghost use Rattle.mrcpsp.specs.Placed.{last_start, is_allowed, is_executable, earliest};
+ghost use Rattle.strategy.specs.Candidate.{is_allowed_mode};
 ghost use Rattle.strategy.specs.Tree.{is_pruned, updated};
 ghost use Rattle.measures.specs.Measures.{measures_of};
 ghost use Rattle.tree_search.specs.Tree.{Enters, IsCandidate, IsEarly, IsIncumbent, IsLevelled, IsReady, MakesNode, Opens, best_in, place_at};
@@ -22,9 +23,32 @@ fn last_start(placed: &[Place]) -> u32
     }
 }
 
-/// The earliest start of a candidate from the start of the activity placed last on, or none where it is pruned: it could
-/// not run alone, too little of a nonrenewable resource would be left, or what follows it could not end before the
-/// incumbent does.
+/// Whether a candidate could run alone and leaves enough of each nonrenewable resource.
+#[tactic(auto, unfolding(strategy::specs::Candidate::is_allowed_mode))]
+fn is_allowed(board: &Board, candidate: Cursor) -> bool
+    requires { IsCandidate board.now.project board.now.placed candidate }
+    ensures { result ≡ is_allowed_mode board.now.project board.now.placed candidate.activity candidate.mode }
+{
+    board.is_executable(candidate.activity, candidate.mode)
+        && board.is_affordable(candidate.activity, candidate.mode)
+}
+
+/// The earliest start of a candidate, from the start of the activity placed last on.
+fn earliest(board: &Board, candidate: Cursor) -> u32
+    requires candidate { IsCandidate board.now.project board.now.placed candidate }
+    requires early { IsEarly board.now.project board.now.placed }
+    requires executable { IsTrue (is_executable board.now.project candidate.activity candidate.mode) }
+    ensures exact { result ≡ earliest board.now.project board.now.placed candidate.activity candidate.mode (last_start board.now.placed) }
+    ensures allowed { IsTrue (is_allowed board.now.project board.now.placed candidate.activity candidate.mode result) }
+    ensures early { IsEarly board.now.project (board.now.placed ++ place_at candidate result ∷ []) }
+    ensures soon { result ≤ 202000 }
+{
+    let from = last_start(board.placed());
+    board.earliest(candidate.activity, candidate.mode, from)
+}
+
+/// The earliest start of a candidate, or none where it is pruned: it is not allowed, or what follows it could not end
+/// before the incumbent does.
 fn start_of(
     board: &Board,
     measures: &Measures,
@@ -39,14 +63,13 @@ fn start_of(
         (is_pruned board.now.project board.now.placed (record { activity = candidate.activity; mode = candidate.mode }) (best_in incumbent.now) ≡ true)
         (Opens board.now.project board.now.placed candidate (best_in incumbent.now)) }
 {
-    let Cursor { activity, mode } = candidate;
-    if !board.is_executable(activity, mode) || !board.is_affordable(activity, mode) {
+    if !is_allowed(board, candidate) {
         return None;
     }
-    let start = board.earliest(activity, mode, last_start(board.placed()));
-    let finish = start + board.project().duration(activity, mode);
-    let soonest = u64::from(finish) + u64::from(measures.tail(activity));
-    if incumbent.is_reached(soonest) {
+    let start = earliest(board, candidate);
+    let duration = board.project().duration(candidate.activity, candidate.mode);
+    let tail = measures.tail(candidate.activity);
+    if incumbent.is_reached(u64::from(start) + u64::from(duration) + u64::from(tail)) {
         return None;
     }
     Some(start)

@@ -1,11 +1,12 @@
 //! The precedence tree as a stack with undo.
-ghost use Rattle.std.specs.Prelude.{◌≡◌, ℕ, ◌+◌, [], ◌<◌, IfOk, length};
+ghost use Rattle.std.specs.Prelude.{◌≡◌, ℕ, ◌+◌, [], ◌<◌, IfOk, length, if◌then◌else◌};
 ghost use Rattle.std.specs.Option.{option_copied};
 ghost use Rattle.mrcpsp.specs.Project.{ProjectData};
 ghost use Rattle.strategy.specs.Tree.{is_closed};
 ghost use Rattle.strategy.specs.Outcome.{verdict_after};
 ghost use Rattle.strategy.specs.declared.plan.Plan.{Plan};
 ghost use Rattle.strategy.specs.declared.kind.Kind.TheVariants.{Tree as OfTree};
+ghost use Rattle.strategy.specs.declared.verdict.Verdict.TheVariants.{Going, Optimal, Infeasible};
 ghost use Rattle.tree_search.specs.Tree.{IsAfter, IsTree, best_in};
 
 use crate::cursor::{Cursor, settle};
@@ -24,6 +25,19 @@ pub(crate) struct Tree {
     board: Board,
     cursors: Vec<Cursor>,
     incumbent: Incumbent,
+}
+
+/// What a search of all nodes shows, by whether it is over and has found a schedule.
+fn verdict_of(is_over: bool, is_found: bool) -> Verdict
+    ensures { result ≡ (if is_over then (if is_found then Optimal else Infeasible) else Going) }
+{
+    if !is_over {
+        Verdict::Going
+    } else if is_found {
+        Verdict::Optimal
+    } else {
+        Verdict::Infeasible
+    }
 }
 
 impl Tree {
@@ -68,13 +82,7 @@ impl Tree {
     pub(crate) fn verdict(&self) -> Verdict
         ensures { (plan : Plan) (k : ℕ) → plan.kind ≡ OfTree → IsTree plan.project self.now → IsAfter plan.project k self.now → result ≡ verdict_after plan k }
     {
-        if !self.is_over() {
-            Verdict::Going
-        } else if self.best().is_some() {
-            Verdict::Optimal
-        } else {
-            Verdict::Infeasible
-        }
+        verdict_of(self.is_over(), self.incumbent.is_found())
     }
 
     /// Runs one node: examines the next candidate, and goes on to the one after it.
