@@ -1,5 +1,5 @@
 //! Passes drawn from the words of a seed, one node at a time and without end.
-ghost use Rattle.std.specs.Prelude.{◌≡◌, ◌+◌, ◌<◌, ◌≤◌, false, length, IfOk, IfErr, IfSome, option_map};
+ghost use Rattle.std.specs.Prelude.{◌≡◌, ◌↔◌, ◌+◌, ◌%◌, ◌<◌, ◌≤◌, false, length, IsTrue, IfOk, IfErr, IfSome, option_map};
 ghost use Rattle.mrcpsp.specs.Project.{size};
 ghost use Rattle.mrcpsp.specs.Placed.{schedule_of};
 ghost use Rattle.quanta_till.specs.Lease.{after_use};
@@ -128,6 +128,14 @@ fn pay(lease: &mut Lease)
     lease.use_one();
 }
 
+/// Whether passes of so many activities are all whole after so many nodes.
+fn are_whole_passes(nodes: u64, activities: usize) -> bool
+    requires { 0 < activities }
+    ensures { IsTrue result ↔ (nodes % activities ≡ 0) }
+{
+    nodes % activities as u64 == 0
+}
+
 /// Ends a pass: keeps its schedule where that is the best so far, and begins the next pass.
 fn end_pass(pass: &mut Pass, best: &mut Best)
     requires kept { IsKept pass.old.project best.old }
@@ -166,6 +174,7 @@ impl Strategy for SampleSearch {
     }
 
     fn verdict(&self) -> Verdict {
+        // The proof reads from the fields that the plan is one of sampling.
         let _ = &self.plan;
         Verdict::Going
     }
@@ -183,7 +192,7 @@ impl Strategy for SampleSearch {
         pay(&mut self.lease);
         run_node(&mut self.pass, &self.measures, &mut self.words);
         self.nodes += 1;
-        if self.nodes % activities as u64 == 0 {
+        if are_whole_passes(self.nodes, activities) {
             end_pass(&mut self.pass, &mut self.best);
         }
     }

@@ -1,4 +1,5 @@
-use Rattle.std.proofs.Common.{◌≡◌, ℕ, ◌+◌, ◌%◌, ◌<◌, false, List, length, arith, refl, sym, ap, ◌∙◌, subst, option_map}
+use Rattle.std.proofs.Common.{◌≡◌, ℕ, ◌+◌, ◌%◌, ◌<◌, ◌↔◌, Bool, false, IsTrue, List, length, arith, refl, sym, ap, ◌∙◌, subst, option_map}
+use Rattle.std.proofs.lemmas.Bool.{false≢true}
 use Rattle.mrcpsp.specs.Project.{ProjectData, ActivityData, size}
 use Rattle.mrcpsp.specs.Placed.{schedule_of}
 use Rattle.mrcpsp.specs.Limits.{IsProject}
@@ -28,13 +29,17 @@ count : (p : ProjectData) (activities : List ActivityData) → activities ≡ p.
 unfolding size
 count p activities all = ap length all
 
+-- and what its test says where it fails
+not-whole : (test : Bool) (k n : ℕ) → IsTrue test ↔ (k % n ≡ 0) → test ≡ false → k % n ≡ 0 → ⊥
+not-whole test k n told fails whole = false≢true (sym fails ∙ told.1 whole)
+
 pub end_pass-requires-clause-whole : goal.end_pass-requires-clause-whole
 end_pass-requires-clause-whole c =
     let s = c.self.inside in
     let i = c.self.invariant in
     let p = s.plan.project in
     let ok : IsProject p = kept p c.activities-activities.ensures.project in
-    let ends : (s.nodes + 1) % size p ≡ 0 = rw (count p c.activities-activities.result.now c.activities-activities.ensures.all) at c.if-self-activities-eq0.true in
+    let ends : (s.nodes + 1) % size p ≡ 0 = rw (count p c.activities-activities.result.now c.activities-activities.ensures.all) at (c.are_whole_passes.ensures.0 c.if-are_whole_passes.true) in
     let own : c.run_node.new.pass.project ≡ p = ap (λ (a : PassData). a.project) c.run_node.ensures.pass ∙ i.project in
     rw own
     (node-whole p s.plan.kind s.nodes c.run_node.new.pass.placed (node-ends s.nodes (size p) ok.some ends)
@@ -47,7 +52,7 @@ invariant_of-self c =
     let p = s.plan.project in
     let ok : IsProject p = kept p c.activities-activities.ensures.project in
     let n : ℕ = size p in
-    let ends : (s.nodes + 1) % n ≡ 0 = rw (count p c.activities-activities.result.now c.activities-activities.ensures.all) at c.if-self-activities-eq0.true in
+    let ends : (s.nodes + 1) % n ≡ 0 = rw (count p c.activities-activities.result.now c.activities-activities.ensures.all) at (c.are_whole_passes.ensures.0 c.if-are_whole_passes.true) in
     let last : IsLastNode s.nodes n = node-ends s.nodes n ok.some ends in
     let own : c.run_node.new.pass.project ≡ p = ap (λ (a : PassData). a.project) c.run_node.ensures.pass ∙ i.project in
     let paid : 0 < s.lease.left = rw (← c.self.view_is) at c.requires.paid in
@@ -68,14 +73,14 @@ invariant_of-self c =
           (run-placed s.plan s.words s.pass c.run_node.new.pass s.nodes i.kind i.drawn i.project i.placed c.run_node.ensures.pass) (i.shortest before);
     }
 
-pub invariant_of-self-else-self-activities-eq0 : goal.invariant_of-self-else-self-activities-eq0
-invariant_of-self-else-self-activities-eq0 c =
+pub invariant_of-self-else-are_whole_passes : goal.invariant_of-self-else-are_whole_passes
+invariant_of-self-else-are_whole_passes c =
     let s = c.self.inside in
     let i = c.self.invariant in
     let p = s.plan.project in
     let ok : IsProject p = kept p c.activities-activities.ensures.project in
     let n : ℕ = size p in
-    let going : (s.nodes + 1) % n ≡ 0 → ⊥ = rw (count p c.activities-activities.result.now c.activities-activities.ensures.all) at c.if-self-activities-eq0.false in
+    let going : (s.nodes + 1) % n ≡ 0 → ⊥ = rw (count p c.activities-activities.result.now c.activities-activities.ensures.all) at (not-whole c.are_whole_passes.result (s.nodes + 1) (length c.activities-activities.result.now) c.are_whole_passes.ensures c.if-are_whole_passes.false) in
     let inner : IsInnerNode s.nodes n = node-goes-on s.nodes n ok.some going in
     let paid : 0 < s.lease.left = rw (← c.self.view_is) at c.requires.paid in
     record {
