@@ -1,3 +1,4 @@
 pub mod ListLemmas
 pub mod BoardLemmas
 pub mod PassLemmas
+pub mod ListedLemmas
