@@ -9,7 +9,7 @@ ghost use Rattle.strategy.specs.declared.kind.Kind.TheVariants.{Tree as OfTree};
 ghost use Rattle.strategy.specs.declared.verdict.Verdict.TheVariants.{Going, Optimal, Infeasible};
 ghost use Rattle.tree_search.specs.Tree.{IsAfter, IsTree, best_in};
 
-use crate::cursor::{Cursor, settle};
+use crate::cursor::{Cursor, are_all_left, settle};
 use crate::incumbent::Incumbent;
 use crate::node::examine;
 use measures::Measures;
@@ -68,7 +68,7 @@ impl Tree {
     pub(crate) fn is_over(&self) -> bool
         ensures { (p : ProjectData) (k : ℕ) → IsTree p self.now → IsAfter p k self.now → result ≡ is_closed p k }
     {
-        self.cursors.is_empty()
+        are_all_left(&self.cursors)
     }
 
     /// The best schedule found, if there is one.
