@@ -7,7 +7,8 @@ use Rattle.mrcpsp.specs.Schedule.{ScheduleData, makespan}
 use Rattle.strategy.specs.Outcome.{best_after, is_closed, verdict_after}
 use Rattle.strategy.specs.declared.plan.Plan.{Plan}
 use Rattle.strategy.proofs.OutcomeLemmas.{each_best, optimal_is_true, infeasible_is_true}
-use Rattle.job_table.specs.Table.{JobData, is_out, is_ended}
+use Rattle.job_table.specs.Table.{JobData, is_waiting, is_out, is_ended}
+use Rattle.job_table.specs.Job.{given_up, settled}
 use Rattle.job_table.specs.declared.phase.Phase.{Phase}
 use Rattle.job_table.specs.declared.phase.Phase.TheVariants.{Waiting, Out, Leaving, Dry, Closed, Cancelled}
 use Rattle.farm_core.specs.declared.entry.Event.{Event}
@@ -16,7 +17,7 @@ use Rattle.farm_core.specs.declared.reply.Line.{Line}
 use Rattle.farm_core.specs.declared.reply.Reply.{Reply}
 use Rattle.farm_core.specs.declared.reply.Reply.TheVariants as reply
 use Rattle.farm_core.specs.Tenant.{Tenant, book, free, find_job, put_job, drop_job, line_of, nodes_of_turn}
-use Rattle.farm_core.specs.Step.{Answer, Replied, Sent, NoTurn, Step, step, has_room, is_amount, is_slice, unnoted, noted, changed, fresh_job, submitted, about, funded, fetched, given_up, cancelled_as, cancelled, forgotten, commanded, is_waiting, taken, settled, may_have_run, gave}
+use Rattle.farm_core.specs.Step.{Answer, Replied, Sent, NoTurn, Step, step, has_room, is_amount, is_slice, unnoted, noted, changed, fresh_job, submitted, about, funded, fetched, cancelled_as, cancelled, forgotten, commanded, taken, may_have_run, gave}
 use Rattle.farm_core.specs.Truth.{IsTrueBest, IsTrueOf, IsTrueLine, IsTrueResult, IsTrueReply, IsTrueAnswer, IsPlanned}
 
 -- whose plans are known

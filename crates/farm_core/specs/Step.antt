@@ -3,7 +3,8 @@ use Rattle.std.specs.Prelude.{ℕ, ◌+◌, ◌-◌, min, Bool, true, false, con
 use Rattle.mrcpsp.specs.Schedule.{makespan}
 use Rattle.strategy.specs.Outcome.{best_after, is_closed, verdict_after}
 use Rattle.strategy.specs.declared.plan.Plan.{Plan}
-use Rattle.job_table.specs.Table.{JobData, is_out, is_ended}
+use Rattle.job_table.specs.Table.{JobData, is_waiting, is_out, is_ended}
+use Rattle.job_table.specs.Job.{given_up, settled}
 use Rattle.job_table.specs.declared.phase.Phase.{Phase}
 use Rattle.job_table.specs.declared.phase.Phase.TheVariants.{Waiting, Out, Leaving, Dry, Closed, Cancelled}
 use Rattle.farm_core.specs.declared.entry.Event.{Event}
@@ -83,15 +84,6 @@ fetched t job =
     (let best = best_after job.plan job.nodes in
     noted t (reply.Best job.seq best (option_map (makespan job.plan.project) best) (verdict_after job.plan job.nodes)))
 
--- the job with its search given up, where it is not at its end
-abbrev pub given_up : JobData → Phase → Option JobData
-given_up job Waiting = Some (record job { phase = Cancelled; left = 0 })
-given_up job (Out slice) = Some (record job { phase = Leaving slice })
-given_up job (Leaving slice) = None
-given_up job Dry = Some (record job { phase = Cancelled; left = 0 })
-given_up job Closed = None
-given_up job Cancelled = None
-
 abbrev pub cancelled_as : Tenant → Option JobData → Step
 cancelled_as t None = noted t reply.NoOver
 cancelled_as t (Some new) = changed t new (Replied (reply.Line (line_of new)))
@@ -109,14 +101,6 @@ forgotten t job =
 abbrev pub commanded : Tenant → Step → Step
 commanded t step = cond (has_room 1 t) step (unnoted t (Replied reply.NoRoom))
 
-abbrev pub is_waiting : Phase → Bool
-is_waiting Waiting = true
-is_waiting (Out slice) = false
-is_waiting (Leaving slice) = false
-is_waiting Dry = false
-is_waiting Closed = false
-is_waiting Cancelled = false
-
 -- a turn goes out, and one entry is kept for its give
 abbrev pub taken : Tenant → ℕ → Option JobData → Step
 taken t slice None = unnoted t NoTurn
@@ -124,18 +108,6 @@ taken t slice (Some job) =
     cond (is_waiting job.phase && is_slice slice && has_room 2 t)
     (let new : JobData = record job { phase = Out slice } in changed t new (Sent (line_of new)))
     (unnoted t NoTurn)
-
--- the job once its turn is back: one that was leaving is cancelled, one whose search is over is closed, one without quanta
--- is dry, and any other waits
-abbrev pub settled : JobData → Phase → JobData
-settled job Waiting = job
-settled job (Out slice) =
-    cond (is_closed job.plan job.nodes) (record job { phase = Closed; left = 0 })
-    (record job { phase = cond (job.left == 0) Dry Waiting })
-settled job (Leaving slice) = record job { phase = Cancelled; left = 0 }
-settled job Dry = job
-settled job Closed = job
-settled job Cancelled = job
 
 -- a turn that is back ran nothing, or all that it could
 abbrev pub may_have_run : ℕ → JobData → Phase → Bool

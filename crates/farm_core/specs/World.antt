@@ -2,7 +2,7 @@
 use Rattle.std.specs.Prelude.{◌≡◌, ◌≢◌, ℕ, ◌==◌, List, [], ◌∷◌, ◌++◌, length, map, filter, get_or, Option, Some, None}
 use Rattle.tenant_book.specs.Book as book
 use Rattle.tenant_book.specs.Book.{BookData}
-use Rattle.job_table.specs.Table.{Row, JobData}
+use Rattle.job_table.specs.Table.{Row, JobData, jobs_of}
 use Rattle.farm_core.specs.declared.config.TenantLine.{TenantLine}
 use Rattle.farm_core.specs.declared.entry.Entry.{Entry}
 use Rattle.farm_core.specs.declared.entry.Event.{Event}
@@ -37,10 +37,7 @@ terms_in config t = get_or config.tenants t no_terms
 unfoldable pub opened : ConfigData → World
 opened config = record { config = config; rows = []; journal = []; accounts = map account_of config.tenants }
 
--- what is one tenant's of the jobs and of the journal
-abbrev pub jobs_of : ℕ → List Row → List JobData
-jobs_of t rows = map (λ (row : Row). row.job) (filter (λ row. row.tenant == t) rows)
-
+-- what is one tenant's of the journal
 abbrev pub entries_of : ℕ → List Entry → List Entry
 entries_of t journal = filter (λ entry. entry.tenant == t) journal
 

@@ -1,5 +1,5 @@
 -- The rows of all tenants' jobs: a finite map by tenant and number, as a list in the order in which the jobs came.
-use Rattle.std.specs.Prelude.{◌≡◌, ℕ, Bool, true, false, ⊤, cond, not, ◌&&◌, ◌==◌, List, [], ◌∷◌, Option, Some, None}
+use Rattle.std.specs.Prelude.{ℕ, Bool, true, false, cond, ◌&&◌, ◌==◌, List, [], ◌∷◌, map, filter, Option, Some, None}
 use Rattle.strategy.specs.declared.plan.Plan.{Plan}
 use Rattle.job_table.specs.declared.phase.Phase.{Phase}
 use Rattle.job_table.specs.declared.phase.Phase.TheVariants.{Waiting, Out, Leaving, Dry, Closed, Cancelled}
@@ -21,6 +21,15 @@ pub record Row : Type 0 where
 abbrev pub is_row : ℕ → ℕ → Row → Bool
 is_row t s row = (row.tenant == t) && (row.job.seq == s)
 
+-- in this phase a turn may be taken
+abbrev pub is_waiting : Phase → Bool
+is_waiting Waiting = true
+is_waiting (Out slice) = false
+is_waiting (Leaving slice) = false
+is_waiting Dry = false
+is_waiting Closed = false
+is_waiting Cancelled = false
+
 -- in these phases a worker holds the turn
 abbrev pub is_out : Phase → Bool
 is_out Waiting = false
@@ -38,3 +47,20 @@ is_ended (Leaving slice) = false
 is_ended Dry = false
 is_ended Closed = true
 is_ended Cancelled = true
+
+-- the job of that number of that tenant; the rows with it changed, and without it
+abbrev pub find_row : ℕ → ℕ → List Row → Option JobData
+find_row t s [] = None
+find_row t s (row ∷ rows) = cond (is_row t s row) (Some row.job) (find_row t s rows)
+
+abbrev pub put_row : ℕ → ℕ → JobData → List Row → List Row
+put_row t s new [] = []
+put_row t s new (row ∷ rows) = cond (is_row t s row) (record { tenant = t; job = new } ∷ rows) (row ∷ put_row t s new rows)
+
+abbrev pub drop_row : ℕ → ℕ → List Row → List Row
+drop_row t s [] = []
+drop_row t s (row ∷ rows) = cond (is_row t s row) rows (row ∷ drop_row t s rows)
+
+-- a tenant's jobs, in the order in which they came
+abbrev pub jobs_of : ℕ → List Row → List JobData
+jobs_of t rows = map (λ (row : Row). row.job) (filter (λ row. row.tenant == t) rows)

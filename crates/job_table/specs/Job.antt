@@ -1,0 +1,85 @@
+-- What a job keeps, and what a turn of it does.
+use Rattle.std.specs.Prelude.{◌≡◌, ℕ, ◌+◌, ◌-◌, ◌==◌, Bool, true, false, cond, length, IsTrue, Option, Some, None}
+use Rattle.mrcpsp.specs.Project.{size, is_project}
+use Rattle.mrcpsp.specs.Schedule.{ScheduleData}
+use Rattle.strategy.specs.Outcome.{best_after, is_closed, verdict_after}
+use Rattle.strategy.specs.Search.{Meaning}
+use Rattle.strategy.specs.declared.plan.Plan.{Plan}
+use Rattle.strategy.specs.declared.verdict.Verdict.{Verdict}
+use Rattle.job_table.specs.Table.{JobData}
+use Rattle.job_table.specs.declared.phase.Phase.{Phase}
+use Rattle.job_table.specs.declared.phase.Phase.TheVariants.{Waiting, Out, Leaving, Dry, Closed, Cancelled}
+use Rattle.job_table.specs.declared.best.Best.{Best}
+
+-- the schedule that is kept, where one was found
+abbrev pub best_in : Best → Option ScheduleData
+best_in b = cond b.found (Some b.schedule) None
+
+-- memory for a schedule of n activities
+pub record HasSize (n : ℕ) (s : ScheduleData) : Type 0 where
+  pub modes : length s.modes ≡ n
+  pub starts : length s.starts ≡ n
+
+-- in these phases the search is with its job
+abbrev pub is_here : Phase → Bool
+is_here Waiting = true
+is_here (Out slice) = false
+is_here (Leaving slice) = false
+is_here Dry = true
+is_here Closed = false
+is_here Cancelled = false
+
+-- what is planned is a project; the best schedule and the verdict are those of the plan after these nodes, and the search is there in the phases in
+-- which it is not out and not over
+pub record IsSound (plan : Plan) (phase : Phase) (nodes : ℕ) (best : Best) (verdict : Verdict) (here : Bool) : Type 0 where
+  pub planned : IsTrue (is_project plan.project)
+  pub shows : best_in best ≡ best_after plan nodes
+  pub sized : HasSize (size plan.project) best.schedule
+  pub judges : verdict ≡ verdict_after plan nodes
+  pub holds : here ≡ is_here phase
+
+-- a turn for at most `slice` nodes is out
+abbrev pub is_turn : ℕ → Phase → Bool
+is_turn slice Waiting = false
+is_turn slice (Out s) = s == slice
+is_turn slice (Leaving s) = s == slice
+is_turn slice Dry = false
+is_turn slice Closed = false
+is_turn slice Cancelled = false
+
+-- what the search of a tenant's job is
+abbrev pub meaning_of : ℕ → JobData → Meaning
+meaning_of tenant job = record { tenant = tenant; plan = job.plan; nodes = job.nodes; left = job.left; taken = false }
+
+-- the job with its search given up, where it is not at its end
+abbrev pub given_up : JobData → Phase → Option JobData
+given_up job Waiting = Some (record job { phase = Cancelled; left = 0 })
+given_up job (Out slice) = Some (record job { phase = Leaving slice })
+given_up job (Leaving slice) = None
+given_up job Dry = Some (record job { phase = Cancelled; left = 0 })
+given_up job Closed = None
+given_up job Cancelled = None
+
+-- the job once its turn is back: one that was leaving is cancelled, one whose search is over is closed, one without quanta
+-- is dry, and any other waits
+abbrev pub settled : JobData → Phase → JobData
+settled job Waiting = job
+settled job (Out slice) =
+    cond (is_closed job.plan job.nodes) (record job { phase = Closed; left = 0 })
+    (record job { phase = cond (job.left == 0) Dry Waiting })
+settled job (Leaving slice) = record job { phase = Cancelled; left = 0 }
+settled job Dry = job
+settled job Closed = job
+settled job Cancelled = job
+
+-- after a turn of so many nodes, whose search is back
+abbrev pub back : ℕ → JobData → JobData
+back ran job = settled (record job { nodes = job.nodes + ran; left = job.left - ran }) job.phase
+
+-- the search is this job's, after so many nodes of a turn for at most `slice`
+pub record IsOwn (tenant slice ran : ℕ) (m : Meaning) (job : JobData) : Type 0 where
+  pub turn : is_turn slice job.phase ≡ true
+  pub owner : m.tenant ≡ tenant
+  pub plan : m.plan ≡ job.plan
+  pub nodes : m.nodes ≡ job.nodes + ran
+  pub left : m.left + ran ≡ job.left

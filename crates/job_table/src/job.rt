@@ -1,0 +1,149 @@
+//! Jobs: what is known of a search, and the search while it is here.
+ghost use Rattle.std.specs.Prelude.{◌≡◌, ◌+◌, ◌-◌, ◌≤◌, ◌↔◌, IsTrue, IsFalse, Some, None, IfSome, OnSome, IfNone, is_some, false, true, option_map};
+ghost use Rattle.std.specs.Option.{option_copied};
+ghost use Rattle.mrcpsp.specs.Project.{size};
+ghost use Rattle.mrcpsp.specs.Schedule.{makespan};
+ghost use Rattle.strategy.specs.Outcome.{best_after, is_closed, verdict_after};
+ghost use Rattle.strategy.specs.Search.{Meaning};
+ghost use Rattle.job_table.specs.Table.{JobData};
+ghost use Rattle.job_table.specs.Job.{meaning_of, given_up, back, is_turn, IsOwn};
+
+use crate::Phase;
+use crate::best::Best;
+use mrcpsp::{Schedule, makespan};
+use std::alloc::Global;
+use std::marker::Model;
+use strategy::{Plan, Strategy, Verdict, same_plan};
+
+/// A job: its number, plan and phase, how many nodes were paid, how many quanta it holds, the best schedule and the verdict
+/// of its plan after these nodes, and its search, unless that is out or over.
+#[derive(Drop)]
+pub struct Job<J> {
+    seq: u64,
+    plan: Plan,
+    phase: Phase,
+    nodes: u64,
+    left: u64,
+    best: Best,
+    verdict: Verdict,
+    search: Option<J>,
+}
+
+impl<J> Model for Job<J> {
+    ghost use Rattle.std.specs.Prelude.{is_some};
+    ghost use Rattle.job_table.specs.Table.{JobData};
+    ghost use Rattle.job_table.specs.Job.{IsSound};
+
+    ghost Value = { JobData };
+
+    ghost view = { λ j. record { seq = j.seq; plan = j.plan; phase = j.phase; nodes = j.nodes; left = j.left } };
+
+    ghost invariant = { λ j. IsSound j.plan j.phase j.nodes j.best j.verdict (is_some j.search) };
+}
+
+/// Whether a search is at this point, with its best schedule, and not over.
+fn agrees<S: Strategy>(search: &S, tenant: u32, plan: &Plan, nodes: u64, left: u64) -> bool
+    ensures same { IsTrue result → S.meaning search.now ≡ record { tenant = tenant; plan = plan.now; nodes = nodes; left = left; taken = false } }
+    ensures going { IsTrue result → is_closed plan.now nodes ≡ false }
+{
+    !search.closed()
+        && search.tenant() == tenant
+        && search.nodes() == nodes
+        && search.left() == left
+        && same_plan(search.plan(), plan)
+}
+
+impl<J: Strategy> Job<J> {
+    /// A job that waits, with so many quanta in a search that has run nothing. `None` where there is no memory for it, or
+    /// where the search is another one: not fresh, or of another tenant or plan.
+    #[tactic(auto, using(crate::proofs::JobLemmas::sound_fresh))]
+    pub fn new(
+        alloc: Global,
+        tenant: u32,
+        seq: u64,
+        plan: Plan,
+        quanta: u64,
+        mut search: J,
+    ) -> Option<Job<J>>
+        requires { quanta ≤ 1000000000000 }
+        ensures { IfSome result (λ job. job ≡ record { seq = seq; plan = plan; phase = Phase.Waiting; nodes = 0; left = quanta }) }
+    {
+        if !agrees(&search, tenant, &plan, 0, 0) {
+            return None;
+        }
+        let Ok(best) = Best::new(alloc, plan.project.activities().len()) else {
+            return None;
+        };
+        search.fund(quanta);
+        Some(Job {
+            seq,
+            plan,
+            phase: Phase::Waiting,
+            nodes: 0,
+            left: quanta,
+            best,
+            verdict: Verdict::Going,
+            search: Some(search),
+        })
+    }
+
+    /// Its number.
+    pub fn seq(&self) -> u64
+        ensures { result ≡ self.now.seq }
+    {
+        self.seq
+    }
+
+    /// What is searched, and how.
+    pub fn plan(&self) -> &Plan
+        ensures { result.now ≡ self.now.plan }
+    {
+        &self.plan
+    }
+
+    /// Where it stands.
+    pub fn phase(&self) -> Phase
+        ensures { result ≡ self.now.phase }
+    {
+        self.phase
+    }
+
+    /// How many nodes were run and paid.
+    pub fn nodes(&self) -> u64
+        ensures { result ≡ self.now.nodes }
+    {
+        self.nodes
+    }
+
+    /// How many quanta it holds.
+    pub fn left(&self) -> u64
+        ensures { result ≡ self.now.left }
+    {
+        self.left
+    }
+
+    /// The best schedule of its plan after its nodes.
+    pub fn best(&self) -> Option<&Schedule>
+        ensures { option_copied result ≡ best_after self.now.plan self.now.nodes }
+    {
+        self.best.schedule()
+    }
+
+    /// The makespan of that schedule, in periods.
+    #[tactic(auto, using(crate::proofs::JobLemmas::best_shaped, crate::proofs::JobLemmas::best_moded))]
+    pub fn makespan(&self) -> Option<u32>
+        ensures { result ≡ option_map (makespan self.now.plan.project) (best_after self.now.plan self.now.nodes) }
+    {
+        match self.best.schedule() {
+            Some(schedule) => Some(makespan(&self.plan.project, schedule)),
+            None => None,
+        }
+    }
+
+    /// What its search has shown after its nodes.
+    pub fn verdict(&self) -> Verdict
+        ensures { result ≡ verdict_after self.now.plan self.now.nodes }
+    {
+        self.verdict
+    }
+}
