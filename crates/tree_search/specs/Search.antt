@@ -1,4 +1,4 @@
--- A search of the precedence tree, a node at a time.
+-- A search of the precedence tree (Sprecher and Drexl 1998), a node at a time.
 use Rattle.std.specs.Prelude.{◌≡◌, ℕ, ◌+◌, ◌≤◌, Bool, false}
 use Rattle.quanta_till.specs.Lease.{LeaseValue}
 use Rattle.strategy.specs.Outcome.{verdict_after}
