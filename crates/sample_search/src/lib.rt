@@ -1,4 +1,15 @@
-//! The search of passes drawn from the words of a seed.
+//! The search of passes drawn from the words of a seed: the serial schedule generation scheme (Kolisch 1996), one node at
+//! a time and without end.
+//!
+//! `SampleSearch::new` makes the search of a plan whose kind is `Sample`, with all the memory that it will need. It is a
+//! `strategy::Strategy`: of a project of `n` activities it shows after `k` nodes the shortest schedule of the first `k / n`
+//! passes, the earliest of these, and it goes on until its best is taken.
+//!
+//! - `words`: the words of a seed, one after another.
+//! - `draw`: the activity and the mode that a word draws.
+//! - `node`: one node of a pass.
+//! - `best`: the best schedule so far, overwritten in place.
+//! - `search`: the search itself.
 #![tactic(auto)]
 
 mod best;
