@@ -1,5 +1,5 @@
 //! Which candidate a rule chooses.
-ghost use Rattle.std.specs.Prelude.{◌≡◌, ℕ, ◌<◌, All, IfSome, length};
+ghost use Rattle.std.specs.Prelude.{◌≡◌, ℕ, ◌<◌, All, IfSome, length, nat_le};
 ghost use Rattle.mrcpsp.specs.Project.{ProjectData, size, mode_count, duration};
 ghost use Rattle.measures.specs.Measures.{measures_of};
 ghost use Rattle.strategy.specs.Pass.{first_least, activity_at};
@@ -42,6 +42,16 @@ fn first_activity(pass: &Pass, measures: &Measures, kind: Kind) -> Option<usize>
     Some(first)
 }
 
+/// Whether an activity takes no longer in one mode than in another one.
+fn is_as_short(project: &Project, activity: usize, one: usize, other: usize) -> bool
+    requires activity { activity < size project.now }
+    requires one { one < mode_count project.now activity }
+    requires other { other < mode_count project.now activity }
+    ensures { result ≡ nat_le (duration project.now activity one) (duration project.now activity other) }
+{
+    project.duration(activity, one) <= project.duration(activity, other)
+}
+
 /// The mode of shortest duration, the smallest number of several; none where there is none.
 fn first_mode(project: &Project, activity: usize, modes: &[usize]) -> Option<usize>
     requires activity { activity < size project.now }
@@ -51,7 +61,7 @@ fn first_mode(project: &Project, activity: usize, modes: &[usize]) -> Option<usi
     let (head, rest) = modes.split_first()?;
     let mut first = *head;
     for mode in rest {
-        if project.duration(activity, *mode) < project.duration(activity, first) {
+        if !is_as_short(project, activity, first, *mode) {
             first = *mode;
         }
     }

@@ -1,9 +1,10 @@
 //! One pass by a rule, node by node.
-ghost use Rattle.std.specs.Prelude.{◌≡◌, ◌<◌, IfOk, IfErr, IsSomeAnd, nat_le, option_map};
+ghost use Rattle.std.specs.Prelude.{◌≡◌, ◌<◌, IfOk, IfErr, IsSomeAnd, nat_le, option_map, if◌then◌else◌};
 ghost use Rattle.mrcpsp.specs.Project.{size};
 ghost use Rattle.mrcpsp.specs.Placed.{schedule_of};
 ghost use Rattle.serial_pass.specs.Pass.{HasRoom};
 ghost use Rattle.quanta_till.specs.Lease.{after_use};
+ghost use Rattle.strategy.specs.declared.verdict.Verdict.TheVariants.{Going, Ended};
 ghost use Rattle.rule_search.specs.Rule.{IsRule};
 ghost use Rattle.rule_search.specs.Search.{IsEmpty, unrun};
 
@@ -125,12 +126,25 @@ fn is_whole(size: usize, nodes: usize) -> bool
     size <= nodes
 }
 
-/// The schedule of a whole pass, in the memory that was kept for it; none where the pass is void.
-fn whole_schedule(pass: &Pass, room: Option<Schedule>) -> Option<Schedule>
-    requires { IsSomeAnd room (HasRoom (size pass.now.project)) }
-    ensures { result ≡ option_map (schedule_of (size pass.now.project)) pass.now.placed }
+/// What a search by a rule shows: nothing, also when it is over.
+fn verdict_of(whole: bool) -> Verdict
+    ensures { result ≡ (if whole then Ended else Going) }
 {
-    pass.schedule(room?)
+    if whole {
+        Verdict::Ended
+    } else {
+        Verdict::Going
+    }
+}
+
+/// Makes the schedule of a whole pass the best one, in the memory that was kept for it; none where the pass is void.
+fn write_best(best: &mut Option<Schedule>, pass: &Pass, room: Option<Schedule>)
+    requires { IsSomeAnd room (HasRoom (size pass.now.project)) }
+    ensures { best.new ≡ option_map (schedule_of (size pass.now.project)) pass.now.placed }
+{
+    if let Some(room) = room {
+        *best = pass.schedule(room);
+    }
 }
 
 impl Strategy for RuleSearch {
@@ -157,11 +171,7 @@ impl Strategy for RuleSearch {
     }
 
     fn verdict(&self) -> Verdict {
-        if is_whole(self.size, self.nodes) {
-            Verdict::Ended
-        } else {
-            Verdict::Going
-        }
+        verdict_of(is_whole(self.size, self.nodes))
     }
 
     fn best(&self) -> Option<&Schedule> {
@@ -177,7 +187,7 @@ impl Strategy for RuleSearch {
         run_node(&mut self.pass, &self.measures, self.plan.kind);
         self.nodes += 1;
         if is_whole(self.size, self.nodes) {
-            self.best = whole_schedule(&self.pass, self.room.take());
+            write_best(&mut self.best, &self.pass, self.room.take());
         }
     }
 

@@ -1,10 +1,9 @@
-use Rattle.std.proofs.Common.{◌≡◌, ◌<◌, ◌∷◌, All, get_or, nat_le, arith, sym}
-use Rattle.std.proofs.lemmas.Bool.{le-leb, lt-leb}
+use Rattle.std.proofs.Common.{◌≡◌, ◌<◌, ◌∷◌, ◌∙◌, All, nat_le, sym}
 use Rattle.std.proofs.lemmas.List.Elements.{All-head, All-tail}
 use Rattle.mrcpsp.specs.Project.{mode_count, duration}
 use Rattle.rule_search.proofs.OrderLemmas.{least_order, first_alone, stays_more, changes_more, first_of_all}
 use Rattle.rule_search.proofs.choice.first_mode.Goals as goal
-use Rattle.rule_search.proofs.choice.first_mode.Goals.{then-duration, else-duration}
+use Rattle.rule_search.proofs.choice.first_mode.Goals.{then-not-is_as_short, else-not-is_as_short}
 
 pub loop-mode-init : goal.loop-mode-init
 loop-mode-init c =
@@ -20,21 +19,17 @@ pub loop-mode-preserved : goal.loop-mode-preserved
 loop-mode-preserved c =
     let p = c.args.project.now in let j = c.args.activity in let head = c.in_ok-head.head.now in let rest = c.in_ok-head.rest.now in
     let i = c.loop-mode.mode-index in let first = c.loop-mode.first in let so_far = c.loop-mode.invariant in
-    let longer : c.duration-in-loop-mode.result ≡ duration p j first = c.duration-in-loop-mode.ensures.exact in
-    let shorter : c.duration.result ≡ duration p j (get_or rest i 0) = c.duration.ensures.exact in
-    elim c.if-duration.branch [
-      | then-duration w ↦ record {
-            best = rw w.first-is (changes_more (λ x y. nat_le (duration p j x) (duration p j y)) (least_order (duration p j)) head rest i first c.loop-mode-test.true so_far.best
-                (lt-leb (duration p j first) (duration p j (get_or rest i 0)) (omega (arith, longer, shorter, w.if-duration.true))));
-            inside = rw w.first-is (so_far.others i 0 c.loop-mode-test.true);
-            others = so_far.others;
-          }
-      | else-duration w ↦ record {
-            best = rw w.first-is (stays_more (λ x y. nat_le (duration p j x) (duration p j y)) head rest i first c.loop-mode-test.true so_far.best
-                (le-leb (duration p j first) (duration p j (get_or rest i 0)) (omega (arith, longer, shorter, w.if-duration.false))));
-            inside = rw w.first-is so_far.inside;
-            others = so_far.others;
-          }
+    elim c.if-not-is_as_short.branch [
+      | then-not-is_as_short w ↦ record {
+        best = rw w.first-is (changes_more (λ x y. nat_le (duration p j x) (duration p j y)) (least_order (duration p j)) head rest i first c.loop-mode-test.true so_far.best (sym c.is_as_short.ensures ∙ w.if-not-is_as_short.true));
+        inside = rw w.first-is (so_far.others i 0 c.loop-mode-test.true);
+        others = so_far.others;
+      }
+      | else-not-is_as_short w ↦ record {
+        best = rw w.first-is (stays_more (λ x y. nat_le (duration p j x) (duration p j y)) head rest i first c.loop-mode-test.true so_far.best (sym c.is_as_short.ensures ∙ w.if-not-is_as_short.false));
+        inside = rw w.first-is so_far.inside;
+        others = so_far.others;
+      }
     ]
 
 pub returns : goal.returns

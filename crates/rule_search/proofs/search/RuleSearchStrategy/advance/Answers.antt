@@ -5,8 +5,8 @@ use Rattle.rule_search.specs.Search.{IsAt}
 use Rattle.rule_search.proofs.SearchLemmas.{IsGoing, going_on, after_run, run_early, run_last}
 use Rattle.rule_search.proofs.search.RuleSearchStrategy.advance.Goals as goal
 
-pub whole_schedule-requires : goal.whole_schedule-requires
-whole_schedule-requires c =
+pub write_best-requires : goal.write_best-requires
+write_best-requires c =
     let s = c.self.inside in
     let m : Meaning = record { tenant = s.lease.tenant; plan = s.plan; nodes = s.nodes; left = s.lease.left; taken = s.taken } in
     let going : IsGoing s.plan s.nodes s.taken = going_on m s.lease.used s.size s.pass s.measures s.room s.best c.self.invariant (rw (← c.self.view_is) at c.requires.going) in
@@ -19,17 +19,8 @@ invariant_of-self c =
     let m : Meaning = record { tenant = s.lease.tenant; plan = s.plan; nodes = s.nodes; left = s.lease.left; taken = s.taken } in
     let going : IsGoing s.plan s.nodes s.taken = going_on m s.lease.used s.size s.pass s.measures s.room s.best c.self.invariant (rw (← c.self.view_is) at c.requires.going) in
     let at : IsAt s.plan (s.nodes + 1) c.run_node.new.pass s.measures = after_run s.plan s.nodes s.pass c.run_node.new.pass s.measures c.self.invariant.at c.run_node.ensures in
-    run_last m s.lease.used c.pay.new.lease.used s.size c.pay.new.lease.tenant c.pay.new.lease.left s.pass c.run_node.new.pass s.measures s.room s.best c.take.new.self c.whole_schedule.result c.self.invariant going at
-    (ap (λ (l : LeaseValue). l.used) c.pay.ensures) (sym c.is_whole.ensures ∙ c.if-is_whole.true) c.whole_schedule.ensures
-
-pub invariant_of-self-then-is_whole-2 : goal.invariant_of-self-then-is_whole-2
-invariant_of-self-then-is_whole-2 c =
-    let s = c.self.inside in
-    let m : Meaning = record { tenant = s.lease.tenant; plan = s.plan; nodes = s.nodes; left = s.lease.left; taken = s.taken } in
-    let going : IsGoing s.plan s.nodes s.taken = going_on m s.lease.used s.size s.pass s.measures s.room s.best c.self.invariant (rw (← c.self.view_is) at c.requires.going) in
-    let at : IsAt s.plan (s.nodes + 1) c.run_node.new.pass s.measures = after_run s.plan s.nodes s.pass c.run_node.new.pass s.measures c.self.invariant.at c.run_node.ensures in
-    run_last m s.lease.used c.pay.new.lease.used s.size c.pay.new.lease.tenant c.pay.new.lease.left s.pass c.run_node.new.pass s.measures s.room s.best c.take.new.self c.whole_schedule.result c.self.invariant going at
-    (ap (λ (l : LeaseValue). l.used) c.pay.ensures) (sym c.is_whole.ensures ∙ c.if-is_whole.true) c.whole_schedule.ensures
+    run_last m s.lease.used c.pay.new.lease.used s.size c.pay.new.lease.tenant c.pay.new.lease.left s.pass c.run_node.new.pass s.measures s.room s.best c.take.new.self c.write_best.new.best c.self.invariant going at
+    (ap (λ (l : LeaseValue). l.used) c.pay.ensures) (sym c.is_whole.ensures ∙ c.if-is_whole.true) c.write_best.ensures
 
 pub invariant_of-self-else-is_whole : goal.invariant_of-self-else-is_whole
 invariant_of-self-else-is_whole c =
