@@ -1,5 +1,5 @@
 -- What two words draw may come next.
-use Rattle.std.proofs.Common.{◌≡◌, ℕ, zero, suc, ◌-◌, ◌%◌, ◌<◌, true, nat_lt, List, [], ◌∷◌, length, All, Option, Some, None, IfSome, option_map, refl, sym, ap, subst}
+use Rattle.std.proofs.Common.{◌≡◌, ℕ, zero, suc, ◌-◌, ◌%◌, ◌<◌, true, nat_lt, List, [], ◌∷◌, length, All, Option, Some, None, IfSome, option_map, refl}
 use Rattle.std.specs.Prelude.{IsSomeAnd, option_and_then, slice_get, sum_by}
 use Rattle.std.specs.List.{range_with_len}
 use Rattle.std.proofs.lemmas.Bool.{cond_both}
@@ -59,16 +59,16 @@ module _ (p : ProjectData) (placed : List Placed) where
       let xs = eligible_ones p placed in
       activity-comes second (drawn_activity p first xs) (drawn-holds (IsEligibleOne p placed) (weight_of p xs) (first % sum_by (weight_of p xs) xs) xs (eligible-hold p placed))
 
-pub may_come : (p : ProjectData) (first second : ℕ) (placed : Option (List Placed)) (c : Candidate) → Some c ≡ option_and_then (drawn_candidate p first second) placed → IsSomeAnd placed (λ now. MayComeNext p now c)
-may_come p first second None c drawn = absurd (let e : Some c ≡ None = drawn in cc)
-may_come p first second (Some now) c drawn = let P : Option Candidate → Type 0 = λ o. IfSome o (MayComeNext p now) in subst P (sym drawn) (drawn-comes p now first second)
+pub may_come : (p : ProjectData) (first second : ℕ) (placed : Option (List Placed)) → IfSome (option_and_then (drawn_candidate p first second) placed) (λ c. IsSomeAnd placed (λ now. MayComeNext p now c))
+may_come p first second None = tt
+may_come p first second (Some now) = drawn-comes p now first second
 
 -- ---- what is placed then
 
-pub after_some : (p : ProjectData) (first second : ℕ) (placed : Option (List Placed)) (c : Candidate) → Some c ≡ option_and_then (drawn_candidate p first second) placed → option_map (grown p c) placed ≡ after_words p first second placed
-after_some p first second None c drawn = refl
-after_some p first second (Some now) c drawn = ap (option_map (λ c. grown p c now)) drawn
+drawn-grown : (p : ProjectData) (now : List Placed) (drawn : Option Candidate) → option_and_then (λ c. option_map (grown p c) (Some now)) drawn ≡ option_map (λ c. grown p c now) drawn
+drawn-grown p now None = refl
+drawn-grown p now (Some c) = refl
 
-pub after_none : (p : ProjectData) (first second : ℕ) (placed : Option (List Placed)) → None ≡ option_and_then (drawn_candidate p first second) placed → None ≡ after_words p first second placed
-after_none p first second None drawn = refl
-after_none p first second (Some now) drawn = ap (option_map (λ c. grown p c now)) drawn
+pub after_drawn : (p : ProjectData) (first second : ℕ) (placed : Option (List Placed)) → option_and_then (λ c. option_map (grown p c) placed) (option_and_then (drawn_candidate p first second) placed) ≡ after_words p first second placed
+after_drawn p first second None = refl
+after_drawn p first second (Some now) = drawn-grown p now (drawn_candidate p first second now)

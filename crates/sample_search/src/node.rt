@@ -23,18 +23,15 @@ fn draw_candidate(pass: &Pass, measures: &Measures, first: u32, second: u32) -> 
     Some(Candidate { activity, mode })
 }
 
-/// Places the candidate that two words draw. Where there is none the pass gives up.
-#[tactic(auto, using(crate::proofs::NodeLemmas::after_some, crate::proofs::NodeLemmas::after_none))]
-fn place_drawn(pass: &mut Pass, measures: &Measures, first: u32, second: u32)
+/// Runs one node of a pass with two words: it places what they draw, and gives up where that is nothing.
+fn run_drawn(pass: &mut Pass, measures: &Measures, first: u32, second: u32)
     ghost project: { ProjectData }
     requires project { pass.old.project ≡ project }
     requires measures { AreMeasures project measures.now }
     ensures { pass.new ≡ record pass.old { placed = after_words project first second pass.old.placed } }
 {
-    match draw_candidate(pass, measures, first, second) {
-        Some(candidate) => pass.place(candidate),
-        None => pass.give_up(),
-    }
+    let chosen = draw_candidate(pass, measures, first, second);
+    pass.run(chosen);
 }
 
 /// Runs one node of a pass with the next two words. A void pass draws its words too. Takes no memory.
@@ -49,5 +46,5 @@ pub(crate) fn run_node(pass: &mut Pass, measures: &Measures, words: &mut Words)
 {
     let first = words.next();
     let second = words.next();
-    place_drawn(pass, measures, first, second);
+    run_drawn(pass, measures, first, second);
 }

@@ -1,4 +1,4 @@
 use Rattle.sample_search.proofs.node.run_node.Given as goal
 
-abbrev pub ghost-place_drawn : goal.ghost-place_drawn
-ghost-place_drawn g a = g.project
+abbrev pub ghost-run_drawn : goal.ghost-run_drawn
+ghost-run_drawn g a = g.project
