@@ -18,8 +18,8 @@ pub record IsEmpty (lease : LeaseValue) : Type 0 where
   pub left : lease.left ≡ 0
 
 -- a search that has run no node
-abbrev pub unrun : Plan → LeaseValue → Meaning
-unrun plan lease = record { tenant = lease.tenant; plan = plan; nodes = 0; left = lease.left; taken = false }
+abbrev pub fresh : Plan → LeaseValue → Meaning
+fresh plan lease = record { tenant = lease.tenant; plan = plan; nodes = 0; left = lease.left; taken = false }
 
 -- what its pass and its measures keep: they are of its project, and the pass has run its nodes
 pub record IsAt (plan : Plan) (nodes : ℕ) (pass : PassData) (measures : List ValuesData) : Type 0 where

@@ -6,7 +6,7 @@ ghost use Rattle.serial_pass.specs.Pass.{HasRoom};
 ghost use Rattle.quanta_till.specs.Lease.{after_use};
 ghost use Rattle.strategy.specs.declared.verdict.Verdict.TheVariants.{Going, Ended};
 ghost use Rattle.rule_search.specs.Rule.{IsRule};
-ghost use Rattle.rule_search.specs.Search.{IsEmpty, unrun};
+ghost use Rattle.rule_search.specs.Search.{IsEmpty, fresh};
 
 use crate::choice::run_node;
 use measures::Measures;
@@ -61,11 +61,11 @@ struct Workspace {
 impl Workspace {
     ghost use Rattle.mrcpsp.specs.Project.{size};
     ghost use Rattle.measures.specs.Measures.{measures_of};
-    ghost use Rattle.serial_pass.specs.Pass.{fresh, HasRoom};
+    ghost use Rattle.serial_pass.specs.Pass.{fresh as fresh_pass, HasRoom};
 
     fn new(alloc: Global, plan: &Plan) -> Result<Workspace, AllocError>
         ensures measures { IfOk result (λ space. space.measures ≡ measures_of plan.now.project) }
-        ensures pass { IfOk result (λ space. space.pass ≡ fresh plan.now.project) }
+        ensures pass { IfOk result (λ space. space.pass ≡ fresh_pass plan.now.project) }
         ensures room { IfOk result (λ space. HasRoom (size plan.now.project) space.room) }
     {
         let measures = Measures::of(alloc, &plan.project)?;
@@ -85,7 +85,7 @@ impl RuleSearch {
     pub fn new(alloc: Global, plan: Plan, lease: Lease) -> Result<RuleSearch, Refused>
         requires kind { IsRule plan.kind }
         requires empty { IsEmpty lease }
-        ensures made { IfOk result (λ search. search ≡ unrun plan lease) }
+        ensures made { IfOk result (λ search. search ≡ fresh plan lease) }
         ensures back { IfErr result (λ refused. refused.lease ≡ lease) }
     {
         let Ok(space) = Workspace::new(alloc, &plan) else {
