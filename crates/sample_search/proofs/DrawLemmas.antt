@@ -1,9 +1,6 @@
--- Weights of activities, and what a running sum of them draws.
-use Rattle.std.proofs.Common.{◌≡◌, ℕ, ◌+◌, ◌-◌, ◌<◌, ◌≤◌, List, [], ◌∷◌, ◌++◌, length, get_or, map, take, drop, max, cond, nat_lt, Some, arith, refl, ap, ◌∙◌, add-one, drop-cons}
-use Rattle.std.specs.Prelude.{sum_by}
-use Rattle.std.proofs.lemmas.Bool.{lt-ltb, le-ltb}
+-- Latest finish times of activities, and the greatest of them.
+use Rattle.std.proofs.Common.{◌≡◌, ℕ, ◌+◌, ◌<◌, ◌≤◌, List, [], ◌∷◌, ◌++◌, length, get_or, map, take, max, arith, ap, ◌∙◌}
 use Rattle.std.proofs.lemmas.List.{map_more}
-use Rattle.std.proofs.lemmas.List.Sums.{sum_by-drop_more}
 use Rattle.std.proofs.lemmas.List.FromFn.{length-map-range_with_len}
 use Rattle.mrcpsp.specs.Numbers.{largest}
 use Rattle.mrcpsp.specs.Project.{ProjectData, size}
@@ -11,7 +8,6 @@ use Rattle.mrcpsp.specs.Limits.{IsProject}
 use Rattle.mrcpsp.specs.Values.{lft}
 use Rattle.measures.specs.Measures.{ValuesData, values_of}
 use Rattle.measures.proofs.ValueLemmas.{lft_below}
-use Rattle.strategy.specs.Pass.{drawn_at}
 use Rattle.sample_search.specs.Draw.{AreMeasures}
 use Rattle.mrcpsp.proofs.NumbersLemmas.{all-le-largest}
 
@@ -33,20 +29,3 @@ largest_more f xs i l = ap largest (map_more f xs i 0 l) ∙ largest_push (map f
 -- none of these has a later latest finish time than the greatest
 pub lft-le-greatest : (p : ProjectData) (xs : List ℕ) (i : ℕ) → i < length xs → lft p (get_or xs i 0) ≤ largest (map (lft p) xs)
 lft-le-greatest p xs i l = all-le-largest (lft p) xs (largest (map (lft p) xs)) (omega arith) i 0 l
-
--- ---- the first at which the running sum exceeds x
-
-drawn-cons : (weight : ℕ → ℕ) (x i : ℕ) (xs : List ℕ) → i < length xs → drawn_at weight x (drop i xs) ≡ cond (nat_lt x (weight (get_or xs i 0))) (Some (get_or xs i 0)) (drawn_at weight (x - weight (get_or xs i 0)) (drop (i + 1) xs))
-drawn-cons weight x i xs l =
-    let front : drop i xs ≡ get_or xs i 0 ∷ drop (i + 1) xs = rw add-one (drop-cons xs i 0 l) in
-    ap (drawn_at weight x) front
-
-pub drawn_here : (weight : ℕ → ℕ) (x i : ℕ) (xs : List ℕ) → i < length xs → x < weight (get_or xs i 0) → drawn_at weight x (drop i xs) ≡ Some (get_or xs i 0)
-drawn_here weight x i xs l less = drawn-cons weight x i xs l ∙ rw (lt-ltb x (weight (get_or xs i 0)) less) refl
-
-pub drawn_more : (weight : ℕ → ℕ) (x i : ℕ) (xs : List ℕ) → i < length xs → weight (get_or xs i 0) ≤ x → drawn_at weight x (drop i xs) ≡ drawn_at weight (x - weight (get_or xs i 0)) (drop (i + 1) xs)
-drawn_more weight x i xs l most = drawn-cons weight x i xs l ∙ rw (le-ltb x (weight (get_or xs i 0)) most) refl
-
--- the sum is not exceeded before the end
-pub rest_more : (weight : ℕ → ℕ) (x i : ℕ) (xs : List ℕ) → i < length xs → weight (get_or xs i 0) ≤ x → x < sum_by weight (drop i xs) → x - weight (get_or xs i 0) < sum_by weight (drop (i + 1) xs)
-rest_more weight x i xs l most within = omega (arith, sum_by-drop_more weight xs i 0 l)

@@ -1,16 +1,16 @@
 -- What two words draw may come next.
-use Rattle.std.proofs.Common.{◌≡◌, ℕ, zero, suc, ◌-◌, ◌%◌, ◌<◌, true, nat_lt, List, [], ◌∷◌, length, All, Option, Some, None, IfSome, option_map, refl}
+use Rattle.std.proofs.Common.{◌≡◌, ℕ, zero, suc, ◌-◌, ◌%◌, ◌<◌, true, nat_lt, List, [], ◌∷◌, length, All, Option, Some, None, IfSome, option_map}
 use Rattle.std.specs.Prelude.{IsSomeAnd, option_and_then, slice_get, sum_by}
 use Rattle.std.specs.List.{range_with_len}
 use Rattle.std.proofs.lemmas.Bool.{cond_both}
 use Rattle.std.proofs.lemmas.List.Elements.{All-head, All-tail, All-filter, filter_passes}
 use Rattle.mrcpsp.specs.Project.{ProjectData, size, mode_count}
 use Rattle.mrcpsp.specs.Placed.{Placed, is_eligible}
-use Rattle.strategy.specs.Candidate.{Candidate, eligible_ones, is_allowed_mode, allowed_modes}
+use Rattle.strategy.specs.Candidate.{eligible_ones, is_allowed_mode, allowed_modes}
 use Rattle.strategy.specs.Pass.{weight_of, drawn_at, drawn_activity, drawn_mode}
 use Rattle.strategy.proofs.LawLemmas.{All-range}
-use Rattle.serial_pass.specs.Pass.{MayComeNext, grown}
-use Rattle.sample_search.specs.Draw.{drawn_candidate, after_words}
+use Rattle.serial_pass.specs.Pass.{MayComeNext}
+use Rattle.sample_search.specs.Draw.{drawn_candidate}
 
 -- ---- what is drawn is one of the list
 
@@ -62,13 +62,3 @@ module _ (p : ProjectData) (placed : List Placed) where
 pub may_come : (p : ProjectData) (first second : ℕ) (placed : Option (List Placed)) → IfSome (option_and_then (drawn_candidate p first second) placed) (λ c. IsSomeAnd placed (λ now. MayComeNext p now c))
 may_come p first second None = tt
 may_come p first second (Some now) = drawn-comes p now first second
-
--- ---- what is placed then
-
-drawn-grown : (p : ProjectData) (now : List Placed) (drawn : Option Candidate) → option_and_then (λ c. option_map (grown p c) (Some now)) drawn ≡ option_map (λ c. grown p c now) drawn
-drawn-grown p now None = refl
-drawn-grown p now (Some c) = refl
-
-pub after_drawn : (p : ProjectData) (first second : ℕ) (placed : Option (List Placed)) → option_and_then (λ c. option_map (grown p c) placed) (option_and_then (drawn_candidate p first second) placed) ≡ after_words p first second placed
-after_drawn p first second None = refl
-after_drawn p first second (Some now) = drawn-grown p now (drawn_candidate p first second now)
