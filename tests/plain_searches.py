@@ -2,7 +2,8 @@
 """The five searches, node by node, by their definitions alone: a second program to compare with.
 
     plain_searches.py KIND FILE [NODES]     what the search of a .mm file shows after each node
-    plain_searches.py table SEED COUNT      a table of small random projects and what each kind of search finds
+    plain_searches.py groups SEED GROUPS N      of each group of N small random projects, what each kind of search shows:
+                                            how many nodes there were, and a sum over all that was shown after each
 
 KIND is tree, rule:lft, rule:mts, rule:spt or sample:SEED. Nothing here is shared with the service: no code, no
 tables. Activities and modes are counted from 0 inside, and from 1 in what is printed.
@@ -211,8 +212,8 @@ class Drawn:
 
 
 def random_project(drawn):
-    """1 to 6 activities, 1 to 3 modes, 0 to 2 resources of each sort."""
-    n, r, k = 1 + drawn.below(6), drawn.below(3), drawn.below(3)
+    """1 to 8 activities, 1 to 3 modes, 0 to 2 resources of each sort."""
+    n, r, k = 1 + drawn.below(8), drawn.below(3), drawn.below(3)
     modes, successors = [], []
     for j in range(n):
         modes.append([])
@@ -220,15 +221,15 @@ def random_project(drawn):
             d = drawn.below(5)
             requests = [drawn.below(4) for _ in range(r)]
             modes[-1].append((d, requests, [drawn.below(3) for _ in range(k)]))
-        successors.append([s for s in range(j + 1, n) if drawn.below(3) == 0])
-    return Project(modes, successors, [1 + drawn.below(4) for _ in range(r)], [drawn.below(2 * n) for _ in range(k)])
+        successors.append([s for s in range(j + 1, n) if drawn.below(4) == 0])
+    return Project(modes, successors, [2 + drawn.below(4) for _ in range(r)], [drawn.below(3 * n) for _ in range(k)])
 
 
-def digest(p, kind, most):
-    """How many nodes were looked at, and a sum over what was shown after each: h becomes h * 31 + value modulo 2^32,
-    where the value of a node is 0 without a best schedule and otherwise 1 more than its makespan, then its modes and
-    starts by rising activity, and last 1 where the search is closed."""
-    h, nodes = 0, 0
+def digest(p, kind, most, h):
+    """How many nodes there were, and a sum over what was shown after each: h becomes h * 31 + value modulo 2^32, where the
+    values of a node are 0 without a best schedule, and otherwise 1 more than its makespan and then its modes and starts by
+    rising activity; and last 1 where the search is closed, else 0."""
+    nodes = 0
     for best, closed, _ in islice(search(p, kind), most):
         values = [0]
         if best is not None:
@@ -240,13 +241,23 @@ def digest(p, kind, most):
     return nodes, h
 
 
+def group(drawn, n):
+    """What the five kinds show of n projects, sampling with the seeds 0, 1 .. and for 4 passes, the tree for 400 nodes."""
+    shown = [(0, 0)] * 5
+    for i in range(n):
+        p = random_project(drawn)
+        kinds = [("tree", 400), ("rule:lft", 400), ("rule:mts", 400), ("rule:spt", 400), (f"sample:{i}", 4 * p.n)]
+        for k, (kind, most) in enumerate(kinds):
+            nodes, h = digest(p, kind, most, shown[k][1])
+            shown[k] = (shown[k][0] + nodes, h)
+    return shown
+
+
 def main():
-    if sys.argv[1] == "table":
+    if sys.argv[1] == "groups":
         drawn = Drawn(int(sys.argv[2]))
-        for i in range(int(sys.argv[3])):
-            p = random_project(drawn)
-            kinds = ["tree", "rule:lft", "rule:mts", "rule:spt", f"sample:{i}"]
-            print(i, p.n, *[value for kind in kinds for value in digest(p, kind, 4 * p.n if kind.startswith("sample") else 400)])
+        for _ in range(int(sys.argv[3])):
+            print("[" + ", ".join(f"({nodes}, {h})" for nodes, h in group(drawn, int(sys.argv[4]))) + "],")
         return
     p = read(sys.argv[2])
     most = int(sys.argv[3]) if len(sys.argv) > 3 else None
