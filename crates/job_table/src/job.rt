@@ -53,6 +53,16 @@ fn agrees<S: Strategy>(search: &S, tenant: u32, plan: &Plan, nodes: u64, left: u
         && same_plan(search.plan(), plan)
 }
 
+/// Whether a turn for at most so many nodes is out.
+fn is_turn(slice: u64, phase: Phase) -> bool
+    ensures { result ≡ is_turn slice phase }
+{
+    match phase {
+        Phase::Out(most) | Phase::Leaving(most) => most == slice,
+        _ => false,
+    }
+}
+
 impl<J: Strategy> Job<J> {
     /// A job that waits, with so many quanta in a search that has run nothing. `None` where there is no memory for it, or
     /// where the search is another one: not fresh, or of another tenant or plan.
@@ -145,5 +155,37 @@ impl<J: Strategy> Job<J> {
         ensures { result ≡ verdict_after self.now.plan self.now.nodes }
     {
         self.verdict
+    }
+
+    /// Sends the search out for a turn of at most so many nodes. `None` where its search is another one; then nothing has
+    /// changed.
+    pub fn send(&mut self, tenant: u32, slice: u64) -> Option<J>
+        requires { self.old.phase ≡ Phase.Waiting }
+        ensures search { IfSome result (λ search. J.meaning search ≡ meaning_of tenant self.old) }
+        ensures going { IfSome result (λ search. is_closed self.old.plan self.old.nodes ≡ false) }
+        ensures sent { OnSome result (self.new ≡ record self.old { phase = Phase.Out slice }) }
+        ensures kept { IfNone result (self.new ≡ self.old) }
+    {
+        let search = self.search.take()?;
+        if !agrees(&search, tenant, &self.plan, self.nodes, self.left) {
+            self.search = Some(search);
+            return None;
+        }
+        self.phase = Phase::Out(slice);
+        Some(search)
+    }
+
+    /// Whether the search is this job's, after so many nodes of a turn for at most `slice`.
+    pub fn is_own(&self, tenant: u32, slice: u64, ran: u64, search: &J) -> bool
+        ensures { IsTrue result ↔ IsOwn tenant slice ran (J.meaning search.now) self.now }
+    {
+        let (nodes, left) = (search.nodes(), search.left());
+        is_turn(slice, self.phase)
+            && search.tenant() == tenant
+            && ran <= nodes
+            && nodes - ran == self.nodes
+            && left <= self.left
+            && self.left - left == ran
+            && same_plan(search.plan(), &self.plan)
     }
 }

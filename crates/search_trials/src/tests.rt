@@ -1,0 +1,60 @@
+//! The table: 120 random projects in twelve groups.
+use crate::drawn::Drawn;
+use crate::shown::Shown;
+use std::alloc::Global;
+use std::process::Abort;
+use std::test::Fail;
+use strategy::Kind;
+
+/// What the five kinds show of ten projects: sampling with the seeds 0 to 9 and for four passes, the others to their ends,
+/// but the tree for at most 400 nodes.
+fn group(alloc: Global, drawn: &mut Drawn) -> Result<[Shown; 5], Fail> {
+    let mut shown = [Shown { nodes: 0, sum: 0 }; 5];
+    for seed in 0..10u32 {
+        let project = drawn.project(alloc)?.ok_or("within the limits")?;
+        let passes = (project.size() as u32).saturating_mul(4);
+        let kinds = [
+            (Kind::Tree, 400),
+            (Kind::RuleLft, 400),
+            (Kind::RuleMts, 400),
+            (Kind::RuleSpt, 400),
+            (Kind::Sample(u64::from(seed)), passes),
+        ];
+        for (one, (kind, most)) in shown.iter_mut().zip(kinds) {
+            one.add_kind(alloc, &project, kind, most)?;
+        }
+    }
+    Ok(shown)
+}
+
+/// Compares what five kinds show with a line of the table.
+fn compare(rt: &impl Abort, shown: &[Shown; 5], line: &[(u64, u32); 5]) {
+    for (one, (nodes, sum)) in shown.iter().zip(line) {
+        assert_eq!(rt; one.nodes, *nodes);
+        assert_eq!(rt; one.sum, *sum);
+    }
+}
+
+#[test]
+fn random_projects_node_by_node(rt: HostRuntime) -> Result<(), Fail> {
+    let table: [[(u64, u32); 5]; 12] = [
+        [(1_902, 3_002_100_523), (58, 2_134_704_012), (58, 58_018_417), (58, 3_575_275_685), (232, 1_031_118_497)],
+        [(993, 2_674_846_087), (39, 1_846_940_510), (39, 1_846_940_510), (39, 1_846_940_510), (156, 2_695_285_299)],
+        [(1_227, 2_996_828_468), (44, 697_803_055), (44, 697_803_055), (44, 1_692_564_073), (176, 3_322_441_750)],
+        [(1_308, 21_027_943), (48, 87_069_226), (48, 87_069_226), (48, 1_604_095_914), (192, 1_414_414_246)],
+        [(977, 3_712_484_850), (42, 2_635_533_312), (42, 2_635_533_312), (42, 71_896_547), (168, 2_070_192_195)],
+        [(190, 3_190_089_923), (36, 1_246_909_481), (36, 1_246_909_481), (36, 1_246_909_481), (144, 3_266_003_800)],
+        [(432, 3_398_127_095), (35, 456_754_039), (35, 456_754_039), (35, 3_363_166_197), (140, 4_182_701_175)],
+        [(1_274, 1_322_441_774), (49, 2_400_249_909), (49, 2_400_249_909), (49, 2_400_249_909), (196, 2_646_220_347)],
+        [(1_392, 4_045_208_271), (54, 1_794_625_876), (54, 1_794_625_876), (54, 3_719_988_343), (216, 3_175_036_172)],
+        [(1_039, 3_094_704_628), (50, 4_026_536_663), (50, 4_026_536_663), (50, 3_973_468_276), (200, 4_027_393_228)],
+        [(1_061, 2_521_479_658), (37, 4_052_219_451), (37, 4_052_219_451), (37, 3_884_335_035), (148, 138_946_387)],
+        [(1_738, 2_470_670_342), (41, 1_415_497_763), (41, 155_806_243), (41, 815_833_830), (164, 3_986_473_668)],
+    ];
+    let mut drawn = Drawn::new(7);
+    for line in table.iter() {
+        let shown = group(rt.alloc(), &mut drawn)?;
+        compare(&rt, &shown, line);
+    }
+    Ok(())
+}
