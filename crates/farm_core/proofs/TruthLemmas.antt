@@ -8,7 +8,7 @@ use Rattle.strategy.specs.Outcome.{best_after, is_closed, verdict_after}
 use Rattle.strategy.specs.declared.plan.Plan.{Plan}
 use Rattle.strategy.proofs.OutcomeLemmas.{each_best, optimal_is_true, infeasible_is_true}
 use Rattle.job_table.specs.Table.{JobData, is_waiting, is_out, is_ended}
-use Rattle.job_table.specs.Job.{given_up, settled}
+use Rattle.job_table.specs.Job.{given_up, back}
 use Rattle.job_table.specs.declared.phase.Phase.{Phase}
 use Rattle.job_table.specs.declared.phase.Phase.TheVariants.{Waiting, Out, Leaving, Dry, Closed, Cancelled}
 use Rattle.farm_core.specs.declared.entry.Event.{Event}
@@ -162,21 +162,11 @@ taken_good made t slice (Some job) all known =
     (λ _. changed_good made t new (Sent (line_of new)) all one (line_true made new one))
     (λ _. unnoted_good made t NoTurn all tt)
 
-settled_known : (made : Made) (job : JobData) (phase : Phase) → IsKnown made job → IsKnown made (settled job phase)
-settled_known made job Waiting known = known
-settled_known made job (Out slice) known =
-    cond_both (is_closed job.plan job.nodes) _ _ (IsKnown made) (λ _. record { plan = known.plan; project = known.project }) (λ _. record { plan = known.plan; project = known.project })
-settled_known made job (Leaving slice) known = record { plan = known.plan; project = known.project }
-settled_known made job Dry known = known
-settled_known made job Closed known = known
-settled_known made job Cancelled known = known
-
 gave_good : (made : Made) (t : Tenant) (ran : ℕ) (found : Option JobData) → AreKnown made t.jobs → IsKnownIf made found → IsGood made (gave t ran found)
 gave_good made t ran None all known = unnoted_good made t NoTurn all tt
 gave_good made t ran (Some job) all known =
-    let back : JobData = record job { nodes = job.nodes + ran; left = job.left - ran } in
-    let new : JobData = settled back job.phase in
-    let one : IsKnown made new = settled_known made back job.phase (record { plan = known.plan; project = known.project }) in
+    let new : JobData = back ran job in
+    let one : IsKnown made new = record { plan = known.plan; project = known.project } in
     cond_both (may_have_run ran job job.phase) _ (unnoted t NoTurn) (IsGood made)
     (λ _. record { answer = line_true made new one; jobs = put_known made new.seq new t.jobs one all })
     (λ _. unnoted_good made t NoTurn all tt)

@@ -4,7 +4,7 @@ use Rattle.mrcpsp.specs.Schedule.{makespan}
 use Rattle.strategy.specs.Outcome.{best_after, is_closed, verdict_after}
 use Rattle.strategy.specs.declared.plan.Plan.{Plan}
 use Rattle.job_table.specs.Table.{JobData, is_waiting, is_out, is_ended}
-use Rattle.job_table.specs.Job.{given_up, settled}
+use Rattle.job_table.specs.Job.{given_up, back}
 use Rattle.job_table.specs.declared.phase.Phase.{Phase}
 use Rattle.job_table.specs.declared.phase.Phase.TheVariants.{Waiting, Out, Leaving, Dry, Closed, Cancelled}
 use Rattle.farm_core.specs.declared.entry.Event.{Event}
@@ -122,7 +122,7 @@ abbrev pub gave : Tenant → ℕ → Option JobData → Step
 gave t ran None = unnoted t NoTurn
 gave t ran (Some job) =
     cond (may_have_run ran job job.phase)
-    (let new : JobData = settled (record job { nodes = job.nodes + ran; left = job.left - ran }) job.phase in
+    (let new : JobData = back ran job in
     record { answer = Replied (reply.Ran ran (line_of new)); after = record t { spent = t.spent + ran; used = t.used + 1; jobs = put_job new.seq new t.jobs } })
     (unnoted t NoTurn)
 

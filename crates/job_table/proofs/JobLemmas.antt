@@ -49,3 +49,10 @@ sound_fresh plan best ok going none sized = record {
   judges = rw going refl;
   holds = refl;
 }
+
+sized_of : (p : ProjectData) (best : Option ScheduleData) → IfSome best (HasShape p) → IfSome best (HasSize (size p))
+sized_of p None h = tt
+sized_of p (Some s) h = record { modes = h.modes; starts = h.starts }
+
+pub best_sized : (plan : Plan) (k : ℕ) → IsTrue (is_project plan.project) → IfSome (best_after plan k) (HasSize (size plan.project))
+best_sized plan k ok = sized_of plan.project (best_after plan k) (each_shaped plan ok k)

@@ -60,21 +60,25 @@ given_up job Dry = Some (record job { phase = Cancelled; left = 0 })
 given_up job Closed = None
 given_up job Cancelled = None
 
--- the job once its turn is back: one that was leaving is cancelled, one whose search is over is closed, one without quanta
--- is dry, and any other waits
+-- where a job stands once its turn is back: one that was leaving is cancelled, one whose search is over is closed, one
+-- without quanta is dry, and any other waits
+abbrev pub phase_after : Phase → Bool → ℕ → Phase
+phase_after (Leaving slice) closed left = Cancelled
+phase_after Waiting closed left = cond closed Closed (cond (left == 0) Dry Waiting)
+phase_after (Out slice) closed left = cond closed Closed (cond (left == 0) Dry Waiting)
+phase_after Dry closed left = cond closed Closed (cond (left == 0) Dry Waiting)
+phase_after Closed closed left = cond closed Closed (cond (left == 0) Dry Waiting)
+phase_after Cancelled closed left = cond closed Closed (cond (left == 0) Dry Waiting)
+
+-- a job holds quanta only while its search is with it or out
 abbrev pub settled : JobData → Phase → JobData
-settled job Waiting = job
-settled job (Out slice) =
-    cond (is_closed job.plan job.nodes) (record job { phase = Closed; left = 0 })
-    (record job { phase = cond (job.left == 0) Dry Waiting })
-settled job (Leaving slice) = record job { phase = Cancelled; left = 0 }
-settled job Dry = job
-settled job Closed = job
-settled job Cancelled = job
+settled job phase = record job { phase = phase; left = cond (is_here phase) job.left 0 }
 
 -- after a turn of so many nodes, whose search is back
 abbrev pub back : ℕ → JobData → JobData
-back ran job = settled (record job { nodes = job.nodes + ran; left = job.left - ran }) job.phase
+back ran job =
+    settled (record job { nodes = job.nodes + ran; left = job.left - ran })
+    (phase_after job.phase (is_closed job.plan (job.nodes + ran)) (job.left - ran))
 
 -- the search is this job's, after so many nodes of a turn for at most `slice`
 pub record IsOwn (tenant slice ran : ℕ) (m : Meaning) (job : JobData) : Type 0 where

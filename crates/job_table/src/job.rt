@@ -1,12 +1,12 @@
 //! Jobs: what is known of a search, and the search while it is here.
-ghost use Rattle.std.specs.Prelude.{◌≡◌, ◌+◌, ◌-◌, ◌≤◌, ◌↔◌, IsTrue, IsFalse, Some, None, IfSome, OnSome, IfNone, is_some, false, true, option_map};
+ghost use Rattle.std.specs.Prelude.{◌≡◌, ◌+◌, ◌-◌, ◌≤◌, ◌↔◌, IsTrue, IsFalse, Some, None, IfSome, OnSome, IfNone, is_some, false, true, option_map, if◌then◌else◌};
 ghost use Rattle.std.specs.Option.{option_copied};
 ghost use Rattle.mrcpsp.specs.Project.{size};
 ghost use Rattle.mrcpsp.specs.Schedule.{makespan};
 ghost use Rattle.strategy.specs.Outcome.{best_after, is_closed, verdict_after};
 ghost use Rattle.strategy.specs.Search.{Meaning};
 ghost use Rattle.job_table.specs.Table.{JobData};
-ghost use Rattle.job_table.specs.Job.{meaning_of, given_up, back, is_turn, IsOwn};
+ghost use Rattle.job_table.specs.Job.{meaning_of, given_up, back, is_turn, is_here, phase_after, IsOwn};
 
 use crate::Phase;
 use crate::best::Best;
@@ -59,6 +59,31 @@ fn is_turn(slice: u64, phase: Phase) -> bool
 {
     match phase {
         Phase::Out(most) | Phase::Leaving(most) => most == slice,
+        _ => false,
+    }
+}
+
+/// Where a job stands after a turn that left so many quanta.
+fn phase_after(phase: Phase, closed: bool, left: u64) -> Phase
+    ensures { result ≡ phase_after phase closed left }
+{
+    if let Phase::Leaving(_) = phase {
+        Phase::Cancelled
+    } else if closed {
+        Phase::Closed
+    } else if left == 0 {
+        Phase::Dry
+    } else {
+        Phase::Waiting
+    }
+}
+
+/// Whether the search is with its job.
+fn is_here(phase: Phase) -> bool
+    ensures { result ≡ is_here phase }
+{
+    match phase {
+        Phase::Waiting | Phase::Dry => true,
         _ => false,
     }
 }
@@ -187,5 +212,66 @@ impl<J: Strategy> Job<J> {
             && left <= self.left
             && self.left - left == ran
             && same_plan(search.plan(), &self.plan)
+    }
+
+    /// Takes the search back after a turn. A job that was leaving is cancelled, one whose search is over is closed, one
+    /// without quanta is dry, and any other waits; a search that goes on no more is dropped. Takes no memory.
+    pub fn take_back(&mut self, tenant: u32, slice: u64, ran: u64, search: J)
+        requires own { IsOwn tenant slice ran (J.meaning search) self.old }
+        requires best { (J.meaning search).taken ≡ false }
+        ensures { self.new ≡ back ran self.old }
+    {
+        self.best.copy(search.best());
+        self.verdict = search.verdict();
+        self.nodes = search.nodes();
+        self.left = search.left();
+        self.phase = phase_after(self.phase, search.closed(), self.left);
+        if is_here(self.phase) {
+            self.search = Some(search);
+        } else {
+            self.left = 0;
+        }
+    }
+
+    /// Draws more quanta for its search, and the job waits. False where the search is another one; then nothing has
+    /// changed.
+    pub fn fund(&mut self, tenant: u32, quanta: u64) -> bool
+        requires phase { IsTrue (is_here self.old.phase) }
+        requires limited { self.old.nodes + self.old.left + quanta ≤ 1000000000000 }
+        ensures funded { IsTrue result → self.new ≡ record self.old { phase = Phase.Waiting; left = self.old.left + quanta } }
+        ensures kept { IsFalse result → self.new ≡ self.old }
+    {
+        let Some(mut search) = self.search.take() else {
+            return false;
+        };
+        let agreed = agrees(&search, tenant, &self.plan, self.nodes, self.left);
+        if agreed {
+            search.fund(quanta);
+            self.left += quanta;
+            self.phase = Phase::Waiting;
+        }
+        self.search = Some(search);
+        agreed
+    }
+
+    /// Gives its search up, where the job is not at its end: while a turn is out it is leaving, and else it is cancelled and
+    /// its search is dropped. Tells whether it did. Takes no memory.
+    pub fn cancel(&mut self) -> bool
+        ensures given_up { (if result then Some self.new else None) ≡ given_up self.old self.old.phase }
+        ensures kept { IsFalse result → self.new ≡ self.old }
+    {
+        match self.phase {
+            Phase::Waiting | Phase::Dry => {
+                self.search = None;
+                self.left = 0;
+                self.phase = Phase::Cancelled;
+                true
+            }
+            Phase::Out(slice) => {
+                self.phase = Phase::Leaving(slice);
+                true
+            }
+            Phase::Leaving(_) | Phase::Closed | Phase::Cancelled => false,
+        }
     }
 }
