@@ -33,8 +33,8 @@ pub record IsEmpty (lease : LeaseValue) : Type 0 where
 abbrev pub fresh : Plan → LeaseValue → Meaning
 fresh plan lease = record { tenant = lease.tenant; plan = plan; nodes = 0; left = lease.left; taken = false }
 
--- what the search's fields keep. Two words were drawn for each node, and each node was paid. The pass is the one that the
--- last node belongs to, or the next one where that was whole, and until the best was taken it is that of all whole passes
+-- what the search's fields keep. Two words were drawn for each node, and each node was paid. The pass stands where these
+-- nodes leave it, nothing placed where they are whole passes, and until it was taken the best is that of all whole passes
 pub record IsSearch (plan : Plan) (lease : LeaseValue) (measures : List ValuesData) (words : WordsData) (pass : PassData) (nodes : ℕ) (best : Best) : Type 0 where
   pub kind : plan.kind ≡ Sample words.seed
   pub drawn : words.drawn ≡ 2 * nodes

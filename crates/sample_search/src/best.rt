@@ -27,10 +27,7 @@ impl Best {
     pub(crate) fn is_taken(&self) -> bool
         ensures { result ≡ is_taken self.now }
     {
-        match self {
-            Best::Taken => true,
-            _ => false,
-        }
+        matches!(self, Best::Taken)
     }
 
     /// The schedule, until it is handed out.
