@@ -7,6 +7,8 @@ mod entry;
 pub mod laws;
 mod name;
 mod reply;
+#[cfg(test)]
+mod tests;
 
 pub use config::{Config, TenantLine};
 pub use entry::{Entry, Event};
