@@ -54,9 +54,18 @@ pub record IsEarly (b : BoardData) : Type 0 where
   pub board : IsBoard b
   pub finish : latest b.project b.placed ≤ 1000 * length b.placed
 
+-- a board on which activity j was placed last, and the activities that were eligible before that
+pub record IsAfter (b : BoardData) (j : ℕ) (before : List ℕ) : Type 0 where
+  pub earlier : List Placed
+  pub place : Placed
+  pub grown : b.placed ≡ earlier ++ place ∷ []
+  pub activity : place.activity ≡ j
+  pub listed : before ≡ eligible_ones b.project earlier
+
 -- what a pass's fields keep: the list of eligible activities is current, none where the pass is void, and there is memory
--- for it
-pub record IsPass (b : BoardData) (void : Bool) (eligible : List ℕ) (capacity : ℕ) : Type 0 where
+-- for it and for the next one
+pub record IsPass (b : BoardData) (void : Bool) (eligible : List ℕ) (capacity room : ℕ) : Type 0 where
   pub early : IsEarly b
   pub current : eligible ≡ eligible_in b.project (cond void None (Some b.placed))
   pub reserved : size b.project ≤ capacity
+  pub roomy : size b.project ≤ room

@@ -6,12 +6,13 @@ ghost use Rattle.mrcpsp.specs.Placed.{latest, schedule_of};
 
 use crate::modes::allowed_modes;
 use crate::schedule::{blank, schedule_of};
-use crate::steps::{clear, list_eligible, place_early};
+use crate::steps::{clear, list_eligible, list_next, place_early};
 use crate::{Candidate, Modes};
 use mrcpsp::{Project, Schedule};
 use serial_sgs::Board;
 use std::alloc::{AllocError, Global};
 use std::marker::Model;
+use std::mem;
 
 /// A pass of the serial schedule generation scheme: the activities that its nodes have placed, each at its earliest start
 /// from 0, or a void pass. Contracts see the project and the list of these, none where the pass is void.
@@ -19,6 +20,7 @@ use std::marker::Model;
 pub struct Pass {
     board: Board,
     eligible: Vec<usize>,
+    next: Vec<usize>,
     void: bool,
 }
 
@@ -31,7 +33,7 @@ impl Model for Pass {
 
     ghost view = { λ a. record { project = a.board.project; placed = (if a.void then None else Some a.board.placed) } };
 
-    ghost invariant = { λ a. IsPass a.board a.void a.eligible.items (vec_capacity a.eligible) };
+    ghost invariant = { λ a. IsPass a.board a.void a.eligible.items (vec_capacity a.eligible) (vec_capacity a.next) };
 }
 
 impl Pass {
@@ -45,9 +47,11 @@ impl Pass {
         let board = Board::new(alloc, project)?;
         let mut eligible = Vec::with_capacity(alloc, project.activities().len())?;
         list_eligible(&board, &mut eligible);
+        let next = Vec::with_capacity(alloc, project.activities().len())?;
         Ok(Pass {
             board,
             eligible,
+            next,
             void: false,
         })
     }
@@ -94,8 +98,10 @@ impl Pass {
         requires { IsSomeAnd self.old.placed (λ placed. MayComeNext self.old.project placed candidate) }
         ensures { self.new ≡ record self.old { placed = option_map (grown self.old.project candidate) self.old.placed } }
     {
+        let last = candidate.activity;
         place_early(&mut self.board, candidate);
-        list_eligible(&self.board, &mut self.eligible);
+        list_next(&self.board, &self.eligible, last, &mut self.next);
+        mem::swap(&mut self.eligible, &mut self.next);
     }
 
     /// Gives up: the pass is void, and its further nodes place nothing.
