@@ -1,13 +1,12 @@
 -- A run, as one tenant sees it.
-use Rattle.std.proofs.Common.{◌≡◌, ◌≢◌, ℕ, ◌<◌, List, [], ◌∷◌, length, map, filter, get_or, Bool, true, false, cond, eqb, refl, sym, ap, ◌∙◌, subst, arith, zero, suc}
+use Rattle.std.proofs.Common.{◌≡◌, ◌≢◌, ℕ, List, [], ◌∷◌, map, filter, get_or, Bool, true, false, cond, eqb, refl, sym, ap, ◌∙◌, subst, arith, zero, suc}
 use Rattle.std.proofs.lemmas.Bool.Decides.{nat_tests}
 use Rattle.farm_core.specs.declared.config.TenantLine.{TenantLine}
-use Rattle.farm_core.specs.declared.entry.Event.{Event}
 use Rattle.farm_core.specs.Config.{ConfigData}
 use Rattle.farm_core.specs.Tenant.{Tenant, newcomer, book}
 use Rattle.farm_core.specs.Step.{Answer, step}
-use Rattle.farm_core.specs.World.{World, Account, Call, account_of, no_terms, terms_in, opened, view, Follows, Leads, own_events, own_answers, answers_alone, after_alone}
-use Rattle.farm_core.specs.Laws.{EachIsAlone, EachIsIsolated, AreEqualFor}
+use Rattle.farm_core.specs.World.{World, Call, account_of, no_terms, terms_in, opened, view, Follows, Leads, own_events, own_answers, answers_alone, after_alone}
+use Rattle.farm_core.specs.Laws.{EachIsAlone, EachIsIsolated}
 
 account_there : (lines : List TenantLine) (t : ℕ) → get_or (map account_of lines) t (account_of no_terms) ≡ account_of (get_or lines t no_terms)
 account_there [] t = refl

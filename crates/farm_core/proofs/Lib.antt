@@ -2,3 +2,4 @@ pub mod NameLemmas
 pub mod AloneLemmas
 pub mod TruthLemmas
 pub mod RunLemmas
+pub mod NeedLemmas

@@ -1,15 +1,14 @@
 -- In each run each answer is true.
-use Rattle.std.proofs.Common.{◌≡◌, ◌≢◌, ℕ, List, [], ◌∷◌, length, map, filter, get_or, Bool, true, false, cond, eqb, Option, Some, None, refl, sym, ap, ◌∙◌, subst, arith, zero, suc, ⊎_elim}
-use Rattle.std.specs.Prelude.{slice_get, ⊤}
+use Rattle.std.proofs.Common.{◌≡◌, ℕ, List, [], ◌∷◌, Some, refl, sym, ap, ◌∙◌, subst, zero, suc, ⊎_elim}
+use Rattle.std.specs.Prelude.{slice_get}
 use Rattle.std.proofs.lemmas.Bool.{cases_eq}
-use Rattle.strategy.specs.declared.plan.Plan.{Plan}
 use Rattle.farm_core.specs.declared.entry.Event.{Event}
 use Rattle.farm_core.specs.declared.entry.Event.TheVariants.{Submit}
 use Rattle.farm_core.specs.declared.reply.Reply.TheVariants as reply
 use Rattle.farm_core.specs.Config.{ConfigData}
 use Rattle.farm_core.specs.Tenant.{Tenant, newcomer}
 use Rattle.farm_core.specs.Step.{Answer, Replied, step}
-use Rattle.farm_core.specs.World.{World, Call, terms_in, opened, view, Follows, Leads}
+use Rattle.farm_core.specs.World.{World, Call, opened, view, Follows, Leads}
 use Rattle.farm_core.specs.Truth.{IsTrueAnswer, IsAmong, WasMade, IsPlanned, EachAnswerIsTrue}
 use Rattle.farm_core.proofs.AloneLemmas.{view_opened}
 use Rattle.farm_core.proofs.TruthLemmas.{AreKnown, IsGood, Makes, step_good}

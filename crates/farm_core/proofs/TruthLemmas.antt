@@ -1,10 +1,10 @@
 -- What each step answers about a job is true of its plan.
-use Rattle.std.proofs.Common.{◌≡◌, ℕ, ◌+◌, ◌-◌, min, List, [], ◌∷◌, ◌++◌, length, map, filter, get_or, Bool, true, false, cond, ◌&&◌, ◌==◌, nat_le, nat_lt, Option, Some, None, refl, sym, ap, ◌∙◌, subst, arith, zero, suc}
+use Rattle.std.proofs.Common.{◌≡◌, ℕ, ◌+◌, List, [], ◌∷◌, ◌++◌, length, cond, ◌&&◌, ◌==◌, nat_le, nat_lt, Option, Some, None, refl}
 use Rattle.std.specs.Prelude.{IsTrue, option_map, ⊤}
 use Rattle.std.proofs.lemmas.Bool.{cond_both}
 use Rattle.mrcpsp.specs.Project.{is_project}
-use Rattle.mrcpsp.specs.Schedule.{ScheduleData, makespan}
-use Rattle.strategy.specs.Outcome.{best_after, is_closed, verdict_after}
+use Rattle.mrcpsp.specs.Schedule.{makespan}
+use Rattle.strategy.specs.Outcome.{best_after, verdict_after}
 use Rattle.strategy.specs.declared.plan.Plan.{Plan}
 use Rattle.strategy.proofs.OutcomeLemmas.{each_best, optimal_is_true, infeasible_is_true}
 use Rattle.job_table.specs.Table.{JobData, is_waiting, is_out, is_ended}
@@ -13,12 +13,11 @@ use Rattle.job_table.specs.declared.phase.Phase.{Phase}
 use Rattle.job_table.specs.declared.phase.Phase.TheVariants.{Waiting, Out, Leaving, Dry, Closed, Cancelled}
 use Rattle.farm_core.specs.declared.entry.Event.{Event}
 use Rattle.farm_core.specs.declared.entry.Event.TheVariants.{Submit, Fund, Status, Fetch, Cancel, Forget, Ledger, Take, Give}
-use Rattle.farm_core.specs.declared.reply.Line.{Line}
 use Rattle.farm_core.specs.declared.reply.Reply.{Reply}
 use Rattle.farm_core.specs.declared.reply.Reply.TheVariants as reply
-use Rattle.farm_core.specs.Tenant.{Tenant, book, free, find_job, put_job, drop_job, line_of, nodes_of_turn}
+use Rattle.farm_core.specs.Tenant.{Tenant, book, free, find_job, put_job, drop_job, line_of}
 use Rattle.farm_core.specs.Step.{Answer, Replied, Sent, NoTurn, Step, step, has_room, is_amount, is_slice, unnoted, noted, changed, fresh_job, submitted, about, funded, fetched, cancelled_as, cancelled, forgotten, commanded, taken, may_have_run, gave}
-use Rattle.farm_core.specs.Truth.{IsTrueBest, IsTrueOf, IsTrueLine, IsTrueResult, IsTrueReply, IsTrueAnswer, IsPlanned}
+use Rattle.farm_core.specs.Truth.{IsTrueBest, IsTrueLine, IsTrueReply, IsTrueAnswer, IsPlanned}
 
 -- whose plans are known
 abbrev pub Made : Type 1

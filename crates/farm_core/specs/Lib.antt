@@ -5,3 +5,4 @@ pub mod Step
 pub mod World
 pub mod Laws
 pub mod Truth
+pub mod Need

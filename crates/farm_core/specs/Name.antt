@@ -1,5 +1,5 @@
 -- The names of tenants.
-use Rattle.std.specs.Prelude.{ℕ, Bool, true, false, ◌&&◌, ◌||◌, nat_le, nat_lt, ◌==◌, List, [], ◌∷◌, length}
+use Rattle.std.specs.Prelude.{ℕ, Bool, false, ◌&&◌, ◌||◌, nat_le, ◌==◌, List, [], ◌∷◌, length}
 use Rattle.std.specs.List.{list_all}
 
 -- a small letter, and a byte that may follow one: a small letter, a digit, _ or -

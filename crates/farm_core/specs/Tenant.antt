@@ -1,11 +1,10 @@
 -- One tenant's part of a farm.
-use Rattle.std.specs.Prelude.{◌≡◌, ℕ, ◌+◌, ◌-◌, ◌≤◌, Bool, true, false, cond, ◌==◌, List, [], ◌∷◌, length, filter, Option, Some, None, option_map}
+use Rattle.std.specs.Prelude.{ℕ, ◌+◌, ◌-◌, cond, ◌==◌, List, [], ◌∷◌, length, filter, Option, Some, None, option_map}
 use Rattle.mrcpsp.specs.Numbers.{first_from}
 use Rattle.mrcpsp.specs.Schedule.{makespan}
 use Rattle.strategy.specs.Outcome.{best_after, is_closed, verdict_after}
 use Rattle.tenant_book.specs.Book.{BookData}
 use Rattle.job_table.specs.Table.{JobData, is_out}
-use Rattle.job_table.specs.declared.phase.Phase.{Phase}
 use Rattle.farm_core.specs.declared.config.TenantLine.{TenantLine}
 use Rattle.farm_core.specs.declared.reply.Line.{Line}
 

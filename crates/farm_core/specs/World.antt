@@ -1,16 +1,15 @@
 -- The farm of all tenants, what one of them sees of it, and whole runs.
-use Rattle.std.specs.Prelude.{◌≡◌, ◌≢◌, ℕ, ◌==◌, List, [], ◌∷◌, ◌++◌, length, map, filter, get_or, Option, Some, None}
+use Rattle.std.specs.Prelude.{◌≡◌, ◌≢◌, ℕ, ◌==◌, List, [], ◌∷◌, ◌++◌, length, map, filter, get_or}
 use Rattle.tenant_book.specs.Book as book
 use Rattle.tenant_book.specs.Book.{BookData}
-use Rattle.job_table.specs.Table.{Row, JobData, jobs_of}
+use Rattle.job_table.specs.Table.{Row, jobs_of}
 use Rattle.farm_core.specs.declared.config.TenantLine.{TenantLine}
 use Rattle.farm_core.specs.declared.entry.Entry.{Entry}
 use Rattle.farm_core.specs.declared.entry.Event.{Event}
-use Rattle.farm_core.specs.declared.reply.Reply.{Reply}
 use Rattle.farm_core.specs.declared.reply.Reply.TheVariants as reply
 use Rattle.farm_core.specs.Config.{ConfigData}
-use Rattle.farm_core.specs.Tenant.{Tenant, newcomer}
-use Rattle.farm_core.specs.Step.{Answer, Replied, Sent, NoTurn, Step, step}
+use Rattle.farm_core.specs.Tenant.{Tenant}
+use Rattle.farm_core.specs.Step.{Answer, Replied, Sent, NoTurn, step}
 
 -- a tenant's quanta, and the number of its next job
 pub record Account : Type 0 where

@@ -1,6 +1,7 @@
 //! Laws of the farm: each is the proved contract of a function that does nothing.
 ghost use Rattle.farm_core.specs.Laws.{EachIsAlone, EachIsIsolated};
 ghost use Rattle.farm_core.specs.Truth.{EachAnswerIsTrue};
+ghost use Rattle.farm_core.specs.Need.{NodesAreTheLesser};
 
 /// In every run of calls of all tenants, the answers to one tenant's calls, and its jobs and ledger at the end, are those
 /// of its own calls alone in a farm that no one else uses.
@@ -19,4 +20,10 @@ pub fn each_tenant_is_isolated()
 /// 'infeasible' there is none.
 pub fn each_answer_is_true()
     ensures { EachAnswerIsTrue }
+{}
+
+/// In every run of calls, a job that is dry or closed has run as many nodes as it was given quanta, or as its search needed
+/// until it was over, whichever is less: turns, slices and workers make no difference.
+pub fn nodes_are_the_lesser()
+    ensures { NodesAreTheLesser }
 {}

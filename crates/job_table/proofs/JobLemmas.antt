@@ -1,13 +1,13 @@
 -- What a job keeps, when it comes and as it is read.
-use Rattle.std.proofs.Common.{◌≡◌, ℕ, zero, ◌<◌, ◌≤◌, ◌/◌, Bool, true, false, cond, nat_lt, nat_le, Option, Some, None, IfSome, refl, sym, ap, ◌∙◌, subst, arith}
+use Rattle.std.proofs.Common.{◌≡◌, ℕ, ◌<◌, ◌/◌, true, false, nat_lt, Option, Some, None, IfSome, refl, sym, arith}
 use Rattle.std.specs.Prelude.{IsTrue}
-use Rattle.std.proofs.lemmas.Bool.{cond-true, cond-false, lt-ltb}
+use Rattle.std.proofs.lemmas.Bool.{cond-true, lt-ltb}
 use Rattle.mrcpsp.specs.Project.{ProjectData, size, is_project}
 use Rattle.mrcpsp.specs.Schedule.{ScheduleData, IsFeasible}
 use Rattle.mrcpsp.specs.Breach.{HasShape, HasModes}
 use Rattle.mrcpsp.proofs.LimitLemmas.{kept}
 use Rattle.strategy.specs.Pass.{pass}
-use Rattle.strategy.specs.Outcome.{best_pass, rule_best, best_of, best_after, is_closed, verdict_after}
+use Rattle.strategy.specs.Outcome.{best_pass, best_of, best_after, is_closed, verdict_after}
 use Rattle.strategy.specs.declared.plan.Plan.{Plan}
 use Rattle.strategy.specs.declared.kind.Kind.{Kind}
 use Rattle.strategy.specs.declared.kind.Kind.TheVariants.{Tree, RuleLft, RuleMts, RuleSpt, Sample}
@@ -16,7 +16,7 @@ use Rattle.strategy.specs.Tree as tree
 use Rattle.strategy.proofs.OutcomeLemmas.{each_best, each_shaped}
 use Rattle.job_table.specs.declared.phase.Phase.TheVariants.{Waiting}
 use Rattle.job_table.specs.declared.best.Best.{Best}
-use Rattle.job_table.specs.Job.{best_in, HasSize, IsSound}
+use Rattle.job_table.specs.Job.{HasSize, IsSound}
 
 best_is : {best : Option ScheduleData} (P : ScheduleData → Type 0) (s : ScheduleData) → Some s ≡ best → IfSome best P → P s
 best_is P s e h = rw (← e) at h

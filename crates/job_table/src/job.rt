@@ -122,6 +122,9 @@ impl<J: Strategy> Job<J> {
         })
     }
 
+}
+
+impl<J> Job<J> {
     /// Its number.
     pub fn seq(&self) -> u64
         ensures { result ≡ self.now.seq }
@@ -181,7 +184,9 @@ impl<J: Strategy> Job<J> {
     {
         self.verdict
     }
+}
 
+impl<J: Strategy> Job<J> {
     /// Sends the search out for a turn of at most so many nodes. `None` where its search is another one; then nothing has
     /// changed.
     pub fn send(&mut self, tenant: u32, slice: u64) -> Option<J>

@@ -4,6 +4,8 @@
 mod best;
 mod job;
 mod phase;
+mod table;
 
 pub use job::Job;
 pub use phase::Phase;
+pub use table::JobTable;

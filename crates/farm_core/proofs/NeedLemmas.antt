@@ -1,0 +1,416 @@
+-- How many nodes a tenant's jobs have run.
+use Rattle.std.proofs.Common.{◌≡◌, ◌≢◌, ℕ, zero, suc, ◌+◌, ◌-◌, ◌<◌, ◌≤◌, min, List, [], ◌∷◌, ◌++◌, length, Bool, true, false, cond, ◌&&◌, ◌||◌, ◌==◌, nat_le, nat_lt, Option, Some, None, refl, sym, ◌∙◌, subst, arith, ⊎_elim, ◌⊎◌, inl, inr, eq-eqb}
+use Rattle.std.specs.Prelude.{option_map, ⊤}
+use Rattle.std.proofs.lemmas.Bool.{cond_both, cond-true, cond-false, cases_lt, cases_Bool, eqb-true, or_cases, and_parts, both_ways}
+use Rattle.std.proofs.lemmas.Bool.Decides.{nat_tests}
+use Rattle.mrcpsp.specs.Numbers.{first_from}
+use Rattle.mrcpsp.specs.Schedule.{makespan}
+use Rattle.mrcpsp.proofs.NumbersLemmas.{first_from-le}
+use Rattle.strategy.specs.Outcome.{best_after, is_closed, verdict_after}
+use Rattle.strategy.specs.declared.plan.Plan.{Plan}
+use Rattle.job_table.specs.Table.{JobData, is_waiting, is_out, is_ended}
+use Rattle.job_table.specs.Job.{given_up, is_here, phase_after, back}
+use Rattle.job_table.specs.declared.phase.Phase.{Phase}
+use Rattle.job_table.specs.declared.phase.Phase.TheVariants.{Waiting, Out, Leaving, Dry, Closed, Cancelled}
+use Rattle.farm_core.specs.declared.entry.Event.{Event}
+use Rattle.farm_core.specs.declared.entry.Event.TheVariants.{Submit, Fund, Status, Fetch, Cancel, Forget, Ledger, Take, Give}
+use Rattle.farm_core.specs.declared.reply.Reply.{Reply}
+use Rattle.farm_core.specs.declared.reply.Reply.TheVariants as reply
+use Rattle.farm_core.specs.Tenant.{Tenant, newcomer, book, free, find_job, put_job, drop_job, line_of, nodes_of_turn}
+use Rattle.farm_core.specs.Step.{Answer, Replied, Sent, NoTurn, Step, step, has_room, is_amount, is_slice, unnoted, noted, changed, fresh_job, submitted, about, funded, fetched, cancelled_as, cancelled, forgotten, commanded, taken, may_have_run, gave}
+use Rattle.farm_core.specs.declared.config.TenantLine.{TenantLine}
+use Rattle.farm_core.specs.World.{terms_in, view, own_events, after_alone}
+use Rattle.farm_core.specs.Need.{given_by, given_to, nodes_for, HasRunItsNodes, NodesAreTheLesser}
+use Rattle.farm_core.proofs.AloneLemmas.{each_is_alone}
+
+-- the search of a plan is not over before n nodes
+abbrev pub Unclosed : Plan → ℕ → Type 0
+Unclosed plan n = (j : ℕ) → j < n → is_closed plan j ≡ false
+
+-- what the job has run and holds is what it was given, but where it has ended
+abbrev FundedIn : Phase → Plan → ℕ → ℕ → ℕ → Type 0
+FundedIn Waiting plan nodes left given = (nodes + left ≡ given) × Unclosed plan nodes
+FundedIn (Out slice) plan nodes left given = (nodes + left ≡ given) × Unclosed plan nodes
+FundedIn (Leaving slice) plan nodes left given = (nodes + left ≡ given) × Unclosed plan nodes
+FundedIn Dry plan nodes left given = (nodes + left ≡ given) × Unclosed plan nodes × (left ≡ 0)
+FundedIn Closed plan nodes left given = (nodes ≤ given) × Unclosed plan nodes × (is_closed plan nodes ≡ true)
+FundedIn Cancelled plan nodes left given = ⊤
+
+abbrev pub IsFunded : (ℕ → ℕ) → JobData → Type 0
+IsFunded g job = FundedIn job.phase job.plan job.nodes job.left (g job.seq)
+
+abbrev IsNumberOf : ℕ → List JobData → Type 0
+IsNumberOf s [] = ⊥
+IsNumberOf s (job ∷ jobs) = (job.seq ≡ s) ⊎ IsNumberOf s jobs
+
+-- each job has a number of its own below the next one, and was given what it has
+abbrev AreFunded : (ℕ → ℕ) → ℕ → List JobData → Type 0
+AreFunded g next [] = ⊤
+AreFunded g next (job ∷ jobs) = IsFunded g job × (job.seq < next) × (IsNumberOf job.seq jobs → ⊥) × AreFunded g next jobs
+
+pub record IsKept (g : ℕ → ℕ) (t : Tenant) : Type 0 where
+  pub jobs : AreFunded g t.next t.jobs
+  pub later : (s : ℕ) → t.next ≤ s → g s ≡ 0
+
+-- only the value of what was given counts
+same_given : (g h : ℕ → ℕ) (next : ℕ) (jobs : List JobData) → ((s : ℕ) → IsNumberOf s jobs → g s ≡ h s) → AreFunded g next jobs → AreFunded h next jobs
+same_given g h next [] same all = tt
+same_given g h next (job ∷ jobs) same all =
+    let here : g job.seq ≡ h job.seq = same job.seq (inl refl) in
+    (subst (λ n. FundedIn job.phase job.plan job.nodes job.left n) here all.0, all.1, all.2, same_given g h next jobs (λ s i. same s (inr i)) all.3)
+
+number_put : (s n : ℕ) (new : JobData) (jobs : List JobData) → new.seq ≡ n → IsNumberOf s (put_job n new jobs) → IsNumberOf s jobs
+number_put s n new [] named h = h
+number_put s n new (job ∷ jobs) named there =
+    (cond_both (job.seq == n) (new ∷ jobs) (job ∷ put_job n new jobs) (λ (js : List JobData). IsNumberOf s js → IsNumberOf s (job ∷ jobs))
+    (λ e h. ⊎_elim (λ (i : new.seq ≡ s). inl (omega (arith, eqb-true job.seq n e))) (λ (i : IsNumberOf s jobs). inr i) h)
+    (λ _ h. ⊎_elim (λ (i : job.seq ≡ s). inl i) (λ (i : IsNumberOf s (put_job n new jobs)). inr (number_put s n new jobs named i)) h)) there
+
+put_funded : (g h : ℕ → ℕ) (next n : ℕ) (new : JobData) (jobs : List JobData) → new.seq ≡ n → ((s : ℕ) → s ≢ n → g s ≡ h s) → IsFunded h new → AreFunded g next jobs → AreFunded h next (put_job n new jobs)
+put_funded g h next n new [] named same one all = tt
+put_funded g h next n new (job ∷ jobs) named same one all =
+    cond_both (job.seq == n) (new ∷ jobs) (job ∷ put_job n new jobs) (AreFunded h next)
+    (λ e.
+    let eq : job.seq ≡ n = eqb-true job.seq n e in
+    ( one, omega (arith, all.1),
+      (λ i. all.2 (subst (λ x. IsNumberOf x jobs) (named ∙ sym eq) i)),
+      same_given g h next jobs (λ s i. same s (λ (is : s ≡ n). all.2 (subst (λ x. IsNumberOf x jobs) (is ∙ sym eq) i))) all.3 ))
+    (λ e.
+    let ne : job.seq ≢ n = λ (is : job.seq ≡ n). both_ways (job.seq == n) e (eq-eqb job.seq n is) in
+    ( subst (λ x. FundedIn job.phase job.plan job.nodes job.left x) (same job.seq ne) all.0, all.1,
+      (λ i. all.2 (number_put job.seq n new jobs named i)),
+      put_funded g h next n new jobs named same one all.3 ))
+
+number_drop : (s n : ℕ) (jobs : List JobData) → IsNumberOf s (drop_job n jobs) → IsNumberOf s jobs
+number_drop s n [] h = h
+number_drop s n (job ∷ jobs) there =
+    (cond_both (job.seq == n) jobs (job ∷ drop_job n jobs) (λ (js : List JobData). IsNumberOf s js → IsNumberOf s (job ∷ jobs))
+    (λ _ i. inr i)
+    (λ _ h. ⊎_elim (λ (i : job.seq ≡ s). inl i) (λ (i : IsNumberOf s (drop_job n jobs)). inr (number_drop s n jobs i)) h)) there
+
+drop_funded : (g : ℕ → ℕ) (next n : ℕ) (jobs : List JobData) → AreFunded g next jobs → AreFunded g next (drop_job n jobs)
+drop_funded g next n [] all = tt
+drop_funded g next n (job ∷ jobs) all =
+    cond_both (job.seq == n) jobs (job ∷ drop_job n jobs) (AreFunded g next)
+    (λ _. all.3)
+    (λ _. (all.0, all.1, (λ i. all.2 (number_drop job.seq n jobs i)), drop_funded g next n jobs all.3))
+
+number_push : (s : ℕ) (new : JobData) (jobs : List JobData) → IsNumberOf s (jobs ++ new ∷ []) → IsNumberOf s jobs ⊎ (new.seq ≡ s)
+number_push s new [] h = ⊎_elim (λ (i : new.seq ≡ s). inr i) (λ (i : ⊥). absurd i) h
+number_push s new (job ∷ jobs) h =
+    ⊎_elim (λ (i : job.seq ≡ s). inl (inl i))
+    (λ (i : IsNumberOf s (jobs ++ new ∷ [])). ⊎_elim (λ (k : IsNumberOf s jobs). inl (inr k)) (λ (k : new.seq ≡ s). inr k) (number_push s new jobs i)) h
+
+push_funded : (g h : ℕ → ℕ) (next : ℕ) (new : JobData) (jobs : List JobData) → new.seq ≡ next → ((s : ℕ) → s < next → g s ≡ h s) → IsFunded h new → AreFunded g next jobs → AreFunded h (next + 1) (jobs ++ new ∷ [])
+push_funded g h next new [] named same one all = (one, omega arith, (λ i. i), tt)
+push_funded g h next new (job ∷ jobs) named same one all =
+    ( subst (λ x. FundedIn job.phase job.plan job.nodes job.left x) (same job.seq all.1) all.0, omega (arith, all.1),
+      (λ i. ⊎_elim (λ (k : IsNumberOf job.seq jobs). all.2 k) (λ (k : new.seq ≡ job.seq). absurd (omega (arith, all.1))) (number_push job.seq new jobs i)),
+      push_funded g h next new jobs named same one all.3 )
+
+found_funded : (g : ℕ → ℕ) (next s : ℕ) (jobs : List JobData) (job : JobData) → find_job s jobs ≡ Some job → AreFunded g next jobs → IsFunded g job × (job.seq ≡ s) × (job.seq < next)
+found_funded g next s [] job found all = absurd (cc)
+found_funded g next s (one ∷ jobs) job found all =
+    ⊎_elim
+    (λ (e : (one.seq == s) ≡ true).
+    let same : Some one ≡ Some job = sym (cond-true (one.seq == s) (Some one) (find_job s jobs) e) ∙ found in
+    let eq : one ≡ job = cc in
+    subst (λ (j : JobData). IsFunded g j × (j.seq ≡ s) × (j.seq < next)) eq (all.0, eqb-true one.seq s e, all.1))
+    (λ (e : (one.seq == s) ≡ false). found_funded g next s jobs job (sym (cond-false (one.seq == s) (Some one) (find_job s jobs) e) ∙ found) all.3)
+    (cases_Bool (one.seq == s))
+
+-- what was given after a call
+abbrev pub Given : (ℕ → ℕ) → Event → Answer → ℕ → ℕ
+Given g e answer s = g s + given_by s e answer
+
+abbrev Keeps : (ℕ → ℕ) → Event → Step → Type 0
+Keeps g e step = IsKept (Given g e step.answer) step.after
+
+-- an answer that gives nothing, and jobs that stay
+stays : (g : ℕ → ℕ) (e : Event) (t : Tenant) (answer : Answer) (used : ℕ) → ((s : ℕ) → given_by s e answer ≡ 0) → IsKept g t → Keeps g e (record { answer = answer; after = record t { used = used } })
+stays g e t answer used none kept = record {
+  jobs = same_given g (Given g e answer) t.next t.jobs (λ s i. omega (arith, none s)) kept.jobs;
+  later = λ s after. omega (arith, none s, kept.later s after);
+}
+
+-- the same with one job changed
+changes : (g : ℕ → ℕ) (e : Event) (t : Tenant) (answer : Answer) (used spent : ℕ) (new : JobData) → ((s : ℕ) → s ≢ new.seq → given_by s e answer ≡ 0) → new.seq < t.next
+  → IsFunded (Given g e answer) new → IsKept g t → Keeps g e (record { answer = answer; after = record t { used = used; spent = spent; jobs = put_job new.seq new t.jobs } })
+changes g e t answer used spent new none below one kept = record {
+  jobs = put_funded g (Given g e answer) t.next new.seq new t.jobs refl (λ s other. omega (arith, none s other)) one kept.jobs;
+  later = λ s after. omega (arith, none s (λ (i : s ≡ new.seq). absurd (omega arith)), kept.later s after);
+}
+
+given_other : (s n quanta : ℕ) → s ≢ n → cond (n == s) quanta 0 ≡ 0
+given_other s n quanta other = grind (arith, nat_tests)
+
+given_own : (n quanta : ℕ) → cond (n == n) quanta 0 ≡ quanta
+given_own n quanta = grind (arith, nat_tests)
+
+none_unclosed : (plan : Plan) → Unclosed plan 0
+none_unclosed plan j l = absurd (omega arith)
+
+submit_keeps : (g : ℕ → ℕ) (t : Tenant) (plan : Plan) (quanta : ℕ) → IsKept g t → Keeps g (Submit plan quanta) (step t (Submit plan quanta))
+unfolding submitted
+submit_keeps g t plan quanta kept =
+    let e : Event = Submit plan quanta in
+    let job : JobData = fresh_job t plan quanta in
+    let made : Answer = Replied (reply.Job t.next) in
+    let plain : (answer : Reply) → ((s : ℕ) → given_by s e (Replied answer) ≡ 0) → Keeps g e (noted t answer) = λ answer none. stays g e t (Replied answer) (t.used + 1) none kept in
+    let s1 : Step = record { answer = made; after = record t { used = t.used + 1; next = t.next + 1; jobs = t.jobs ++ job ∷ [] } } in
+    let s2 : Step = cond (nat_le quanta (free t)) s1 (noted t (reply.NoShort (free t))) in
+    let s3 : Step = cond (nat_lt (length t.jobs) t.terms.jobs) s2 (noted t reply.NoJobs) in
+    let s4 : Step = cond (is_amount quanta) s3 (noted t reply.NoAmount) in
+    let own : Given g e made t.next ≡ quanta = omega (arith, kept.later t.next (omega arith), given_own t.next quanta) in
+    let done : Keeps g e s1 = record {
+      jobs = push_funded g (Given g e made) t.next job t.jobs refl (λ s l. omega (arith, given_other s t.next quanta (λ (i : s ≡ t.next). absurd (omega arith)))) (omega (arith, own), none_unclosed plan) kept.jobs;
+      later = λ s l. omega (arith, kept.later s (omega arith), given_other s t.next quanta (λ (i : s ≡ t.next). absurd (omega arith)));
+    } in
+    let h2 : Keeps g e s2 = cond_both (nat_le quanta (free t)) s1 (noted t (reply.NoShort (free t))) (Keeps g e) (λ _. done) (λ _. plain (reply.NoShort (free t)) (λ s. refl)) in
+    let h3 : Keeps g e s3 = cond_both (nat_lt (length t.jobs) t.terms.jobs) s2 (noted t reply.NoJobs) (Keeps g e) (λ _. h2) (λ _. plain reply.NoJobs (λ s. refl)) in
+    let h4 : Keeps g e s4 = cond_both (is_amount quanta) s3 (noted t reply.NoAmount) (Keeps g e) (λ _. h3) (λ _. plain reply.NoAmount (λ s. refl)) in
+    cond_both (has_room 1 t) s4 (unnoted t (Replied reply.NoRoom)) (Keeps g e) (λ _. h4) (λ _. stays g e t (Replied reply.NoRoom) t.used (λ s. refl) kept)
+
+-- a job that waits or is dry has what it was given
+held_by_it : (phase : Phase) (plan : Plan) (nodes left given : ℕ) → is_out phase ≡ false → is_ended phase ≡ false → FundedIn phase plan nodes left given → (nodes + left ≡ given) × Unclosed plan nodes
+held_by_it Waiting plan nodes left given o e h = h
+held_by_it (Out slice) plan nodes left given o e h = h
+held_by_it (Leaving slice) plan nodes left given o e h = h
+held_by_it Dry plan nodes left given o e h = (h.0, h.1)
+held_by_it Closed plan nodes left given o e h = absurd (cc)
+held_by_it Cancelled plan nodes left given o e h = absurd (cc)
+
+waits : (phase : Phase) (plan : Plan) (nodes left given : ℕ) → is_waiting phase ≡ true → FundedIn phase plan nodes left given → (nodes + left ≡ given) × Unclosed plan nodes
+waits Waiting plan nodes left given w h = h
+waits (Out slice) plan nodes left given w h = absurd (cc)
+waits (Leaving slice) plan nodes left given w h = absurd (cc)
+waits Dry plan nodes left given w h = absurd (cc)
+waits Closed plan nodes left given w h = absurd (cc)
+waits Cancelled plan nodes left given w h = absurd (cc)
+
+abbrev pub IsOf : (ℕ → ℕ) → Tenant → ℕ → JobData → Type 0
+IsOf g t s job = IsFunded g job × (job.seq ≡ s) × (job.seq < t.next)
+
+fund_keeps : (g : ℕ → ℕ) (t : Tenant) (s quanta : ℕ) (job : JobData) → IsOf g t s job → IsKept g t → Keeps g (Fund s quanta) (funded t quanta job)
+unfolding funded
+fund_keeps g t s quanta job it kept =
+    let e : Event = Fund s quanta in
+    let new : JobData = record job { phase = Waiting; left = job.left + quanta } in
+    let told : Answer = Replied (reply.Line (line_of new)) in
+    let plain : (answer : Reply) → ((n : ℕ) → given_by n e (Replied answer) ≡ 0) → Keeps g e (noted t answer) = λ answer none. stays g e t (Replied answer) (t.used + 1) none kept in
+    let other : (n : ℕ) → n ≢ new.seq → given_by n e told ≡ 0 = λ n ne. given_other n s quanta (λ (i : n ≡ s). ne (i ∙ sym it.1)) in
+    let own : given_by job.seq e told ≡ quanta = rw it.1 (given_own s quanta) in
+    let s1 : Step = changed t new told in
+    let s2 : Step = cond (nat_le quanta (free t)) s1 (noted t (reply.NoShort (free t))) in
+    let s3 : Step = cond (is_amount quanta) s2 (noted t reply.NoAmount) in
+    let s4 : Step = cond (is_ended job.phase) (noted t reply.NoOver) s3 in
+    cond_both (is_out job.phase) (noted t reply.NoBusy) s4 (Keeps g e) (λ _. plain reply.NoBusy (λ n. refl))
+    (λ here. cond_both (is_ended job.phase) (noted t reply.NoOver) s3 (Keeps g e) (λ _. plain reply.NoOver (λ n. refl))
+    (λ going.
+    let had = held_by_it job.phase job.plan job.nodes job.left (g job.seq) here going it.0 in
+    let done : Keeps g e s1 = changes g e t told (t.used + 1) t.spent new other it.2 (omega (arith, had.0, own), had.1) kept in
+    cond_both (is_amount quanta) s2 (noted t reply.NoAmount) (Keeps g e)
+    (λ _. cond_both (nat_le quanta (free t)) s1 (noted t (reply.NoShort (free t))) (Keeps g e) (λ _. done) (λ _. plain (reply.NoShort (free t)) (λ n. refl)))
+    (λ _. plain reply.NoAmount (λ n. refl))))
+
+about_found : (g : ℕ → ℕ) (e : Event) (t : Tenant) (s : ℕ) (found : Option JobData) (f : JobData → Step) → find_job s t.jobs ≡ found → ((n : ℕ) → given_by n e (Replied reply.NoUnknown) ≡ 0) → IsKept g t
+  → ((job : JobData) → IsOf g t s job → Keeps g e (f job)) → Keeps g e (about t found f)
+about_found g e t s None f is none kept each = stays g e t (Replied reply.NoUnknown) (t.used + 1) none kept
+about_found g e t s (Some job) f is none kept each = each job (found_funded g t.next s t.jobs job is kept.jobs)
+
+command_keeps : (g : ℕ → ℕ) (e : Event) (t : Tenant) (s : ℕ) (f : JobData → Step) → ((n : ℕ) → given_by n e (Replied reply.NoUnknown) ≡ 0) → ((n : ℕ) → given_by n e (Replied reply.NoRoom) ≡ 0) → IsKept g t
+  → ((job : JobData) → IsOf g t s job → Keeps g e (f job)) → Keeps g e (commanded t (about t (find_job s t.jobs) f))
+command_keeps g e t s f none room kept each =
+    cond_both (has_room 1 t) (about t (find_job s t.jobs) f) (unnoted t (Replied reply.NoRoom)) (Keeps g e)
+    (λ _. about_found g e t s (find_job s t.jobs) f refl none kept each) (λ _. stays g e t (Replied reply.NoRoom) t.used room kept)
+
+fetch_keeps : (g : ℕ → ℕ) (t : Tenant) (s : ℕ) (job : JobData) → IsKept g t → Keeps g (Fetch s) (fetched t job)
+unfolding fetched
+fetch_keeps g t s job kept =
+    let best = best_after job.plan job.nodes in
+    let told : Reply = reply.Best job.seq best (option_map (makespan job.plan.project) best) (verdict_after job.plan job.nodes) in
+    cond_both (is_out job.phase) (noted t reply.NoBusy) (noted t told) (Keeps g (Fetch s))
+    (λ _. stays g (Fetch s) t (Replied reply.NoBusy) (t.used + 1) (λ n. refl) kept)
+    (λ _. stays g (Fetch s) t (Replied told) (t.used + 1) (λ n. refl) kept)
+
+abbrev IsGivenUp : (ℕ → ℕ) → JobData → Option JobData → Type 0
+IsGivenUp g job None = ⊤
+IsGivenUp g job (Some new) = IsFunded g new × (new.seq ≡ job.seq)
+
+given_up_funded : (g : ℕ → ℕ) (job : JobData) (phase : Phase) → FundedIn phase job.plan job.nodes job.left (g job.seq) → IsGivenUp g job (given_up job phase)
+given_up_funded g job Waiting h = (tt, refl)
+given_up_funded g job (Out slice) h = (h, refl)
+given_up_funded g job (Leaving slice) h = tt
+given_up_funded g job Dry h = (tt, refl)
+given_up_funded g job Closed h = tt
+given_up_funded g job Cancelled h = tt
+
+funded_same : (g h : ℕ → ℕ) (job : JobData) → g job.seq ≡ h job.seq → IsFunded g job → IsFunded h job
+funded_same g h job same one = subst (λ n. FundedIn job.phase job.plan job.nodes job.left n) same one
+
+cancelled_keeps : (g : ℕ → ℕ) (t : Tenant) (s : ℕ) (job : JobData) (new : Option JobData) → IsOf g t s job → IsGivenUp g job new → IsKept g t → Keeps g (Cancel s) (cancelled_as t new)
+cancelled_keeps g t s job None it up kept = stays g (Cancel s) t (Replied reply.NoOver) (t.used + 1) (λ n. refl) kept
+cancelled_keeps g t s job (Some new) it up kept =
+    let told : Answer = Replied (reply.Line (line_of new)) in
+    changes g (Cancel s) t told (t.used + 1) t.spent new (λ n ne. refl) (omega (arith, up.1, it.2)) (funded_same g (Given g (Cancel s) told) new (omega arith) up.0) kept
+
+cancel_keeps : (g : ℕ → ℕ) (t : Tenant) (s : ℕ) (job : JobData) → IsOf g t s job → IsKept g t → Keeps g (Cancel s) (cancelled t job)
+unfolding cancelled
+cancel_keeps g t s job it kept = cancelled_keeps g t s job (given_up job job.phase) it (given_up_funded g job job.phase it.0) kept
+
+forget_keeps : (g : ℕ → ℕ) (t : Tenant) (s : ℕ) (job : JobData) → IsKept g t → Keeps g (Forget s) (forgotten t job)
+unfolding forgotten
+forget_keeps g t s job kept =
+    let gone : Step = record { answer = Replied (reply.Forgotten job.seq); after = record t { used = t.used + 1; jobs = drop_job job.seq t.jobs } } in
+    cond_both (is_ended job.phase) gone (noted t reply.NoBusy) (Keeps g (Forget s))
+    (λ _. record {
+      jobs = same_given g (Given g (Forget s) (Replied (reply.Forgotten job.seq))) t.next (drop_job job.seq t.jobs) (λ n i. omega arith) (drop_funded g t.next job.seq t.jobs kept.jobs);
+      later = λ n l. omega (arith, kept.later n l);
+    })
+    (λ _. stays g (Forget s) t (Replied reply.NoBusy) (t.used + 1) (λ n. refl) kept)
+
+taken_keeps : (g : ℕ → ℕ) (t : Tenant) (s slice : ℕ) (found : Option JobData) → find_job s t.jobs ≡ found → IsKept g t → Keeps g (Take s slice) (taken t slice found)
+taken_keeps g t s slice None is kept = stays g (Take s slice) t NoTurn t.used (λ n. refl) kept
+taken_keeps g t s slice (Some job) is kept =
+    let it = found_funded g t.next s t.jobs job is kept.jobs in
+    let new : JobData = record job { phase = Out slice } in
+    let told : Answer = Sent (line_of new) in
+    cond_both (is_waiting job.phase && is_slice slice && has_room 2 t) (changed t new told) (unnoted t NoTurn) (Keeps g (Take s slice))
+    (λ may.
+    let had = waits job.phase job.plan job.nodes job.left (g job.seq) (and_parts (is_waiting job.phase) (is_slice slice) (and_parts (is_waiting job.phase && is_slice slice) (has_room 2 t) may).0).0 it.0 in
+    changes g (Take s slice) t told (t.used + 1) t.spent new (λ n ne. refl) it.2 (omega (arith, had.0), had.1) kept)
+    (λ _. stays g (Take s slice) t NoTurn t.used (λ n. refl) kept)
+
+first_from-most : (test : ℕ → Bool) (k t : ℕ) → first_from test k t ≤ t + k
+first_from-most test zero t = omega arith
+first_from-most test (suc k) t = cond_both (test t) t (first_from test k (t + 1)) (λ x. x ≤ t + suc k) (λ _. omega arith) (λ _. omega (arith, first_from-most test k (t + 1)))
+
+-- a turn stops where the search is over
+turn_unclosed : (most : ℕ) (job : JobData) (r : ℕ) → r < nodes_of_turn most job → is_closed job.plan (job.nodes + r) ≡ false
+unfolding nodes_of_turn
+turn_unclosed most job r l =
+    ⊎_elim
+    (λ (e : is_closed job.plan (job.nodes + r) ≡ true). absurd (omega (arith, first_from-le (λ k. is_closed job.plan (job.nodes + k)) most 0 r (omega arith) e)))
+    (λ (e : is_closed job.plan (job.nodes + r) ≡ false). e)
+    (cases_Bool (is_closed job.plan (job.nodes + r)))
+
+turn_most : (most : ℕ) (job : JobData) → nodes_of_turn most job ≤ most
+unfolding nodes_of_turn
+turn_most most job = omega (arith, first_from-most (λ k. is_closed job.plan (job.nodes + k)) most 0)
+
+-- what a turn ran was there, and before each of its nodes the search was not over
+abbrev IsTurn : JobData → ℕ → Type 0
+IsTurn job ran = (ran ≤ job.left) × ((r : ℕ) → r < ran → is_closed job.plan (job.nodes + r) ≡ false)
+
+turn_of : (slice ran : ℕ) (job : JobData) → ((ran == 0) || (ran == nodes_of_turn (min slice job.left) job)) ≡ true → IsTurn job ran
+turn_of slice ran job may =
+    ⊎_elim
+    (λ (e : (ran == 0) ≡ true). let none : ran ≡ 0 = eqb-true ran 0 e in (omega arith, λ r l. absurd (omega arith)))
+    (λ (e : (ran == nodes_of_turn (min slice job.left) job) ≡ true).
+    let all : ran ≡ nodes_of_turn (min slice job.left) job = eqb-true ran (nodes_of_turn (min slice job.left) job) e in
+    (omega (arith, turn_most (min slice job.left) job), λ r l. turn_unclosed (min slice job.left) job r (omega arith)))
+    (or_cases (ran == 0) (ran == nodes_of_turn (min slice job.left) job) may)
+
+-- the job after a turn, by where it stood
+back_funded : (phase : Phase) (job : JobData) (ran given : ℕ) → may_have_run ran job phase ≡ true → FundedIn phase job.plan job.nodes job.left given
+  → let left = job.left - ran in let stands = phase_after phase (is_closed job.plan (job.nodes + ran)) left in
+    FundedIn stands job.plan (job.nodes + ran) (cond (is_here stands) left 0) given
+back_funded Waiting job ran given may h = absurd (cc)
+back_funded (Out slice) job ran given may h =
+    let turn = turn_of slice ran job may in
+    let unclosed : Unclosed job.plan (job.nodes + ran) = λ j l.
+        ⊎_elim (λ (before : j < job.nodes). h.1 j before)
+        (λ (after : job.nodes ≤ j). let at : job.nodes + (j - job.nodes) ≡ j = omega arith in subst (λ n. is_closed job.plan n ≡ false) at (turn.1 (j - job.nodes) (omega arith)))
+        (cases_lt j job.nodes) in
+    let left : ℕ = job.left - ran in
+    let Good : Phase → Type 0 = λ stands. FundedIn stands job.plan (job.nodes + ran) (cond (is_here stands) left 0) given in
+    cond_both (is_closed job.plan (job.nodes + ran)) Closed (cond (left == 0) Dry Waiting) Good
+    (λ over. (omega (arith, h.0, turn.0), unclosed, over))
+    (λ going. cond_both (left == 0) Dry Waiting Good
+    (λ none. (omega (arith, h.0, turn.0), unclosed, eqb-true left 0 none))
+    (λ some. (omega (arith, h.0, turn.0), unclosed)))
+back_funded (Leaving slice) job ran given may h = tt
+back_funded Dry job ran given may h = absurd (cc)
+back_funded Closed job ran given may h = absurd (cc)
+back_funded Cancelled job ran given may h = absurd (cc)
+
+gave_keeps : (g : ℕ → ℕ) (t : Tenant) (s ran : ℕ) (found : Option JobData) → find_job s t.jobs ≡ found → IsKept g t → Keeps g (Give s ran) (gave t ran found)
+gave_keeps g t s ran None is kept = stays g (Give s ran) t NoTurn t.used (λ n. refl) kept
+gave_keeps g t s ran (Some job) is kept =
+    let it = found_funded g t.next s t.jobs job is kept.jobs in
+    let new : JobData = back ran job in
+    let told : Answer = Replied (reply.Ran ran (line_of new)) in
+    let s1 : Step = record { answer = told; after = record t { spent = t.spent + ran; used = t.used + 1; jobs = put_job new.seq new t.jobs } } in
+    cond_both (may_have_run ran job job.phase) s1 (unnoted t NoTurn) (Keeps g (Give s ran))
+    (λ may. changes g (Give s ran) t told (t.used + 1) (t.spent + ran) new (λ n ne. refl) it.2
+      (funded_same g (Given g (Give s ran) told) new (omega arith) (back_funded job.phase job ran (g job.seq) may it.0)) kept)
+    (λ _. stays g (Give s ran) t NoTurn t.used (λ n. refl) kept)
+
+step_keeps : (g : ℕ → ℕ) (t : Tenant) (e : Event) → IsKept g t → Keeps g e (step t e)
+step_keeps g t (Submit plan quanta) kept = submit_keeps g t plan quanta kept
+step_keeps g t (Fund s quanta) kept = command_keeps g (Fund s quanta) t s (funded t quanta) (λ n. refl) (λ n. refl) kept (λ job it. fund_keeps g t s quanta job it kept)
+step_keeps g t (Status s) kept =
+    let tell : JobData → Step = λ job. noted t (reply.Line (line_of job)) in
+    command_keeps g (Status s) t s tell (λ n. refl) (λ n. refl) kept (λ job it. stays g (Status s) t (Replied (reply.Line (line_of job))) (t.used + 1) (λ n. refl) kept)
+step_keeps g t (Fetch s) kept = command_keeps g (Fetch s) t s (fetched t) (λ n. refl) (λ n. refl) kept (λ job it. fetch_keeps g t s job kept)
+step_keeps g t (Cancel s) kept = command_keeps g (Cancel s) t s (cancelled t) (λ n. refl) (λ n. refl) kept (λ job it. cancel_keeps g t s job it kept)
+step_keeps g t (Forget s) kept = command_keeps g (Forget s) t s (forgotten t) (λ n. refl) (λ n. refl) kept (λ job it. forget_keeps g t s job kept)
+step_keeps g t Ledger kept =
+    cond_both (has_room 1 t) (noted t (reply.Ledger (book t))) (unnoted t (Replied reply.NoRoom)) (Keeps g Ledger)
+    (λ _. stays g Ledger t (Replied (reply.Ledger (book t))) (t.used + 1) (λ n. refl) kept)
+    (λ _. stays g Ledger t (Replied reply.NoRoom) t.used (λ n. refl) kept)
+step_keeps g t (Take s slice) kept = taken_keeps g t s slice (find_job s t.jobs) refl kept
+step_keeps g t (Give s ran) kept = gave_keeps g t s ran (find_job s t.jobs) refl kept
+
+same_kept : (g h : ℕ → ℕ) (t : Tenant) → ((s : ℕ) → g s ≡ h s) → IsKept g t → IsKept h t
+same_kept g h t same kept = record {
+  jobs = same_given g h t.next t.jobs (λ s i. same s) kept.jobs;
+  later = λ s l. omega (arith, same s, kept.later s l);
+}
+
+alone_keeps : (g : ℕ → ℕ) (t : Tenant) (events : List Event) → IsKept g t → IsKept (λ s. g s + given_to s t events) (after_alone t events)
+alone_keeps g t [] kept = same_kept g (λ s. g s + 0) t (λ s. omega arith) kept
+alone_keeps g t (e ∷ events) kept =
+    let here = step_keeps g t e kept in
+    let after : Tenant = (step t e).after in
+    same_kept (λ s. Given g e (step t e).answer s + given_to s after events) (λ s. g s + (given_by s e (step t e).answer + given_to s after events)) (after_alone after events)
+    (λ s. omega arith) (alone_keeps (Given g e (step t e).answer) after events here)
+
+newcomer_kept : (terms : TenantLine) → IsKept (λ s. 0) (newcomer terms)
+unfolding newcomer
+newcomer_kept terms = record { jobs = tt; later = λ s l. refl }
+
+first_none : (test : ℕ → Bool) (k t : ℕ) → ((j : ℕ) → t ≤ j → j < t + k → test j ≡ false) → first_from test k t ≡ t + k
+first_none test zero t h = omega arith
+first_none test (suc k) t h =
+    omega (arith, cond-false (test t) t (first_from test k (t + 1)) (h t (omega arith) (omega arith)), first_none test k (t + 1) (λ j l m. h j (omega arith) (omega arith)))
+
+first_is : (test : ℕ → Bool) (k t n : ℕ) → t ≤ n → n ≤ t + k → test n ≡ true → ((j : ℕ) → t ≤ j → j < n → test j ≡ false) → first_from test k t ≡ n
+first_is test zero t n l m here before = omega arith
+first_is test (suc k) t n l m here before =
+    ⊎_elim
+    (λ (later : t < n). cond-false (test t) t (first_from test k (t + 1)) (before t (omega arith) later) ∙ first_is test k (t + 1) n (omega arith) (omega arith) here (λ j a b. before j (omega arith) b))
+    (λ (now : n ≤ t). let same : t ≡ n = omega arith in cond-true (test t) t (first_from test k (t + 1)) (rw same here) ∙ same)
+    (cases_lt t n)
+
+ran_its_nodes : (g : ℕ → ℕ) (job : JobData) → IsFunded g job → HasRunItsNodes g job
+unfolding nodes_for
+ran_its_nodes g job it ended =
+    ⊎_elim
+    (λ (dry : job.phase ≡ Dry).
+    let h : (job.nodes + job.left ≡ g job.seq) × Unclosed job.plan job.nodes × (job.left ≡ 0) = subst (λ (p : Phase). FundedIn p job.plan job.nodes job.left (g job.seq)) dry it in
+    omega (arith, h.0, h.2, first_none (is_closed job.plan) (g job.seq) 0 (λ j l m. h.1 j (omega (arith, h.0, h.2)))))
+    (λ (closed : job.phase ≡ Closed).
+    let h : (job.nodes ≤ g job.seq) × Unclosed job.plan job.nodes × (is_closed job.plan job.nodes ≡ true) = subst (λ (p : Phase). FundedIn p job.plan job.nodes job.left (g job.seq)) closed it in
+    sym (first_is (is_closed job.plan) (g job.seq) 0 job.nodes (omega arith) (omega (arith, h.0)) h.2 (λ j l m. h.1 j m)))
+    ended
+
+pub nodes_are_the_lesser : NodesAreTheLesser
+nodes_are_the_lesser config calls w run t job has =
+    let line : TenantLine = terms_in config t in
+    let events = own_events t calls in
+    let alone = (each_is_alone config calls w run t).1 in
+    let given : ℕ → ℕ = λ s. given_to s (newcomer line) events in
+    let kept : IsKept given (after_alone (newcomer line) events) = same_kept (λ s. 0 + given_to s (newcomer line) events) given (after_alone (newcomer line) events) (λ s. omega arith) (alone_keeps (λ s. 0) (newcomer line) events (newcomer_kept line)) in
+    let there : IsKept given (view t w) = subst (λ (v : Tenant). IsKept given v) (sym alone) kept in
+    ran_its_nodes given job (found_funded given (view t w).next job.seq (view t w).jobs job has there.jobs).0

@@ -1,0 +1,44 @@
+-- What lies at the place of a job's row.
+use Rattle.std.proofs.Common.{◌≡◌, ℕ, zero, suc, ◌<◌, ◌≤◌, true, false, List, [], ◌∷◌, length, get_or, set, position, Some, None, refl, ap, arith}
+use Rattle.std.specs.List.{position_or_len}
+use Rattle.std.proofs.lemmas.Bool.Decides.{nat_tests}
+use Rattle.std.proofs.lemmas.List.Quantifiers.{position-Some}
+use Rattle.job_table.specs.Table.{Row, JobData, is_row, find_row, put_row}
+
+-- the row that is found first lies there
+pub record IsFoundAt (t s : ℕ) (rows : List Row) (i : ℕ) (d : Row) : Type 0 where
+  pub within : i < length rows
+  pub found : find_row t s rows ≡ Some (get_or rows i d).job
+  pub changes : (new : JobData) → put_row t s new rows ≡ set rows i (record { tenant = t; job = new })
+
+found_at : (t s : ℕ) (rows : List Row) (i : ℕ) (d : Row) → i < length rows → is_row t s (get_or rows i d) ≡ true → ((n : ℕ) → n < i → is_row t s (get_or rows n d) ≡ false)
+  → find_row t s rows ≡ Some (get_or rows i d).job
+found_at t s [] i d lt here before = absurd (omega arith)
+found_at t s (r ∷ rs) zero d lt here before = rw here
+found_at t s (r ∷ rs) (suc i) d lt here before =
+    let not_first : is_row t s r ≡ false = before 0 (omega arith) in
+    rw not_first (found_at t s rs i d (omega arith) here (λ n lt'. before (suc n) (omega arith)))
+
+changed_at : (t s : ℕ) (rows : List Row) (i : ℕ) (d : Row) (new : JobData) → i < length rows → is_row t s (get_or rows i d) ≡ true → ((n : ℕ) → n < i → is_row t s (get_or rows n d) ≡ false)
+  → put_row t s new rows ≡ set rows i (record { tenant = t; job = new })
+changed_at t s [] i d new lt here before = absurd (omega arith)
+changed_at t s (r ∷ rs) zero d new lt here before = rw here
+changed_at t s (r ∷ rs) (suc i) d new lt here before =
+    let not_first : is_row t s r ≡ false = before 0 (omega arith) in
+    rw not_first (ap (λ xs. r ∷ xs) (changed_at t s rs i d new (omega arith) here (λ n lt'. before (suc n) (omega arith))))
+
+pub place-Some : (t s : ℕ) (rows : List Row) (i : ℕ) (d : Row) → position (is_row t s) rows ≡ Some i → IsFoundAt t s rows i d
+place-Some t s rows i d e =
+    let h = position-Some (is_row t s) rows i d e in
+    record {
+      within = h.0;
+      found = found_at t s rows i d h.0 h.1 h.2;
+      changes = λ new. changed_at t s rows i d new h.0 h.1 h.2;
+    }
+
+none_found : (t s : ℕ) (rows : List Row) → length rows ≤ position_or_len (is_row t s) rows → find_row t s rows ≡ None
+none_found t s [] past = refl
+none_found t s (r ∷ rs) past = grind (arith, nat_tests, none_found t s rs)
+
+pub place-None : (t s : ℕ) (rows : List Row) → position (is_row t s) rows ≡ None → find_row t s rows ≡ None
+place-None t s rows e = none_found t s rows (grind (arith, nat_tests))
