@@ -1,5 +1,5 @@
 -- What a search of kind Tree shows, by the list of its nodes.
-use Rattle.std.proofs.Common.{◌≡◌, ℕ, ◌+◌, ◌≤◌, ◌||◌, Bool, arith, true, false, cond, nat_le, List, length, take, Option, None, refl, sym, ap, ◌∙◌}
+use Rattle.std.proofs.Common.{◌≡◌, ℕ, ◌+◌, ◌≤◌, ◌||◌, Bool, arith, false, cond, nat_le, List, length, take, Option, None, sym, ap, ◌∙◌}
 use Rattle.std.specs.Prelude.{is_some}
 use Rattle.std.proofs.lemmas.Bool.{or_parts, leb-false}
 use Rattle.mrcpsp.specs.Schedule.{ScheduleData}

@@ -1,11 +1,11 @@
 //! The precedence tree as a list of all its nodes, and a place in it.
 ghost use Rattle.std.specs.Prelude.{◌≡◌, ◌<◌, ◌≤◌, Some, None, IfOk, IfErr, length, take, is_some, nat_le, if◌then◌else◌};
 ghost use Rattle.std.specs.Option.{option_copied};
-ghost use Rattle.quanta_till.specs.Lease.{after_use};
+ghost use Rattle.quanta_till.specs.Lease.{IsEmpty, after_use};
 ghost use Rattle.strategy.specs.Tree.{after};
 ghost use Rattle.strategy.specs.declared.kind.Kind.TheVariants.{Tree};
 ghost use Rattle.strategy.specs.declared.verdict.Verdict.TheVariants.{Going, Optimal, Infeasible};
-ghost use Rattle.plain_search.specs.Search.{IsEmpty, fresh};
+ghost use Rattle.plain_search.specs.Search.{fresh};
 
 use mrcpsp::Schedule;
 use plain_tree::{Visit, visits};

@@ -1,5 +1,5 @@
 //! A search of four activities, node by node, and what it leaves in its till.
-ghost use Rattle.plain_search.specs.Search.{IsEmpty};
+ghost use Rattle.quanta_till.specs.Lease.{IsEmpty};
 
 use crate::{PlainSearch, Refused};
 use mrcpsp::{Activity, Mode, Project, Sequence};

@@ -1,5 +1,5 @@
 -- What contracts see of a lease, by double entry (L. Pacioli, Summa de arithmetica, 1494): what it drew, used and handed back, and what is left of it, which is drawn - used - back.
-use Rattle.std.specs.Prelude.{ℕ, ◌+◌, ◌-◌}
+use Rattle.std.specs.Prelude.{◌≡◌, ℕ, ◌+◌, ◌-◌}
 use Rattle.atomic_table.specs.Seated.{TableId}
 use Rattle.quanta_till.specs.Till.{TillValue}
 
@@ -15,6 +15,13 @@ pub record LeaseValue : Type 0 where
 -- nothing was drawn, used or handed back with it
 abbrev pub empty_lease : TillValue → LeaseValue
 empty_lease t = record { id = t.id; tenant = t.tenant; drawn = 0; used = 0; back = 0; left = 0 }
+
+-- nothing was drawn, used or handed back with it yet
+pub record IsEmpty (l : LeaseValue) : Type 0 where
+  pub drawn : l.drawn ≡ 0
+  pub used : l.used ≡ 0
+  pub back : l.back ≡ 0
+  pub left : l.left ≡ 0
 
 abbrev pub after_draw : LeaseValue → ℕ → LeaseValue
 after_draw l n = record l { drawn = l.drawn + n; left = l.left + n }

@@ -3,10 +3,10 @@ ghost use Rattle.std.specs.Prelude.{◌≡◌, ◌<◌, IfOk, IfErr, IsSomeAnd, 
 ghost use Rattle.mrcpsp.specs.Project.{size};
 ghost use Rattle.mrcpsp.specs.Placed.{schedule_of};
 ghost use Rattle.serial_pass.specs.Pass.{HasRoom};
-ghost use Rattle.quanta_till.specs.Lease.{after_use};
+ghost use Rattle.quanta_till.specs.Lease.{IsEmpty, after_use};
 ghost use Rattle.strategy.specs.declared.verdict.Verdict.TheVariants.{Going, Ended};
 ghost use Rattle.rule_search.specs.Rule.{IsRule};
-ghost use Rattle.rule_search.specs.Search.{IsEmpty, fresh};
+ghost use Rattle.rule_search.specs.Search.{fresh};
 
 use crate::choice::run_node;
 use measures::Measures;

@@ -1,6 +1,6 @@
 //! Passes by each rule, node by node, and what a search leaves in its till.
 ghost use Rattle.rule_search.specs.Rule.{IsRule};
-ghost use Rattle.rule_search.specs.Search.{IsEmpty};
+ghost use Rattle.quanta_till.specs.Lease.{IsEmpty};
 
 use crate::{Refused, RuleSearch};
 use mrcpsp::{Activity, Mode, Project, Schedule, Sequence};

@@ -2,13 +2,13 @@
 ghost use Rattle.std.specs.Prelude.{◌≡◌, ◌↔◌, ◌+◌, ◌%◌, ◌<◌, ◌≤◌, false, length, IsTrue, IfOk, IfErr, IfSome, option_map};
 ghost use Rattle.mrcpsp.specs.Project.{size};
 ghost use Rattle.mrcpsp.specs.Placed.{schedule_of};
-ghost use Rattle.quanta_till.specs.Lease.{after_use};
+ghost use Rattle.quanta_till.specs.Lease.{IsEmpty, after_use};
 ghost use Rattle.measures.specs.Measures.{measures_of};
 ghost use Rattle.strategy.specs.Outcome.{better};
 ghost use Rattle.strategy.specs.declared.kind.Kind.TheVariants.{Sample};
 ghost use Rattle.serial_pass.specs.Pass as passes;
 ghost use Rattle.sample_search.specs.Best.{best_in, is_taken, IsKept};
-ghost use Rattle.sample_search.specs.Search.{IsSample, IsEmpty, fresh};
+ghost use Rattle.sample_search.specs.Search.{IsSample, fresh};
 
 use crate::best::{Best, better};
 use crate::node::run_node;

@@ -1,6 +1,6 @@
 //! Words of two seeds, searches of four small projects node by node, and what a search leaves in its till. The expected
 //! values are those of a plain program of the definitions in another language.
-ghost use Rattle.sample_search.specs.Search.{IsEmpty};
+ghost use Rattle.quanta_till.specs.Lease.{IsEmpty};
 
 use crate::words::Words;
 use crate::{Refused, SampleSearch};

@@ -1,7 +1,5 @@
 //! Running a search, and what it has found.
-ghost use Rattle.tree_search.specs.Search as tree_search;
-ghost use Rattle.rule_search.specs.Search as rule_search;
-ghost use Rattle.sample_search.specs.Search as sample_search;
+ghost use Rattle.quanta_till.specs.Lease.{IsEmpty};
 
 use crate::plan::plan_of;
 use mrcpsp::check;
@@ -52,9 +50,7 @@ fn found_by<S: Strategy>(search: &S) -> Found {
 
 /// Runs the search of a plan. There is nothing where there is no memory for it.
 fn run_plan(alloc: Global, plan: Plan, lease: Lease, most: u64) -> Option<Found>
-    requires tree { tree_search.IsEmpty lease }
-    requires rule { rule_search.IsEmpty lease }
-    requires sample { sample_search.IsEmpty lease }
+    requires { IsEmpty lease }
 {
     match plan.kind {
         Kind::Tree => {

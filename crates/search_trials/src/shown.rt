@@ -1,7 +1,5 @@
 //! What a search shows, summed up.
-ghost use Rattle.tree_search.specs.Search as tree_search;
-ghost use Rattle.rule_search.specs.Search as rule_search;
-ghost use Rattle.sample_search.specs.Search as sample_search;
+ghost use Rattle.quanta_till.specs.Lease.{IsEmpty};
 
 use mrcpsp::{Project, Schedule, check};
 use quanta_till::{Lease, Till};
@@ -69,9 +67,7 @@ impl Shown {
         lease: Lease,
         most: u32,
     ) -> Result<(), Fail>
-        requires tree { tree_search.IsEmpty lease }
-        requires rule { rule_search.IsEmpty lease }
-        requires sample { sample_search.IsEmpty lease }
+        requires { IsEmpty lease }
     {
         match plan.kind {
             Kind::Tree => {

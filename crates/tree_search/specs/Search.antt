@@ -9,13 +9,6 @@ use Rattle.strategy.specs.declared.verdict.Verdict.{Verdict}
 use Rattle.tree_search.specs.Tree.{IsTree, IsAfter}
 use Rattle.tree_search.specs.declared.tree.Tree as stack
 
--- nothing was drawn, used or handed back with the lease
-pub record IsEmpty (lease : LeaseValue) : Type 0 where
-  pub drawn : lease.drawn ≡ 0
-  pub used : lease.used ≡ 0
-  pub back : lease.back ≡ 0
-  pub left : lease.left ≡ 0
-
 -- a search that has run no node
 abbrev pub fresh : Plan → LeaseValue → Meaning
 fresh plan lease = record { tenant = lease.tenant; plan = plan; nodes = 0; left = lease.left; taken = false }

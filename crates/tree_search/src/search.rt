@@ -1,8 +1,8 @@
 //! The search of the precedence tree, for one plan of one tenant.
 ghost use Rattle.std.specs.Prelude.{◌≡◌, ◌<◌, IfOk, IfErr};
-ghost use Rattle.quanta_till.specs.Lease.{after_use};
+ghost use Rattle.quanta_till.specs.Lease.{IsEmpty, after_use};
 ghost use Rattle.strategy.specs.declared.kind.Kind.TheVariants.{Tree as OfTree};
-ghost use Rattle.tree_search.specs.Search.{IsEmpty, fresh};
+ghost use Rattle.tree_search.specs.Search.{fresh};
 
 use crate::tree::Tree;
 use mrcpsp::Schedule;

@@ -1,4 +1,4 @@
-use Rattle.std.proofs.Common.{◌≡◌, ◌<◌, ◌∷◌, ◌∙◌, All, nat_le, sym}
+use Rattle.std.proofs.Common.{◌<◌, ◌∷◌, ◌∙◌, All, nat_le, sym}
 use Rattle.std.proofs.lemmas.List.Elements.{All-head, All-tail}
 use Rattle.mrcpsp.specs.Project.{mode_count, duration}
 use Rattle.rule_search.proofs.OrderLemmas.{least_order, first_alone, stays_more, changes_more, first_of_all}

@@ -1,4 +1,4 @@
-use Rattle.std.proofs.Common.{◌≡◌, ◌+◌, arith, sym, ap, ◌∙◌}
+use Rattle.std.proofs.Common.{◌≡◌, ◌+◌, sym, ap, ◌∙◌}
 use Rattle.quanta_till.specs.Lease.{LeaseValue}
 use Rattle.plain_search.proofs.SearchLemmas.{IsGoing, going-from, verdict_in, verdict-tree}
 use Rattle.plain_search.proofs.search.PlainSearchStrategy.advance.Goals as goal

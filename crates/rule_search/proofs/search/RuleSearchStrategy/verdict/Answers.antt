@@ -1,4 +1,4 @@
-use Rattle.std.proofs.Common.{◌≡◌, sym, ◌∙◌}
+use Rattle.std.proofs.Common.{sym, ◌∙◌}
 use Rattle.rule_search.proofs.SearchLemmas.{verdict-shown}
 use Rattle.rule_search.proofs.search.RuleSearchStrategy.verdict.Goals as goal
 
