@@ -1,6 +1,7 @@
 -- What lies at the place of a job's row.
-use Rattle.std.proofs.Common.{◌≡◌, ℕ, zero, suc, ◌<◌, ◌≤◌, true, false, List, [], ◌∷◌, length, get_or, set, position, Some, None, refl, ap, arith}
+use Rattle.std.proofs.Common.{◌≡◌, ℕ, zero, suc, ◌<◌, ◌≤◌, true, false, List, [], ◌∷◌, length, get_or, set, position, Some, None, refl, ap, arith, ◌∙◌, ◌==◌, sym, Bool, Option}
 use Rattle.std.specs.List.{position_or_len}
+use Rattle.std.proofs.lemmas.Bool.{eqb-true, and_parts}
 use Rattle.std.proofs.lemmas.Bool.Decides.{nat_tests}
 use Rattle.std.proofs.lemmas.List.Quantifiers.{position-Some}
 use Rattle.job_table.specs.Table.{Row, JobData, is_row, find_row, put_row}
@@ -42,3 +43,21 @@ none_found t s (r ∷ rs) past = grind (arith, nat_tests, none_found t s rs)
 
 pub place-None : (t s : ℕ) (rows : List Row) → position (is_row t s) rows ≡ None → find_row t s rows ≡ None
 place-None t s rows e = none_found t s rows (grind (arith, nat_tests))
+
+-- the row that was read at a place where a key is found
+pub record IsRowAt (t s : ℕ) (rows : List Row) (i : ℕ) (row : Row) : Type 0 where
+  pub found : find_row t s rows ≡ Some row.job
+  pub tenant : row.tenant ≡ t
+  pub changes : (new : JobData) → set rows i (record row { job = new }) ≡ put_row t s new rows
+
+pub row_at : (t s : ℕ) (rows : List Row) (i : ℕ) (row : Row) → position (is_row t s) rows ≡ Some i → row ≡ get_or rows i row → IsRowAt t s rows i row
+row_at t s rows i row placed here =
+    let h = position-Some (is_row t s) rows i row placed in
+    let at = place-Some t s rows i row placed in
+    let key : is_row t s row ≡ true = ap (is_row t s) here ∙ h.1 in
+    let mine : row.tenant ≡ t = eqb-true row.tenant t (and_parts (row.tenant == t) (row.job.seq == s) key).0 in
+    record {
+      found = at.found ∙ ap (λ (r : Row). Some r.job) (sym here);
+      tenant = mine;
+      changes = λ new. ap (λ n. set rows i (record { tenant = n; job = new })) mine ∙ sym (at.changes new);
+    }

@@ -1,12 +1,12 @@
 -- What a job keeps, and what a turn of it does.
-use Rattle.std.specs.Prelude.{◌≡◌, ℕ, ◌+◌, ◌-◌, ◌==◌, Bool, true, false, cond, length, IsTrue, Option, Some, None}
+use Rattle.std.specs.Prelude.{◌≡◌, ℕ, ◌+◌, ◌-◌, ◌==◌, Bool, true, false, cond, List, length, IsTrue, Option, Some, None}
 use Rattle.mrcpsp.specs.Project.{size, is_project}
 use Rattle.mrcpsp.specs.Schedule.{ScheduleData}
 use Rattle.strategy.specs.Outcome.{best_after, is_closed, verdict_after}
 use Rattle.strategy.specs.Search.{Meaning}
 use Rattle.strategy.specs.declared.plan.Plan.{Plan}
 use Rattle.strategy.specs.declared.verdict.Verdict.{Verdict}
-use Rattle.job_table.specs.Table.{JobData}
+use Rattle.job_table.specs.Table.{JobData, Row, find_row, put_row}
 use Rattle.job_table.specs.declared.phase.Phase.{Phase}
 use Rattle.job_table.specs.declared.phase.Phase.TheVariants.{Waiting, Out, Leaving, Dry, Closed, Cancelled}
 use Rattle.job_table.specs.declared.best.Best.{Best}
@@ -87,3 +87,38 @@ pub record IsOwn (tenant slice ran : ℕ) (m : Meaning) (job : JobData) : Type 0
   pub plan : m.plan ≡ job.plan
   pub nodes : m.nodes ≡ job.nodes + ran
   pub left : m.left + ran ≡ job.left
+
+-- in the table: the search of a waiting job goes out,
+pub record IsSent (old : List Row) (t s slice : ℕ) (m : Meaning) (new : List Row) : Type 0 where
+  pub job : JobData
+  pub found : find_row t s old ≡ Some job
+  pub waits : job.phase ≡ Waiting
+  pub going : is_closed job.plan job.nodes ≡ false
+  pub search : m ≡ meaning_of t job
+  pub after : new ≡ put_row t s (record job { phase = Out slice }) old
+
+-- and comes back;
+pub record IsBack (old : List Row) (t s slice ran : ℕ) (m : Meaning) (new : List Row) : Type 0 where
+  pub job : JobData
+  pub found : find_row t s old ≡ Some job
+  pub own : IsOwn t slice ran m job
+  pub after : new ≡ put_row t s (back ran job) old
+
+-- no row is that of the search
+abbrev pub IsStrange : List Row → ℕ → ℕ → ℕ → ℕ → Meaning → Type 0
+IsStrange rows t s slice ran m = (job : JobData) → find_row t s rows ≡ Some job → IsOwn t slice ran m job → ⊥
+
+-- more quanta for a job whose search is with it, and it waits
+pub record IsFunded (old : List Row) (t s quanta : ℕ) (new : List Row) : Type 0 where
+  pub job : JobData
+  pub found : find_row t s old ≡ Some job
+  pub here : is_here job.phase ≡ true
+  pub after : new ≡ put_row t s (record job { phase = Waiting; left = job.left + quanta }) old
+
+-- a job that is not at its end is given up
+pub record IsGivenUp (old : List Row) (t s : ℕ) (new : List Row) : Type 0 where
+  pub job : JobData
+  pub then : JobData
+  pub found : find_row t s old ≡ Some job
+  pub gone : given_up job job.phase ≡ Some then
+  pub after : new ≡ put_row t s then old

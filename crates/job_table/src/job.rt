@@ -79,7 +79,7 @@ fn phase_after(phase: Phase, closed: bool, left: u64) -> Phase
 }
 
 /// Whether the search is with its job.
-fn is_here(phase: Phase) -> bool
+pub(crate) fn is_here(phase: Phase) -> bool
     ensures { result ≡ is_here phase }
 {
     match phase {

@@ -1,11 +1,15 @@
 //! The table of all tenants' jobs.
-ghost use Rattle.std.specs.Prelude.{◌≡◌, [], ◌∷◌, ◌++◌, Some, None, IfErr, OnOk, OnErr, length, filter, position};
+ghost use Rattle.std.specs.Prelude.{◌≡◌, ◌↔◌, ◌+◌, ◌≤◌, IsTrue, IsFalse, true, if◌then◌else◌, [], ◌∷◌, ◌++◌, Some, None, IfSome, OnSome, IfNone, IfErr, OnOk, OnErr, false, length, filter, position};
 ghost use Rattle.std.specs.Option.{option_copied};
-ghost use Rattle.job_table.specs.Table.{Row as RowData, is_row, is_out, find_row, jobs_of};
+ghost use Rattle.strategy.specs.Outcome.{is_closed};
+ghost use Rattle.job_table.specs.Table.{is_row, find_row, jobs_of};
+ghost use Rattle.job_table.specs.Job.{meaning_of, given_up, back, is_here, IsOwn, IsSent, IsBack, IsStrange, IsFunded, IsGivenUp};
 
+use crate::job::is_here;
 use crate::{Job, Phase};
 use std::alloc::Global;
 use std::marker::Model;
+use strategy::Strategy;
 
 /// A job, and whose it is.
 #[derive(Drop)]
@@ -36,6 +40,57 @@ impl<J> Model for JobTable<J> {
     ghost Value = { List table.Row };
 
     ghost view = { λ t. t.rows.items };
+}
+
+impl<J: Strategy> Row<J> {
+    /// Sends the search out, where the job waits and the search is its own.
+    fn send(&mut self, slice: u64) -> Option<J>
+        ensures waits { OnSome result (self.old.job.phase ≡ Phase.Waiting) }
+        ensures search { IfSome result (λ search. J.meaning search ≡ meaning_of self.old.tenant self.old.job) }
+        ensures going { OnSome result (is_closed self.old.job.plan self.old.job.nodes ≡ false) }
+        ensures sent { OnSome result (self.new ≡ record self.old { job = record self.old.job { phase = Phase.Out slice } }) }
+        ensures kept { IfNone result (self.new ≡ self.old) }
+    {
+        if self.job.phase() != Phase::Waiting {
+            return None;
+        }
+        self.job.send(self.tenant, slice)
+    }
+
+    /// Whether the search is the job's, after so many nodes of a turn for at most `slice`.
+    fn is_own(&self, slice: u64, ran: u64, search: &J) -> bool
+        ensures { IsTrue result ↔ IsOwn self.now.tenant slice ran (J.meaning search.now) self.now.job }
+    {
+        self.job.is_own(self.tenant, slice, ran, search)
+    }
+
+    /// Takes the search back.
+    fn take_back(&mut self, slice: u64, ran: u64, search: J)
+        requires own { IsOwn self.old.tenant slice ran (J.meaning search) self.old.job }
+        requires best { (J.meaning search).taken ≡ false }
+        ensures { self.new ≡ record self.old { job = back ran self.old.job } }
+    {
+        self.job.take_back(self.tenant, slice, ran, search);
+    }
+
+    /// Draws more quanta for the search, where it is here and its own.
+    fn fund(&mut self, quanta: u64) -> bool
+        requires { self.old.job.nodes + self.old.job.left + quanta ≤ 1000000000000 }
+        ensures here { IsTrue result → is_here self.old.job.phase ≡ true }
+        ensures funded { IsTrue result → self.new ≡ record self.old { job = record self.old.job { phase = Phase.Waiting; left = self.old.job.left + quanta } } }
+        ensures kept { IsFalse result → self.new ≡ self.old }
+    {
+        is_here(self.job.phase()) && self.job.fund(self.tenant, quanta)
+    }
+
+    /// Gives the search up, where the job is not at its end.
+    fn cancel(&mut self) -> bool
+        ensures given_up { (if result then Some self.new.job else None) ≡ given_up self.old.job self.old.job.phase }
+        ensures tenant { self.new.tenant ≡ self.old.tenant }
+        ensures kept { IsFalse result → self.new ≡ self.old }
+    {
+        self.job.cancel()
+    }
 }
 
 /// Where the row of a tenant's job of that number lies.
@@ -92,5 +147,82 @@ impl<J> JobTable<J> {
             }
         }
         count
+    }
+}
+
+impl<J: Strategy> JobTable<J> {
+    /// Sends the search of a waiting job out, for a turn of at most so many nodes. `None` where the job is unknown or does
+    /// not wait, or where its search is another one; then nothing has changed.
+    pub fn send(&mut self, tenant: u32, seq: u64, slice: u64) -> Option<J>
+        ensures sent { IfSome result (λ search. IsSent self.old tenant seq slice (J.meaning search) self.new) }
+        ensures kept { IfNone result (self.new ≡ self.old) }
+    {
+        let Some(at) = place_of(&self.rows, tenant, seq) else {
+            return None;
+        };
+        let row = &mut self.rows[at];
+        let Some(search) = row.send(slice) else {
+            return None;
+        };
+        Some(search)
+    }
+
+    /// Takes a search back after a turn in which it ran so many nodes, where it is that of a job whose turn is out; else
+    /// hands it back, and nothing has changed. Takes no memory.
+    pub fn take_back(
+        &mut self,
+        tenant: u32,
+        seq: u64,
+        slice: u64,
+        ran: u64,
+        search: J,
+    ) -> Result<(), J>
+        requires best { (J.meaning search).taken ≡ false }
+        ensures back { OnOk result (IsBack self.old tenant seq slice ran (J.meaning search) self.new) }
+        ensures strange { OnErr result (IsStrange self.old tenant seq slice ran (J.meaning search)) }
+        ensures kept { OnErr result (self.new ≡ self.old) }
+        ensures handed_back { IfErr result (λ it. it ≡ search) }
+    {
+        let Some(at) = place_of(&self.rows, tenant, seq) else {
+            return Err(search);
+        };
+        let row = &mut self.rows[at];
+        if !row.is_own(slice, ran, &search) {
+            return Err(search);
+        }
+        row.take_back(slice, ran, search);
+        Ok(())
+    }
+
+    /// Draws more quanta for a job that waits or is dry. False where the job is unknown or elsewhere, or where its search
+    /// is another one; then nothing has changed.
+    pub fn fund(&mut self, tenant: u32, seq: u64, quanta: u64) -> bool
+        requires { IfSome (find_row tenant seq self.old) (λ job. job.nodes + job.left + quanta ≤ 1000000000000) }
+        ensures funded { IsTrue result → IsFunded self.old tenant seq quanta self.new }
+        ensures kept { IsFalse result → self.new ≡ self.old }
+    {
+        let Some(at) = place_of(&self.rows, tenant, seq) else {
+            return false;
+        };
+        let row = &mut self.rows[at];
+        if !row.fund(quanta) {
+            return false;
+        }
+        true
+    }
+
+    /// Gives a job up that is not at its end. Tells whether it did; if not, nothing has changed. Takes no memory.
+    pub fn cancel(&mut self, tenant: u32, seq: u64) -> bool
+        ensures given_up { IsTrue result → IsGivenUp self.old tenant seq self.new }
+        ensures kept { IsFalse result → self.new ≡ self.old }
+    {
+        let Some(at) = place_of(&self.rows, tenant, seq) else {
+            return false;
+        };
+        let row = &mut self.rows[at];
+        if !row.cancel() {
+            return false;
+        }
+        true
     }
 }

@@ -1,0 +1,23 @@
+use Rattle.std.proofs.Common.{◌≡◌, ℕ, ◌+◌, ◌≤◌, Some, None, IfSome, sym, refl, ap, ◌∙◌, subst, position, get_or, set, List, Option, cond}
+use Rattle.job_table.specs.Table.{Row, JobData, is_row, find_row}
+use Rattle.job_table.specs.Job.{given_up}
+use Rattle.job_table.proofs.PlaceLemmas.{row_at}
+use Rattle.job_table.proofs.table.JobTable.cancel.Goals as goal
+
+pub returns-clause-given_up : goal.returns-clause-given_up
+returns-clause-given_up g c did =
+    let rows : List Row = c.args.self.now in
+    let row : Row = c.index_mut-row.result.now in
+    let rows_are : c.deref.result.now ≡ rows = c.deref.ensures.value ∙ c.self.view_is in
+    let placed : position (is_row c.args.tenant c.args.seq) rows ≡ Some c.in-Some.at = sym (ap (position (is_row c.args.tenant c.args.seq)) rows_are) ∙ sym c.place_of.ensures ∙ c.in-Some.is in
+    let here : row ≡ get_or rows c.in-Some.at row = c.index_mut-row.ensures.value ∙ ap (λ (rs : List Row). get_or rs c.in-Some.at row) c.self.view_is in
+    let it = row_at c.args.tenant c.args.seq rows c.in-Some.at row placed here in
+    let then : JobData = c.cancel.new.self.job in
+    let same : c.cancel.new.self ≡ record row { job = then } = ap (λ n. let r : Row = record { tenant = n; job = then } in r) c.cancel.ensures.tenant in
+    record {
+      job = row.job;
+      then = then;
+      found = it.found;
+      gone = sym c.cancel.ensures.given_up ∙ ap (λ b. cond b (Some then) None) c.if-not-cancel.false;
+      after = ap (λ (r : Row). set c.self.inside.rows.items c.in-Some.at r) same ∙ ap (λ (rs : List Row). set rs c.in-Some.at (record row { job = then })) c.self.view_is ∙ it.changes then;
+    }
