@@ -1,10 +1,10 @@
 -- What lies at the place of a job's row.
-use Rattle.std.proofs.Common.{◌≡◌, ℕ, zero, suc, ◌<◌, ◌≤◌, true, false, List, [], ◌∷◌, length, get_or, set, position, Some, None, refl, ap, arith, ◌∙◌, ◌==◌, sym, Bool, Option}
+use Rattle.std.proofs.Common.{◌≡◌, ℕ, zero, suc, ◌<◌, ◌≤◌, true, false, List, [], ◌∷◌, length, get_or, set, position, Some, None, refl, ap, arith, ◌∙◌, ◌==◌, sym, take, drop, ◌++◌, ◌+◌}
 use Rattle.std.specs.List.{position_or_len}
 use Rattle.std.proofs.lemmas.Bool.{eqb-true, and_parts}
 use Rattle.std.proofs.lemmas.Bool.Decides.{nat_tests}
 use Rattle.std.proofs.lemmas.List.Quantifiers.{position-Some}
-use Rattle.job_table.specs.Table.{Row, JobData, is_row, find_row, put_row}
+use Rattle.job_table.specs.Table.{Row, JobData, is_row, find_row, put_row, drop_row}
 
 -- the row that is found first lies there
 pub record IsFoundAt (t s : ℕ) (rows : List Row) (i : ℕ) (d : Row) : Type 0 where
@@ -61,3 +61,24 @@ row_at t s rows i row placed here =
       tenant = mine;
       changes = λ new. ap (λ n. set rows i (record { tenant = n; job = new })) mine ∙ sym (at.changes new);
     }
+
+dropped_at : (t s : ℕ) (rows : List Row) (i : ℕ) (d : Row) → i < length rows → is_row t s (get_or rows i d) ≡ true → ((n : ℕ) → n < i → is_row t s (get_or rows n d) ≡ false)
+  → take i rows ++ drop (i + 1) rows ≡ drop_row t s rows
+dropped_at t s [] i d lt here before = absurd (omega arith)
+dropped_at t s (r ∷ rs) zero d lt here before = rw here refl
+dropped_at t s (r ∷ rs) (suc i) d lt here before =
+    let not_first : is_row t s r ≡ false = before 0 (omega arith) in
+    let more : suc i + 1 ≡ suc (i + 1) = omega arith in
+    rw (not_first, more) (ap (λ xs. r ∷ xs) (dropped_at t s rs i d (omega arith) here (λ n lt'. before (suc n) (omega arith))))
+
+pub dropped : (t s : ℕ) (rows : List Row) (i : ℕ) (row : Row) → position (is_row t s) rows ≡ Some i → take i rows ++ drop (i + 1) rows ≡ drop_row t s rows
+dropped t s rows i row placed =
+    let h = position-Some (is_row t s) rows i row placed in
+    dropped_at t s rows i row h.0 h.1 h.2
+
+none_dropped : (t s : ℕ) (rows : List Row) → length rows ≤ position_or_len (is_row t s) rows → rows ≡ drop_row t s rows
+none_dropped t s [] past = refl
+none_dropped t s (r ∷ rs) past = grind (arith, nat_tests, none_dropped t s rs)
+
+pub dropped-None : (t s : ℕ) (rows : List Row) → position (is_row t s) rows ≡ None → rows ≡ drop_row t s rows
+dropped-None t s rows e = none_dropped t s rows (grind (arith, nat_tests))

@@ -2,7 +2,7 @@
 ghost use Rattle.std.specs.Prelude.{◌≡◌, ◌↔◌, ◌+◌, ◌≤◌, IsTrue, IsFalse, true, if◌then◌else◌, [], ◌∷◌, ◌++◌, Some, None, IfSome, OnSome, IfNone, IfErr, OnOk, OnErr, false, length, filter, position};
 ghost use Rattle.std.specs.Option.{option_copied};
 ghost use Rattle.strategy.specs.Outcome.{is_closed};
-ghost use Rattle.job_table.specs.Table.{is_row, find_row, jobs_of};
+ghost use Rattle.job_table.specs.Table.{is_row, is_out, find_row, drop_row, jobs_of};
 ghost use Rattle.job_table.specs.Job.{meaning_of, given_up, back, is_here, IsOwn, IsSent, IsBack, IsStrange, IsFunded, IsGivenUp};
 
 use crate::job::is_here;
@@ -93,6 +93,16 @@ impl<J: Strategy> Row<J> {
     }
 }
 
+/// Whether a turn of a job in this phase is out.
+fn is_out(phase: Phase) -> bool
+    ensures { result ≡ is_out phase }
+{
+    match phase {
+        Phase::Out(_) | Phase::Leaving(_) => true,
+        _ => false,
+    }
+}
+
 /// Where the row of a tenant's job of that number lies.
 fn place_of<J>(rows: &[Row<J>], tenant: u32, seq: u64) -> Option<usize>
     ensures { result ≡ position (is_row tenant seq) rows.now }
@@ -147,6 +157,31 @@ impl<J> JobTable<J> {
             }
         }
         count
+    }
+
+    /// How many of the tenant's jobs have their turn out.
+    pub fn out_of(&self, tenant: u32) -> usize
+        ensures { result ≡ length (filter (λ job. is_out job.phase) (jobs_of tenant self.now)) }
+    {
+        let mut count = 0;
+        for row in self.rows.iter() {
+            if row.tenant == tenant && is_out(row.job.phase()) {
+                count += 1;
+            }
+        }
+        count
+    }
+
+    /// Takes a tenant's job of that number out of the table. The others keep their order.
+    pub fn remove(&mut self, tenant: u32, seq: u64) -> Option<Job<J>>
+        ensures found { result ≡ find_row tenant seq self.old }
+        ensures rest { self.new ≡ drop_row tenant seq self.old }
+    {
+        let Some(at) = place_of(&self.rows, tenant, seq) else {
+            return None;
+        };
+        let Row { tenant: _, job } = self.rows.remove(at);
+        Some(job)
     }
 }
 

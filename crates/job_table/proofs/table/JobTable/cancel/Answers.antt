@@ -1,6 +1,5 @@
-use Rattle.std.proofs.Common.{◌≡◌, ℕ, ◌+◌, ◌≤◌, Some, None, IfSome, sym, refl, ap, ◌∙◌, subst, position, get_or, set, List, Option, cond}
-use Rattle.job_table.specs.Table.{Row, JobData, is_row, find_row}
-use Rattle.job_table.specs.Job.{given_up}
+use Rattle.std.proofs.Common.{◌≡◌, Some, None, sym, ap, ◌∙◌, position, get_or, set, List, cond}
+use Rattle.job_table.specs.Table.{Row, JobData, is_row}
 use Rattle.job_table.proofs.PlaceLemmas.{row_at}
 use Rattle.job_table.proofs.table.JobTable.cancel.Goals as goal
 

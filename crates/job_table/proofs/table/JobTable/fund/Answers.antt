@@ -1,5 +1,5 @@
-use Rattle.std.proofs.Common.{◌≡◌, ℕ, ◌+◌, ◌≤◌, Some, None, IfSome, sym, refl, ap, ◌∙◌, subst, position, get_or, set, List, Option}
-use Rattle.job_table.specs.Table.{Row, JobData, is_row, find_row}
+use Rattle.std.proofs.Common.{◌≡◌, ◌+◌, ◌≤◌, Some, IfSome, sym, ap, ◌∙◌, subst, position, get_or, set, List, Option}
+use Rattle.job_table.specs.Table.{Row, JobData, is_row}
 use Rattle.job_table.specs.declared.phase.Phase.TheVariants.{Waiting}
 use Rattle.job_table.proofs.PlaceLemmas.{row_at}
 use Rattle.job_table.proofs.table.JobTable.fund.Goals as goal

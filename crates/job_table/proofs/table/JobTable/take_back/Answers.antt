@@ -1,5 +1,5 @@
-use Rattle.std.proofs.Common.{◌≡◌, ℕ, ◌+◌, ◌≤◌, Some, None, IfSome, sym, refl, ap, ◌∙◌, subst, position, get_or, set, List, Option}
-use Rattle.job_table.specs.Table.{Row, JobData, is_row, find_row}
+use Rattle.std.proofs.Common.{◌≡◌, ℕ, Some, None, sym, ap, ◌∙◌, subst, position, get_or, set, List}
+use Rattle.job_table.specs.Table.{Row, JobData, is_row}
 use Rattle.job_table.specs.Job.{back, IsOwn}
 use Rattle.job_table.proofs.PlaceLemmas.{row_at, place-None}
 use Rattle.job_table.proofs.table.JobTable.take_back.Goals as goal
