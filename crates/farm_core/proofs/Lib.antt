@@ -3,3 +3,4 @@ pub mod AloneLemmas
 pub mod TruthLemmas
 pub mod RunLemmas
 pub mod NeedLemmas
+pub mod ViewLemmas

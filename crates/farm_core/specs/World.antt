@@ -1,5 +1,5 @@
 -- The farm of all tenants, what one of them sees of it, and whole runs.
-use Rattle.std.specs.Prelude.{◌≡◌, ◌≢◌, ℕ, ◌==◌, List, [], ◌∷◌, ◌++◌, length, map, filter, get_or}
+use Rattle.std.specs.Prelude.{Bool, true, false, cond, ◌≡◌, ◌≢◌, ℕ, ◌==◌, List, [], ◌∷◌, ◌++◌, length, map, filter, get_or}
 use Rattle.tenant_book.specs.Book as book
 use Rattle.tenant_book.specs.Book.{BookData}
 use Rattle.job_table.specs.Table.{Row, jobs_of}
@@ -46,12 +46,15 @@ view t w =
     let account = get_or w.accounts t (account_of no_terms) in
     record { terms = terms_in w.config t; spent = account.book.spent; next = account.next; used = length (entries_of t w.journal); jobs = jobs_of t w.rows }
 
--- the entry that a call leaves, or none
+-- a call that was answered 'no room' or 'no turn' leaves no entry, and any other leaves one
+abbrev pub is_noted : Answer → Bool
+is_noted (Replied reply.NoRoom) = false
+is_noted (Replied answer) = true
+is_noted (Sent line) = true
+is_noted NoTurn = false
+
 abbrev pub entry_of : ℕ → Event → Answer → List Entry
-entry_of t event (Replied reply.NoRoom) = []
-entry_of t event (Replied answer) = record { tenant = t; event = event } ∷ []
-entry_of t event (Sent line) = record { tenant = t; event = event } ∷ []
-entry_of t event NoTurn = []
+entry_of t event answer = cond (is_noted answer) (record { tenant = t; event = event } ∷ []) []
 
 -- a call of tenant t makes its own step, and no other tenant's part changes
 pub record Follows (old : World) (t : ℕ) (event : Event) (answer : Answer) (new : World) : Type 0 where
