@@ -4,3 +4,4 @@ pub mod TruthLemmas
 pub mod RunLemmas
 pub mod NeedLemmas
 pub mod ViewLemmas
+pub mod FarmLemmas

@@ -1,14 +1,15 @@
 -- What a change of the world is to each tenant.
-use Rattle.std.proofs.Common.{◌≡◌, ◌≢◌, ℕ, zero, suc, ◌+◌, ◌<◌, ◌==◌, Bool, true, false, cond, eqb, List, [], ◌∷◌, ◌++◌, length, map, filter, get_or, set, Option, Some, None, refl, sym, ap, ◌∙◌, subst, arith, length-append}
+use Rattle.std.proofs.Common.{◌≡◌, ◌≢◌, ℕ, zero, suc, ◌+◌, ◌<◌, Bool, true, false, cond, List, [], ◌∷◌, ◌++◌, length, get_or, set, refl, sym, ap, ◌∙◌, arith, length-append}
 use Rattle.std.proofs.lemmas.Bool.Decides.{nat_tests}
 use Rattle.std.proofs.lemmas.Grind.{common_steps}
 use Rattle.std.proofs.lemmas.List.Elements.{filter-append}
-use Rattle.job_table.specs.Table.{Row, JobData, is_row, find_row, put_row, drop_row, jobs_of}
+use Rattle.job_table.specs.Table.{Row, JobData, find_row, put_row, drop_row, jobs_of}
 use Rattle.farm_core.specs.declared.entry.Entry.{Entry}
 use Rattle.farm_core.specs.declared.entry.Event.{Event}
-use Rattle.farm_core.specs.Tenant.{Tenant, find_job, put_job, drop_job}
+use Rattle.farm_core.specs.Tenant.{find_job, put_job, drop_job}
 use Rattle.farm_core.specs.Step.{Answer, step}
-use Rattle.farm_core.specs.World.{World, Account, account_of, no_terms, terms_in, view, entries_of, is_noted, entry_of, Follows}
+use Rattle.farm_core.specs.declared.account.Account.{Account}
+use Rattle.farm_core.specs.World.{World, account_of, no_terms, terms_in, view, entries_of, is_noted, entry_of, Follows}
 use Rattle.farm_core.specs.Move.{moved}
 
 -- a tenant's job is found among its own

@@ -3,6 +3,7 @@ use Rattle.std.specs.Prelude.{Bool, true, false, cond, ◌≡◌, ◌≢◌, ℕ
 use Rattle.tenant_book.specs.Book as book
 use Rattle.tenant_book.specs.Book.{BookData}
 use Rattle.job_table.specs.Table.{Row, jobs_of}
+use Rattle.farm_core.specs.declared.account.Account.{Account}
 use Rattle.farm_core.specs.declared.config.TenantLine.{TenantLine}
 use Rattle.farm_core.specs.declared.entry.Entry.{Entry}
 use Rattle.farm_core.specs.declared.entry.Event.{Event}
@@ -11,12 +12,8 @@ use Rattle.farm_core.specs.Config.{ConfigData}
 use Rattle.farm_core.specs.Tenant.{Tenant}
 use Rattle.farm_core.specs.Step.{Answer, Replied, Sent, NoTurn, step}
 
--- a tenant's quanta, and the number of its next job
-pub record Account : Type 0 where
-  pub book : BookData
-  pub next : ℕ
-
--- one table of jobs and one journal for all
+-- one table of jobs and one journal for all; an account has a tenant's ledger, the number of its next job, and how many
+-- entries are its own
 pub record World : Type 0 where
   pub config : ConfigData
   pub rows : List Row
@@ -27,7 +24,7 @@ abbrev pub no_terms : TenantLine
 no_terms = record { name = []; quanta = 0; jobs = 0; entries = 0 }
 
 abbrev pub account_of : TenantLine → Account
-account_of terms = record { book = book.opened terms.quanta; next = 1 }
+account_of terms = record { book = book.opened terms.quanta; next = 1; used = 0 }
 
 abbrev pub terms_in : ConfigData → ℕ → TenantLine
 terms_in config t = get_or config.tenants t no_terms

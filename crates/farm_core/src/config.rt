@@ -1,10 +1,11 @@
 //! What a farm is made for.
-ghost use Rattle.std.specs.Prelude.{◌≡◌, ◌↔◌, IsTrue, Some, None, if◌then◌else◌, drop};
+ghost use Rattle.std.specs.Prelude.{◌≡◌, ◌↔◌, IsTrue, Some, None, if◌then◌else◌, drop, length, ◌<◌, ◌≤◌, IfOk};
 ghost use Rattle.std.specs.List.{list_all};
 ghost use Rattle.farm_core.specs.Config.{ConfigData, are_terms, has_name, are_distinct, is_config};
 
 use crate::Name;
 use mrcpsp::Sequence;
+use std::alloc::{AllocError, Global};
 use std::marker::Model;
 
 /// A tenant's line of the configuration.
@@ -38,6 +39,31 @@ impl Model for Config {
     ghost view = { λ c. record { tenants = c.tenants; workers = c.workers; slice = c.slice } };
 
     ghost invariant = { λ c. IsTrue (is_config (record { tenants = c.tenants; workers = c.workers; slice = c.slice })) };
+}
+
+impl TenantLine {
+    /// The same line once more. Takes no memory.
+    pub fn copy(&self) -> TenantLine
+        ensures { result ≡ self.now }
+    {
+        TenantLine {
+            name: self.name.copy(),
+            quanta: self.quanta,
+            jobs: self.jobs,
+            entries: self.entries,
+        }
+    }
+}
+
+/// The same lines once more, or an error where there is no memory for them.
+fn clone_lines(alloc: Global, lines: &[TenantLine]) -> Result<Vec<TenantLine>, AllocError>
+    ensures { IfOk result (λ copy. copy.items ≡ lines.now) }
+{
+    let mut copies = Vec::new(alloc);
+    for line in lines {
+        copies.push(line.copy())?;
+    }
+    Ok(copies)
 }
 
 /// Whether a tenant's line keeps its limits.
@@ -111,10 +137,25 @@ impl Config {
         }
     }
 
+    /// An equal configuration, or an error where there is no memory for it.
+    pub fn clone_in(&self, alloc: Global) -> Result<Config, AllocError>
+        ensures { IfOk result (λ copy. copy ≡ self.now) }
+    {
+        Ok(Config {
+            tenants: Sequence::from(clone_lines(alloc, self.tenants())?),
+            workers: self.workers,
+            slice: self.slice,
+        })
+    }
+
     /// The tenants' lines, in the order of their numbers.
+    #[tactic(auto, unfolding(crate::specs::Config::is_config))]
     pub fn tenants(&self) -> &[TenantLine]
         ensures all { result.now ≡ self.now.tenants }
         ensures config { IsTrue (is_config self.now) }
+        ensures terms { IsTrue (list_all are_terms result.now) }
+        ensures some { 0 < length result.now }
+        ensures few { length result.now ≤ 64 }
     {
         self.tenants.as_slice()
     }

@@ -2,15 +2,19 @@
 //! of a farm of its own.
 #![tactic(auto)]
 
+mod account;
 mod config;
 mod entry;
+mod farm;
 pub mod laws;
 mod name;
 mod reply;
 #[cfg(test)]
 mod tests;
 
+pub use account::Account;
 pub use config::{Config, TenantLine};
 pub use entry::{Entry, Event};
+pub use farm::Farm;
 pub use name::Name;
 pub use reply::{Line, NoTurn, Reply};

@@ -85,6 +85,16 @@ impl Name {
         &self.bytes[..self.len]
     }
 
+    /// The same name once more. Takes no memory.
+    pub fn copy(&self) -> Name
+        ensures { result ≡ self.now }
+    {
+        Name {
+            bytes: self.bytes,
+            len: self.len,
+        }
+    }
+
     /// Whether it is the same name.
     pub fn is_same(&self, other: &Name) -> bool
         ensures value { result ≡ same_bytes self.now other.now }
