@@ -41,22 +41,22 @@ pub push_other : (u t : ℕ) (new : JobData) (rows : List Row) → u ≢ t → j
 push_other u t new [] differ = grind (arith, nat_tests)
 push_other u t new (r ∷ rows) differ = grind (arith, nat_tests, push_other u t new rows differ)
 
-own_entry : (t : ℕ) (event : Event) (noted : Bool) (journal : List Entry) → let es : List Entry = cond {A = List Entry} noted (record { tenant = t; event = event } ∷ []) [] in
+pub own_entry : (t : ℕ) (event : Event) (noted : Bool) (journal : List Entry) → let es : List Entry = cond {A = List Entry} noted (record { tenant = t; event = event } ∷ []) [] in
   length (entries_of t (journal ++ es)) ≡ length (entries_of t journal) + length es
 own_entry t event true journal = grind (arith, nat_tests, filter-append, length-append)
 own_entry t event false journal = grind (arith, nat_tests, filter-append, length-append)
 
-other_entry : (u t : ℕ) (event : Event) (noted : Bool) (journal : List Entry) → u ≢ t → let es : List Entry = cond {A = List Entry} noted (record { tenant = t; event = event } ∷ []) [] in
+pub other_entry : (u t : ℕ) (event : Event) (noted : Bool) (journal : List Entry) → u ≢ t → let es : List Entry = cond {A = List Entry} noted (record { tenant = t; event = event } ∷ []) [] in
   entries_of u (journal ++ es) ≡ entries_of u journal
 other_entry u t event true journal differ = grind (arith, nat_tests, common_steps, filter-append)
 other_entry u t event false journal differ = grind (arith, nat_tests, common_steps, filter-append)
 
-set_own : {A : Type 0} (xs : List A) (t : ℕ) (x d : A) → t < length xs → get_or (set xs t x) t d ≡ x
+pub set_own : {A : Type 0} (xs : List A) (t : ℕ) (x d : A) → t < length xs → get_or (set xs t x) t d ≡ x
 set_own [] t x d l = absurd (omega arith)
 set_own (y ∷ xs) zero x d l = refl
 set_own (y ∷ xs) (suc t) x d l = set_own xs t x d (omega arith)
 
-set_other : {A : Type 0} (xs : List A) (u t : ℕ) (x d : A) → u ≢ t → get_or (set xs t x) u d ≡ get_or xs u d
+pub set_other : {A : Type 0} (xs : List A) (u t : ℕ) (x d : A) → u ≢ t → get_or (set xs t x) u d ≡ get_or xs u d
 set_other [] u t x d differ = refl
 set_other (y ∷ xs) zero zero x d differ = absurd (differ refl)
 set_other (y ∷ xs) zero (suc t) x d differ = refl

@@ -7,7 +7,7 @@ use Rattle.farm_core.specs.declared.account.Account.{Account}
 use Rattle.farm_core.specs.declared.entry.Event.{Event}
 use Rattle.farm_core.specs.declared.reply.Reply.{Reply}
 use Rattle.farm_core.specs.declared.reply.Reply.TheVariants as reply
-use Rattle.farm_core.specs.Tenant.{Tenant, book}
+use Rattle.farm_core.specs.Tenant.{Tenant, book, kept}
 use Rattle.farm_core.specs.Step.{Replied}
 use Rattle.farm_core.specs.World.{World, view, Follows}
 
@@ -29,7 +29,7 @@ pub record IsAccount (t : Tenant) (a : Account) : Type 0 where
   pub book : a.book ≡ book t
   pub next : a.next ≡ t.next
   pub used : a.used ≡ t.used
-  pub within : t.used ≤ t.terms.entries
+  pub within : t.used + kept t ≤ t.terms.entries
   pub few : t.next ≤ t.used + 1
 
 -- each tenant has its account, and the journal has room for all entries that are owed
