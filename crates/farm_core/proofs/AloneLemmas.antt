@@ -23,21 +23,23 @@ IsAlone t old calls new = (own_answers t calls ≡ answers_alone old (own_events
 
 -- one call more at the front
 more : (t : ℕ) (old mid new : World) (c : Call) (calls : List Call) (b : Bool) → eqb c.tenant t ≡ b → Follows old c.tenant c.event c.answer mid
-  → IsAlone t (view t mid) calls (view t new)
-  → let own = cond b (c ∷ filter (λ (d : Call). eqb d.tenant t) calls) (filter (λ (d : Call). eqb d.tenant t) calls) in
+    → IsAlone t (view t mid) calls (view t new)
+    → let own = cond b (c ∷ filter (λ (d : Call). eqb d.tenant t) calls) (filter (λ (d : Call). eqb d.tenant t) calls) in
     (map (λ (d : Call). d.answer) own ≡ answers_alone (view t old) (map (λ (d : Call). d.event) own)) × (view t new ≡ after_alone (view t old) (map (λ (d : Call). d.event) own))
 more t old mid new c calls true same h rest =
     let eq : c.tenant ≡ t = grind (arith, nat_tests) in
     let f : Follows old t c.event c.answer mid = subst (λ (n : ℕ). Follows old n c.event c.answer mid) eq h in
     let here = f.answer_is in
-    let then = f.own in
-    ( ap (λ (a : Answer). a ∷ own_answers t calls) here ∙ ap (λ (answers : List Answer). (step (view t old) c.event).answer ∷ answers) (rest.0 ∙ ap (λ (s : Tenant). answers_alone s (own_events t calls)) then),
-      rest.1 ∙ ap (λ (s : Tenant). after_alone s (own_events t calls)) then )
+    let then = f.own in (
+      ap (λ (a : Answer). a ∷ own_answers t calls) here ∙ ap (λ (answers : List Answer). (step (view t old) c.event).answer ∷ answers) (rest.0 ∙ ap (λ (s : Tenant). answers_alone s (own_events t calls)) then),
+      rest.1 ∙ ap (λ (s : Tenant). after_alone s (own_events t calls)) then,
+    )
 more t old mid new c calls false differ h rest =
     let ne : t ≢ c.tenant = grind (arith, nat_tests) in
-    let stays : view t mid ≡ view t old = h.others t ne in
-    ( rest.0 ∙ ap (λ (s : Tenant). answers_alone s (own_events t calls)) stays,
-      rest.1 ∙ ap (λ (s : Tenant). after_alone s (own_events t calls)) stays )
+    let stays : view t mid ≡ view t old = h.others t ne in (
+      rest.0 ∙ ap (λ (s : Tenant). answers_alone s (own_events t calls)) stays,
+      rest.1 ∙ ap (λ (s : Tenant). after_alone s (own_events t calls)) stays,
+    )
 
 pub leads_alone : (t : ℕ) (old new : World) (calls : List Call) → Leads old calls new → IsAlone t (view t old) calls (view t new)
 leads_alone t old new [] run = (refl, ap (view t) run)
@@ -52,9 +54,9 @@ each_is_isolated config elsewhere calls others w x run walk t u terms events =
     let one = each_is_alone config calls w run t in
     let two = each_is_alone elsewhere others x walk u in
     let same_answers : answers_alone (newcomer (terms_in config t)) (own_events t calls) ≡ answers_alone (newcomer (terms_in elsewhere u)) (own_events u others) =
-      ap (λ (l : TenantLine). answers_alone (newcomer l) (own_events t calls)) terms ∙ ap (answers_alone (newcomer (terms_in elsewhere u))) events in
+    ap (λ (l : TenantLine). answers_alone (newcomer l) (own_events t calls)) terms ∙ ap (answers_alone (newcomer (terms_in elsewhere u))) events in
     let same_after : after_alone (newcomer (terms_in config t)) (own_events t calls) ≡ after_alone (newcomer (terms_in elsewhere u)) (own_events u others) =
-      ap (λ (l : TenantLine). after_alone (newcomer l) (own_events t calls)) terms ∙ ap (after_alone (newcomer (terms_in elsewhere u))) events in
+    ap (λ (l : TenantLine). after_alone (newcomer l) (own_events t calls)) terms ∙ ap (after_alone (newcomer (terms_in elsewhere u))) events in
     let all : view t w ≡ view u x = one.1 ∙ same_after ∙ sym two.1 in
     record {
       answers = one.0 ∙ same_answers ∙ sym two.0;

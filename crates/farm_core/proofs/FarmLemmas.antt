@@ -80,7 +80,7 @@ pub record IsRead (w : World) (t : ℕ) (line : TenantLine) (account : Account) 
   pub few : line.entries ≤ 1000000
 
 pub read_of : (w : World) (t : ℕ) (capacity : ℕ) (line : TenantLine) (account : Account) (out : ℕ) → IsFarm w capacity → list_all are_terms w.config.tenants ≡ true → t < length w.config.tenants
-  → line ≡ get_or w.config.tenants t line → account ≡ get_or w.accounts t account → out ≡ length (filter (λ (job : JobData). is_out job.phase) (jobs_of t w.rows)) → IsRead w t line account out
+    → line ≡ get_or w.config.tenants t line → account ≡ get_or w.accounts t account → out ≡ length (filter (λ (job : JobData). is_out job.phase) (jobs_of t w.rows)) → IsRead w t line account out
 unfolding view kept
 read_of w t capacity line account out farm terms l line_is account_is out_is =
     let it : IsAccount (view t w) account = rw account_is (farm.each t account (omega (arith, farm.count))) in
@@ -134,7 +134,7 @@ view_noted_other w u t event differ =
 
 -- a call that leaves an entry and changes nothing else follows
 pub follows_noted : (w : World) (t : ℕ) (event : Event) (answer : Reply) → t < length w.accounts → step (view t w) event ≡ noted (view t w) answer → is_noted (Replied answer) ≡ true
-  → Follows w t event (Replied answer) (noted_in w t event)
+    → Follows w t event (Replied answer) (noted_in w t event)
 unfolding noted_in
 follows_noted w t event answer l steps noted_is = record {
   answer_is = sym (ap (λ (s : Step). s.answer) steps);
@@ -181,7 +181,7 @@ farm_noted w t event old new farm l room reserved = record {
       ⊎_elim
       (λ (same : u ≡ t).
       let own : IsAccount (record (view t w) { used = (view t w).used + 1 }) (let account = get_or w.accounts t (account_of no_terms) in record account { used = account.used + 1 }) =
-        account_noted (view t w) (get_or w.accounts t (account_of no_terms)) (farm.each t (account_of no_terms) l) room in
+      account_noted (view t w) (get_or w.accounts t (account_of no_terms)) (farm.each t (account_of no_terms) l) room in
       rw (same, read_noted w t event d l, view_noted w t event l) own)
       (λ (other : u ≡ t → ⊥). rw (read_noted_other w u t event d other, view_noted_other w u t event other) (farm.each u d (omega (arith, length_noted w t event))))
       (cases_eq u t);

@@ -71,15 +71,19 @@ put_funded g h next n new [] named same one all = tt
 put_funded g h next n new (job ∷ jobs) named same one all =
     cond_both (job.seq == n) (new ∷ jobs) (job ∷ put_job n new jobs) (AreFunded h next)
     (λ e.
-    let eq : job.seq ≡ n = eqb-true job.seq n e in
-    ( one, omega (arith, all.1),
+    let eq : job.seq ≡ n = eqb-true job.seq n e in (
+      one,
+      omega (arith, all.1),
       (λ i. all.2 (subst (λ x. IsNumberOf x jobs) (named ∙ sym eq) i)),
-      same_given g h next jobs (λ s i. same s (λ (is : s ≡ n). all.2 (subst (λ x. IsNumberOf x jobs) (is ∙ sym eq) i))) all.3 ))
+      same_given g h next jobs (λ s i. same s (λ (is : s ≡ n). all.2 (subst (λ x. IsNumberOf x jobs) (is ∙ sym eq) i))) all.3,
+    ))
     (λ e.
-    let ne : job.seq ≢ n = λ (is : job.seq ≡ n). both_ways (job.seq == n) e (eq-eqb job.seq n is) in
-    ( subst (λ x. FundedIn job.phase job.plan job.nodes job.left x) (same job.seq ne) all.0, all.1,
+    let ne : job.seq ≢ n = λ (is : job.seq ≡ n). both_ways (job.seq == n) e (eq-eqb job.seq n is) in (
+      subst (λ x. FundedIn job.phase job.plan job.nodes job.left x) (same job.seq ne) all.0,
+      all.1,
       (λ i. all.2 (number_put job.seq n new jobs named i)),
-      put_funded g h next n new jobs named same one all.3 ))
+      put_funded g h next n new jobs named same one all.3,
+    ))
 
 number_drop : (s n : ℕ) (jobs : List JobData) → IsNumberOf s (drop_job n jobs) → IsNumberOf s jobs
 number_drop s n [] h = h
@@ -103,10 +107,12 @@ number_push s new (job ∷ jobs) h =
 
 push_funded : (g h : ℕ → ℕ) (next : ℕ) (new : JobData) (jobs : List JobData) → new.seq ≡ next → ((s : ℕ) → s < next → g s ≡ h s) → IsFunded h new → AreFunded g next jobs → AreFunded h (next + 1) (jobs ++ new ∷ [])
 push_funded g h next new [] named same one all = (one, omega arith, (λ i. i), tt)
-push_funded g h next new (job ∷ jobs) named same one all =
-    ( subst (λ x. FundedIn job.phase job.plan job.nodes job.left x) (same job.seq all.1) all.0, omega (arith, all.1),
-      (λ i. ⊎_elim (λ (k : IsNumberOf job.seq jobs). all.2 k) (λ (k : new.seq ≡ job.seq). absurd (omega (arith, all.1))) (number_push job.seq new jobs i)),
-      push_funded g h next new jobs named same one all.3 )
+push_funded g h next new (job ∷ jobs) named same one all = (
+  subst (λ x. FundedIn job.phase job.plan job.nodes job.left x) (same job.seq all.1) all.0,
+  omega (arith, all.1),
+  (λ i. ⊎_elim (λ (k : IsNumberOf job.seq jobs). all.2 k) (λ (k : new.seq ≡ job.seq). absurd (omega (arith, all.1))) (number_push job.seq new jobs i)),
+  push_funded g h next new jobs named same one all.3,
+)
 
 found_funded : (g : ℕ → ℕ) (next s : ℕ) (jobs : List JobData) (job : JobData) → find_job s jobs ≡ Some job → AreFunded g next jobs → IsFunded g job × (job.seq ≡ s) × (job.seq < next)
 found_funded g next s [] job found all = absurd (cc)
@@ -135,7 +141,7 @@ stays g e t answer used none kept = record {
 
 -- the same with one job changed
 changes : (g : ℕ → ℕ) (e : Event) (t : Tenant) (answer : Answer) (used spent : ℕ) (new : JobData) → ((s : ℕ) → s ≢ new.seq → given_by s e answer ≡ 0) → new.seq < t.next
-  → IsFunded (Given g e answer) new → IsKept g t → Keeps g e (record { answer = answer; after = record t { used = used; spent = spent; jobs = put_job new.seq new t.jobs } })
+    → IsFunded (Given g e answer) new → IsKept g t → Keeps g e (record { answer = answer; after = record t { used = used; spent = spent; jobs = put_job new.seq new t.jobs } })
 changes g e t answer used spent new none below one kept = record {
   jobs = put_funded g (Given g e answer) t.next new.seq new t.jobs refl (λ s other. omega (arith, none s other)) one kept.jobs;
   later = λ s after. omega (arith, none s (λ (i : s ≡ new.seq). absurd (omega arith)), kept.later s after);
@@ -214,12 +220,12 @@ fund_keeps g t s quanta job it kept =
     (λ _. plain reply.NoAmount (λ n. refl))))
 
 about_found : (g : ℕ → ℕ) (e : Event) (t : Tenant) (s : ℕ) (found : Option JobData) (f : JobData → Step) → find_job s t.jobs ≡ found → ((n : ℕ) → given_by n e (Replied reply.NoUnknown) ≡ 0) → IsKept g t
-  → ((job : JobData) → IsOf g t s job → Keeps g e (f job)) → Keeps g e (about t found f)
+    → ((job : JobData) → IsOf g t s job → Keeps g e (f job)) → Keeps g e (about t found f)
 about_found g e t s None f is none kept each = stays g e t (Replied reply.NoUnknown) (t.used + 1) none kept
 about_found g e t s (Some job) f is none kept each = each job (found_funded g t.next s t.jobs job is kept.jobs)
 
 command_keeps : (g : ℕ → ℕ) (e : Event) (t : Tenant) (s : ℕ) (f : JobData → Step) → ((n : ℕ) → given_by n e (Replied reply.NoUnknown) ≡ 0) → ((n : ℕ) → given_by n e (Replied reply.NoRoom) ≡ 0) → IsKept g t
-  → ((job : JobData) → IsOf g t s job → Keeps g e (f job)) → Keeps g e (commanded t (about t (find_job s t.jobs) f))
+    → ((job : JobData) → IsOf g t s job → Keeps g e (f job)) → Keeps g e (commanded t (about t (find_job s t.jobs) f))
 command_keeps g e t s f none room kept each =
     cond_both (has_room 1 t) (about t (find_job s t.jobs) f) (unnoted t (Replied reply.NoRoom)) (Keeps g e)
     (λ _. about_found g e t s (find_job s t.jobs) f refl none kept each) (λ _. stays g e t (Replied reply.NoRoom) t.used room kept)
@@ -313,15 +319,15 @@ turn_of slice ran job may =
 
 -- the job after a turn, by where it stood
 back_funded : (phase : Phase) (job : JobData) (ran given : ℕ) → may_have_run ran job phase ≡ true → FundedIn phase job.plan job.nodes job.left given
-  → let left = job.left - ran in let stands = phase_after phase (is_closed job.plan (job.nodes + ran)) left in
+    → let left = job.left - ran in let stands = phase_after phase (is_closed job.plan (job.nodes + ran)) left in
     FundedIn stands job.plan (job.nodes + ran) (cond (is_here stands) left 0) given
 back_funded Waiting job ran given may h = absurd (cc)
 back_funded (Out slice) job ran given may h =
     let turn = turn_of slice ran job may in
     let unclosed : Unclosed job.plan (job.nodes + ran) = λ j l.
-        ⊎_elim (λ (before : j < job.nodes). h.1 j before)
-        (λ (after : job.nodes ≤ j). let at : job.nodes + (j - job.nodes) ≡ j = omega arith in subst (λ n. is_closed job.plan n ≡ false) at (turn.1 (j - job.nodes) (omega arith)))
-        (cases_lt j job.nodes) in
+    ⊎_elim (λ (before : j < job.nodes). h.1 j before)
+    (λ (after : job.nodes ≤ j). let at : job.nodes + (j - job.nodes) ≡ j = omega arith in subst (λ n. is_closed job.plan n ≡ false) at (turn.1 (j - job.nodes) (omega arith)))
+    (cases_lt j job.nodes) in
     let left : ℕ = job.left - ran in
     let Good : Phase → Type 0 = λ stands. FundedIn stands job.plan (job.nodes + ran) (cond (is_here stands) left 0) given in
     cond_both (is_closed job.plan (job.nodes + ran)) Closed (cond (left == 0) Dry Waiting) Good
@@ -343,7 +349,7 @@ gave_keeps g t s ran (Some job) is kept =
     let s1 : Step = record { answer = told; after = record t { spent = t.spent + ran; used = t.used + 1; jobs = put_job new.seq new t.jobs } } in
     cond_both (may_have_run ran job job.phase) s1 (unnoted t NoTurn) (Keeps g (Give s ran))
     (λ may. changes g (Give s ran) t told (t.used + 1) (t.spent + ran) new (λ n ne. refl) it.2
-      (funded_same g (Given g (Give s ran) told) new (omega arith) (back_funded job.phase job ran (g job.seq) may it.0)) kept)
+    (funded_same g (Given g (Give s ran) told) new (omega arith) (back_funded job.phase job ran (g job.seq) may it.0)) kept)
     (λ _. stays g (Give s ran) t NoTurn t.used (λ n. refl) kept)
 
 step_keeps : (g : ℕ → ℕ) (t : Tenant) (e : Event) → IsKept g t → Keeps g e (step t e)

@@ -21,17 +21,17 @@ Knows all w = (t : ℕ) → AreKnown (WasMade all t) (view t w).jobs
 makes : (all : List Call) (t : Tenant) (c : Call) → IsAmong all c → c.answer ≡ (step t c.event).answer → Makes (WasMade all c.tenant) t c.event
 makes all t c among same plan quanta s event answer =
     let whole : c ≡ record { tenant = c.tenant; event = Submit plan quanta; answer = Replied (reply.Job s) } =
-      ap (λ (e : Event). let d : Call = record { tenant = c.tenant; event = e; answer = c.answer } in d) event
-      ∙ ap (λ (a : Answer). let d : Call = record { tenant = c.tenant; event = Submit plan quanta; answer = a } in d) (same ∙ answer) in
+    ap (λ (e : Event). let d : Call = record { tenant = c.tenant; event = e; answer = c.answer } in d) event
+    ∙ ap (λ (a : Answer). let d : Call = record { tenant = c.tenant; event = Submit plan quanta; answer = a } in d) (same ∙ answer) in
     (quanta, (among.0, among.1 ∙ ap Some whole))
 
 good_of : (all : List Call) (old mid : World) (c : Call) → IsAmong all c → IsPlanned c.event → Knows all old → Follows old c.tenant c.event c.answer mid
-  → IsGood (WasMade all c.tenant) (step (view c.tenant old) c.event)
+    → IsGood (WasMade all c.tenant) (step (view c.tenant old) c.event)
 good_of all old mid c among ok knows h =
     step_good (WasMade all c.tenant) (view c.tenant old) c.event (knows c.tenant) ok (makes all (view c.tenant old) c among h.answer_is)
 
 stays_known : (all : List Call) (old mid : World) (c : Call) → Knows all old → Follows old c.tenant c.event c.answer mid
-  → IsGood (WasMade all c.tenant) (step (view c.tenant old) c.event) → Knows all mid
+    → IsGood (WasMade all c.tenant) (step (view c.tenant old) c.event) → Knows all mid
 stays_known all old mid c knows h good t =
     ⊎_elim
     (λ (same : t ≡ c.tenant). rw same (subst (λ (v : Tenant). AreKnown (WasMade all c.tenant) v.jobs) (sym h.own) good.jobs))
@@ -39,7 +39,7 @@ stays_known all old mid c knows h good t =
     (cases_eq t c.tenant)
 
 leads_true : (all : List Call) (old new : World) (calls : List Call) → ((c : Call) → IsAmong calls c → IsAmong all c) → ((c : Call) → IsAmong all c → IsPlanned c.event)
-  → Knows all old → Leads old calls new → (k : ℕ) (c : Call) → slice_get calls k ≡ Some c → IsTrueAnswer (WasMade all c.tenant) c.answer
+    → Knows all old → Leads old calls new → (k : ℕ) (c : Call) → slice_get calls k ≡ Some c → IsTrueAnswer (WasMade all c.tenant) c.answer
 leads_true all old new [] within planned knows run k c there = absurd (cc)
 leads_true all old new (d ∷ calls) within planned knows run zero c there =
     let same : d ≡ c = cc in

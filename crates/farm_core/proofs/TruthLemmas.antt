@@ -100,7 +100,7 @@ unnoted_good made t answer all h = record { answer = h; jobs = all }
 
 -- a submit that makes a job makes it known
 submitted_good : (made : Made) (t : Tenant) (plan : Plan) (quanta : ℕ) → AreKnown made t.jobs → IsTrue (is_project plan.project)
-  → ((submitted t plan quanta).answer ≡ Replied (reply.Job t.next) → made t.next plan) → IsGood made (submitted t plan quanta)
+    → ((submitted t plan quanta).answer ≡ Replied (reply.Job t.next) → made t.next plan) → IsGood made (submitted t plan quanta)
 unfolding submitted
 submitted_good made t plan quanta all ok new =
     let job : JobData = fresh_job t plan quanta in
@@ -145,7 +145,7 @@ forgotten_good made t job all =
     (λ _. plain_good made t reply.NoBusy all tt)
 
 about_good : (made : Made) (t : Tenant) (found : Option JobData) (f : JobData → Step) → AreKnown made t.jobs → IsKnownIf made found
-  → ((job : JobData) → IsKnown made job → IsGood made (f job)) → IsGood made (about t found f)
+    → ((job : JobData) → IsKnown made job → IsGood made (f job)) → IsGood made (about t found f)
 about_good made t None f all known each = plain_good made t reply.NoUnknown all tt
 about_good made t (Some job) f all known each = each job known
 

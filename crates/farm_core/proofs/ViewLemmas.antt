@@ -42,12 +42,12 @@ push_other u t new [] differ = grind (arith, nat_tests)
 push_other u t new (r ∷ rows) differ = grind (arith, nat_tests, push_other u t new rows differ)
 
 pub own_entry : (t : ℕ) (event : Event) (noted : Bool) (journal : List Entry) → let es : List Entry = cond {A = List Entry} noted (record { tenant = t; event = event } ∷ []) [] in
-  length (entries_of t (journal ++ es)) ≡ length (entries_of t journal) + length es
+    length (entries_of t (journal ++ es)) ≡ length (entries_of t journal) + length es
 own_entry t event true journal = grind (arith, nat_tests, filter-append, length-append)
 own_entry t event false journal = grind (arith, nat_tests, filter-append, length-append)
 
 pub other_entry : (u t : ℕ) (event : Event) (noted : Bool) (journal : List Entry) → u ≢ t → let es : List Entry = cond {A = List Entry} noted (record { tenant = t; event = event } ∷ []) [] in
-  entries_of u (journal ++ es) ≡ entries_of u journal
+    entries_of u (journal ++ es) ≡ entries_of u journal
 other_entry u t event true journal differ = grind (arith, nat_tests, common_steps, filter-append)
 other_entry u t event false journal differ = grind (arith, nat_tests, common_steps, filter-append)
 
@@ -65,7 +65,7 @@ set_other (y ∷ xs) (suc u) (suc t) x d differ = set_other xs u t x d (λ e. di
 
 -- what tenant t sees after a move of its own
 pub moved_own : (w : World) (t : ℕ) (rows : List Row) (account : Account) (event : Event) (answer : Answer) → t < length w.accounts
-  → view t (moved w t rows account (entry_of t event answer))
+    → view t (moved w t rows account (entry_of t event answer))
     ≡ record { terms = terms_in w.config t; spent = account.book.spent; next = account.next; used = length (entries_of t w.journal) + length (entry_of t event answer); jobs = jobs_of t rows }
 unfolding view
 moved_own w t rows account event answer l =
@@ -74,7 +74,7 @@ moved_own w t rows account event answer l =
     rw (account_is, used_is) refl
 
 pub moved_other : (w : World) (u t : ℕ) (rows : List Row) (account : Account) (event : Event) (answer : Answer) → u ≢ t → jobs_of u rows ≡ jobs_of u w.rows
-  → view u (moved w t rows account (entry_of t event answer)) ≡ view u w
+    → view u (moved w t rows account (entry_of t event answer)) ≡ view u w
 unfolding view
 moved_other w u t rows account event answer differ same =
     let account_is = set_other w.accounts u t account (account_of no_terms) differ in
@@ -83,11 +83,11 @@ moved_other w u t rows account event answer differ same =
 
 -- a call follows where its answer and what its tenant sees are those of the step
 pub follows_from : (w : World) (t : ℕ) (rows : List Row) (account : Account) (event : Event) (answer : Answer) → t < length w.accounts
-  → answer ≡ (step (view t w) event).answer
-  → (step (view t w) event).after
+    → answer ≡ (step (view t w) event).answer
+    → (step (view t w) event).after
     ≡ record { terms = terms_in w.config t; spent = account.book.spent; next = account.next; used = length (entries_of t w.journal) + length (entry_of t event answer); jobs = jobs_of t rows }
-  → ((u : ℕ) → u ≢ t → jobs_of u rows ≡ jobs_of u w.rows)
-  → Follows w t event answer (moved w t rows account (entry_of t event answer))
+    → ((u : ℕ) → u ≢ t → jobs_of u rows ≡ jobs_of u w.rows)
+    → Follows w t event answer (moved w t rows account (entry_of t event answer))
 follows_from w t rows account event answer l told after others = record {
   answer_is = told;
   own = moved_own w t rows account event answer l ∙ sym after;

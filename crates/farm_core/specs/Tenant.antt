@@ -61,7 +61,8 @@ line_of job = record {
   nodes = job.nodes;
   left = job.left;
   best = option_map (makespan job.plan.project) (best_after job.plan job.nodes);
-  verdict = verdict_after job.plan job.nodes }
+  verdict = verdict_after job.plan job.nodes;
+}
 
 -- how many nodes a turn of it runs: as many as the slice and its quanta allow, or until its search is over
 unfoldable pub nodes_of_turn : ℕ → JobData → ℕ

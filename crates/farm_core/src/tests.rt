@@ -13,7 +13,9 @@ fn names(rt: HostRuntime) -> Result<(), Fail> {
         assert!(rt; name.as_bytes() == good.as_bytes());
     }
     let too_long = "abcdefghijklmnopqrstuvwxyz_-01234";
-    for bad in ["", "9a", "_a", "-a", "A", "aB", "a b", "a.b", "a\u{e9}", too_long] {
+    for bad in [
+        "", "9a", "_a", "-a", "A", "aB", "a b", "a.b", "a\u{e9}", too_long,
+    ] {
         assert!(rt; Name::new(bad.as_bytes()).is_none());
     }
     Ok(())

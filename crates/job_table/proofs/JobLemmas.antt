@@ -40,7 +40,7 @@ unfolding best_after
 best_at_start plan ok = none_at_start plan.project plan.kind (kept plan.project ok).some
 
 pub sound_fresh : (plan : Plan) (best : Best) → IsTrue (is_project plan.project) → is_closed plan 0 ≡ false → best.found ≡ false → HasSize (size plan.project) best.schedule
-  → IsSound plan Waiting 0 best Going true
+    → IsSound plan Waiting 0 best Going true
 unfolding verdict_after
 sound_fresh plan best ok going none sized = record {
   planned = ok;

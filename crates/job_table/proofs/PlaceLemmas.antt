@@ -13,7 +13,7 @@ pub record IsFoundAt (t s : ℕ) (rows : List Row) (i : ℕ) (d : Row) : Type 0 
   pub changes : (new : JobData) → put_row t s new rows ≡ set rows i (record { tenant = t; job = new })
 
 found_at : (t s : ℕ) (rows : List Row) (i : ℕ) (d : Row) → i < length rows → is_row t s (get_or rows i d) ≡ true → ((n : ℕ) → n < i → is_row t s (get_or rows n d) ≡ false)
-  → find_row t s rows ≡ Some (get_or rows i d).job
+    → find_row t s rows ≡ Some (get_or rows i d).job
 found_at t s [] i d lt here before = absurd (omega arith)
 found_at t s (r ∷ rs) zero d lt here before = rw here
 found_at t s (r ∷ rs) (suc i) d lt here before =
@@ -21,7 +21,7 @@ found_at t s (r ∷ rs) (suc i) d lt here before =
     rw not_first (found_at t s rs i d (omega arith) here (λ n lt'. before (suc n) (omega arith)))
 
 changed_at : (t s : ℕ) (rows : List Row) (i : ℕ) (d : Row) (new : JobData) → i < length rows → is_row t s (get_or rows i d) ≡ true → ((n : ℕ) → n < i → is_row t s (get_or rows n d) ≡ false)
-  → put_row t s new rows ≡ set rows i (record { tenant = t; job = new })
+    → put_row t s new rows ≡ set rows i (record { tenant = t; job = new })
 changed_at t s [] i d new lt here before = absurd (omega arith)
 changed_at t s (r ∷ rs) zero d new lt here before = rw here
 changed_at t s (r ∷ rs) (suc i) d new lt here before =
@@ -63,7 +63,7 @@ row_at t s rows i row placed here =
     }
 
 dropped_at : (t s : ℕ) (rows : List Row) (i : ℕ) (d : Row) → i < length rows → is_row t s (get_or rows i d) ≡ true → ((n : ℕ) → n < i → is_row t s (get_or rows n d) ≡ false)
-  → take i rows ++ drop (i + 1) rows ≡ drop_row t s rows
+    → take i rows ++ drop (i + 1) rows ≡ drop_row t s rows
 dropped_at t s [] i d lt here before = absurd (omega arith)
 dropped_at t s (r ∷ rs) zero d lt here before = rw here refl
 dropped_at t s (r ∷ rs) (suc i) d lt here before =

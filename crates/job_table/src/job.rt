@@ -121,7 +121,6 @@ impl<J: Strategy> Job<J> {
             search: Some(search),
         })
     }
-
 }
 
 impl<J> Job<J> {

@@ -81,10 +81,6 @@ impl Drawn {
         }
         let renewable = self.list(alloc, kinds.0, 2, 4)?;
         let nonrenewable = self.list(alloc, kinds.1, 0, size.saturating_mul(3))?;
-        Ok(Project::new(
-            Sequence::from(activities),
-            renewable,
-            nonrenewable,
-        ))
+        Ok(Project::new(Sequence::from(activities), renewable, nonrenewable))
     }
 }

@@ -60,13 +60,7 @@ impl Shown {
     }
 
     /// Makes the search of a plan and runs it.
-    fn add_run(
-        &mut self,
-        alloc: Global,
-        plan: Plan,
-        lease: Lease,
-        most: u32,
-    ) -> Result<(), Fail>
+    fn add_run(&mut self, alloc: Global, plan: Plan, lease: Lease, most: u32) -> Result<(), Fail>
         requires { IsEmpty lease }
     {
         match plan.kind {

@@ -21,6 +21,6 @@ returns-clause-sent g c =
       going = c.in-Some-send.ensures.going;
       search = c.in-Some-send.ensures.search ∙ ap (λ n. meaning_of n row.job) it.tenant;
       after = ap (λ (r : Row). set c.self.inside.rows.items c.in-Some.at r) c.in-Some-send.ensures.sent
-        ∙ ap (λ (rs : List Row). set rs c.in-Some.at (record row { job = record row.job { phase = Out c.args.slice } })) c.self.view_is
-        ∙ it.changes (record row.job { phase = Out c.args.slice });
+          ∙ ap (λ (rs : List Row). set rs c.in-Some.at (record row { job = record row.job { phase = Out c.args.slice } })) c.self.view_is
+          ∙ it.changes (record row.job { phase = Out c.args.slice });
     }

@@ -23,8 +23,8 @@ returns-then-not-is_own-clause-strange g c job found own =
     let same : Some row.job ≡ Some job = sym it.found ∙ found in
     let eq : job ≡ row.job = cc in
     let mine : IsOwn row.tenant c.args.slice c.args.ran (g.J.Strategy.meaning c.args.search) row.job =
-      subst (λ (n : ℕ). IsOwn n c.args.slice c.args.ran (g.J.Strategy.meaning c.args.search) row.job) (sym it.tenant)
-      (subst (λ (j : JobData). IsOwn c.args.tenant c.args.slice c.args.ran (g.J.Strategy.meaning c.args.search) j) eq own) in
+    subst (λ (n : ℕ). IsOwn n c.args.slice c.args.ran (g.J.Strategy.meaning c.args.search) row.job) (sym it.tenant)
+    (subst (λ (j : JobData). IsOwn c.args.tenant c.args.slice c.args.ran (g.J.Strategy.meaning c.args.search) j) eq own) in
     let told = c.is_own.ensures.1 mine in
     absurd (cc)
 
