@@ -121,6 +121,13 @@ impl<J> JobTable<J> {
         }
     }
 
+    /// How many jobs there are, of all tenants.
+    pub fn len(&self) -> usize
+        ensures { result ≡ length self.now }
+    {
+        self.rows.len()
+    }
+
     /// Adds a tenant's job at the end, or hands it back where there is no memory for it.
     pub fn insert(&mut self, tenant: u32, job: Job<J>) -> Result<(), Job<J>>
         ensures added { OnOk result (self.new ≡ self.old ++ record { tenant = tenant; job = job } ∷ []) }
