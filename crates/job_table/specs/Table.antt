@@ -64,3 +64,7 @@ drop_row t s (row ∷ rows) = cond (is_row t s row) rows (row ∷ drop_row t s r
 -- a tenant's jobs, in the order in which they came
 abbrev pub jobs_of : ℕ → List Row → List JobData
 jobs_of t rows = map (λ (row : Row). row.job) (filter (λ row. row.tenant == t) rows)
+
+-- the tenants and the numbers of the jobs that wait, in the order in which they came
+abbrev pub waiting_keys : List Row → List (ℕ × ℕ)
+waiting_keys rows = map (λ (row : Row). (row.tenant, row.job.seq)) (filter (λ row. is_waiting row.job.phase) rows)

@@ -1,8 +1,8 @@
 //! The table of all tenants' jobs.
-ghost use Rattle.std.specs.Prelude.{◌≡◌, ◌↔◌, ◌+◌, ◌≤◌, IsTrue, IsFalse, true, if◌then◌else◌, [], ◌∷◌, ◌++◌, Some, None, IfSome, OnSome, IfNone, IfErr, OnOk, OnErr, false, length, filter, position};
+ghost use Rattle.std.specs.Prelude.{◌≡◌, ◌↔◌, ◌+◌, ◌≤◌, IsTrue, IsFalse, true, if◌then◌else◌, [], ◌∷◌, ◌++◌, Some, None, IfSome, OnSome, IfNone, IfErr, OnOk, OnErr, false, length, filter, position, slice_get};
 ghost use Rattle.std.specs.Option.{option_copied};
 ghost use Rattle.strategy.specs.Outcome.{is_closed};
-ghost use Rattle.job_table.specs.Table.{is_row, is_out, find_row, drop_row, jobs_of};
+ghost use Rattle.job_table.specs.Table.{is_row, is_waiting, is_out, find_row, drop_row, jobs_of, waiting_keys};
 ghost use Rattle.job_table.specs.Job.{meaning_of, given_up, back, is_here, IsOwn, IsSent, IsBack, IsStrange, IsFunded, IsGivenUp};
 
 use crate::job::is_here;
@@ -93,6 +93,13 @@ impl<J: Strategy> Row<J> {
     }
 }
 
+/// Whether a turn of a job in this phase may be taken.
+fn is_waiting(phase: Phase) -> bool
+    ensures { result ≡ is_waiting phase }
+{
+    phase == Phase::Waiting
+}
+
 /// Whether a turn of a job in this phase is out.
 fn is_out(phase: Phase) -> bool
     ensures { result ≡ is_out phase }
@@ -177,6 +184,30 @@ impl<J> JobTable<J> {
             }
         }
         count
+    }
+
+    /// The tenant and the number of the i-th waiting job, from 0. The waiting jobs come in the order of the table, each once;
+    /// `None` from their number on. Takes no memory.
+    pub fn waiting(&self, i: usize) -> Option<(u32, u64)>
+        ensures { result ≡ slice_get (waiting_keys self.now) i }
+    {
+        let mut before = i;
+        for row in self.rows.iter() {
+            if is_waiting(row.job.phase()) {
+                if before == 0 {
+                    return Some((row.tenant, row.job.seq()));
+                }
+                before -= 1;
+            }
+        }
+        None
+    }
+
+    /// The first of the waiting jobs.
+    pub fn first_waiting(&self) -> Option<(u32, u64)>
+        ensures { result ≡ slice_get (waiting_keys self.now) 0 }
+    {
+        self.waiting(0)
     }
 
     /// Takes a tenant's job of that number out of the table. The others keep their order.
