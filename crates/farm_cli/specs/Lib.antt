@@ -1,1 +1,3 @@
 pub mod Summary
+pub mod ConfigText
+pub mod Config

@@ -2,13 +2,16 @@
 #![tactic(auto)]
 
 mod arguments;
+mod config;
 mod input;
+pub mod laws;
 mod program;
 mod summary;
 #[cfg(test)]
 mod tests;
 
 pub use arguments::{Task, farm_command, parse_words};
+pub use config::{ConfigFault, Key, read_config};
 pub use input::{MOST_BYTES, read_front};
 pub use program::{run, run_words};
 pub use summary::{Summary, summarize};

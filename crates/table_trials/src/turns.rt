@@ -1,0 +1,82 @@
+//! What is told of a job, and turns of it.
+ghost use Rattle.std.specs.Prelude.{◌≡◌, false};
+
+use job_table::{JobTable, Phase};
+use strategy::{Strategy, Verdict};
+
+/// Where a job stands, how many nodes it has run, how many quanta it holds, and what it has found.
+#[derive(Clone, Copy, Debug, PartialEq, Eq)]
+pub(crate) struct Line {
+    pub(crate) phase: Phase,
+    pub(crate) nodes: u64,
+    pub(crate) left: u64,
+    pub(crate) best: Option<u32>,
+    pub(crate) verdict: Verdict,
+}
+
+/// A new job with 6 quanta.
+pub(crate) const FRESH: Line = Line {
+    phase: Phase::Waiting,
+    nodes: 0,
+    left: 6,
+    best: None,
+    verdict: Verdict::Going,
+};
+
+/// The line of a tenant's job of that number.
+pub(crate) fn line_of<J>(table: &JobTable<J>, tenant: u32, seq: u64) -> Option<Line> {
+    let job = table.find(tenant, seq)?;
+    Some(Line {
+        phase: job.phase(),
+        nodes: job.nodes(),
+        left: job.left(),
+        best: job.makespan(),
+        verdict: job.verdict(),
+    })
+}
+
+/// Runs a search for at most so many nodes, while it holds quanta and is not over. Tells how many it ran.
+pub(crate) fn run<S: Strategy>(search: &mut S, most: u64) -> u64
+    requires { (S.meaning search.old).taken ≡ false }
+    ensures { (S.meaning search.new).taken ≡ false }
+{
+    let before = search.nodes();
+    for _ in 0..most {
+        if search.closed() || search.left() == 0 {
+            break;
+        }
+        search.advance();
+    }
+    search.nodes().saturating_sub(before)
+}
+
+/// Takes a turn of a job, runs it and gives it back. Tells how many nodes ran; `None` where the job was not sent.
+pub(crate) fn turn<J: Strategy>(
+    table: &mut JobTable<J>,
+    tenant: u32,
+    seq: u64,
+    slice: u64,
+) -> Option<u64> {
+    let Some(mut search) = table.send(tenant, seq, slice) else {
+        return None;
+    };
+    let ran = run(&mut search, slice);
+    match table.take_back(tenant, seq, slice, ran, search) {
+        Ok(()) => Some(ran),
+        Err(_) => None,
+    }
+}
+
+/// Draws some more quanta for a job. False where the table does not do so.
+pub(crate) fn fund<J: Strategy>(
+    table: &mut JobTable<J>,
+    tenant: u32,
+    seq: u64,
+    quanta: u64,
+) -> bool {
+    let Some(job) = table.find(tenant, seq) else {
+        return false;
+    };
+    let is_small = job.nodes() < 1_000 && job.left() < 1_000 && quanta < 1_000;
+    is_small && table.fund(tenant, seq, quanta)
+}
