@@ -101,7 +101,8 @@ impl<J: Strategy> Job<J> {
         mut search: J,
     ) -> Option<Job<J>>
         requires { quanta ≤ 1000000000000 }
-        ensures { IfSome result (λ job. job ≡ record { seq = seq; plan = plan; phase = Phase.Waiting; nodes = 0; left = quanta }) }
+        ensures made { IfSome result (λ job. job ≡ record { seq = seq; plan = plan; phase = Phase.Waiting; nodes = 0; left = quanta }) }
+        ensures own { OnSome result (J.meaning search ≡ record { tenant = tenant; plan = plan; nodes = 0; left = 0; taken = false }) }
     {
         if !agrees(&search, tenant, &plan, 0, 0) {
             return None;
