@@ -1,0 +1,2 @@
+//! Lines byte for byte.
+mod replies;
