@@ -13,10 +13,11 @@ fn compare<J>(rt: &impl Abort, table: &JobTable<J>, tenant: u32, line: Line) {
     assert_eq!(rt; line_of(table, tenant, 1), Some(line));
 }
 
-/// Two jobs of the same number, of tenants 0 and 1, are apart; the first one is sent, and the other one is removed.
+/// Two jobs of the same number, of tenants 0 and 1, are apart; the first one is sent, and the other one runs dry, is funded and
+/// is removed.
 fn part_two<J: Strategy>(rt: &impl Abort, table: &mut JobTable<J>) {
     compare(rt, table, 0, FRESH);
-    compare(rt, table, 1, Line { left: 5, ..FRESH });
+    compare(rt, table, 1, Line { left: 2, ..FRESH });
     assert_eq!(rt; line_of(table, 2, 1), None);
     assert_eq!(rt;
         [table.count_of(0), table.count_of(1), table.count_of(2)],
@@ -40,6 +41,20 @@ fn part_two<J: Strategy>(rt: &impl Abort, table: &mut JobTable<J>) {
         [Some((1, 1)), None]
     );
     assert_eq!(rt; [table.out_of(0), table.out_of(1)], [1, 0]);
+    assert_eq!(rt; turn(table, 1, 1, 10), Some(2));
+    assert_eq!(rt; table.first_waiting(), None);
+    assert!(rt; fund(table, 1, 1, 3));
+    compare(
+        rt,
+        table,
+        1,
+        Line {
+            nodes: 2,
+            left: 3,
+            ..FRESH
+        },
+    );
+    assert_eq!(rt; table.first_waiting(), Some((1, 1)));
     assert!(rt; table.remove(1, 1).is_some() && table.remove(1, 1).is_none());
     assert_eq!(rt;
         [table.len(), table.count_of(0), table.count_of(1)],
@@ -58,7 +73,7 @@ fn jobs_of_two_tenants(rt: HostRuntime) -> Result<(), Fail> {
     insert(alloc, &mut table, 0, 1, 6, diamond)?;
     let search = search_of(alloc, CHAIN, other_till.lease(&mut other_desk)?)?;
     let chain: Box<dyn Strategy> = Box::new(alloc, search)?;
-    insert(alloc, &mut table, 1, 1, 5, chain)?;
+    insert(alloc, &mut table, 1, 1, 2, chain)?;
     part_two(&rt, &mut table);
     Ok(())
 }
@@ -173,6 +188,12 @@ fn cancels_at_every_phase(rt: HostRuntime) -> Result<(), Fail> {
         let boxed: Box<dyn Strategy> = Box::new(alloc, search)?;
         insert(alloc, &mut table, 0, 1, case.quanta, boxed)?;
         cancel_in(&rt, &mut table, case);
+        let words = till.words(&mut desk);
+        assert_eq!(rt;
+            [words.pool, words.spent, words.granted],
+            case.words,
+            "{case:?}"
+        );
         drop(table);
         let words = till.words(&mut desk);
         assert_eq!(rt;
