@@ -3,7 +3,6 @@ ghost use Rattle.std.specs.Prelude.{◌≤◌};
 ghost use Rattle.quanta_till.specs.Lease.{IsEmpty};
 
 use job_table::{Job, JobTable};
-use mrcpsp::Project;
 use plain_search::PlainSearch;
 use psplib_mm::read;
 use quanta_till::Lease;
@@ -49,19 +48,11 @@ h
 RESOURCEAVAILABILITIES:
 ";
 
-/// The project of a text.
-fn project_of(alloc: Global, text: &str) -> Result<Project, Fail> {
-    match read(alloc, text.as_bytes()) {
-        Ok(project) => Ok(project),
-        Err(_) => Err(Fail::from("no project")),
-    }
-}
-
 /// The search of a project's precedence tree, which has run nothing.
 pub(crate) fn search_of(alloc: Global, text: &str, lease: Lease) -> Result<PlainSearch, Fail>
     requires { IsEmpty lease }
 {
-    let project = project_of(alloc, text)?;
+    let project = read(alloc, text.as_bytes())?;
     let plan = Plan {
         project,
         kind: Kind::Tree,
@@ -84,7 +75,7 @@ pub(crate) fn insert<J: Strategy>(
     requires { quanta ≤ 1000000000000 }
 {
     let plan = search.plan().clone_in(alloc)?;
-    let job = Job::new(alloc, tenant, seq, plan, quanta, search).ok_or("no job")?;
+    let job = Job::new(alloc, tenant, seq, plan, quanta, search).ok_or("no memory for the job")?;
     match table.insert(tenant, job) {
         Ok(()) => Ok(()),
         Err(_) => Err(Fail::from("no memory")),
