@@ -1,3 +1,4 @@
 pub mod Known
 pub mod Part
 pub mod ReplyText
+pub mod RequestLine

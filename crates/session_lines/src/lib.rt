@@ -2,12 +2,16 @@
 #![tactic(auto)]
 
 mod display;
+mod line;
 mod put;
+mod request;
 mod said;
 #[cfg(test)]
 mod tests;
+mod words;
 mod writer;
 
 pub use put::WriteFault;
+pub use request::{LineFault, Request, What};
 pub use said::Said;
 pub use writer::write_reply;

@@ -22,11 +22,7 @@ fn is_line(alloc: Global, who: &str, said: &Said, want: &str) -> Result<bool, Fa
     Ok(written.as_slice() == want.as_bytes() && printed.as_bytes() == want.as_bytes())
 }
 
-fn all_are_lines(
-    rt: &impl Abort,
-    alloc: Global,
-    rows: &[(&str, Said, &str)],
-) -> Result<(), Fail> {
+fn all_are_lines(rt: &impl Abort, alloc: Global, rows: &[(&str, Said, &str)]) -> Result<(), Fail> {
     for (who, said, want) in rows {
         assert!(rt; is_line(alloc, who, said, want)?);
     }

@@ -1,0 +1,13 @@
+use Rattle.std.proofs.Common.{◌≡◌, ◌^◌, ◌<◌, true, take}
+use Rattle.std.specs.Char.{is_ascii_digit}
+use Rattle.std.specs.List.{list_all}
+use Rattle.std.specs.Str.Parse.{digits_value}
+use Rattle.session_lines.proofs.words.number.Given as goal
+
+-- the bytes before this one are digits, and write the value
+abbrev pub invariant-loop-digit : goal.invariant-loop-digit
+invariant-loop-digit l = record {
+  digits : list_all is_ascii_digit (take l.digit-index l.word) ≡ true;
+  value : l.value ≡ digits_value 10 (take l.digit-index l.word);
+  small : l.value < 10 ^ l.digit-index;
+}

@@ -1,0 +1,118 @@
+-- What a line asks for: its words, and which request they are.
+use Rattle.std.specs.Prelude.{ℕ, ◌&&◌, nat_le, ◌==◌, List, [], ◌∷◌, length, take, drop, Option, Some, None, option_map, if◌then◌else◌, codes}
+use Rattle.psplib_mm.specs.Text.{words_of, is_same, number_of}
+use Rattle.strategy.specs.declared.kind.Kind.{Kind}
+use Rattle.strategy.specs.declared.kind.Kind.TheVariants.{Tree, RuleLft, RuleMts, RuleSpt, Sample}
+use Rattle.farm_core.specs.Name.{is_name}
+use Rattle.session_lines.specs.declared.request.What.{What}
+use Rattle.session_lines.specs.declared.request.What.TheVariants.{Fund, Status, Fetch, Cancel, Forget, Ledger, Take, Give, Turn}
+use Rattle.session_lines.specs.declared.line.Meaning.{Meaning}
+use Rattle.session_lines.specs.declared.line.Meaning.TheVariants.{Blank, Whole, Opens, Bad}
+
+-- a number is 1 to 18 decimal digits
+abbrev pub number_in : List ℕ → Option ℕ
+number_in word = if nat_le (length word) 18 then number_of word else None
+
+abbrev pub name_in : List ℕ → Option (List ℕ)
+name_in word = if is_name word then Some word else None
+
+-- whose request it is: `@` and a name
+abbrev pub tenant_in : List ℕ → Option (List ℕ)
+tenant_in [] = None
+tenant_in (b ∷ name) = if b == 64 then name_in name else None
+
+-- the number that these words are, and the two
+abbrev pub one_number : List (List ℕ) → Option ℕ
+one_number [] = None
+one_number (a ∷ []) = number_in a
+one_number (a ∷ b ∷ more) = None
+
+abbrev pub pair_of : Option ℕ → Option ℕ → Option (ℕ × ℕ)
+pair_of None b = None
+pair_of (Some a) None = None
+pair_of (Some a) (Some b) = Some (a, b)
+
+abbrev pub two_numbers : List (List ℕ) → Option (ℕ × ℕ)
+two_numbers [] = None
+two_numbers (a ∷ []) = None
+two_numbers (a ∷ b ∷ []) = pair_of (number_in a) (number_in b)
+two_numbers (a ∷ b ∷ c ∷ more) = None
+
+-- how a project is to be searched
+abbrev pub kind_in : List ℕ → Option Kind
+kind_in word =
+    if is_same word (codes "tree") then Some Tree
+    else if is_same word (codes "rule:lft") then Some RuleLft
+    else if is_same word (codes "rule:mts") then Some RuleMts
+    else if is_same word (codes "rule:spt") then Some RuleSpt
+    else if is_same (take 7 word) (codes "sample:") then option_map Sample (number_in (drop 7 word))
+    else None
+
+-- what a tenant asks for, but for a submit
+abbrev pub what_in : List ℕ → List (List ℕ) → Option What
+what_in verb words =
+    if is_same verb (codes "fund") then option_map (λ (p : ℕ × ℕ). Fund p.0 p.1) (two_numbers words)
+    else if is_same verb (codes "status") then option_map Status (one_number words)
+    else if is_same verb (codes "result") then option_map Fetch (one_number words)
+    else if is_same verb (codes "cancel") then option_map Cancel (one_number words)
+    else if is_same verb (codes "forget") then option_map Forget (one_number words)
+    else if is_same verb (codes "ledger") && (length words == 0) then Some Ledger
+    else None
+
+-- what a worker is asked for
+abbrev pub turn_in : List ℕ → List (List ℕ) → Option What
+turn_in verb words =
+    if is_same verb (codes "take") then option_map (λ (p : ℕ × ℕ). Take p.0 p.1) (two_numbers words)
+    else if is_same verb (codes "give") then option_map Give (one_number words)
+    else if is_same verb (codes "turn") then option_map (λ (p : ℕ × ℕ). Turn p.0 p.1) (two_numbers words)
+    else None
+
+-- a submit: how its project is searched, its quanta, and how many lines its text has, 1 to 20,000
+abbrev pub submit_of : Option Kind → Option ℕ → Option ℕ → Option (Kind × ℕ × ℕ)
+submit_of None quanta lines = None
+submit_of (Some kind) None lines = None
+submit_of (Some kind) (Some quanta) None = None
+submit_of (Some kind) (Some quanta) (Some lines) = if nat_le 1 lines && nat_le lines 20000 then Some (kind, quanta, lines) else None
+
+abbrev pub submit_in : List (List ℕ) → Option (Kind × ℕ × ℕ)
+submit_in [] = None
+submit_in (kind ∷ []) = None
+submit_in (kind ∷ quanta ∷ []) = None
+submit_in (kind ∷ quanta ∷ lines ∷ []) = submit_of (kind_in kind) (number_in quanta) (number_in lines)
+submit_in (kind ∷ quanta ∷ lines ∷ other ∷ more) = None
+
+abbrev pub opens : List ℕ → Option (Kind × ℕ × ℕ) → Meaning
+opens who None = Bad (Some who)
+opens who (Some submit) = Opens (record { who = who; kind = submit.0; quanta = submit.1; lines = submit.2 })
+
+abbrev pub asks : List ℕ → Option What → Meaning
+asks who None = Bad (Some who)
+asks who (Some what) = Whole (record { who = who; what = what })
+
+-- a tenant's line, below its name
+abbrev pub own_line : List ℕ → List (List ℕ) → Meaning
+own_line who [] = Bad (Some who)
+own_line who (verb ∷ words) = if is_same verb (codes "submit") then opens who (submit_in words) else asks who (what_in verb words)
+
+abbrev pub turn_for : Option (List ℕ) → Option What → Meaning
+turn_for None what = Bad None
+turn_for (Some who) None = Bad None
+turn_for (Some who) (Some what) = Whole (record { who = who; what = what })
+
+-- a worker's line
+abbrev pub turn_line : List ℕ → List (List ℕ) → Meaning
+turn_line verb [] = Bad None
+turn_line verb (name ∷ words) = turn_for (name_in name) (turn_in verb words)
+
+abbrev pub line_for : Option (List ℕ) → List ℕ → List (List ℕ) → Meaning
+line_for None first words = turn_line first words
+line_for (Some who) first words = own_line who words
+
+-- what a line of these words means
+abbrev pub meaning_in : List (List ℕ) → Meaning
+meaning_in [] = Blank
+meaning_in (first ∷ words) = line_for (tenant_in first) first words
+
+-- what a line means, without its end
+abbrev pub meaning_of : List ℕ → Meaning
+meaning_of line = meaning_in (words_of line)

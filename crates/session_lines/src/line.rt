@@ -1,0 +1,170 @@
+//! What a line asks for.
+ghost use Rattle.std.specs.Prelude.{◌≡◌};
+ghost use Rattle.session_lines.specs.RequestLine.{tenant_in, kind_in, what_in, turn_in, submit_in, own_line, turn_line, meaning_of};
+
+use crate::request::{Request, What};
+use crate::words::{Words, is, number};
+use farm_core::Name;
+use strategy::Kind;
+
+/// The line that begins a submit. Its text follows.
+#[derive(Debug, Drop)]
+pub struct Head {
+    /// The tenant's name.
+    pub who: Name,
+    /// How the project is searched.
+    pub kind: Kind,
+    /// How many quanta the job is given.
+    pub quanta: u64,
+    /// How many lines the text has: 1 to 20,000.
+    pub lines: u64,
+}
+
+/// What a line means.
+#[derive(Debug, Drop)]
+pub enum Meaning {
+    /// Nothing: it has no word.
+    Blank,
+    /// A request.
+    Whole(Request),
+    /// A submit, whose text follows.
+    Opens(Head),
+    /// No request. With the tenant's name where the line begins with `@` and a name.
+    Bad(Option<Name>),
+}
+
+fn tenant_of(word: &[u8]) -> Option<Name>
+    ensures { result ≡ tenant_in word.now }
+{
+    match word {
+        [b'@', name @ ..] => Name::new(name),
+        _ => None,
+    }
+}
+
+fn kind_of(word: &[u8]) -> Option<Kind>
+    ensures { result ≡ kind_in word.now }
+{
+    if is(word, b"tree") {
+        Some(Kind::Tree)
+    } else if is(word, b"rule:lft") {
+        Some(Kind::RuleLft)
+    } else if is(word, b"rule:mts") {
+        Some(Kind::RuleMts)
+    } else if is(word, b"rule:spt") {
+        Some(Kind::RuleSpt)
+    } else if 7 <= word.len() && is(&word[..7], b"sample:") {
+        number(&word[7..]).map(Kind::Sample)
+    } else {
+        None
+    }
+}
+
+fn what_of(verb: &[u8], words: Words<'_>) -> Option<What>
+    ensures { result ≡ what_in verb.now words.entry }
+{
+    if is(verb, b"fund") {
+        let (seq, quanta) = words.two_numbers()?;
+        Some(What::Fund { seq, quanta })
+    } else if is(verb, b"status") {
+        Some(What::Status(words.one_number()?))
+    } else if is(verb, b"result") {
+        Some(What::Fetch(words.one_number()?))
+    } else if is(verb, b"cancel") {
+        Some(What::Cancel(words.one_number()?))
+    } else if is(verb, b"forget") {
+        Some(What::Forget(words.one_number()?))
+    } else if is(verb, b"ledger") && words.are_over() {
+        Some(What::Ledger)
+    } else {
+        None
+    }
+}
+
+fn turn_of(verb: &[u8], words: Words<'_>) -> Option<What>
+    ensures { result ≡ turn_in verb.now words.entry }
+{
+    if is(verb, b"take") {
+        let (seq, slice) = words.two_numbers()?;
+        Some(What::Take { seq, slice })
+    } else if is(verb, b"give") {
+        Some(What::Give(words.one_number()?))
+    } else if is(verb, b"turn") {
+        let (seq, slice) = words.two_numbers()?;
+        Some(What::Turn { seq, slice })
+    } else {
+        None
+    }
+}
+
+// The kind, the quanta and the count of lines of a submit.
+fn submit_of(words: Words<'_>) -> Option<(Kind, u64, u64)>
+    ensures { result ≡ submit_in words.entry }
+{
+    let mut words = words;
+    let kind = words.next_word()?;
+    let quanta = words.next_word()?;
+    let lines = words.next_word()?;
+    if !words.are_over() {
+        return None;
+    }
+    let kind = kind_of(kind)?;
+    let quanta = number(quanta)?;
+    let lines = number(lines)?;
+    if lines < 1 || 20_000 < lines {
+        return None;
+    }
+    Some((kind, quanta, lines))
+}
+
+fn own_line(who: Name, mut words: Words<'_>) -> Meaning
+    ensures { result ≡ own_line who words.entry }
+{
+    let Some(verb) = words.next_word() else {
+        return Meaning::Bad(Some(who));
+    };
+    if is(verb, b"submit") {
+        return match submit_of(words) {
+            Some((kind, quanta, lines)) => Meaning::Opens(Head {
+                who,
+                kind,
+                quanta,
+                lines,
+            }),
+            None => Meaning::Bad(Some(who)),
+        };
+    }
+    match what_of(verb, words) {
+        Some(what) => Meaning::Whole(Request { who, what }),
+        None => Meaning::Bad(Some(who)),
+    }
+}
+
+fn turn_line(verb: &[u8], mut words: Words<'_>) -> Meaning
+    ensures { result ≡ turn_line verb.now words.entry }
+{
+    let Some(name) = words.next_word() else {
+        return Meaning::Bad(None);
+    };
+    let Some(who) = Name::new(name) else {
+        return Meaning::Bad(None);
+    };
+    match turn_of(verb, words) {
+        Some(what) => Meaning::Whole(Request { who, what }),
+        None => Meaning::Bad(None),
+    }
+}
+
+/// What a line means, which comes without its end.
+pub fn read_line(line: &[u8]) -> Meaning
+    ensures { result ≡ meaning_of line.now }
+{
+    let mut words = Words::of(line);
+    let Some(first) = words.next_word() else {
+        return Meaning::Blank;
+    };
+    match tenant_of(first) {
+        Some(who) => own_line(who, words),
+        None => turn_line(first, words),
+    }
+}
