@@ -3,5 +3,10 @@ pub mod AloneLemmas
 pub mod TruthLemmas
 pub mod RunLemmas
 pub mod NeedLemmas
+pub mod RunningLemmas
 pub mod ViewLemmas
 pub mod FarmLemmas
+pub mod MoveLemmas
+pub mod StepLemmas
+pub mod ChangeLemmas
+pub mod CommandLemmas

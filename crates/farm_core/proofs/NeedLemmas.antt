@@ -317,6 +317,15 @@ turn_of slice ran job may =
     (omega (arith, turn_most (min slice job.left) job), λ r l. turn_unclosed (min slice job.left) job r (omega arith)))
     (or_cases (ran == 0) (ran == nodes_of_turn (min slice job.left) job) may)
 
+-- a turn that came back was out, and ran no more than its job held
+pub turn_ran : (job : JobData) (phase : Phase) (ran : ℕ) → may_have_run ran job phase ≡ true → (is_out phase ≡ true) × (ran ≤ job.left)
+turn_ran job Waiting ran may = absurd (cc)
+turn_ran job (Out slice) ran may = (refl, (turn_of slice ran job may).0)
+turn_ran job (Leaving slice) ran may = (refl, (turn_of slice ran job may).0)
+turn_ran job Dry ran may = absurd (cc)
+turn_ran job Closed ran may = absurd (cc)
+turn_ran job Cancelled ran may = absurd (cc)
+
 -- the job after a turn, by where it stood
 back_funded : (phase : Phase) (job : JobData) (ran given : ℕ) → may_have_run ran job phase ≡ true → FundedIn phase job.plan job.nodes job.left given
     → let left = job.left - ran in let stands = phase_after phase (is_closed job.plan (job.nodes + ran)) left in

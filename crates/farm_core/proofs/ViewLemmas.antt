@@ -10,7 +10,6 @@ use Rattle.farm_core.specs.Tenant.{find_job, put_job, drop_job}
 use Rattle.farm_core.specs.Step.{Answer, step}
 use Rattle.farm_core.specs.declared.account.Account.{Account}
 use Rattle.farm_core.specs.World.{World, account_of, no_terms, terms_in, view, entries_of, is_noted, entry_of, Follows}
-use Rattle.farm_core.specs.Move.{moved}
 
 -- a tenant's job is found among its own
 pub found_own : (t s : ℕ) (rows : List Row) → find_job s (jobs_of t rows) ≡ find_row t s rows
@@ -62,6 +61,10 @@ set_other (y ∷ xs) zero zero x d differ = absurd (differ refl)
 set_other (y ∷ xs) zero (suc t) x d differ = refl
 set_other (y ∷ xs) (suc u) zero x d differ = refl
 set_other (y ∷ xs) (suc u) (suc t) x d differ = set_other xs u t x d (λ e. differ (ap suc e))
+
+-- other rows, another account of tenant t, and these entries at the end of the journal
+abbrev pub moved : World → ℕ → List Row → Account → List Entry → World
+moved w t rows account entries = record w { rows = rows; accounts = set w.accounts t account; journal = w.journal ++ entries }
 
 -- what tenant t sees after a move of its own
 pub moved_own : (w : World) (t : ℕ) (rows : List Row) (account : Account) (event : Event) (answer : Answer) → t < length w.accounts

@@ -1,15 +1,17 @@
 -- What a farm keeps.
-use Rattle.std.specs.Prelude.{◌≡◌, ℕ, ◌+◌, ◌<◌, ◌≤◌, List, [], ◌∷◌, length, get_or}
-use Rattle.job_table.specs.Table.{Row}
+use Rattle.std.specs.Prelude.{◌≡◌, ℕ, ◌+◌, ◌<◌, ◌≤◌, List, [], ◌∷◌, length, get_or, true, Some}
+use Rattle.job_table.specs.Table.{Row, JobData}
+use Rattle.job_table.specs.Job.{given_up}
 use Rattle.job_table.specs.declared.phase.Phase.{Phase}
 use Rattle.job_table.specs.declared.phase.Phase.TheVariants.{Waiting, Out, Leaving, Dry, Closed, Cancelled}
 use Rattle.farm_core.specs.declared.account.Account.{Account}
 use Rattle.farm_core.specs.declared.entry.Event.{Event}
+use Rattle.farm_core.specs.declared.reply.Line.{Line}
 use Rattle.farm_core.specs.declared.reply.Reply.{Reply}
 use Rattle.farm_core.specs.declared.reply.Reply.TheVariants as reply
-use Rattle.farm_core.specs.Tenant.{Tenant, book, kept}
-use Rattle.farm_core.specs.Step.{Replied}
-use Rattle.farm_core.specs.World.{World, view, Follows}
+use Rattle.farm_core.specs.Tenant.{Tenant, book, find_job, line_of}
+use Rattle.farm_core.specs.Step.{Replied, funded, noted}
+use Rattle.farm_core.specs.World.{World, view, is_noted, Follows, IsReplayed}
 
 -- how many entries may still come of a job without asking for memory: one for its cancel, one for its give
 abbrev pub owed_in : Phase → ℕ
@@ -29,16 +31,29 @@ pub record IsAccount (t : Tenant) (a : Account) : Type 0 where
   pub book : a.book ≡ book t
   pub next : a.next ≡ t.next
   pub used : a.used ≡ t.used
-  pub within : t.used + kept t ≤ t.terms.entries
-  pub few : t.next ≤ t.used + 1
 
--- each tenant has its account, and the journal has room for all entries that are owed
+-- each tenant has its account and is where its entries lead, and the journal has room for all entries that are owed
 pub record IsFarm (w : World) (capacity : ℕ) : Type 0 where
   pub count : length w.accounts ≡ length w.config.tenants
   pub each : (t : ℕ) (d : Account) → t < length w.accounts → IsAccount (view t w) (get_or w.accounts t d)
   pub room : length w.journal + owed w.rows ≤ capacity
+  pub replayed : IsReplayed w
 
 -- a call makes its tenant's step with this reply; or there was no memory, and nothing has changed
 abbrev pub IsReply : World → ℕ → Event → Reply → World → Type 0
 IsReply old t event reply.NoMemory new = new ≡ old
 IsReply old t event answer new = Follows old t event (Replied answer) new
+
+-- why a job in this phase is not given so many quanta, whatever else stands
+pub record IsFundRefusal (phase : Phase) (quanta : ℕ) (answer : Reply) : Type 0 where
+  pub steps : (t : Tenant) (job : JobData) → job.phase ≡ phase → funded t quanta job ≡ noted t answer
+  pub noted : is_noted (Replied answer) ≡ true
+
+-- a tenant's job of that number that can be given up, what it frees, and what is told of it then
+pub record IsGivenUpTo (t : Tenant) (s freed : ℕ) (line : Line) : Type 0 where
+  pub job : JobData
+  pub then : JobData
+  pub found : find_job s t.jobs ≡ Some job
+  pub gone : given_up job job.phase ≡ Some then
+  pub line_is : line ≡ line_of then
+  pub freed_is : then.left + freed ≡ job.left

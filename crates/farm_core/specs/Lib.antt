@@ -3,7 +3,6 @@ pub mod Config
 pub mod Tenant
 pub mod Step
 pub mod World
-pub mod Move
 pub mod Laws
 pub mod Truth
 pub mod Need

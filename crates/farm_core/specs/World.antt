@@ -7,10 +7,11 @@ use Rattle.farm_core.specs.declared.account.Account.{Account}
 use Rattle.farm_core.specs.declared.config.TenantLine.{TenantLine}
 use Rattle.farm_core.specs.declared.entry.Entry.{Entry}
 use Rattle.farm_core.specs.declared.entry.Event.{Event}
+use Rattle.farm_core.specs.declared.reply.Reply.{Reply}
 use Rattle.farm_core.specs.declared.reply.Reply.TheVariants as reply
 use Rattle.farm_core.specs.Config.{ConfigData}
-use Rattle.farm_core.specs.Tenant.{Tenant}
-use Rattle.farm_core.specs.Step.{Answer, Replied, Sent, NoTurn, step}
+use Rattle.farm_core.specs.Tenant.{Tenant, newcomer}
+use Rattle.farm_core.specs.Step.{Answer, Replied, Sent, NoTurn, step, commanded, noted}
 
 -- one table of jobs and one journal for all; an account has a tenant's ledger, the number of its next job, and how many
 -- entries are its own
@@ -37,18 +38,28 @@ opened config = record { config = config; rows = []; journal = []; accounts = ma
 abbrev pub entries_of : ℕ → List Entry → List Entry
 entries_of t journal = filter (λ entry. entry.tenant == t) journal
 
+-- what a tenant asked for, entry by entry
+abbrev pub events_of : ℕ → List Entry → List Event
+events_of t journal = map (λ (entry : Entry). entry.event) (entries_of t journal)
+
 -- one tenant's part of the world
 unfoldable pub view : ℕ → World → Tenant
 view t w =
     let account = get_or w.accounts t (account_of no_terms) in
     record { terms = terms_in w.config t; spent = account.book.spent; next = account.next; used = length (entries_of t w.journal); jobs = jobs_of t w.rows }
 
--- a call that was answered 'no room' or 'no turn' leaves no entry, and any other leaves one
+-- a call that was answered 'no room', 'no memory' or 'no turn' leaves no entry, and any other leaves one
 abbrev pub is_noted : Answer → Bool
 is_noted (Replied reply.NoRoom) = false
+is_noted (Replied reply.NoMemory) = false
 is_noted (Replied answer) = true
 is_noted (Sent line) = true
 is_noted NoTurn = false
+
+-- the call changes nothing but the journal, which has its entry where there is room
+pub record IsOnlyNoted (t : Tenant) (event : Event) (answer : Reply) : Type 0 where
+  pub steps : step t event ≡ commanded t (noted t answer)
+  pub noted : is_noted (Replied answer) ≡ true
 
 abbrev pub entry_of : ℕ → Event → Answer → List Entry
 entry_of t event answer = cond (is_noted answer) (record { tenant = t; event = event } ∷ []) []
@@ -91,3 +102,7 @@ answers_alone t (e ∷ events) = (step t e).answer ∷ answers_alone (step t e).
 abbrev pub after_alone : Tenant → List Event → Tenant
 after_alone t [] = t
 after_alone t (e ∷ events) = after_alone (step t e).after events
+
+-- each tenant's part of the world is where its own entries of the journal lead, from the farm in which nothing has happened
+abbrev pub IsReplayed : World → Type 0
+IsReplayed w = (t : ℕ) → view t w ≡ after_alone (newcomer (terms_in w.config t)) (events_of t w.journal)

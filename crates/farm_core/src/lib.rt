@@ -3,6 +3,7 @@
 #![tactic(auto)]
 
 mod account;
+mod commands;
 mod config;
 mod entry;
 mod farm;

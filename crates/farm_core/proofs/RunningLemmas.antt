@@ -1,0 +1,315 @@
+-- What holds of each tenant's part of a farm after any calls.
+use Rattle.std.proofs.Common.{◌≡◌, ℕ, ◌+◌, ◌-◌, ◌≤◌, List, [], ◌∷◌, ◌++◌, length, filter, Bool, true, cond, ◌&&◌, ◌==◌, nat_le, nat_lt, Option, Some, None, refl, sym, ap, ◌∙◌, subst, arith}
+use Rattle.std.specs.Prelude.{option_map, ⊤}
+use Rattle.std.proofs.lemmas.Bool.{cond_both, leb-true, and_parts}
+use Rattle.std.proofs.lemmas.Bool.Decides.{nat_tests}
+use Rattle.strategy.specs.Outcome.{best_after, is_closed, verdict_after}
+use Rattle.strategy.specs.declared.plan.Plan.{Plan}
+use Rattle.mrcpsp.specs.Schedule.{makespan}
+use Rattle.job_table.specs.Table.{JobData, is_waiting, is_out, is_ended}
+use Rattle.job_table.specs.Job.{given_up, is_here, phase_after, back}
+use Rattle.job_table.specs.declared.phase.Phase.{Phase}
+use Rattle.job_table.specs.declared.phase.Phase.TheVariants.{Waiting, Out, Leaving, Dry, Closed, Cancelled}
+use Rattle.farm_core.specs.declared.entry.Event.{Event}
+use Rattle.farm_core.specs.declared.entry.Event.TheVariants.{Submit, Fund, Status, Fetch, Cancel, Forget, Ledger, Take, Give}
+use Rattle.farm_core.specs.declared.reply.Reply.{Reply}
+use Rattle.farm_core.specs.declared.reply.Reply.TheVariants as reply
+use Rattle.farm_core.specs.Tenant.{Tenant, newcomer, held, held_by, book, free, kept, find_job, put_job, drop_job, line_of}
+use Rattle.farm_core.specs.Step.{Answer, Replied, Sent, NoTurn, Step, step, has_room, is_amount, is_slice, unnoted, noted, changed, fresh_job, submitted, about, funded, fetched, cancelled_as, cancelled, forgotten, commanded, taken, may_have_run, gave}
+use Rattle.farm_core.specs.declared.config.TenantLine.{TenantLine}
+use Rattle.farm_core.specs.World.{after_alone}
+use Rattle.farm_core.proofs.NeedLemmas.{turn_ran}
+
+-- how many of these have their turn out
+abbrev pub outs : List JobData → ℕ
+outs jobs = length (filter (λ (job : JobData). is_out job.phase) jobs)
+
+abbrev pub out_in : Phase → ℕ
+out_in phase = cond (is_out phase) 1 0
+
+-- no job ran more than was spent, and one that has ended holds nothing
+abbrev pub IsPaid : ℕ → JobData → Type 0
+IsPaid spent job = (job.nodes ≤ spent) × (is_ended job.phase ≡ true → job.left ≡ 0)
+
+abbrev pub ArePaid : ℕ → List JobData → Type 0
+ArePaid spent [] = ⊤
+ArePaid spent (job ∷ jobs) = IsPaid spent job × ArePaid spent jobs
+
+pub record IsRunning (t : Tenant) : Type 0 where
+  pub within : t.used + kept t ≤ t.terms.entries
+  pub few : t.next ≤ t.used + 1
+  pub jobs : ArePaid t.spent t.jobs
+  pub covered : held t + t.spent ≤ t.terms.quanta
+
+abbrev Runs : Step → Type 0
+Runs s = IsRunning s.after
+
+outs_put : (s : ℕ) (old new : JobData) (jobs : List JobData) → find_job s jobs ≡ Some old → outs (put_job s new jobs) + out_in old.phase ≡ outs jobs + out_in new.phase
+outs_put s old new [] found = absurd (cc)
+outs_put s old new (job ∷ jobs) found = grind (arith, nat_tests, outs_put s old new jobs)
+
+pub held_put : (s : ℕ) (old new : JobData) (jobs : List JobData) → find_job s jobs ≡ Some old → held_by (put_job s new jobs) + old.left ≡ held_by jobs + new.left
+held_put s old new [] found = absurd (cc)
+held_put s old new (job ∷ jobs) found = grind (arith, nat_tests, held_put s old new jobs)
+
+outs_drop : (s : ℕ) (jobs : List JobData) → outs (drop_job s jobs) ≤ outs jobs
+outs_drop s [] = omega arith
+outs_drop s (job ∷ jobs) = grind (arith, nat_tests, outs_drop s jobs)
+
+pub held_drop : (s : ℕ) (old : JobData) (jobs : List JobData) → find_job s jobs ≡ Some old → held_by (drop_job s jobs) + old.left ≡ held_by jobs
+held_drop s old [] found = absurd (cc)
+held_drop s old (job ∷ jobs) found = grind (arith, nat_tests, held_drop s old jobs)
+
+outs_push : (new : JobData) (jobs : List JobData) → outs (jobs ++ new ∷ []) ≡ outs jobs + out_in new.phase
+outs_push new [] = grind (arith, nat_tests)
+outs_push new (job ∷ jobs) = grind (arith, nat_tests, outs_push new jobs)
+
+pub held_push : (new : JobData) (jobs : List JobData) → held_by (jobs ++ new ∷ []) ≡ held_by jobs + new.left
+held_push new [] = omega arith
+held_push new (job ∷ jobs) = omega (arith, held_push new jobs)
+
+paid_more : (n m : ℕ) (jobs : List JobData) → n ≤ m → ArePaid n jobs → ArePaid m jobs
+paid_more n m [] l all = tt
+paid_more n m (job ∷ jobs) l all = ((omega (arith, all.0.0), all.0.1), paid_more n m jobs l all.1)
+
+paid_put : (n s : ℕ) (new : JobData) (jobs : List JobData) → IsPaid n new → ArePaid n jobs → ArePaid n (put_job s new jobs)
+paid_put n s new [] one all = tt
+paid_put n s new (job ∷ jobs) one all =
+    cond_both (job.seq == s) (new ∷ jobs) (job ∷ put_job s new jobs) (ArePaid n) (λ _. (one, all.1)) (λ _. (all.0, paid_put n s new jobs one all.1))
+
+paid_drop : (n s : ℕ) (jobs : List JobData) → ArePaid n jobs → ArePaid n (drop_job s jobs)
+paid_drop n s [] all = tt
+paid_drop n s (job ∷ jobs) all =
+    cond_both (job.seq == s) jobs (job ∷ drop_job s jobs) (ArePaid n) (λ _. all.1) (λ _. (all.0, paid_drop n s jobs all.1))
+
+paid_push : (n : ℕ) (new : JobData) (jobs : List JobData) → IsPaid n new → ArePaid n jobs → ArePaid n (jobs ++ new ∷ [])
+paid_push n new [] one all = (one, tt)
+paid_push n new (job ∷ jobs) one all = (all.0, paid_push n new jobs one all.1)
+
+pub paid_found : (n s : ℕ) (jobs : List JobData) (job : JobData) → find_job s jobs ≡ Some job → ArePaid n jobs → IsPaid n job
+paid_found n s [] job found all = absurd (cc)
+paid_found n s (one ∷ jobs) job found all = cond_both (one.seq == s) (Some one) (find_job s jobs) (λ (o : Option JobData). o ≡ Some job → IsPaid n job)
+    (λ _ e. let same : one ≡ job = cc in subst (IsPaid n) same all.0) (λ _ e. paid_found n s jobs job e all.1) found
+
+pub found_seq : (s : ℕ) (jobs : List JobData) (job : JobData) → find_job s jobs ≡ Some job → job.seq ≡ s
+found_seq s [] job found = absurd (cc)
+found_seq s (one ∷ jobs) job found = grind (arith, nat_tests, found_seq s jobs job)
+
+pub found_held : (s : ℕ) (jobs : List JobData) (job : JobData) → find_job s jobs ≡ Some job → job.left ≤ held_by jobs
+found_held s [] job found = absurd (cc)
+found_held s (one ∷ jobs) job found = grind (arith, nat_tests, found_held s jobs job)
+
+found_out : (s : ℕ) (jobs : List JobData) (job : JobData) → find_job s jobs ≡ Some job → out_in job.phase ≤ outs jobs
+found_out s [] job found = absurd (cc)
+found_out s (one ∷ jobs) job found = grind (arith, nat_tests, found_out s jobs job)
+
+room_is : (n : ℕ) (t : Tenant) → has_room n t ≡ true → t.used + kept t + n ≤ t.terms.entries
+room_is n t room = leb-true (t.used + kept t + n) t.terms.entries room
+
+noted_runs : (t : Tenant) (answer : Reply) → has_room 1 t ≡ true → IsRunning t → Runs (noted t answer)
+unfolding kept held
+noted_runs t answer room it = record { within = omega (arith, room_is 1 t room); few = omega (arith, it.few); jobs = it.jobs; covered = it.covered }
+
+-- one job changed
+record IsFit (t : Tenant) (job new : JobData) (spent : ℕ) : Type 0 where
+  entries : t.used + 1 + kept t + out_in new.phase ≤ t.terms.entries + out_in job.phase
+  more : t.spent ≤ spent
+  paid : IsPaid spent new
+  covered : held t + new.left + spent ≤ t.terms.quanta + job.left
+
+changed_runs : (t : Tenant) (s : ℕ) (job new : JobData) (spent : ℕ) → find_job s t.jobs ≡ Some job → new.seq ≡ s → IsFit t job new spent → IsRunning t
+    → IsRunning (record t { used = t.used + 1; spent = spent; jobs = put_job new.seq new t.jobs })
+unfolding kept held
+changed_runs t s job new spent found named fit it =
+    subst (λ (n : ℕ). IsRunning (record t { used = t.used + 1; spent = spent; jobs = put_job n new t.jobs })) (sym named)
+    (record {
+      within = omega (arith, fit.entries, outs_put s job new t.jobs found);
+      few = omega (arith, it.few);
+      jobs = paid_put spent s new t.jobs fit.paid (paid_more t.spent spent t.jobs fit.more it.jobs);
+      covered = omega (arith, fit.covered, held_put s job new t.jobs found);
+    })
+
+submit_runs : (t : Tenant) (plan : Plan) (quanta : ℕ) → IsRunning t → Runs (step t (Submit plan quanta))
+unfolding submitted kept held free
+submit_runs t plan quanta it =
+    let job : JobData = fresh_job t plan quanta in
+    let s1 : Step = record { answer = Replied (reply.Job t.next); after = record t { used = t.used + 1; next = t.next + 1; jobs = t.jobs ++ job ∷ [] } } in
+    let s2 : Step = cond (nat_le quanta (free t)) s1 (noted t (reply.NoShort (free t))) in
+    let s3 : Step = cond (nat_lt (length t.jobs) t.terms.jobs) s2 (noted t reply.NoJobs) in
+    let s4 : Step = cond (is_amount quanta) s3 (noted t reply.NoAmount) in
+    cond_both (has_room 1 t) s4 (unnoted t (Replied reply.NoRoom)) Runs
+    (λ room. cond_both (is_amount quanta) s3 (noted t reply.NoAmount) Runs
+    (λ _. cond_both (nat_lt (length t.jobs) t.terms.jobs) s2 (noted t reply.NoJobs) Runs
+    (λ _. cond_both (nat_le quanta (free t)) s1 (noted t (reply.NoShort (free t))) Runs
+    (λ some. record {
+      within = omega (arith, room_is 1 t room, outs_push job t.jobs);
+      few = omega (arith, it.few);
+      jobs = paid_push t.spent job t.jobs (omega arith, λ e. absurd (cc)) it.jobs;
+      covered = omega (arith, it.covered, leb-true quanta (free t) some, held_push job t.jobs);
+    })
+    (λ _. noted_runs t (reply.NoShort (free t)) room it))
+    (λ _. noted_runs t reply.NoJobs room it))
+    (λ _. noted_runs t reply.NoAmount room it))
+    (λ _. it)
+
+about_runs : (t : Tenant) (s : ℕ) (found : Option JobData) (f : JobData → Step) → find_job s t.jobs ≡ found → has_room 1 t ≡ true → IsRunning t
+    → ((job : JobData) → find_job s t.jobs ≡ Some job → Runs (f job)) → Runs (about t found f)
+about_runs t s None f is room it each = noted_runs t reply.NoUnknown room it
+about_runs t s (Some job) f is room it each = each job is
+
+command_runs : (t : Tenant) (s : ℕ) (f : JobData → Step) → IsRunning t → (has_room 1 t ≡ true → (job : JobData) → find_job s t.jobs ≡ Some job → Runs (f job))
+    → Runs (commanded t (about t (find_job s t.jobs) f))
+command_runs t s f it each =
+    cond_both (has_room 1 t) (about t (find_job s t.jobs) f) (unnoted t (Replied reply.NoRoom)) Runs
+    (λ room. about_runs t s (find_job s t.jobs) f refl room it (each room)) (λ _. it)
+
+fund_runs : (t : Tenant) (s quanta : ℕ) (job : JobData) → find_job s t.jobs ≡ Some job → has_room 1 t ≡ true → IsRunning t → Runs (funded t quanta job)
+unfolding funded free
+fund_runs t s quanta job found room it =
+    let new : JobData = record job { phase = Waiting; left = job.left + quanta } in
+    let told : Answer = Replied (reply.Line (line_of new)) in
+    let s1 : Step = changed t new told in
+    let s2 : Step = cond (nat_le quanta (free t)) s1 (noted t (reply.NoShort (free t))) in
+    let s3 : Step = cond (is_amount quanta) s2 (noted t reply.NoAmount) in
+    let s4 : Step = cond (is_ended job.phase) (noted t reply.NoOver) s3 in
+    cond_both (is_out job.phase) (noted t reply.NoBusy) s4 Runs (λ _. noted_runs t reply.NoBusy room it)
+    (λ here. cond_both (is_ended job.phase) (noted t reply.NoOver) s3 Runs (λ _. noted_runs t reply.NoOver room it)
+    (λ going. cond_both (is_amount quanta) s2 (noted t reply.NoAmount) Runs
+    (λ _. cond_both (nat_le quanta (free t)) s1 (noted t (reply.NoShort (free t))) Runs
+    (λ some. changed_runs t s job new t.spent found (found_seq s t.jobs job found)
+    (record {
+      entries = omega (arith, room_is 1 t room);
+      more = omega arith;
+      paid = ((paid_found t.spent s t.jobs job found it.jobs).0, λ e. absurd (cc));
+      covered = omega (arith, it.covered, leb-true quanta (free t) some);
+    }) it)
+    (λ _. noted_runs t (reply.NoShort (free t)) room it))
+    (λ _. noted_runs t reply.NoAmount room it)))
+
+fetch_runs : (t : Tenant) (job : JobData) → has_room 1 t ≡ true → IsRunning t → Runs (fetched t job)
+unfolding fetched
+fetch_runs t job room it =
+    let best = best_after job.plan job.nodes in
+    let told : Reply = reply.Best job.seq best (option_map (makespan job.plan.project) best) (verdict_after job.plan job.nodes) in
+    cond_both (is_out job.phase) (noted t reply.NoBusy) (noted t told) Runs (λ _. noted_runs t reply.NoBusy room it) (λ _. noted_runs t told room it)
+
+-- a job that is given up is out as before, or it has ended and holds nothing
+abbrev IsLess : JobData → Option JobData → Type 0
+IsLess job None = ⊤
+IsLess job (Some new) = (new.seq ≡ job.seq) × (new.nodes ≡ job.nodes) × (out_in new.phase ≡ out_in job.phase) × (new.left ≤ job.left) × (is_ended new.phase ≡ true → new.left ≡ 0)
+
+given_up_less : (job : JobData) (phase : Phase) → job.phase ≡ phase → IsLess job (given_up job phase)
+given_up_less job Waiting is = (refl, refl, rw is refl, omega arith, λ e. refl)
+given_up_less job (Out slice) is = (refl, refl, rw is refl, omega arith, λ e. absurd (cc))
+given_up_less job (Leaving slice) is = tt
+given_up_less job Dry is = (refl, refl, rw is refl, omega arith, λ e. refl)
+given_up_less job Closed is = tt
+given_up_less job Cancelled is = tt
+
+cancelled_runs : (t : Tenant) (s : ℕ) (job : JobData) (new : Option JobData) → find_job s t.jobs ≡ Some job → IsLess job new → has_room 1 t ≡ true → IsRunning t → Runs (cancelled_as t new)
+cancelled_runs t s job None found less room it = noted_runs t reply.NoOver room it
+cancelled_runs t s job (Some new) found less room it =
+    changed_runs t s job new t.spent found (less.0 ∙ found_seq s t.jobs job found)
+    (record {
+      entries = omega (arith, room_is 1 t room, less.2);
+      more = omega arith;
+      paid = (omega (arith, less.1, (paid_found t.spent s t.jobs job found it.jobs).0), less.4);
+      covered = omega (arith, it.covered, less.3);
+    }) it
+
+cancel_runs : (t : Tenant) (s : ℕ) (job : JobData) → find_job s t.jobs ≡ Some job → has_room 1 t ≡ true → IsRunning t → Runs (cancelled t job)
+unfolding cancelled
+cancel_runs t s job found room it = cancelled_runs t s job (given_up job job.phase) found (given_up_less job job.phase refl) room it
+
+forget_runs : (t : Tenant) (s : ℕ) (job : JobData) → find_job s t.jobs ≡ Some job → has_room 1 t ≡ true → IsRunning t → Runs (forgotten t job)
+unfolding forgotten kept held
+forget_runs t s job found room it =
+    let gone : Step = record { answer = Replied (reply.Forgotten job.seq); after = record t { used = t.used + 1; jobs = drop_job job.seq t.jobs } } in
+    let named = found_seq s t.jobs job found in
+    cond_both (is_ended job.phase) gone (noted t reply.NoBusy) Runs
+    (λ _. rw named
+    (record {
+      within = omega (arith, room_is 1 t room, outs_drop s t.jobs);
+      few = omega (arith, it.few);
+      jobs = paid_drop t.spent s t.jobs it.jobs;
+      covered = omega (arith, it.covered, held_drop s job t.jobs found);
+    }))
+    (λ _. noted_runs t reply.NoBusy room it)
+
+waiting_in : (phase : Phase) → is_waiting phase ≡ true → out_in phase ≡ 0
+waiting_in Waiting w = refl
+waiting_in (Out slice) w = absurd (cc)
+waiting_in (Leaving slice) w = absurd (cc)
+waiting_in Dry w = refl
+waiting_in Closed w = refl
+waiting_in Cancelled w = refl
+
+taken_runs : (t : Tenant) (s slice : ℕ) (found : Option JobData) → find_job s t.jobs ≡ found → IsRunning t → Runs (taken t slice found)
+taken_runs t s slice None is it = it
+taken_runs t s slice (Some job) is it =
+    let new : JobData = record job { phase = Out slice } in
+    cond_both (is_waiting job.phase && is_slice slice && has_room 2 t) (changed t new (Sent (line_of new))) (unnoted t NoTurn) Runs
+    (λ may.
+    let parts = and_parts (is_waiting job.phase && is_slice slice) (has_room 2 t) may in
+    changed_runs t s job new t.spent is (found_seq s t.jobs job is)
+    (record {
+      entries = omega (arith, room_is 2 t parts.1);
+      more = omega arith;
+      paid = ((paid_found t.spent s t.jobs job is it.jobs).0, λ e. absurd (cc));
+      covered = omega (arith, it.covered);
+    }) it)
+    (λ _. it)
+
+-- a turn that came back is no longer out, and holds what it had less what it ran, or nothing
+abbrev IsBack : ℕ → ℕ → Phase → Type 0
+IsBack ran left phase = (out_in phase ≡ 0) × (is_ended phase ≡ true → cond (is_here phase) (left - ran) 0 ≡ 0) × (cond (is_here phase) (left - ran) 0 ≤ left - ran)
+
+after_back : (phase : Phase) (closed : Bool) (ran left : ℕ) → IsBack ran left (phase_after phase closed (left - ran))
+after_back (Leaving slice) closed ran left = (refl, λ e. refl, omega arith)
+after_back Waiting closed ran left = cond_both closed Closed (cond (left - ran == 0) Dry Waiting) (IsBack ran left) (λ _. (refl, λ e. refl, omega arith)) (λ _. cond_both (left - ran == 0) Dry Waiting (IsBack ran left) (λ _. (refl, λ e. absurd (cc), omega arith)) (λ _. (refl, λ e. absurd (cc), omega arith)))
+after_back (Out slice) closed ran left = cond_both closed Closed (cond (left - ran == 0) Dry Waiting) (IsBack ran left) (λ _. (refl, λ e. refl, omega arith)) (λ _. cond_both (left - ran == 0) Dry Waiting (IsBack ran left) (λ _. (refl, λ e. absurd (cc), omega arith)) (λ _. (refl, λ e. absurd (cc), omega arith)))
+after_back Dry closed ran left = cond_both closed Closed (cond (left - ran == 0) Dry Waiting) (IsBack ran left) (λ _. (refl, λ e. refl, omega arith)) (λ _. cond_both (left - ran == 0) Dry Waiting (IsBack ran left) (λ _. (refl, λ e. absurd (cc), omega arith)) (λ _. (refl, λ e. absurd (cc), omega arith)))
+after_back Closed closed ran left = cond_both closed Closed (cond (left - ran == 0) Dry Waiting) (IsBack ran left) (λ _. (refl, λ e. refl, omega arith)) (λ _. cond_both (left - ran == 0) Dry Waiting (IsBack ran left) (λ _. (refl, λ e. absurd (cc), omega arith)) (λ _. (refl, λ e. absurd (cc), omega arith)))
+after_back Cancelled closed ran left = cond_both closed Closed (cond (left - ran == 0) Dry Waiting) (IsBack ran left) (λ _. (refl, λ e. refl, omega arith)) (λ _. cond_both (left - ran == 0) Dry Waiting (IsBack ran left) (λ _. (refl, λ e. absurd (cc), omega arith)) (λ _. (refl, λ e. absurd (cc), omega arith)))
+
+gave_runs : (t : Tenant) (s ran : ℕ) (found : Option JobData) → find_job s t.jobs ≡ found → IsRunning t → Runs (gave t ran found)
+gave_runs t s ran None is it = it
+gave_runs t s ran (Some job) is it =
+    let new : JobData = back ran job in
+    let s1 : Step = record { answer = Replied (reply.Ran ran (line_of new)); after = record t { spent = t.spent + ran; used = t.used + 1; jobs = put_job new.seq new t.jobs } } in
+    cond_both (may_have_run ran job job.phase) s1 (unnoted t NoTurn) Runs
+    (λ may.
+    let turn = turn_ran job job.phase ran may in
+    let stands = after_back job.phase (is_closed job.plan (job.nodes + ran)) ran job.left in
+    changed_runs t s job new (t.spent + ran) is (found_seq s t.jobs job is)
+    (record {
+      entries = omega (arith, it.within, ap {B = ℕ} (λ (b : Bool). cond b 1 0) turn.0, stands.0);
+      more = omega arith;
+      paid = (omega (arith, (paid_found t.spent s t.jobs job is it.jobs).0), stands.1);
+      covered = omega (arith, it.covered, stands.2, turn.1);
+    }) it)
+    (λ _. it)
+
+pub step_runs : (t : Tenant) (e : Event) → IsRunning t → Runs (step t e)
+step_runs t (Submit plan quanta) it = submit_runs t plan quanta it
+step_runs t (Fund s quanta) it = command_runs t s (funded t quanta) it (λ room job found. fund_runs t s quanta job found room it)
+step_runs t (Status s) it =
+    let tell : JobData → Step = λ job. noted t (reply.Line (line_of job)) in
+    command_runs t s tell it (λ room job found. noted_runs t (reply.Line (line_of job)) room it)
+step_runs t (Fetch s) it = command_runs t s (fetched t) it (λ room job found. fetch_runs t job room it)
+step_runs t (Cancel s) it = command_runs t s (cancelled t) it (λ room job found. cancel_runs t s job found room it)
+step_runs t (Forget s) it = command_runs t s (forgotten t) it (λ room job found. forget_runs t s job found room it)
+step_runs t Ledger it = cond_both (has_room 1 t) (noted t (reply.Ledger (book t))) (unnoted t (Replied reply.NoRoom)) Runs (λ room. noted_runs t (reply.Ledger (book t)) room it) (λ _. it)
+step_runs t (Take s slice) it = taken_runs t s slice (find_job s t.jobs) refl it
+step_runs t (Give s ran) it = gave_runs t s ran (find_job s t.jobs) refl it
+
+newcomer_runs : (terms : TenantLine) → IsRunning (newcomer terms)
+unfolding newcomer kept held
+newcomer_runs terms = record { within = omega arith; few = omega arith; jobs = tt; covered = omega arith }
+
+runs_on : (t : Tenant) (events : List Event) → IsRunning t → IsRunning (after_alone t events)
+runs_on t [] it = it
+runs_on t (e ∷ events) it = runs_on (step t e).after events (step_runs t e it)
+
+pub alone_runs : (terms : TenantLine) (events : List Event) → IsRunning (after_alone (newcomer terms) events)
+alone_runs terms events = runs_on (newcomer terms) events (newcomer_runs terms)

@@ -1,0 +1,153 @@
+-- What each call does, case by case.
+use Rattle.std.proofs.Common.{◌≡◌, ℕ, ◌+◌, ◌≤◌, nat_le, true, false, Option, Some, None, refl, sym, ap, ◌∙◌, arith}
+use Rattle.std.specs.Prelude.{option_map}
+use Rattle.std.proofs.lemmas.Bool.Decides.{nat_tests}
+use Rattle.job_table.specs.Table.{JobData, is_out, is_ended}
+use Rattle.job_table.specs.Job.{given_up}
+use Rattle.job_table.specs.declared.phase.Phase.{Phase}
+use Rattle.job_table.specs.declared.phase.Phase.TheVariants.{Waiting, Out, Leaving, Dry, Closed, Cancelled}
+use Rattle.farm_core.specs.declared.entry.Event.TheVariants.{Fund, Status, Cancel, Forget}
+use Rattle.farm_core.specs.declared.reply.Line.{Line}
+use Rattle.farm_core.specs.declared.reply.Reply.{Reply}
+use Rattle.farm_core.specs.declared.reply.Reply.TheVariants as reply
+use Rattle.farm_core.specs.Tenant.{Tenant, free, find_job, put_job, drop_job, line_of}
+use Rattle.farm_core.specs.Step.{Step, Replied, step, has_room, is_amount, noted, commanded, funded, cancelled, forgotten}
+use Rattle.farm_core.specs.World.{IsOnlyNoted}
+use Rattle.farm_core.specs.Farm.{IsFundRefusal, IsGivenUpTo}
+use Rattle.farm_core.proofs.RunningLemmas.{found_seq}
+
+-- the job of which this is told
+pub record IsTold (t : Tenant) (s : ℕ) (line : Line) : Type 0 where
+  pub job : JobData
+  pub found : find_job s t.jobs ≡ Some job
+  pub line_is : line_of job ≡ line
+
+told_of : (t : Tenant) (s : ℕ) (line : Line) (found : Option JobData) → find_job s t.jobs ≡ found → option_map line_of found ≡ Some line → IsTold t s line
+told_of t s line None found is = absurd (cc)
+told_of t s line (Some job) found is = record { job = job; found = found; line_is = cc }
+
+pub told : (t : Tenant) (s : ℕ) (line : Line) → option_map line_of (find_job s t.jobs) ≡ Some line → IsTold t s line
+told t s line is = told_of t s line (find_job s t.jobs) refl is
+
+none_of : (t : Tenant) (s : ℕ) (found : Option JobData) → find_job s t.jobs ≡ found → option_map line_of found ≡ None → find_job s t.jobs ≡ None
+none_of t s None found is = found
+none_of t s (Some job) found is = absurd (cc)
+
+pub untold : (t : Tenant) (s : ℕ) → option_map line_of (find_job s t.jobs) ≡ None → find_job s t.jobs ≡ None
+untold t s is = none_of t s (find_job s t.jobs) refl is
+
+pub status_told : (t : Tenant) (s : ℕ) (line : Line) → option_map line_of (find_job s t.jobs) ≡ Some line → IsOnlyNoted t (Status s) (reply.Line line)
+status_told t s line is =
+    let it = told t s line is in
+    record { steps = rw it.found (ap (λ (l : Line). commanded t (noted t (reply.Line l))) it.line_is); noted = refl }
+
+pub status_unknown : (t : Tenant) (s : ℕ) → option_map line_of (find_job s t.jobs) ≡ None → IsOnlyNoted t (Status s) reply.NoUnknown
+status_unknown t s is = let none = untold t s is in record { steps = rw none refl; noted = refl }
+
+pub fund_unknown : (t : Tenant) (s quanta : ℕ) → option_map line_of (find_job s t.jobs) ≡ None → IsOnlyNoted t (Fund s quanta) reply.NoUnknown
+fund_unknown t s quanta is = let none = untold t s is in record { steps = rw none refl; noted = refl }
+
+pub fund_refused : (t : Tenant) (s quanta : ℕ) (line : Line) (answer : Reply) → option_map line_of (find_job s t.jobs) ≡ Some line → IsFundRefusal line.phase quanta answer
+    → IsOnlyNoted t (Fund s quanta) answer
+unfolding line_of
+fund_refused t s quanta line answer is refusal =
+    let it = told t s line is in
+    let refused : funded t quanta it.job ≡ noted t answer = refusal.steps t it.job (ap (λ (l : Line). l.phase) it.line_is) in
+    record { steps = rw (it.found, refused) refl; noted = refusal.noted }
+
+pub cancel_unknown : (t : Tenant) (s : ℕ) → option_map line_of (find_job s t.jobs) ≡ None → IsOnlyNoted t (Cancel s) reply.NoUnknown
+cancel_unknown t s is = let none = untold t s is in record { steps = rw none refl; noted = refl }
+
+pub forget_unknown : (t : Tenant) (s : ℕ) → option_map line_of (find_job s t.jobs) ≡ None → IsOnlyNoted t (Forget s) reply.NoUnknown
+forget_unknown t s is = let none = untold t s is in record { steps = rw none refl; noted = refl }
+
+-- what becomes of a tenant whose job stands otherwise
+abbrev pub after_change : Tenant → JobData → ℕ → Tenant
+after_change t new spent = record t { spent = spent; used = t.used + 1; jobs = put_job new.seq new t.jobs }
+
+pub fund_short : (t : Tenant) (s quanta n : ℕ) (line : Line) → option_map line_of (find_job s t.jobs) ≡ Some line → is_out line.phase ≡ false → is_ended line.phase ≡ false → is_amount quanta ≡ true
+    → (quanta ≤ free t → ⊥) → n ≡ free t → IsOnlyNoted t (Fund s quanta) (reply.NoShort n)
+unfolding line_of funded
+fund_short t s quanta n line is here going amount more same =
+    let it = told t s line is in
+    let phase : it.job.phase ≡ line.phase = ap (λ (l : Line). l.phase) it.line_is in
+    let here_is : is_out it.job.phase ≡ false = ap is_out phase ∙ here in
+    let going_is : is_ended it.job.phase ≡ false = ap is_ended phase ∙ going in
+    let short : nat_le quanta (free t) ≡ false = grind (arith, nat_tests) in
+    record { steps = rw (it.found, here_is, going_is, amount, short, same) refl; noted = refl }
+
+pub fund_steps : (t : Tenant) (s quanta : ℕ) (job : JobData) → has_room 1 t ≡ true → find_job s t.jobs ≡ Some job → is_out job.phase ≡ false → is_ended job.phase ≡ false → is_amount quanta ≡ true
+    → quanta ≤ free t → let new : JobData = record job { phase = Waiting; left = job.left + quanta } in
+    step t (Fund s quanta) ≡ record { answer = Replied (reply.Line (line_of new)); after = after_change t new t.spent }
+unfolding funded
+fund_steps t s quanta job room found here going amount some =
+    let enough : nat_le quanta (free t) ≡ true = grind (arith, nat_tests) in
+    rw (room, found, here, going, amount, enough) refl
+
+given_to : (job : JobData) (new : Option JobData) (line : Line) → given_up job job.phase ≡ new → option_map line_of new ≡ Some line → (then : JobData) × (given_up job job.phase ≡ Some then) × (line ≡ line_of then)
+given_to job None line gone is = absurd (cc)
+given_to job (Some then) line gone is = (then, gone, cc)
+
+not_given : (job : JobData) (new : Option JobData) → given_up job job.phase ≡ new → option_map line_of new ≡ None → given_up job job.phase ≡ None
+not_given job None gone is = gone
+not_given job (Some then) gone is = absurd (cc)
+
+pub cancel_over : (t : Tenant) (s : ℕ) (line : Line) → option_map line_of (find_job s t.jobs) ≡ Some line → ((job : JobData) → line ≡ line_of job → None ≡ option_map line_of (given_up job job.phase))
+    → IsOnlyNoted t (Cancel s) reply.NoOver
+unfolding cancelled
+cancel_over t s line is over =
+    let it = told t s line is in
+    let none = not_given it.job (given_up it.job it.job.phase) refl (sym (over it.job (sym it.line_is))) in
+    record { steps = rw (it.found, none) refl; noted = refl }
+
+pub cancel_told : (t : Tenant) (s freed : ℕ) (line then : Line) → option_map line_of (find_job s t.jobs) ≡ Some line → ((job : JobData) → line ≡ line_of job → Some then ≡ option_map line_of (given_up job job.phase))
+    → then.left + freed ≡ line.left → IsGivenUpTo t s freed then
+unfolding line_of
+cancel_told t s freed line then is gives freed_is =
+    let it = told t s line is in
+    let gone = given_to it.job (given_up it.job it.job.phase) then refl (sym (gives it.job (sym it.line_is))) in
+    record {
+      job = it.job;
+      then = gone.0;
+      found = it.found;
+      gone = gone.1;
+      line_is = gone.2;
+      freed_is = omega (arith, freed_is, ap (λ (l : Line). l.left) gone.2, ap (λ (l : Line). l.left) it.line_is);
+    }
+
+given_less : (job new : JobData) (phase : Phase) → job.phase ≡ phase → given_up job phase ≡ Some new → (new.left ≤ job.left) × (new.seq ≡ job.seq)
+given_less job new Waiting is gone = let same : record job { phase = Cancelled; left = 0 } ≡ new = cc in (omega (arith, ap (λ (j : JobData). j.left) same), sym (ap (λ (j : JobData). j.seq) same))
+given_less job new (Out slice) is gone = let same : record job { phase = Leaving slice } ≡ new = cc in (omega (arith, ap (λ (j : JobData). j.left) same), sym (ap (λ (j : JobData). j.seq) same))
+given_less job new (Leaving slice) is gone = absurd (cc)
+given_less job new Dry is gone = let same : record job { phase = Cancelled; left = 0 } ≡ new = cc in (omega (arith, ap (λ (j : JobData). j.left) same), sym (ap (λ (j : JobData). j.seq) same))
+given_less job new Closed is gone = absurd (cc)
+given_less job new Cancelled is gone = absurd (cc)
+
+pub given_up_seq : (job new : JobData) → given_up job job.phase ≡ Some new → new.seq ≡ job.seq
+given_up_seq job new gone = (given_less job new job.phase refl gone).1
+
+pub cancel_less : (t : Tenant) (s : ℕ) (line then : Line) → option_map line_of (find_job s t.jobs) ≡ Some line → ((job : JobData) → line ≡ line_of job → Some then ≡ option_map line_of (given_up job job.phase)) → then.left ≤ line.left
+unfolding line_of
+cancel_less t s line then is gives =
+    let it = told t s line is in
+    let gone = given_to it.job (given_up it.job it.job.phase) then refl (sym (gives it.job (sym it.line_is))) in
+    omega (arith, (given_less it.job gone.0 it.job.phase refl gone.1).0, ap (λ (l : Line). l.left) gone.2, ap (λ (l : Line). l.left) it.line_is)
+
+pub cancel_steps : (t : Tenant) (s : ℕ) (job new : JobData) → has_room 1 t ≡ true → find_job s t.jobs ≡ Some job → given_up job job.phase ≡ Some new
+    → step t (Cancel s) ≡ record { answer = Replied (reply.Line (line_of new)); after = after_change t new t.spent }
+unfolding cancelled
+cancel_steps t s job new room found gone = rw (room, found, gone) refl
+
+pub forget_busy : (t : Tenant) (s : ℕ) (line : Line) → option_map line_of (find_job s t.jobs) ≡ Some line → is_ended line.phase ≡ false → IsOnlyNoted t (Forget s) reply.NoBusy
+unfolding line_of forgotten
+forget_busy t s line is going =
+    let it = told t s line is in
+    let going_is : is_ended it.job.phase ≡ false = ap (λ (l : Line). is_ended l.phase) it.line_is ∙ going in
+    record { steps = rw (it.found, going_is) refl; noted = refl }
+
+pub forget_steps : (t : Tenant) (s : ℕ) (job : JobData) → has_room 1 t ≡ true → find_job s t.jobs ≡ Some job → is_ended job.phase ≡ true
+    → step t (Forget s) ≡ record { answer = Replied (reply.Forgotten s); after = record t { used = t.used + 1; jobs = drop_job job.seq t.jobs } }
+unfolding forgotten
+forget_steps t s job room found ended =
+    let seq = found_seq s t.jobs job found in
+    rw (room, found, ended) (ap (λ n. let it : Step = record { answer = Replied (reply.Forgotten n); after = record t { used = t.used + 1; jobs = drop_job job.seq t.jobs } } in it) seq)

@@ -1,0 +1,69 @@
+use Rattle.std.proofs.Common.{◌≡◌, ◌+◌, ◌≤◌, ◌++◌, get_or, set, length, refl, sym, ap, ◌∙◌, subst, arith}
+use Rattle.std.specs.Vec.{vec_capacity}
+use Rattle.tenant_book.specs.Book.{BookData, after_hold}
+use Rattle.job_table.specs.Table.{find_row}
+use Rattle.job_table.specs.Job.{IsFunded}
+use Rattle.job_table.specs.declared.phase.Phase.TheVariants.{Waiting}
+use Rattle.farm_core.proofs.CommandLemmas.{IsFunding, fund_moves, fund_bound, fund_line, free_in}
+use Rattle.farm_core.specs.Tenant.{free}
+use Rattle.farm_core.proofs.StepLemmas.{fund_short}
+use Rattle.farm_core.specs.declared.account.Account.{Account}
+use Rattle.farm_core.specs.declared.entry.Event.TheVariants.{Fund}
+use Rattle.farm_core.specs.declared.reply.Reply.TheVariants as reply
+use Rattle.farm_core.specs.Step.{Replied}
+use Rattle.farm_core.specs.World.{World, view, Follows}
+use Rattle.farm_core.specs.Farm.{IsFarm, owed}
+use Rattle.farm_core.proofs.ViewLemmas.{moved}
+use Rattle.farm_core.proofs.MoveLemmas.{IsMove, moved_is, written, one_entry}
+use Rattle.farm_core.proofs.farm.Farm.fund_job.Given.{Over}
+use Rattle.farm_core.proofs.farm.Farm.fund_job.Goals.{After-struct_known-1}
+use Rattle.farm_core.proofs.farm.Farm.fund_job.Goals as goal
+
+pub noted-requires-clause-step : goal.noted-requires-clause-step
+noted-requires-clause-step g c =
+    let w : World = c.args.self.now in
+    let free_is : c.index.result.now.book.free ≡ free (view c.args.tenant w) = free_in w c.args.tenant (vec_capacity c.self.inside.journal) c.index.result.now (subst (λ (x : World). IsFarm x (vec_capacity c.self.inside.journal)) c.self.view_is c.self.invariant) c.requires.known (c.index.ensures ∙ ap (λ (x : World). get_or x.accounts c.args.tenant c.index.result.now) c.self.view_is) in
+    fund_short (view c.args.tenant w) c.args.seq c.args.quanta c.in-Err.short.free c.args.line c.requires.line c.requires.out c.requires.ended c.requires.amount
+    (λ enough. let no = c.in-Err.ensures.enough.1 (omega (arith, enough, free_is)) in absurd (cc)) (c.in-Err.ensures.short ∙ free_is)
+
+pub fund-requires-after_bounds : goal.fund-requires-after_bounds
+fund-requires-after_bounds g c κs within =
+    let rows_are : c.self.inside.jobs ≡ c.args.self.now.rows = ap (λ (x : World). x.rows) c.self.view_is in
+    rw rows_are (fund_bound c.args.self.now c.args.tenant c.args.seq c.args.quanta (vec_capacity c.self.inside.journal) c.index.result.now (find_row c.args.tenant c.args.seq c.args.self.now.rows) (subst (λ (x : World). IsFarm x (vec_capacity c.self.inside.journal)) c.self.view_is c.self.invariant) c.requires.known (c.index.ensures ∙ ap (λ (x : World). get_or x.accounts c.args.tenant c.index.result.now) c.self.view_is) refl (c.in_default.ensures.enough.0 refl) c.has_room.ensures.limited)
+
+pub overflow_add-result : goal.overflow_add-result
+overflow_add-result g c =
+    omega (arith, fund_line c.args.self.now c.args.tenant c.args.seq c.args.quanta (vec_capacity c.self.inside.journal) c.index.result.now c.args.line (subst (λ (x : World). IsFarm x (vec_capacity c.self.inside.journal)) c.self.view_is c.self.invariant) c.requires.known (c.index.ensures ∙ ap (λ (x : World). get_or x.accounts c.args.tenant c.index.result.now) c.self.view_is) c.requires.line (c.in_default.ensures.enough.0 refl) c.has_room.ensures.limited)
+
+some : (g : Over) (c : After-struct_known-1 g) → c.args.quanta ≤ c.index.result.now.book.free
+some g c = c.in_default.ensures.enough.0 refl
+
+it : (g : Over) (c : After-struct_known-1 g) → IsFunding c.args.self.now c.args.tenant c.args.seq c.args.quanta c.index.result.now c.args.line c.fund.new.self
+it g c =
+    let did : IsFunded c.args.self.now.rows c.args.tenant c.args.seq c.args.quanta c.fund.new.self = subst (λ (x : World). IsFunded x.rows c.args.tenant c.args.seq c.args.quanta c.fund.new.self) c.self.view_is (c.fund.ensures.funded c.if-not-fund.false) in
+    fund_moves c.args.self.now c.args.tenant c.args.seq c.args.quanta (vec_capacity c.self.inside.journal) c.index.result.now c.args.line c.fund.new.self (subst (λ (x : World). IsFarm x (vec_capacity c.self.inside.journal)) c.self.view_is c.self.invariant) c.requires.known (c.index.ensures ∙ ap (λ (x : World). get_or x.accounts c.args.tenant c.index.result.now) c.self.view_is) (sym c.has_room.ensures.exact ∙ c.if-not-has_room.false) c.requires.line c.requires.out c.requires.ended c.requires.amount (some g c) did
+
+moves : (g : Over) (c : After-struct_known-1 g) → IsMove c.args.self.now c.args.tenant c.fund.new.self (record c.index.result.now { book = after_hold c.args.quanta c.index.result.now.book; used = c.index.result.now.used + 1 }) (Fund c.args.seq c.args.quanta) (Replied (reply.Line (record c.args.line { phase = Waiting; left = c.args.line.left + c.args.quanta })))
+moves g c = (it g c).moves
+
+wrote : (g : Over) (c : After-struct_known-1 g) →
+    let v : World = record { config = c.self.inside.config; rows = c.fund.new.self; journal = c.write_down.new.journal.items; accounts = c.write_down.new.accounts.items } in
+    IsFarm v (vec_capacity c.write_down.new.journal) × Follows c.args.self.now c.args.tenant (Fund c.args.seq c.args.quanta) (Replied (reply.Line (record c.args.line { phase = Waiting; left = c.args.line.left + c.args.quanta }))) v
+wrote g c =
+    let w : World = c.args.self.now in
+    let t = c.args.tenant in
+    let account : Account = c.index.result.now in
+    let then : Account = record account { book = after_hold c.args.quanta account.book; used = account.used + 1 } in
+    let wrote_is : c.write_down.new.accounts.items ≡ set c.self.inside.accounts.items t then = c.write_down.ensures.accounts ∙ ap (λ (b : BookData). let a : Account = record account { book = b; used = account.used + 1 } in set c.self.inside.accounts.items t a) c.in_default.ensures.held in
+    let farm : IsFarm w (vec_capacity c.self.inside.journal) = subst (λ (x : World). IsFarm x (vec_capacity c.self.inside.journal)) c.self.view_is c.self.invariant in
+    let v : World = record { config = c.self.inside.config; rows = c.fund.new.self; journal = c.write_down.new.journal.items; accounts = c.write_down.new.accounts.items } in
+    let is : v ≡ moved w t (c.fund.new.self) then (one_entry t (Fund c.args.seq c.args.quanta)) = moved_is w c.self.inside.config c.self.inside.jobs (c.fund.new.self) c.self.inside.journal.items c.write_down.new.journal.items c.self.inside.accounts.items c.write_down.new.accounts.items t (c.fund.new.self) then (Fund c.args.seq c.args.quanta)
+    c.self.view_is (refl) wrote_is (c.write_down.ensures.journal ∙ ap (λ es. es ++ one_entry t (Fund c.args.seq c.args.quanta)) c.keep_room.ensures.kept) in
+    let room : length w.journal + 1 + owed (c.fund.new.self) ≤ vec_capacity c.write_down.new.journal = omega (arith, (it g c).room, c.in-Ok.ensures.room, c.write_down.ensures.capacity, c.len.ensures, ap (λ (x : World). length x.journal) c.self.view_is, ap (λ (x : World). length x.rows) c.self.view_is) in
+    written w v t (c.fund.new.self) then (Fund c.args.seq c.args.quanta) (Replied (reply.Line (record c.args.line { phase = Waiting; left = c.args.line.left + c.args.quanta }))) (vec_capacity c.self.inside.journal) (vec_capacity c.write_down.new.journal) farm (moves g c) is room
+
+pub invariant_of-self-2 : goal.invariant_of-self-2
+invariant_of-self-2 g c = (wrote g c).0
+
+pub returns : goal.returns
+returns g c = (wrote g c).1
