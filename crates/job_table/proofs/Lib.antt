@@ -1,2 +1,4 @@
 pub mod JobLemmas
 pub mod PlaceLemmas
+pub mod WaitingLemmas
+pub mod ApartLemmas

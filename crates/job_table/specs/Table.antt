@@ -1,5 +1,5 @@
 -- The rows of all tenants' jobs: a finite map by tenant and number, as a list in the order in which the jobs came.
-use Rattle.std.specs.Prelude.{ℕ, Bool, true, false, cond, ◌&&◌, ◌==◌, List, [], ◌∷◌, map, filter, Option, Some, None}
+use Rattle.std.specs.Prelude.{◌≡◌, ℕ, Bool, true, false, cond, ◌&&◌, ◌==◌, List, [], ◌∷◌, map, filter, Option, Some, None}
 use Rattle.strategy.specs.declared.plan.Plan.{Plan}
 use Rattle.job_table.specs.declared.phase.Phase.{Phase}
 use Rattle.job_table.specs.declared.phase.Phase.TheVariants.{Waiting, Out, Leaving, Dry, Closed, Cancelled}
@@ -68,3 +68,8 @@ jobs_of t rows = map (λ (row : Row). row.job) (filter (λ row. row.tenant == t)
 -- the tenants and the numbers of the jobs that wait, in the order in which they came
 abbrev pub waiting_keys : List Row → List (ℕ × ℕ)
 waiting_keys rows = map (λ (row : Row). (row.tenant, row.job.seq)) (filter (λ row. is_waiting row.job.phase) rows)
+
+-- no two jobs of a tenant have the same number: none of the later rows is that of an earlier one's tenant and number
+abbrev pub AreApart : List Row → Type 0
+AreApart [] = Unit {0}
+AreApart (row ∷ rows) = (find_row row.tenant row.job.seq rows ≡ None) × AreApart rows
