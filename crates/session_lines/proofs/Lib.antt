@@ -1,3 +1,5 @@
 pub mod PartLemmas
 pub mod PlaceLemmas
 pub mod WordLemmas
+pub mod LineLemmas
+pub mod ScanLemmas

@@ -2,3 +2,5 @@ pub mod Known
 pub mod Part
 pub mod ReplyText
 pub mod RequestLine
+pub mod Script
+pub mod Taken

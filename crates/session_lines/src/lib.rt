@@ -1,6 +1,7 @@
 //! The lines of a session: which requests a script's bytes are, and the bytes of each reply.
 #![tactic(auto)]
 
+mod bytes;
 mod display;
 mod line;
 mod put;

@@ -29,6 +29,8 @@ pub enum Meaning {
     Whole(Request),
     /// A submit, whose text follows.
     Opens(Head),
+    /// No request: it has more than 4,096 bytes, and a word.
+    Long,
     /// No request. With the tenant's name where the line begins with `@` and a name.
     Bad(Option<Name>),
 }

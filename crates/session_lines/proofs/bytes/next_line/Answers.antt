@@ -1,0 +1,36 @@
+use Rattle.std.proofs.Common.{◌≡◌, ℕ, ◌+◌, List, [], ◌∷◌, ◌++◌, ◌==◌, false, not, length, sym, ap, ◌∙◌, rules, arith, ne_eqb}
+use Rattle.std.proofs.lemmas.List.{length_push}
+use Rattle.session_lines.specs.Taken.{TakesLine}
+use Rattle.session_lines.proofs.LineLemmas.{Reads, Reads-push, Reads-feed, Reads-end}
+use Rattle.session_lines.proofs.ScanLemmas.{Scans-more, Scans-feed, Scans-end, Goes-map, TakesLine-whole, some_with_feed, kept_some}
+use Rattle.session_lines.proofs.bytes.next_line.Goals as goal
+
+pub returns-in-None : goal.returns-in-None
+returns-in-None g c =
+    let (raw, scans, reads, paid) = c.loop.invariant in
+    let none = rw c.in-None.is at c.in_ok-next_byte.ensures in
+    let ends = Reads-end _ _ _ raw reads in
+    let same : length raw + c.next_byte.new.left ≡ c.args.left.now = omega (arith, none.2) in
+    Goes-map (g.R.Read.remaining c.args.reader.now) (g.R.Read.remaining c.next_byte.new.reader) _ _
+    (TakesLine-whole raw _ _ _ _ _ ends.0 ends.1 (ap not c.is_empty.ensures ∙ kept_some raw _ ends.0) same)
+    (Scans-end raw (g.R.Read.remaining c.args.reader.now) (g.R.Read.remaining c.loop.reader) (g.R.Read.remaining c.next_byte.new.reader) scans none.0 none.1)
+
+pub returns-in-Some-eq10 : goal.returns-in-Some-eq10
+returns-in-Some-eq10 g c =
+    let (raw, scans, reads, paid) = c.loop.invariant in
+    let got = rw (c.in-Some-eq10.is, c.in-Some-eq10.field-0-test) at c.in_ok-next_byte.ensures in
+    let ends = Reads-feed _ _ _ raw reads in
+    let same : length (raw ++ 10 ∷ []) + c.next_byte.new.left ≡ c.args.left.now = simp length_push (omega (arith, got.1)) in
+    Goes-map (g.R.Read.remaining c.args.reader.now) (g.R.Read.remaining c.next_byte.new.reader) _ _
+    (TakesLine-whole (raw ++ 10 ∷ []) _ _ _ _ _ (c.keep.ensures.kept ∙ ends.0) (c.keep.ensures.blank ∙ ends.1) (some_with_feed raw) same)
+    (Scans-feed raw (g.R.Read.remaining c.args.reader.now) (g.R.Read.remaining c.loop.reader) (g.R.Read.remaining c.next_byte.new.reader) scans got.0)
+
+pub loop-preserved : goal.loop-preserved
+loop-preserved g c =
+    let (raw, scans, reads, paid) = c.loop.invariant in
+    let got = rw c.in-Some.is at c.in_ok-next_byte.ensures in
+    let other : (c.in-Some.byte == 10) ≡ false = ne_eqb c.in-Some.byte 10 c.in-Some.byte-test.1 in
+    (raw ++ c.in-Some.byte ∷ [],
+     Scans-more raw c.in-Some.byte (g.R.Read.remaining c.args.reader.now) (g.R.Read.remaining c.loop.reader) (g.R.Read.remaining c.next_byte.new.reader) other scans got.0,
+     rw (c.push.ensures.kept, c.push.ensures.blank, c.push.ensures.returns) (Reads-push _ _ _ raw c.in-Some.byte other reads),
+     simp length_push (omega (arith, got.1)))

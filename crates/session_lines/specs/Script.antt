@@ -1,0 +1,141 @@
+-- How the bytes of a script are cut into requests.
+use Rattle.std.specs.Prelude.{◌≡◌, ℕ, ◌+◌, ◌-◌, ◌≤◌, Bool, false, ◌||◌, ◌==◌, nat_lt, List, [], ◌∷◌, ◌++◌, length, if◌then◌else◌, Option, Some, None, Result, Ok, Err, ⊤}
+use Rattle.std.specs.List.{list_all}
+use Rattle.std.specs.Io.BufRead.{strip_last}
+use Rattle.mrcpsp.specs.Project.{ProjectData}
+use Rattle.psplib_mm.specs.Text.{is_blank}
+use Rattle.psplib_mm.specs.Reading.{reading}
+use Rattle.psplib_mm.specs.declared.fault.MmFault.{MmFault}
+use Rattle.psplib_mm.specs.declared.fault.MmFault.TheVariants as fault
+use Rattle.session_lines.specs.declared.request.Request.{Request}
+use Rattle.session_lines.specs.declared.request.What.TheVariants.{Submit}
+use Rattle.session_lines.specs.declared.request.LineFault.{LineFault}
+use Rattle.session_lines.specs.declared.request.LineFault.TheVariants.{Eof, Read, TooLong, Syntax, File, NoMemory}
+use Rattle.session_lines.specs.declared.line.Head.{Head}
+use Rattle.session_lines.specs.declared.line.Meaning.{Meaning}
+use Rattle.session_lines.specs.declared.line.Meaning.TheVariants.{Blank, Whole, Opens, Long, Bad}
+use Rattle.session_lines.specs.RequestLine.{meaning_of}
+
+-- ---- lines
+
+-- x in front of the first line
+abbrev pub onto : ℕ → List (List ℕ) → List (List ℕ)
+onto x [] = (x ∷ []) ∷ []
+onto x (line ∷ lines) = (x ∷ line) ∷ lines
+
+-- the lines of these bytes, each with its line feed; what follows the last line feed is a line where it has a byte
+abbrev pub lines_of : List ℕ → List (List ℕ)
+lines_of [] = []
+lines_of (x ∷ xs) = if x == 10 then (x ∷ []) ∷ lines_of xs else onto x (lines_of xs)
+
+-- a line without its line feed, and without the carriage return before it
+abbrev pub shown : List ℕ → List ℕ
+shown line = strip_last 13 (strip_last 10 line)
+
+abbrev pub is_long : List ℕ → Bool
+is_long line = nat_lt 4096 (length (shown line))
+
+abbrev pub is_empty : List ℕ → Bool
+is_empty line = list_all is_blank (shown line)
+
+-- what a line means: one without a word means nothing, however long it is
+abbrev pub judged : List ℕ → Meaning
+judged line = if is_long line then (if is_empty line then Blank else Long) else meaning_of (shown line)
+
+-- ---- the text of a submit
+
+-- the line before the text, how many lines are missing, whether one of those so far is long, and the bytes of these
+pub record TextData : Type 0 where
+  pub head : Head
+  pub left : ℕ
+  pub is_long : Bool
+  pub bytes : List ℕ
+
+abbrev pub opened : Head → TextData
+opened head = record { head = head; left = head.lines; is_long = false; bytes = [] }
+
+-- the text with one more line
+abbrev pub with_line : TextData → List ℕ → TextData
+with_line text line = record text { left = text.left - 1; is_long = text.is_long || is_long line; bytes = text.bytes ++ line }
+
+-- ---- requests
+
+-- what the bytes of a request are: the request, or the fault that stands in its place; and where they are a submit with its
+-- text, which takes memory, whose it is
+pub record Item : Type 0 where
+  pub submits : Option (List ℕ)
+  pub answer : Result Request LineFault
+
+abbrev pub plain : Result Request LineFault → Item
+plain answer = record { submits = None; answer = answer }
+
+abbrev pub submitted : Head → Result ProjectData MmFault → Result Request LineFault
+submitted head (Ok project) = Ok (record { who = head.who; what = Submit head.kind head.quanta project })
+submitted head (Err fault) = Err (File head.who fault)
+
+-- a submit whose text is whole, and one whose text is cut by the end of the script
+abbrev pub whole_text : TextData → Item
+whole_text text = record {
+  submits = Some text.head.who;
+  answer = if text.is_long then Err (TooLong (Some text.head.who)) else submitted text.head (reading text.bytes);
+}
+
+abbrev pub cut_text : TextData → Item
+cut_text text = record {
+  submits = Some text.head.who;
+  answer = if text.is_long then Err (TooLong (Some text.head.who)) else Err (Syntax (Some text.head.who));
+}
+
+pub record Found : Type 0 where
+  pub item : Item
+  pub rest : List (List ℕ)
+
+abbrev pub found : Item → List (List ℕ) → Option Found
+found item rest = Some (record { item = item; rest = rest })
+
+-- what a line outside a text begins: blank lines belong to the request after them
+abbrev pub begins : Meaning → List (List ℕ) → Option Found → (Head → Option Found) → Option Found
+begins Blank lines later text = later
+begins (Whole request) lines later text = found (plain (Ok request)) lines
+begins (Opens head) lines later text = text head
+begins Long lines later text = found (plain (Err (TooLong None))) lines
+begins (Bad who) lines later text = found (plain (Err (Syntax who))) lines
+
+-- the first request of these lines, and the lines after it; the first lines may belong to a text
+abbrev pub first : Option TextData → List (List ℕ) → Option Found
+first None [] = None
+first (Some text) [] = found (cut_text text) []
+first None (line ∷ lines) = begins (judged line) lines (first None lines) (λ head. first (Some (opened head)) lines)
+first (Some text) (line ∷ lines) =
+    let more : TextData = with_line text line in
+    if more.left == 0 then found (whole_text more) lines else first (Some more) lines
+
+abbrev pub first_of : List ℕ → Option Found
+first_of bytes = first None (lines_of bytes)
+
+-- ---- what a reader gives
+
+-- an answer for a request: its own, or that there was no memory for a submit. A text that spells no project for want of
+-- memory is never told as a fault of the text
+abbrev pub Answers : Item → Result Request LineFault → Type 0
+Answers item (Ok request) = item.answer ≡ Ok request
+Answers item (Err Eof) = ⊥
+Answers item (Err Read) = ⊥
+Answers item (Err (TooLong who)) = item.answer ≡ Err (TooLong who)
+Answers item (Err (Syntax who)) = item.answer ≡ Err (Syntax who)
+Answers item (Err (File who fault.NoMemory)) = ⊥
+Answers item (Err (File who fault)) = item.answer ≡ Err (File who fault)
+Answers item (Err (NoMemory who)) = item.submits ≡ Some who
+
+-- the first request of xs is answered, and ys are the bytes after it; a request has at most 100,000,000 bytes
+pub record Cuts (found : Option Found) (answer : Result Request LineFault) (xs ys : List ℕ) : Type 0 where
+  pub item : Item
+  pub cut : found ≡ Some (record { item = item; rest = lines_of ys })
+  pub answers : Answers item answer
+  pub within : length xs ≤ length ys + 100000000
+
+-- no request is left
+pub record Ends (found : Option Found) (xs ys : List ℕ) : Type 0 where
+  pub none : found ≡ None
+  pub over : ys ≡ []
+  pub within : length xs ≤ 100000000
