@@ -1,8 +1,8 @@
 //! Reading at most so many bytes of a file or of standard input.
-ghost use Rattle.std.specs.Prelude.{◌≡◌, IfOk, IfSome, take};
+ghost use Rattle.std.specs.Prelude.{◌≡◌, ◌<◌, length, IfOk, IfSome, take};
 
 use std::alloc::Global;
-use std::io::Read;
+use std::io::{ErrorKind, Read};
 use std::rt::Files;
 use std::{fs, io};
 
@@ -15,6 +15,18 @@ pub fn read_front<R: Read + Drop>(alloc: Global, reader: R) -> io::Result<Vec<u8
 {
     let mut bytes = Vec::new(alloc);
     reader.take(MOST_BYTES).read_to_end(&mut bytes)?;
+    Ok(bytes)
+}
+
+/// All bytes of a reader that has fewer than `MOST_BYTES`. An error is the reader's, want of memory, or that it has more.
+pub fn read_whole<R: Read + Drop>(alloc: Global, reader: R) -> io::Result<Vec<u8>>
+    ensures { IfOk result (λ bytes. IfSome (R.remaining reader)
+        (λ all. (bytes.items ≡ all) × (length all < MOST_BYTES))) }
+{
+    let bytes = read_front(alloc, reader)?;
+    if bytes.len() as u64 == MOST_BYTES {
+        return Err(io::Error::from(ErrorKind::InvalidData));
+    }
     Ok(bytes)
 }
 

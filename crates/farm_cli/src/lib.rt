@@ -12,6 +12,6 @@ mod tests;
 
 pub use arguments::{Task, farm_command, parse_words};
 pub use config::{ConfigFault, Key, read_config};
-pub use input::{MOST_BYTES, read_front};
+pub use input::{MOST_BYTES, read_front, read_whole};
 pub use program::{run, run_words};
 pub use summary::{Summary, summarize};

@@ -1,5 +1,5 @@
 //! Command lines, inputs that are cut, and what is printed of a file.
-use crate::{MOST_BYTES, Summary, Task, parse_words, read_front, summarize};
+use crate::{MOST_BYTES, Summary, Task, parse_words, read_front, read_whole, summarize};
 use psplib_mm::read;
 use std::alloc::{AllocError, Global};
 use std::process::Abort;
@@ -72,6 +72,16 @@ fn inputs_are_read_to_one_byte_past_a_text(rt: HostRuntime) -> Result<(), Fail> 
         read_front(alloc, short.as_slice())?.as_slice(),
         b"text".as_slice()
     );
+    Ok(())
+}
+
+#[test]
+fn longer_inputs_are_not_whole(rt: HostRuntime) -> Result<(), Fail> {
+    let alloc = rt.alloc();
+    let whole = vec![in alloc; b' '; 1_048_576]?;
+    assert_eq!(rt; read_whole(alloc, whole.as_slice())?.len(), 1_048_576);
+    let longer = vec![in alloc; b' '; 1_048_577]?;
+    assert!(rt; read_whole(alloc, longer.as_slice()).is_err());
     Ok(())
 }
 

@@ -1,0 +1,7 @@
+use Rattle.std.proofs.Common.{rules}
+use Rattle.farm_cli.specs.declared.input.TheConstants.{MOST_BYTES}
+use Rattle.farm_cli.proofs.InputLemmas.{whole_known}
+use Rattle.farm_cli.proofs.input.read_whole.Goals as goal
+
+pub returns : goal.returns
+returns g c = whole_known MOST_BYTES (g.R.Read.remaining c.args.reader) c.in_ok-bytes.bytes.items c.in_ok-bytes.ensures (search rules)
