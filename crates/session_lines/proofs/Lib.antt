@@ -3,3 +3,5 @@ pub mod PlaceLemmas
 pub mod WordLemmas
 pub mod LineLemmas
 pub mod ScanLemmas
+pub mod TextLemmas
+pub mod ReadLemmas

@@ -1,14 +1,13 @@
 -- A line that is read byte by byte, and what its first bytes tell.
-use Rattle.std.proofs.Common.{◌≡◌, ℕ, zero, suc, ◌+◌, ◌-◌, ◌<◌, ◌≤◌, Bool, true, false, cond, not, ◌&&◌, ◌||◌, ◌==◌, eqb, nat_lt, List, [], ◌∷◌, ◌++◌, length, take, get_or, refl, sym, ap, ◌∙◌, arith, inl, inr, rules, append_assoc, take_all, length-append, length-take}
-use Rattle.std.proofs.lemmas.Bool.{cases_lt, eqb-true, lt-ltb, false≢true}
-use Rattle.std.proofs.lemmas.Bool.Decides.{nat_tests}
+use Rattle.std.proofs.Common.{◌≡◌, ℕ, zero, suc, ◌-◌, ◌<◌, Bool, true, false, cond, not, ◌&&◌, ◌||◌, ◌==◌, nat_lt, List, [], ◌∷◌, ◌++◌, length, take, refl, sym, ap, ◌∙◌, arith, take_all}
+use Rattle.std.proofs.lemmas.Bool.{eqb-true, lt-ltb}
 use Rattle.std.proofs.lemmas.List.{length_push}
 use Rattle.std.proofs.lemmas.List.Folds.{list_all-append}
 use Rattle.std.proofs.Math.Seq.{take-append_seam, get_or-append_seam}
 use Rattle.std.specs.List.{list_all}
 use Rattle.std.specs.Io.BufRead.{strip_last, ends_with_byte}
 use Rattle.psplib_mm.specs.Text.{is_blank}
-use Rattle.session_lines.specs.Script.{shown, is_long, is_empty}
+use Rattle.session_lines.specs.Script.{is_empty}
 
 -- ---- the first bytes
 
@@ -92,9 +91,10 @@ Reads-push kept blank returns raw b other r =
 -- by a line feed
 pub Reads-feed : (kept : List ℕ) (blank returns : Bool) (raw : List ℕ) → Reads kept blank returns raw
     → (take 4099 (kept ++ 10 ∷ []) ≡ take 4099 (raw ++ 10 ∷ [])) × (blank ≡ is_empty (raw ++ 10 ∷ []))
-Reads-feed kept blank returns raw r =
-    (ap (λ l. take 4099 (l ++ 10 ∷ [])) r.front ∙ take_kept 4099 raw 10,
-     r.wordless ∙ ap (λ l. list_all is_blank (strip_last 13 l)) (sym (strip-push 10 raw 10)))
+Reads-feed kept blank returns raw r = (
+  ap (λ l. take 4099 (l ++ 10 ∷ [])) r.front ∙ take_kept 4099 raw 10,
+  r.wordless ∙ ap (λ l. list_all is_blank (strip_last 13 l)) (sym (strip-push 10 raw 10)),
+)
 
 -- by the end of the input
 pub Reads-end : (kept : List ℕ) (blank returns : Bool) (raw : List ℕ) → Reads kept blank returns raw → (kept ≡ take 4099 raw) × (blank ≡ is_empty raw)

@@ -1,5 +1,5 @@
 -- A reader in the middle of a line.
-use Rattle.std.proofs.Common.{◌≡◌, ℕ, ◌+◌, ◌<◌, Bool, false, true, cond, not, List, [], ◌∷◌, ◌++◌, Option, Some, None, length, take, nat_lt, eqb, ◌==◌, refl, sym, ap, ◌∙◌, subst, rules, arith, append_assoc, append-nil, length-append, zero, suc}
+use Rattle.std.proofs.Common.{◌≡◌, ℕ, ◌+◌, Bool, false, true, cond, not, List, [], ◌∷◌, ◌++◌, Option, Some, None, length, take, nat_lt, ◌==◌, refl, sym, ap, ◌∙◌, arith, append_assoc, append-nil, length-append, suc}
 use Rattle.std.proofs.lemmas.Bool.{lt-ltb}
 use Rattle.std.proofs.lemmas.Bool.Decides.{nat_tests}
 use Rattle.std.proofs.lemmas.List.{length_push}

@@ -14,6 +14,7 @@ use Rattle.session_lines.specs.declared.request.LineFault.TheVariants.{Eof, Read
 use Rattle.session_lines.specs.declared.line.Head.{Head}
 use Rattle.session_lines.specs.declared.line.Meaning.{Meaning}
 use Rattle.session_lines.specs.declared.line.Meaning.TheVariants.{Blank, Whole, Opens, Long, Bad}
+use Rattle.session_lines.specs.Known.{Goes}
 use Rattle.session_lines.specs.RequestLine.{meaning_of}
 
 -- ---- lines
@@ -127,15 +128,22 @@ Answers item (Err (File who fault.NoMemory)) = ⊥
 Answers item (Err (File who fault)) = item.answer ≡ Err (File who fault)
 Answers item (Err (NoMemory who)) = item.submits ≡ Some who
 
--- the first request of xs is answered, and ys are the bytes after it; a request has at most 100,000,000 bytes
-pub record Cuts (found : Option Found) (answer : Result Request LineFault) (xs ys : List ℕ) : Type 0 where
+-- a request is answered, and of the bytes xs those after it are left, ys; a request has so many bytes at most
+pub record Cuts (most : ℕ) (found : Option Found) (answer : Result Request LineFault) (xs ys : List ℕ) : Type 0 where
   pub item : Item
   pub cut : found ≡ Some (record { item = item; rest = lines_of ys })
   pub answers : Answers item answer
-  pub within : length xs ≤ length ys + 100000000
+  pub within : length xs ≤ length ys + most
 
 -- no request is left
-pub record Ends (found : Option Found) (xs ys : List ℕ) : Type 0 where
+pub record Ends (most : ℕ) (found : Option Found) (xs ys : List ℕ) : Type 0 where
   pub none : found ≡ None
   pub over : ys ≡ []
-  pub within : length xs ≤ 100000000
+  pub within : length xs ≤ most
+
+-- what a read answers, and what it takes of the bytes that a reader has left where these are known: the first request, whose first
+-- lines may belong to a text that is being read
+abbrev pub Takes : ℕ → Option TextData → Option (List ℕ) → Option (List ℕ) → Result Request LineFault → Type 0
+Takes most text old new (Err Read) = ⊤
+Takes most text old new (Err Eof) = Goes old new (λ xs ys. Ends most (first text (lines_of xs)) xs ys)
+Takes most text old new answer = Goes old new (λ xs ys. Cuts most (first text (lines_of xs)) answer xs ys)

@@ -1,11 +1,15 @@
--- What a read of one line, and of one request, takes from the bytes that a reader has left.
-use Rattle.std.specs.Prelude.{◌≡◌, ℕ, ◌+◌, Bool, nat_lt, List, length, take, Result, Ok, Err, ⊤, Option, None, Some}
+-- What the reader of requests keeps of a line and of a text. Only contracts of private functions name these.
+use Rattle.std.specs.Prelude.{◌≡◌, ℕ, ◌+◌, Bool, false, nat_lt, List, length, take, if◌then◌else◌}
 use Rattle.std.specs.Io.BufRead.{take_through, drop_through}
-use Rattle.session_lines.specs.declared.request.Request.{Request}
+use Rattle.psplib_mm.specs.declared.fault.MmFault.{MmFault}
+use Rattle.psplib_mm.specs.declared.fault.MmFault.TheVariants as fault
 use Rattle.session_lines.specs.declared.request.LineFault.{LineFault}
-use Rattle.session_lines.specs.declared.request.LineFault.TheVariants.{Eof, Read, TooLong, Syntax, File, NoMemory}
-use Rattle.session_lines.specs.Known.{Goes}
-use Rattle.session_lines.specs.Script.{Found, TextData, first, lines_of, is_empty, Cuts, Ends}
+use Rattle.session_lines.specs.declared.request.LineFault.TheVariants.{File, NoMemory}
+use Rattle.session_lines.specs.declared.line.Meaning.{Meaning}
+use Rattle.session_lines.specs.declared.line.Meaning.TheVariants.{Blank, Long}
+use Rattle.session_lines.specs.declared.text.Text.{Text}
+use Rattle.session_lines.specs.RequestLine.{meaning_of}
+use Rattle.session_lines.specs.Script.{TextData, shown, is_long, is_empty}
 
 -- the first line of xs was taken, ys are left; the line's first 4,099 bytes are kept, and whether it has no word; found tells
 -- whether there was one. Of the bytes that the request may have, before are spent to after
@@ -16,8 +20,19 @@ pub record TakesLine (kept : List ℕ) (blank found : Bool) (before after : ℕ)
   pub some : found ≡ nat_lt 0 (length xs)
   pub paid : length xs + after ≡ length ys + before
 
--- a read of a request, where the first lines may belong to a text
-abbrev pub Takes : Option TextData → Result Request LineFault → List ℕ → List ℕ → Type 0
-Takes text (Err Read) xs ys = ⊤
-Takes text (Err Eof) xs ys = Ends (first text (lines_of xs)) xs ys
-Takes text answer xs ys = Cuts (first text (lines_of xs)) answer xs ys
+-- what a line means, as its first bytes and whether it has no word tell
+abbrev pub judged_by : List ℕ → Bool → Meaning
+judged_by kept blank = if is_long kept then (if blank then Blank else Long) else meaning_of (shown kept)
+
+-- a text that is read has kept what this one says: of its bytes the first 1,048,577, which are as many as it takes to tell one that
+-- is too long, and none that matter where a line is long or a growth was refused
+pub record IsText (text : Text) (said : TextData) : Type 0 where
+  pub head : text.head ≡ said.head
+  pub left : text.left ≡ said.left
+  pub long : text.is_long ≡ said.is_long
+  pub bytes : text.is_refused ≡ false → text.is_long ≡ false → text.bytes.items ≡ take 1048577 said.bytes
+
+-- why there is no submit where its text was not read
+abbrev pub unread : List ℕ → MmFault → LineFault
+unread who fault.NoMemory = NoMemory who
+unread who fault = File who fault

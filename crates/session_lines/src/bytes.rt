@@ -68,7 +68,7 @@ impl Line {
 pub fn next_byte<R: Read>(reader: &mut R, left: &mut u64) -> Result<Option<u8>, ReadFault>
     ensures { IfOk result (λ found. MatchOption found
         (Consumes (R.remaining reader.old) (R.remaining reader.new) [] × IsAtEnd (R.remaining reader.new)
-            × (left.new ≡ left.old))
+        × (left.new ≡ left.old))
         (λ b. Consumes (R.remaining reader.old) (R.remaining reader.new) (b ∷ []) × (left.new + 1 ≡ left.old))) }
 {
     let mut one = [0u8; 1];

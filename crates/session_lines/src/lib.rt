@@ -5,14 +5,17 @@ mod bytes;
 mod display;
 mod line;
 mod put;
+mod reading;
 mod request;
 mod said;
 #[cfg(test)]
 mod tests;
+mod text;
 mod words;
 mod writer;
 
 pub use put::WriteFault;
+pub use reading::read_request;
 pub use request::{LineFault, Request, What};
 pub use said::Said;
 pub use writer::write_reply;

@@ -1,7 +1,6 @@
-use Rattle.std.proofs.Common.{◌≡◌, ℕ, ◌+◌, List, [], ◌∷◌, ◌++◌, ◌==◌, false, not, length, sym, ap, ◌∙◌, rules, arith, ne_eqb}
+use Rattle.std.proofs.Common.{◌≡◌, ◌+◌, [], ◌∷◌, ◌++◌, ◌==◌, false, not, length, ap, ◌∙◌, arith, ne_eqb}
 use Rattle.std.proofs.lemmas.List.{length_push}
-use Rattle.session_lines.specs.Taken.{TakesLine}
-use Rattle.session_lines.proofs.LineLemmas.{Reads, Reads-push, Reads-feed, Reads-end}
+use Rattle.session_lines.proofs.LineLemmas.{Reads-push, Reads-feed, Reads-end}
 use Rattle.session_lines.proofs.ScanLemmas.{Scans-more, Scans-feed, Scans-end, Goes-map, TakesLine-whole, some_with_feed, kept_some}
 use Rattle.session_lines.proofs.bytes.next_line.Goals as goal
 
@@ -29,8 +28,9 @@ pub loop-preserved : goal.loop-preserved
 loop-preserved g c =
     let (raw, scans, reads, paid) = c.loop.invariant in
     let got = rw c.in-Some.is at c.in_ok-next_byte.ensures in
-    let other : (c.in-Some.byte == 10) ≡ false = ne_eqb c.in-Some.byte 10 c.in-Some.byte-test.1 in
-    (raw ++ c.in-Some.byte ∷ [],
-     Scans-more raw c.in-Some.byte (g.R.Read.remaining c.args.reader.now) (g.R.Read.remaining c.loop.reader) (g.R.Read.remaining c.next_byte.new.reader) other scans got.0,
-     rw (c.push.ensures.kept, c.push.ensures.blank, c.push.ensures.returns) (Reads-push _ _ _ raw c.in-Some.byte other reads),
-     simp length_push (omega (arith, got.1)))
+    let other : (c.in-Some.byte == 10) ≡ false = ne_eqb c.in-Some.byte 10 c.in-Some.byte-test.1 in (
+      raw ++ c.in-Some.byte ∷ [],
+      Scans-more raw c.in-Some.byte (g.R.Read.remaining c.args.reader.now) (g.R.Read.remaining c.loop.reader) (g.R.Read.remaining c.next_byte.new.reader) other scans got.0,
+      rw (c.push.ensures.kept, c.push.ensures.blank, c.push.ensures.returns) (Reads-push _ _ _ raw c.in-Some.byte other reads),
+      simp length_push (omega (arith, got.1)),
+    )

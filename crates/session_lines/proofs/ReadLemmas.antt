@@ -1,0 +1,234 @@
+-- A reader in the middle of a request.
+use Rattle.std.proofs.Common.{◌≡◌, ℕ, suc, ◌+◌, ◌-◌, ◌<◌, ◌≤◌, Bool, true, false, cond, ◌||◌, ◌==◌, eqb, nat_lt, List, [], ◌∷◌, ◌++◌, length, take, Option, Some, None, Result, Ok, Err, refl, sym, ap, ◌∙◌, subst, arith, inl, inr, take_all, length-take}
+use Rattle.std.proofs.lemmas.Bool.{cases_lt, lt-ltb, false≢true}
+use Rattle.std.specs.Io.BufRead.{strip_last, ends_with_byte, take_through, drop_through}
+use Rattle.session_lines.specs.declared.request.Request.{Request}
+use Rattle.session_lines.specs.declared.request.LineFault.{LineFault}
+use Rattle.session_lines.specs.declared.request.LineFault.TheVariants.{Eof, Read, TooLong, Syntax, File, NoMemory}
+use Rattle.session_lines.specs.declared.line.Head.{Head}
+use Rattle.session_lines.specs.declared.line.Meaning.{Meaning}
+use Rattle.session_lines.specs.declared.line.Meaning.TheVariants.{Blank, Whole, Opens, Long, Bad}
+use Rattle.session_lines.specs.declared.text.Text.{Text}
+use Rattle.session_lines.specs.Known.{Goes}
+use Rattle.session_lines.specs.Script.{lines_of, onto, shown, is_long, is_empty, judged, TextData, opened, with_line, whole_text, cut_text, Found, found, plain, begins, first, Answers, Cuts, Takes}
+use Rattle.session_lines.specs.Taken.{TakesLine, judged_by, IsText}
+use Rattle.session_lines.proofs.ScanLemmas.{Goes-map, Goes-trans}
+
+-- ---- what the first bytes of a line tell
+
+length-strip : (c : ℕ) (line : List ℕ) → length line ≤ length (strip_last c line) + 1
+length-strip c line = elim (ends_with_byte c line) as (λ b. length line ≤ length (cond b (take (length line - 1) line) line) + 1) [ true ↦ simp length-take (omega arith) | false ↦ omega arith ]
+
+length-shown : (line : List ℕ) → length line ≤ length (shown line) + 2
+length-shown line = let a = length-strip 10 line in let b = length-strip 13 (strip_last 10 line) in omega arith
+
+long_far : (line : List ℕ) → 4098 < length line → is_long line ≡ true
+long_far line h = let t = length-shown line in lt-ltb _ _ (omega arith)
+
+-- whether a line is long is seen in its first bytes, and one that is not is all there
+pub kept-cases : {C : Type 0} (raw : List ℕ) → ((is_long (take 4099 raw) ≡ true) → (is_long raw ≡ true) → C) → (take 4099 raw ≡ raw → C) → C
+kept-cases raw far near = elim (cases_lt 4099 (length raw)) [
+  | inl h ↦ let kept : 4098 < length (take 4099 raw) = simp length-take (omega arith) in far (long_far (take 4099 raw) kept) (long_far raw (omega arith))
+  | inr h ↦ near (take_all 4099 raw h)
+]
+
+judged-kept : (raw : List ℕ) → judged_by (take 4099 raw) (is_empty raw) ≡ judged raw
+judged-kept raw = kept-cases raw (λ p q. rw (p, q) refl) (λ e. ap (λ k. judged_by k (is_empty raw)) e)
+
+-- ---- a line, and those after it
+
+pub lines-step : (x : ℕ) (xs : List ℕ) → lines_of (x ∷ xs) ≡ take_through 10 (x ∷ xs) ∷ lines_of (drop_through 10 (x ∷ xs))
+lines-step x [] = elim (eqb x 10) as (λ b. cond b ((x ∷ []) ∷ []) ((x ∷ []) ∷ []) ≡ cond b (x ∷ []) (x ∷ []) ∷ lines_of (cond b [] [])) [ true ↦ refl | false ↦ refl ]
+lines-step x (y ∷ ys) =
+    let more = lines-step y ys in
+    elim (eqb x 10) as (λ b. cond b ((x ∷ []) ∷ lines_of (y ∷ ys)) (onto x (lines_of (y ∷ ys))) ≡ cond b (x ∷ []) (x ∷ take_through 10 (y ∷ ys)) ∷ lines_of (cond b (y ∷ ys) (drop_through 10 (y ∷ ys)))) [ true ↦ refl | false ↦ ap (onto x) more ]
+
+-- ---- between requests
+
+-- the lines before those of ys were blank or begin this text, and the bytes between were paid
+pub record GoesOn (now : Option TextData) (before after : ℕ) (xs ys : List ℕ) : Type 0 where
+  pub same : first None (lines_of xs) ≡ first now (lines_of ys)
+  pub paid : length xs + after ≡ length ys + before
+
+pub GoesOn-start : (a : Option (List ℕ)) (n : ℕ) → Goes a a (GoesOn None n n)
+GoesOn-start None n = tt
+GoesOn-start (Some xs) n = record { same = refl; paid = refl }
+
+-- the lines before those of ys were blank, and then one line meant this
+pub record Begins (meaning : Meaning) (before after : ℕ) (xs ys : List ℕ) : Type 0 where
+  pub same : first None (lines_of xs) ≡ begins meaning (lines_of ys) (first None (lines_of ys)) (λ head. first (Some (opened head)) (lines_of ys))
+  pub paid : length xs + after ≡ length ys + before
+
+line-begins : (kept : List ℕ) (blank : Bool) (before after : ℕ) (xs ys : List ℕ) → TakesLine kept blank true before after xs ys
+    → first None (lines_of xs) ≡ begins (judged_by kept blank) (lines_of ys) (first None (lines_of ys)) (λ head. first (Some (opened head)) (lines_of ys))
+line-begins kept blank before after [] ys t = absurd (false≢true (sym t.some))
+line-begins kept blank before after (x ∷ xs) ys t =
+    let says : judged (take_through 10 (x ∷ xs)) ≡ judged_by kept blank = sym (judged-kept (take_through 10 (x ∷ xs))) ∙ rw (← t.front, ← t.wordless) refl in
+    ap (first None) (lines-step x xs)
+    ∙ ap (λ m. begins m (lines_of (drop_through 10 (x ∷ xs))) (first None (lines_of (drop_through 10 (x ∷ xs)))) (λ head. first (Some (opened head)) (lines_of (drop_through 10 (x ∷ xs))))) says
+    ∙ ap (λ z. begins (judged_by kept blank) (lines_of z) (first None (lines_of z)) (λ head. first (Some (opened head)) (lines_of z))) (sym t.rest)
+
+pub after_line : (a b d : Option (List ℕ)) (kept : List ℕ) (blank seen : Bool) (m : Meaning) (before mid after : ℕ) → Goes a b (GoesOn None before mid) → Goes b d (TakesLine kept blank seen mid after) → seen ≡ true → judged_by kept blank ≡ m
+    → Goes a d (Begins m before after)
+after_line a b d kept blank seen m before mid after so_far line was says =
+    Goes-trans a b d _ _ _ (λ xs ys zs p t. record {
+      same = p.same ∙ line-begins kept blank mid after ys zs (subst (λ s. TakesLine kept blank s mid after ys zs) was t) ∙ ap (λ k. begins k (lines_of zs) (first None (lines_of zs)) (λ head. first (Some (opened head)) (lines_of zs))) says;
+      paid = let q = t.paid in let r = p.paid in omega arith;
+    }) so_far line
+
+-- a blank line, and the line before a text
+pub after_blank : (a d : Option (List ℕ)) (before after : ℕ) → Goes a d (Begins Blank before after) → Goes a d (GoesOn None before after)
+after_blank a d before after = Goes-map a d _ _ (λ xs ys b. record { same = b.same; paid = b.paid })
+
+pub after_head : (a d : Option (List ℕ)) (head : Head) (before after : ℕ) → Goes a d (Begins (Opens head) before after) → Goes a d (GoesOn (Some (opened head)) before after)
+after_head a d head before after = Goes-map a d _ _ (λ xs ys b. record { same = b.same; paid = b.paid })
+
+-- a line that is a request, or stands in place of one
+pub after_whole : (a d : Option (List ℕ)) (request : Request) (before after : ℕ) → Goes a d (Begins (Whole request) before after) → Takes before None a d (Ok request)
+after_whole a d request before after = Goes-map a d _ _ (λ xs ys b. let q = b.paid in record { item = plain (Ok request); cut = b.same; answers = refl; within = omega arith })
+
+pub after_long : (a d : Option (List ℕ)) (before after : ℕ) → Goes a d (Begins Long before after) → Takes before None a d (Err (TooLong None))
+after_long a d before after = Goes-map a d _ _ (λ xs ys b. let q = b.paid in record { item = plain (Err (TooLong None)); cut = b.same; answers = refl; within = omega arith })
+
+pub after_bad : (a d : Option (List ℕ)) (who : Option (List ℕ)) (before after : ℕ) → Goes a d (Begins (Bad who) before after) → Takes before None a d (Err (Syntax who))
+after_bad a d who before after = Goes-map a d _ _ (λ xs ys b. let q = b.paid in record { item = plain (Err (Syntax who)); cut = b.same; answers = refl; within = omega arith })
+
+-- no line is left
+no_line : (xs : List ℕ) → false ≡ nat_lt 0 (length xs) → xs ≡ []
+no_line [] e = refl
+no_line (x ∷ xs) e = absurd (false≢true (e ∙ lt-ltb 0 (suc (length xs)) (omega arith)))
+
+pub after_all : (a b d : Option (List ℕ)) (kept : List ℕ) (blank seen : Bool) (before mid after : ℕ) → Goes a b (GoesOn None before mid) → Goes b d (TakesLine kept blank seen mid after) → seen ≡ false → Takes before None a d (Err Eof)
+after_all a b d kept blank seen before mid after so_far line was =
+    Goes-trans a b d _ _ _ (λ xs ys zs p t.
+    let none : ys ≡ [] = no_line ys (sym was ∙ t.some) in
+    let over : zs ≡ [] = t.rest ∙ ap (drop_through 10) none in
+    let short : length ys ≡ 0 = ap length none in
+    let q = p.paid in
+    record { none = p.same ∙ ap (λ l. first None (lines_of l)) none; over = over; within = omega arith }) so_far line
+
+-- ---- in a text
+
+-- the lines before those of ys are in the text
+pub record InText (text : Option TextData) (kept : Text) (before after : ℕ) (xs ys : List ℕ) : Type 0 where
+  pub said : TextData
+  pub is : IsText kept said
+  pub same : first text (lines_of xs) ≡ first (Some said) (lines_of ys)
+  pub paid : length xs + after ≡ length ys + before
+
+pub InText-start : (a : Option (List ℕ)) (head : Head) (kept : Text) (n : ℕ) → IsText kept (opened head) → Goes a a (InText (Some (opened head)) kept n n)
+InText-start None head kept n t = tt
+InText-start (Some xs) head kept n t = record { said = opened head; is = t; same = refl; paid = refl }
+
+-- what a text is after one more line
+abbrev pub went_on : TextData → List ℕ → Option Found
+went_on more ys = cond (more.left == 0) (found (whole_text more) (lines_of ys)) (first (Some more) (lines_of ys))
+
+text-line : (said : TextData) (kept : List ℕ) (blank : Bool) (before after : ℕ) (xs ys : List ℕ) → TakesLine kept blank true before after xs ys
+    → first (Some said) (lines_of xs) ≡ went_on (with_line said (take_through 10 xs)) ys
+text-line said kept blank before after [] ys t = absurd (false≢true (sym t.some))
+text-line said kept blank before after (x ∷ xs) ys t =
+    ap (first (Some said)) (lines-step x xs) ∙ ap (went_on (with_line said (take_through 10 (x ∷ xs)))) (sym t.rest)
+
+long-kept : (raw : List ℕ) → is_long (take 4099 raw) ≡ is_long raw
+long-kept raw = kept-cases raw (λ p q. p ∙ sym q) (λ e. ap is_long e)
+
+or_true : (p : Bool) → (p || true) ≡ true
+or_true true = refl
+or_true false = refl
+
+or_parts : (p q : Bool) → (p || q) ≡ false → p ≡ false
+or_parts true q e = absurd (false≢true (sym e))
+or_parts false q e = refl
+
+-- a line was added to the text
+pub record Adds (old new : Text) (line : List ℕ) : Type 0 where
+  pub head : new.head ≡ old.head
+  pub left : new.left ≡ old.left - 1
+  pub long : new.is_long ≡ (old.is_long || is_long line)
+  pub refused : new.is_refused ≡ false → old.is_refused ≡ false
+  pub bytes : (whole : List ℕ) → old.bytes.items ≡ take 1048577 whole → new.is_refused ≡ false → new.is_long ≡ false → new.bytes.items ≡ take 1048577 (whole ++ line)
+
+IsText-more : (old new : Text) (said : TextData) (raw : List ℕ) → IsText old said → Adds old new (take 4099 raw) → IsText new (with_line said raw)
+IsText-more old new said raw t adds = record {
+  head = adds.head ∙ t.head;
+  left = adds.left ∙ ap (λ n. n - 1) t.left;
+  long = adds.long ∙ ap (λ b. b || is_long (take 4099 raw)) t.long ∙ ap (λ b. said.is_long || b) (long-kept raw);
+  bytes = λ refused short. kept-cases raw
+      (λ p q. absurd (false≢true (sym short ∙ adds.long ∙ ap (λ b. old.is_long || b) p ∙ or_true old.is_long)))
+      (λ e. adds.bytes said.bytes (t.bytes (adds.refused refused) (or_parts old.is_long (is_long (take 4099 raw)) (sym adds.long ∙ short))) refused short ∙ ap (λ l. take 1048577 (said.bytes ++ l)) e);
+}
+
+-- the lines before those of ys are in the text, the last of them just now
+pub record Added (text : Option TextData) (kept : Text) (before after : ℕ) (xs ys : List ℕ) : Type 0 where
+  pub said : TextData
+  pub is : IsText kept said
+  pub same : first text (lines_of xs) ≡ went_on said ys
+  pub paid : length xs + after ≡ length ys + before
+
+pub after_add : (a b d : Option (List ℕ)) (text : Option TextData) (old new : Text) (kept : List ℕ) (blank seen : Bool) (before mid after : ℕ) → Goes a b (InText text old before mid) → Goes b d (TakesLine kept blank seen mid after) → seen ≡ true → Adds old new kept
+    → Goes a d (Added text new before after)
+after_add a b d text old new kept blank seen before mid after so_far line was adds =
+    Goes-trans a b d _ _ _ (λ xs ys zs p t.
+    let taken : TakesLine kept blank true mid after ys zs = subst (λ s. TakesLine kept blank s mid after ys zs) was t in
+    let q = t.paid in
+    let r = p.paid in
+    record {
+      said = with_line p.said (take_through 10 ys);
+      is = IsText-more old new p.said (take_through 10 ys) p.is (subst (λ l. Adds old new l) t.front adds);
+      same = p.same ∙ text-line p.said kept blank mid after ys zs taken;
+      paid = omega arith;
+    }) so_far line
+
+-- the text goes on
+pub after_some : (a d : Option (List ℕ)) (text : Option TextData) (kept : Text) (before after : ℕ) → (kept.left == 0) ≡ false → Goes a d (Added text kept before after) → Goes a d (InText text kept before after)
+after_some a d text kept before after more = Goes-map a d _ _ (λ xs ys p.
+    let stays : (p.said.left == 0) ≡ false = ap (λ n. n == 0) (sym p.is.left) ∙ more in
+    record { said = p.said; is = p.is; same = p.same ∙ ap (λ t. cond t (found (whole_text p.said) (lines_of ys)) (first (Some p.said) (lines_of ys))) stays; paid = p.paid })
+
+-- an answer that cuts is an answer
+takes_cut : (most : ℕ) (text : Option TextData) (a d : Option (List ℕ)) (answer : Result Request LineFault) → Goes a d (λ xs ys. Cuts most (first text (lines_of xs)) answer xs ys) → Takes most text a d answer
+takes_cut most text a d (Ok request) p = p
+takes_cut most text a d (Err Eof) p = Goes-map a d _ _ (λ xs ys c. absurd c.answers) p
+takes_cut most text a d (Err Read) p = tt
+takes_cut most text a d (Err (TooLong who)) p = p
+takes_cut most text a d (Err (Syntax who)) p = p
+takes_cut most text a d (Err (File who f)) p = p
+takes_cut most text a d (Err (NoMemory who)) p = p
+
+-- the text is whole
+pub after_text : (a d : Option (List ℕ)) (text : Option TextData) (kept : Text) (before after : ℕ) (answer : Result Request LineFault) → (kept.left == 0) ≡ true → ((said : TextData) → IsText kept said → Answers (whole_text said) answer) → Goes a d (Added text kept before after) → Takes before text a d answer
+after_text a d text kept before after answer none gives p = takes_cut before text a d answer (Goes-map a d _ _ (λ xs ys p.
+    let ends : (p.said.left == 0) ≡ true = ap (λ n. n == 0) (sym p.is.left) ∙ none in
+    let q = p.paid in
+    record {
+      item = whole_text p.said;
+      cut = p.same ∙ ap (λ t. cond t (found (whole_text p.said) (lines_of ys)) (first (Some p.said) (lines_of ys))) ends;
+      answers = gives p.said p.is;
+      within = omega arith;
+    }) p)
+
+-- the input's end cuts the text
+pub after_cut : (a b d : Option (List ℕ)) (text : Option TextData) (old : Text) (kept : List ℕ) (blank seen : Bool) (before mid after : ℕ) (answer : Result Request LineFault) → ((said : TextData) → IsText old said → Answers (cut_text said) answer)
+    → Goes a b (InText text old before mid) → Goes b d (TakesLine kept blank seen mid after) → seen ≡ false → Takes before text a d answer
+after_cut a b d text old kept blank seen before mid after answer gives so_far line was = takes_cut before text a d answer (Goes-trans a b d _ _ _ (λ xs ys zs p t.
+    let none : ys ≡ [] = no_line ys (sym was ∙ t.some) in
+    let over : zs ≡ [] = t.rest ∙ ap (drop_through 10) none in
+    let short : length ys ≡ 0 = ap length none in
+    let q = p.paid in
+    record {
+      item = cut_text p.said;
+      cut = p.same ∙ ap (λ l. first (Some p.said) (lines_of l)) none ∙ ap (λ l. found (cut_text p.said) (lines_of l)) (sym over);
+      answers = gives p.said p.is;
+      within = omega arith;
+    }) so_far line)
+
+-- a submit is the line before its text, and the text
+pub with_head : (a b d : Option (List ℕ)) (text : Option TextData) (most left : ℕ) (answer : Result Request LineFault) → Goes a b (GoesOn text most left) → Takes left text b d answer → Takes most None a d answer
+with_head a b d text most left (Err Read) p q = tt
+with_head a b d text most left (Err Eof) p q = Goes-trans a b d _ _ _ (λ xs ys zs p q. let r = p.paid in let w = q.within in record { none = p.same ∙ q.none; over = q.over; within = omega arith }) p q
+with_head a b d text most left (Ok request) p q = Goes-trans a b d _ _ _ (λ xs ys zs p q. let r = p.paid in let w = q.within in record { item = q.item; cut = p.same ∙ q.cut; answers = q.answers; within = omega arith }) p q
+with_head a b d text most left (Err (TooLong who)) p q = Goes-trans a b d _ _ _ (λ xs ys zs p q. let r = p.paid in let w = q.within in record { item = q.item; cut = p.same ∙ q.cut; answers = q.answers; within = omega arith }) p q
+with_head a b d text most left (Err (Syntax who)) p q = Goes-trans a b d _ _ _ (λ xs ys zs p q. let r = p.paid in let w = q.within in record { item = q.item; cut = p.same ∙ q.cut; answers = q.answers; within = omega arith }) p q
+with_head a b d text most left (Err (File who f)) p q = Goes-trans a b d _ _ _ (λ xs ys zs p q. let r = p.paid in let w = q.within in record { item = q.item; cut = p.same ∙ q.cut; answers = q.answers; within = omega arith }) p q
+with_head a b d text most left (Err (NoMemory who)) p q = Goes-trans a b d _ _ _ (λ xs ys zs p q. let r = p.paid in let w = q.within in record { item = q.item; cut = p.same ∙ q.cut; answers = q.answers; within = omega arith }) p q

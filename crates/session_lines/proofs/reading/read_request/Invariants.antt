@@ -1,0 +1,8 @@
+use Rattle.std.proofs.Common.{None}
+use Rattle.session_lines.specs.Known.{Goes}
+use Rattle.session_lines.proofs.ReadLemmas.{GoesOn}
+use Rattle.session_lines.proofs.reading.read_request.Given as goal
+
+-- all lines so far were blank
+abbrev pub invariant-loop : goal.invariant-loop
+invariant-loop g l = Goes (g.R.Read.remaining l.initial.reader) (g.R.Read.remaining l.reader) (GoesOn None l.initial.left l.left)

@@ -1,0 +1,9 @@
+use Rattle.std.proofs.Common.{Some}
+use Rattle.session_lines.specs.Known.{Goes}
+use Rattle.session_lines.specs.Script.{opened}
+use Rattle.session_lines.proofs.ReadLemmas.{InText}
+use Rattle.session_lines.proofs.reading.read_text.Given as goal
+
+-- the lines so far are in the text
+abbrev pub invariant-loop : goal.invariant-loop
+invariant-loop g l = Goes (g.R.Read.remaining l.initial.reader) (g.R.Read.remaining l.reader) (InText (Some (opened l.fn.head)) l.text l.initial.left l.left)

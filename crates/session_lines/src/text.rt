@@ -1,0 +1,162 @@
+//! The text of a submit.
+ghost use Rattle.std.specs.Prelude.{◌≡◌, ◌-◌, ◌==◌, ◌||◌, ◌++◌, false, true, List, ℕ, take, Err};
+ghost use Rattle.session_lines.specs.Script.{TextData, opened, whole_text, cut_text, Answers, is_long, shown};
+ghost use Rattle.session_lines.specs.Taken.{IsText, unread};
+
+use crate::line::Head;
+use crate::request::{LineFault, Request, What};
+use farm_core::Name;
+use psplib_mm::{MmFault, read};
+use std::alloc::Global;
+
+/// The longest line, without its end.
+const LONGEST: usize = 4096;
+
+/// As many bytes of a text as it takes to tell one that is too long.
+const MOST_BYTES: usize = 1_048_577;
+
+/// The text of a submit, while its lines come.
+#[derive(Debug, Drop)]
+pub struct Text {
+    /// The line before it.
+    head: Head,
+    /// How many lines are missing.
+    left: u64,
+    /// Whether one of its lines so far is too long.
+    is_long: bool,
+    /// Whether there was no memory for its bytes.
+    is_refused: bool,
+    /// Its first bytes.
+    bytes: Vec<u8>,
+}
+
+/// A line without its end.
+pub fn shown(line: &[u8]) -> &[u8]
+    ensures { result.now ≡ shown line.now }
+{
+    let fed = match line {
+        [front @ .., b'\n'] => front,
+        _ => line,
+    };
+    match fed {
+        [front @ .., b'\r'] => front,
+        _ => fed,
+    }
+}
+
+/// Whether a line has more than 4,096 bytes, without its end.
+pub fn is_long(line: &[u8]) -> bool
+    ensures { result ≡ is_long line.now }
+{
+    LONGEST < shown(line).len()
+}
+
+// Adds bytes as far as there is room. `false` where a growth was refused.
+fn add_bytes(bytes: &mut Vec<u8>, more: &[u8]) -> bool
+    ensures { (whole : List ℕ) → bytes.old.items ≡ take MOST_BYTES whole → result ≡ true
+        → bytes.new.items ≡ take MOST_BYTES (whole ++ more.now) }
+{
+    let room = MOST_BYTES.saturating_sub(bytes.len()).min(more.len());
+    bytes.extend_from_slice(&more[..room]).is_ok()
+}
+
+// Why there is no submit where its text was not read.
+fn unread(who: Name, fault: MmFault) -> LineFault
+    ensures { result ≡ unread who fault }
+{
+    match fault {
+        MmFault::NoMemory => LineFault::NoMemory(who),
+        _ => LineFault::File(who, fault),
+    }
+}
+
+impl Text {
+    /// The text of which no line has come.
+    pub fn new(alloc: Global, head: Head) -> Text
+        ensures { IsText result (opened head) }
+    {
+        let left = head.lines;
+        Text {
+            head,
+            left,
+            is_long: false,
+            is_refused: false,
+            bytes: Vec::new(alloc),
+        }
+    }
+
+    /// Whether no line is missing.
+    pub fn is_whole(&self) -> bool
+        ensures { result ≡ (self.now.left == 0) }
+    {
+        self.left == 0
+    }
+
+    /// Takes one more line, of which these are the first bytes.
+    pub fn add(&mut self, line: &[u8])
+        ensures head { self.new.head ≡ self.old.head }
+        ensures left { self.new.left ≡ self.old.left - 1 }
+        ensures long { self.new.is_long ≡ (self.old.is_long || is_long line.now) }
+        ensures refused { self.new.is_refused ≡ false → self.old.is_refused ≡ false }
+        ensures bytes { (whole : List ℕ) → self.old.bytes.items ≡ take MOST_BYTES whole → self.new.is_refused ≡ false
+            → self.new.is_long ≡ false → self.new.bytes.items ≡ take MOST_BYTES (whole ++ line.now) }
+    {
+        self.left = self.left.saturating_sub(1);
+        if is_long(line) {
+            self.is_long = true;
+        }
+        if !self.is_long && !self.is_refused && !add_bytes(&mut self.bytes, line) {
+            self.is_refused = true;
+        }
+    }
+
+    /// The submit of a text that is whole, or why there is none.
+    pub fn submit(self, alloc: Global) -> Result<Request, LineFault>
+        ensures { (said : TextData) → IsText self said → Answers (whole_text said) result }
+    {
+        let Text {
+            head,
+            left: _,
+            is_long,
+            is_refused,
+            bytes,
+        } = self;
+        let Head {
+            who,
+            kind,
+            quanta,
+            ..
+        } = head;
+        if is_refused {
+            return Err(LineFault::NoMemory(who));
+        }
+        if is_long {
+            return Err(LineFault::TooLong(Some(who)));
+        }
+        match read(alloc, &bytes) {
+            Ok(project) => {
+                let what = What::Submit {
+                    kind,
+                    quanta,
+                    project,
+                };
+                Ok(Request { who, what })
+            }
+            Err(fault) => Err(unread(who, fault)),
+        }
+    }
+
+    /// Why there is no submit where the input's end cuts the text.
+    pub fn cut(self) -> LineFault
+        ensures { (said : TextData) → IsText self said → Answers (cut_text said) (Err result) }
+    {
+        let who = self.head.who;
+        if self.is_refused {
+            LineFault::NoMemory(who)
+        } else if self.is_long {
+            LineFault::TooLong(Some(who))
+        } else {
+            LineFault::Syntax(Some(who))
+        }
+    }
+}
