@@ -1,13 +1,14 @@
 -- Calls that change a job, make one, or keep one no longer, and what a tenant's account tells then.
 use Rattle.std.proofs.Common.{◌≡◌, ℕ, ◌+◌, ◌-◌, ◌<◌, true, Some, List, [], ◌∷◌, ◌++◌, length, get_or, refl, sym, ap, ◌∙◌, arith}
+use Rattle.std.proofs.lemmas.Bool.{cond_both}
 use Rattle.tenant_book.specs.Book.{BookData}
-use Rattle.job_table.specs.Table.{Row, JobData, find_row, put_row, drop_row, jobs_of}
+use Rattle.job_table.specs.Table.{Row, JobData, is_row, find_row, put_row, drop_row, jobs_of}
 use Rattle.farm_core.specs.declared.entry.Event.{Event}
 use Rattle.farm_core.specs.declared.account.Account.{Account}
 use Rattle.farm_core.specs.Tenant.{book, held, held_by, free, find_job, put_job, drop_job}
 use Rattle.farm_core.specs.Step.{Answer, Step, step}
 use Rattle.farm_core.specs.World.{World, terms_in, view, entries_of, is_noted}
-use Rattle.farm_core.specs.Farm.{IsFarm}
+use Rattle.farm_core.specs.Farm.{IsFarm, AreOf}
 use Rattle.farm_core.proofs.ViewLemmas.{found_own, put_own, put_other, drop_own, drop_other, push_own, push_other}
 use Rattle.farm_core.proofs.MoveLemmas.{IsMove, account_in, spent_in}
 use Rattle.farm_core.proofs.FarmLemmas.{running_in}
@@ -46,6 +47,20 @@ whole_in w t capacity account farm l is =
     let b = (account_in w t capacity account farm l is).book in
     rw b (omega (arith, (running_in w t capacity farm).covered))
 
+put_whose : (n t s : ℕ) (new : JobData) (rows : List Row) → t < n → AreOf n rows → AreOf n (put_row t s new rows)
+put_whose n t s new [] l all = tt
+put_whose n t s new (row ∷ rows) l all =
+    cond_both (is_row t s row) (record { tenant = t; job = new } ∷ rows) (row ∷ put_row t s new rows) (AreOf n) (λ _. (l, all.1)) (λ _. (all.0, put_whose n t s new rows l all.1))
+
+drop_whose : (n t s : ℕ) (rows : List Row) → AreOf n rows → AreOf n (drop_row t s rows)
+drop_whose n t s [] all = tt
+drop_whose n t s (row ∷ rows) all =
+    cond_both (is_row t s row) rows (row ∷ drop_row t s rows) (AreOf n) (λ _. all.1) (λ _. (all.0, drop_whose n t s rows all.1))
+
+push_whose : (n t : ℕ) (new : JobData) (rows : List Row) → t < n → AreOf n rows → AreOf n (rows ++ record { tenant = t; job = new } ∷ [])
+push_whose n t new [] l all = (l, tt)
+push_whose n t new (row ∷ rows) l all = (all.0, push_whose n t new rows l all.1)
+
 -- a job stands otherwise
 pub changed_moves : (w : World) (t s capacity : ℕ) (account : Account) (job new : JobData) (then : BookData) (event : Event) (answer : Answer)
     → IsFarm w capacity → t < length w.config.tenants → account ≡ get_or w.accounts t account → find_row t s w.rows ≡ Some job → new.seq ≡ job.seq
@@ -71,6 +86,7 @@ changed_moves w t s capacity account job new then event answer farm l is found n
         used = omega (arith, a.used);
       };
       others = λ u differ. put_other u t s new w.rows differ;
+      whose = put_whose (length w.accounts) t s new w.rows (omega (arith, farm.count)) farm.whose;
     }
 
 -- a job is kept no longer that holds nothing
@@ -99,6 +115,7 @@ dropped_moves w t s capacity account job event answer farm l is found none steps
         used = omega (arith, a.used);
       };
       others = λ u differ. drop_other u t s w.rows differ;
+      whose = drop_whose (length w.accounts) t s w.rows farm.whose;
     }
 
 -- a job more
@@ -125,4 +142,5 @@ pushed_moves w t capacity account new then event answer farm l is steps told gra
         used = omega (arith, a.used);
       };
       others = λ u differ. push_other u t new w.rows differ;
+      whose = push_whose (length w.accounts) t new w.rows (omega (arith, farm.count)) farm.whose;
     }

@@ -1,13 +1,14 @@
 -- What each command that changes a job moves.
-use Rattle.std.proofs.Common.{◌≡◌, ℕ, ◌+◌, ◌*◌, ◌<◌, ◌≤◌, Bool, true, false, Option, Some, None, List, [], ◌∷◌, length, get_or, refl, sym, ap, ◌∙◌, subst, arith}
+use Rattle.std.proofs.Common.{◌≡◌, ℕ, ◌+◌, ◌*◌, ◌<◌, ◌≤◌, Bool, true, false, Option, Some, None, List, [], ◌∷◌, ◌++◌, length, get_or, nat_lt, refl, sym, ap, ◌∙◌, subst, arith}
 use Rattle.std.specs.Prelude.{option_map, IsTrue, IsFalse, IfSome}
 use Rattle.std.proofs.lemmas.Bool.Decides.{nat_tests}
 use Rattle.tenant_book.specs.Book.{BookData, after_hold, after_free_up}
+use Rattle.strategy.specs.declared.plan.Plan.{Plan}
 use Rattle.job_table.specs.Table.{Row, JobData, is_out, is_ended, find_row, put_row, drop_row}
 use Rattle.job_table.specs.Job.{given_up, IsFunded, IsGivenUp}
 use Rattle.job_table.specs.declared.phase.Phase.{Phase}
 use Rattle.job_table.specs.declared.phase.Phase.TheVariants.{Waiting, Out, Leaving, Dry, Closed, Cancelled}
-use Rattle.farm_core.specs.declared.entry.Event.TheVariants.{Fund, Cancel, Forget}
+use Rattle.farm_core.specs.declared.entry.Event.TheVariants.{Submit, Fund, Cancel, Forget}
 use Rattle.farm_core.specs.declared.account.Account.{Account}
 use Rattle.farm_core.specs.declared.reply.Line.{Line}
 use Rattle.farm_core.specs.declared.reply.Reply.TheVariants as reply
@@ -19,10 +20,10 @@ use Rattle.farm_core.proofs.ViewLemmas.{found_own}
 use Rattle.farm_core.proofs.MoveLemmas.{IsMove, account_in, spent_in}
 use Rattle.farm_core.proofs.RunningLemmas.{paid_found, found_held}
 use Rattle.farm_core.proofs.FarmLemmas.{running_in, owed-most}
-use Rattle.farm_core.proofs.StepLemmas.{told, fund_steps, cancel_steps, forget_steps, given_up_seq}
-use Rattle.farm_core.proofs.ChangeLemmas.{own_job, whole_in, changed_moves, dropped_moves}
+use Rattle.farm_core.proofs.StepLemmas.{told, submit_steps, fund_steps, cancel_steps, forget_steps, given_up_seq}
+use Rattle.farm_core.proofs.ChangeLemmas.{own_job, whole_in, changed_moves, dropped_moves, pushed_moves}
 
-owed_put : (t s : ℕ) (old new : JobData) (rows : List Row) → find_row t s rows ≡ Some old → owed (put_row t s new rows) + owed_in old.phase ≡ owed rows + owed_in new.phase
+pub owed_put : (t s : ℕ) (old new : JobData) (rows : List Row) → find_row t s rows ≡ Some old → owed (put_row t s new rows) + owed_in old.phase ≡ owed rows + owed_in new.phase
 owed_put t s old new [] found = absurd (cc)
 owed_put t s old new (row ∷ rows) found = grind (arith, nat_tests, owed_put t s old new rows)
 
@@ -30,11 +31,11 @@ pub owed_drop : (t s : ℕ) (rows : List Row) → owed (drop_row t s rows) ≤ o
 owed_drop t s [] = omega arith
 owed_drop t s (row ∷ rows) = grind (arith, nat_tests, owed_drop t s rows)
 
-own_row : (w : World) (t s : ℕ) (job : JobData) → find_job s (view t w).jobs ≡ Some job → find_row t s w.rows ≡ Some job
+pub own_row : (w : World) (t s : ℕ) (job : JobData) → find_job s (view t w).jobs ≡ Some job → find_row t s w.rows ≡ Some job
 unfolding view
 own_row w t s job found = sym (found_own t s w.rows) ∙ found
 
-same_job : (a b : JobData) (found : Option JobData) → found ≡ Some a → found ≡ Some b → a ≡ b
+pub same_job : (a b : JobData) (found : Option JobData) → found ≡ Some a → found ≡ Some b → a ≡ b
 same_job a b found one two = cc
 
 pub forget_moves : (w : World) (t s capacity : ℕ) (account : Account) (line : Line) → IsFarm w capacity → t < length w.config.tenants → account ≡ get_or w.accounts t account
@@ -99,7 +100,7 @@ pub record IsFunding (w : World) (t s quanta : ℕ) (account : Account) (line : 
   pub moves : IsMove w t rows (record account { book = after_hold quanta account.book; used = account.used + 1 }) (Fund s quanta) (Replied (reply.Line (record line { phase = Waiting; left = line.left + quanta })))
   pub room : owed rows ≤ 2 * length w.rows
 
-put_length : (t s : ℕ) (new : JobData) (rows : List Row) → length (put_row t s new rows) ≡ length rows
+pub put_length : (t s : ℕ) (new : JobData) (rows : List Row) → length (put_row t s new rows) ≡ length rows
 put_length t s new [] = refl
 put_length t s new (row ∷ rows) = grind (arith, nat_tests, put_length t s new rows)
 
@@ -165,3 +166,25 @@ unfolding line_of
 fund_line w t s quanta capacity account line farm l is line_is some limited =
     let it = told (view t w) s line line_is in
     omega (arith, fund_limited w t s quanta capacity account it.job farm l is (own_row w t s it.job it.found) some limited, ap (λ (x : Line). x.left) it.line_is)
+
+-- a job more
+pub submit_moves : (w : World) (t capacity quanta : ℕ) (account : Account) (plan : Plan) → IsFarm w capacity → t < length w.config.tenants → account ≡ get_or w.accounts t account
+    → has_room 1 (view t w) ≡ true → is_amount quanta ≡ true → nat_lt (length (view t w).jobs) (view t w).terms.jobs ≡ true → quanta ≤ account.book.free
+    → let new : JobData = record { seq = account.next; plan = plan; phase = Waiting; nodes = 0; left = quanta } in
+    IsMove w t (w.rows ++ record { tenant = t; job = new } ∷ []) (record account { book = after_hold quanta account.book; next = account.next + 1; used = account.used + 1 }) (Submit plan quanta) (Replied (reply.Job account.next))
+submit_moves w t capacity quanta account plan farm l is room amount more some =
+    let a = account_in w t capacity account farm l is in
+    let free_is = free_in w t capacity account farm l is in
+    let steps = submit_steps (view t w) plan quanta room amount more (omega (arith, some, free_is)) in
+    let new : JobData = record { seq = account.next; plan = plan; phase = Waiting; nodes = 0; left = quanta } in
+    pushed_moves w t capacity account new (after_hold quanta account.book) (Submit plan quanta) (Replied (reply.Job account.next)) farm l is
+    (rw a.next steps) refl refl refl refl (omega (arith, whole_in w t capacity account farm l is, some))
+
+pub owed_push : (t : ℕ) (new : JobData) (rows : List Row) → owed (rows ++ record { tenant = t; job = new } ∷ []) ≡ owed rows + owed_in new.phase
+owed_push t new [] = omega arith
+owed_push t new (row ∷ rows) = omega (arith, owed_push t new rows)
+
+pub next_few : (w : World) (t capacity : ℕ) (account : Account) → IsFarm w capacity → t < length w.config.tenants → account ≡ get_or w.accounts t account → account.next ≤ account.used + 1
+next_few w t capacity account farm l is =
+    let a = account_in w t capacity account farm l is in
+    omega (arith, a.next, a.used, (running_in w t capacity farm).few)

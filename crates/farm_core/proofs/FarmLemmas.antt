@@ -39,15 +39,17 @@ account_newcomer terms =
       used = refl;
     }
 
-pub farm_opened : (config : ConfigData) (capacity : ℕ) → IsFarm (opened config) capacity
+pub farm_opened : (config : ConfigData) (capacity : ℕ) → list_all are_terms config.tenants ≡ true → IsFarm (opened config) capacity
 unfolding opened
-farm_opened config capacity = record {
+farm_opened config capacity terms = record {
   count = length-map config.tenants account_of;
   each = λ t d l.
       let same = account_at config.tenants t d no_terms l in
       rw (same, view_opened t config) (account_newcomer (terms_in config t));
   room = omega arith;
   replayed = λ t. view_opened t config;
+  whose = tt;
+  terms = terms;
 }
 
 pub entries_at : (lines : List TenantLine) (k : ℕ) (d : TenantLine) → list_all are_terms lines ≡ true → k < length lines → (get_or lines k d).entries ≤ 1000000
@@ -103,3 +105,8 @@ owed_in-most Cancelled = omega arith
 pub owed-most : (rows : List Row) → owed rows ≤ 2 * length rows
 owed-most [] = omega arith
 owed-most (row ∷ rows) = omega (arith, owed-most rows, owed_in-most row.job.phase)
+
+-- a tenant has used no more entries than it may
+pub used_most : (w : World) (t capacity : ℕ) → IsFarm w capacity → t < length w.config.tenants → (view t w).used ≤ 1000000
+unfolding view
+used_most w t capacity farm l = omega (arith, (running_in w t capacity farm).within, entries_at w.config.tenants t no_terms farm.terms l)

@@ -10,3 +10,5 @@ pub mod MoveLemmas
 pub mod StepLemmas
 pub mod ChangeLemmas
 pub mod CommandLemmas
+pub mod TurnLemmas
+pub mod GiveLemmas

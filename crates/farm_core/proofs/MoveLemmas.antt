@@ -12,7 +12,7 @@ use Rattle.farm_core.specs.declared.reply.Reply.TheVariants as reply
 use Rattle.farm_core.specs.Tenant.{Tenant, newcomer, book, held, free}
 use Rattle.farm_core.specs.Step.{Answer, Replied, Step, step, noted, unnoted, has_room, commanded}
 use Rattle.farm_core.specs.World.{World, terms_in, view, entries_of, events_of, is_noted, entry_of, Follows, IsReplayed, IsOnlyNoted, after_alone}
-use Rattle.farm_core.specs.Farm.{IsAccount, IsFarm, owed, IsReply}
+use Rattle.farm_core.specs.Farm.{IsAccount, IsFarm, AreOf, owed, IsReply}
 use Rattle.farm_core.proofs.ViewLemmas.{moved, set_own, set_other, follows_from}
 
 -- what tenant t is after the call, if its account and the rows are these
@@ -27,6 +27,7 @@ pub record IsMove (w : World) (t : ℕ) (rows : List Row) (account : Account) (e
   pub noted : is_noted answer ≡ true
   pub told_of : IsAccount (moved_view w t rows account) account
   pub others : (u : ℕ) → u ≢ t → jobs_of u rows ≡ jobs_of u w.rows
+  pub whose : AreOf (length w.accounts) rows
 
 abbrev pub one_entry : ℕ → Event → List Entry
 one_entry t event = record { tenant = t; event = event } ∷ []
@@ -89,6 +90,8 @@ move_farm w t rows account event answer old new farm move room =
           (cases_eq u t);
       room = omega (arith, room, length-append w.journal (one_entry t event));
       replayed = move_replayed w t rows account event answer move farm.replayed;
+      whose = subst (λ n. AreOf n rows) (sym (set_length w.accounts t account)) move.whose;
+      terms = farm.terms;
     }
 
 -- the account of a tenant in the world
@@ -150,6 +153,7 @@ noted_moves w t capacity account event answer farm l is room it =
       noted = it.noted;
       told_of = record { book = a.book ∙ rw spent refl; next = refl; used = omega (arith, a.used) };
       others = λ u differ. refl;
+      whose = farm.whose;
     }
 
 -- the world after rows, an account and an entry were written

@@ -287,7 +287,7 @@ taken_keeps g t s slice (Some job) is kept =
     changes g (Take s slice) t told (t.used + 1) t.spent new (λ n ne. refl) it.2 (omega (arith, had.0), had.1) kept)
     (λ _. stays g (Take s slice) t NoTurn t.used (λ n. refl) kept)
 
-first_from-most : (test : ℕ → Bool) (k t : ℕ) → first_from test k t ≤ t + k
+pub first_from-most : (test : ℕ → Bool) (k t : ℕ) → first_from test k t ≤ t + k
 first_from-most test zero t = omega arith
 first_from-most test (suc k) t = cond_both (test t) t (first_from test k (t + 1)) (λ x. x ≤ t + suc k) (λ _. omega arith) (λ _. omega (arith, first_from-most test k (t + 1)))
 

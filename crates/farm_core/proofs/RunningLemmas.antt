@@ -261,10 +261,10 @@ taken_runs t s slice (Some job) is it =
     (λ _. it)
 
 -- a turn that came back is no longer out, and holds what it had less what it ran, or nothing
-abbrev IsBack : ℕ → ℕ → Phase → Type 0
+abbrev pub IsBack : ℕ → ℕ → Phase → Type 0
 IsBack ran left phase = (out_in phase ≡ 0) × (is_ended phase ≡ true → cond (is_here phase) (left - ran) 0 ≡ 0) × (cond (is_here phase) (left - ran) 0 ≤ left - ran)
 
-after_back : (phase : Phase) (closed : Bool) (ran left : ℕ) → IsBack ran left (phase_after phase closed (left - ran))
+pub after_back : (phase : Phase) (closed : Bool) (ran left : ℕ) → IsBack ran left (phase_after phase closed (left - ran))
 after_back (Leaving slice) closed ran left = (refl, λ e. refl, omega arith)
 after_back Waiting closed ran left = cond_both closed Closed (cond (left - ran == 0) Dry Waiting) (IsBack ran left) (λ _. (refl, λ e. refl, omega arith)) (λ _. cond_both (left - ran == 0) Dry Waiting (IsBack ran left) (λ _. (refl, λ e. absurd (cc), omega arith)) (λ _. (refl, λ e. absurd (cc), omega arith)))
 after_back (Out slice) closed ran left = cond_both closed Closed (cond (left - ran == 0) Dry Waiting) (IsBack ran left) (λ _. (refl, λ e. refl, omega arith)) (λ _. cond_both (left - ran == 0) Dry Waiting (IsBack ran left) (λ _. (refl, λ e. absurd (cc), omega arith)) (λ _. (refl, λ e. absurd (cc), omega arith)))

@@ -1,19 +1,23 @@
 -- What each call does, case by case.
-use Rattle.std.proofs.Common.{◌≡◌, ℕ, ◌+◌, ◌≤◌, nat_le, true, false, Option, Some, None, refl, sym, ap, ◌∙◌, arith}
+use Rattle.std.proofs.Common.{◌≡◌, ℕ, ◌+◌, ◌≤◌, nat_le, nat_lt, ◌&&◌, List, [], ◌∷◌, ◌++◌, length, Bool, true, false, cond, Option, Some, None, refl, sym, ap, ◌∙◌, arith, subst}
 use Rattle.std.specs.Prelude.{option_map}
 use Rattle.std.proofs.lemmas.Bool.Decides.{nat_tests}
-use Rattle.job_table.specs.Table.{JobData, is_out, is_ended}
-use Rattle.job_table.specs.Job.{given_up}
+use Rattle.mrcpsp.specs.Schedule.{makespan}
+use Rattle.strategy.specs.Outcome.{best_after, verdict_after}
+use Rattle.strategy.specs.declared.plan.Plan.{Plan}
+use Rattle.job_table.specs.Table.{JobData, is_waiting, is_out, is_ended, find_row}
+use Rattle.job_table.specs.Job.{given_up, back}
 use Rattle.job_table.specs.declared.phase.Phase.{Phase}
 use Rattle.job_table.specs.declared.phase.Phase.TheVariants.{Waiting, Out, Leaving, Dry, Closed, Cancelled}
-use Rattle.farm_core.specs.declared.entry.Event.TheVariants.{Fund, Status, Cancel, Forget}
+use Rattle.farm_core.specs.declared.entry.Event.TheVariants.{Submit, Fund, Status, Fetch, Cancel, Forget, Take, Give}
 use Rattle.farm_core.specs.declared.reply.Line.{Line}
 use Rattle.farm_core.specs.declared.reply.Reply.{Reply}
 use Rattle.farm_core.specs.declared.reply.Reply.TheVariants as reply
 use Rattle.farm_core.specs.Tenant.{Tenant, free, find_job, put_job, drop_job, line_of}
-use Rattle.farm_core.specs.Step.{Step, Replied, step, has_room, is_amount, noted, commanded, funded, cancelled, forgotten}
-use Rattle.farm_core.specs.World.{IsOnlyNoted}
+use Rattle.farm_core.specs.Step.{Step, Replied, Sent, NoTurn, step, has_room, is_amount, is_slice, unnoted, noted, commanded, fresh_job, submitted, funded, fetched, cancelled, forgotten, may_have_run}
+use Rattle.farm_core.specs.World.{World, view, IsOnlyNoted}
 use Rattle.farm_core.specs.Farm.{IsFundRefusal, IsGivenUpTo}
+use Rattle.farm_core.proofs.ViewLemmas.{found_own}
 use Rattle.farm_core.proofs.RunningLemmas.{found_seq}
 
 -- the job of which this is told
@@ -151,3 +155,63 @@ unfolding forgotten
 forget_steps t s job room found ended =
     let seq = found_seq s t.jobs job found in
     rw (room, found, ended) (ap (λ n. let it : Step = record { answer = Replied (reply.Forgotten n); after = record t { used = t.used + 1; jobs = drop_job job.seq t.jobs } } in it) seq)
+
+pub fetch_unknown : (w : World) (t s : ℕ) → find_row t s w.rows ≡ None → IsOnlyNoted (view t w) (Fetch s) reply.NoUnknown
+unfolding view
+fetch_unknown w t s none =
+    let found : find_job s (view t w).jobs ≡ None = found_own t s w.rows ∙ none in
+    record { steps = rw found refl; noted = refl }
+
+pub fetch_busy : (w : World) (t s : ℕ) (job : JobData) → find_row t s w.rows ≡ Some job → is_out job.phase ≡ true → IsOnlyNoted (view t w) (Fetch s) reply.NoBusy
+unfolding view fetched
+fetch_busy w t s job there out =
+    let found : find_job s (view t w).jobs ≡ Some job = found_own t s w.rows ∙ there in
+    record { steps = rw (found, out) refl; noted = refl }
+
+pub fetch_told : (w : World) (t s : ℕ) (job : JobData) → find_row t s w.rows ≡ Some job → is_out job.phase ≡ false
+    → IsOnlyNoted (view t w) (Fetch s) (reply.Best s (best_after job.plan job.nodes) (option_map (makespan job.plan.project) (best_after job.plan job.nodes)) (verdict_after job.plan job.nodes))
+unfolding view fetched
+fetch_told w t s job there here =
+    let found : find_job s (view t w).jobs ≡ Some job = found_own t s w.rows ∙ there in
+    let seq : job.seq ≡ s = found_seq s (view t w).jobs job found in
+    let best = best_after job.plan job.nodes in
+    record {
+      steps = rw (found, here) (ap (λ n. commanded (view t w) (noted (view t w) (reply.Best n best (option_map (makespan job.plan.project) best) (verdict_after job.plan job.nodes)))) seq);
+      noted = refl;
+    }
+
+pub submit_amount : (t : Tenant) (plan : Plan) (quanta : ℕ) → is_amount quanta ≡ false → IsOnlyNoted t (Submit plan quanta) reply.NoAmount
+unfolding submitted
+submit_amount t plan quanta amount = record { steps = rw amount refl; noted = refl }
+
+pub submit_full : (t : Tenant) (plan : Plan) (quanta : ℕ) → is_amount quanta ≡ true → nat_lt (length t.jobs) t.terms.jobs ≡ false → IsOnlyNoted t (Submit plan quanta) reply.NoJobs
+unfolding submitted
+submit_full t plan quanta amount full = record { steps = rw (amount, full) refl; noted = refl }
+
+pub submit_short : (t : Tenant) (plan : Plan) (quanta n : ℕ) → is_amount quanta ≡ true → nat_lt (length t.jobs) t.terms.jobs ≡ true → (quanta ≤ free t → ⊥) → n ≡ free t
+    → IsOnlyNoted t (Submit plan quanta) (reply.NoShort n)
+unfolding submitted
+submit_short t plan quanta n amount more short same =
+    let less : nat_le quanta (free t) ≡ false = grind (arith, nat_tests) in
+    record { steps = rw (amount, more, less, same) refl; noted = refl }
+
+pub submit_steps : (t : Tenant) (plan : Plan) (quanta : ℕ) → has_room 1 t ≡ true → is_amount quanta ≡ true → nat_lt (length t.jobs) t.terms.jobs ≡ true → quanta ≤ free t
+    → step t (Submit plan quanta) ≡ record { answer = Replied (reply.Job t.next); after = record t { used = t.used + 1; next = t.next + 1; jobs = t.jobs ++ fresh_job t plan quanta ∷ [] } }
+unfolding submitted
+submit_steps t plan quanta room amount more some =
+    let enough : nat_le quanta (free t) ≡ true = grind (arith, nat_tests) in
+    rw (room, amount, more, enough) refl
+
+pub take_none : (t : Tenant) (s slice : ℕ) → find_job s t.jobs ≡ None → step t (Take s slice) ≡ unnoted t NoTurn
+take_none t s slice none = rw none refl
+
+pub take_not : (t : Tenant) (s slice : ℕ) (job : JobData) → find_job s t.jobs ≡ Some job → (is_waiting job.phase && is_slice slice && has_room 2 t) ≡ false → step t (Take s slice) ≡ unnoted t NoTurn
+take_not t s slice job found not = rw (found, not) refl
+
+pub take_steps : (t : Tenant) (s slice : ℕ) (job : JobData) → find_job s t.jobs ≡ Some job → is_waiting job.phase ≡ true → is_slice slice ≡ true → has_room 2 t ≡ true
+    → let new : JobData = record job { phase = Out slice } in step t (Take s slice) ≡ record { answer = Sent (line_of new); after = after_change t new t.spent }
+take_steps t s slice job found waits slice_is room = rw (found, waits, slice_is, room) refl
+
+pub give_steps : (t : Tenant) (s ran : ℕ) (job : JobData) → find_job s t.jobs ≡ Some job → may_have_run ran job job.phase ≡ true
+    → step t (Give s ran) ≡ record { answer = Replied (reply.Ran ran (line_of (back ran job))); after = after_change t (back ran job) (t.spent + ran) }
+give_steps t s ran job found may = rw (found, may) refl

@@ -1,5 +1,6 @@
 -- What a farm keeps.
-use Rattle.std.specs.Prelude.{◌≡◌, ℕ, ◌+◌, ◌<◌, ◌≤◌, List, [], ◌∷◌, length, get_or, true, Some}
+use Rattle.std.specs.Prelude.{◌≡◌, ℕ, ◌+◌, ◌<◌, ◌≤◌, List, [], ◌∷◌, length, get_or, true, Some, ⊤, IsTrue}
+use Rattle.std.specs.List.{list_all}
 use Rattle.job_table.specs.Table.{Row, JobData}
 use Rattle.job_table.specs.Job.{given_up}
 use Rattle.job_table.specs.declared.phase.Phase.{Phase}
@@ -9,6 +10,7 @@ use Rattle.farm_core.specs.declared.entry.Event.{Event}
 use Rattle.farm_core.specs.declared.reply.Line.{Line}
 use Rattle.farm_core.specs.declared.reply.Reply.{Reply}
 use Rattle.farm_core.specs.declared.reply.Reply.TheVariants as reply
+use Rattle.farm_core.specs.Config.{are_terms}
 use Rattle.farm_core.specs.Tenant.{Tenant, book, find_job, line_of}
 use Rattle.farm_core.specs.Step.{Replied, funded, noted}
 use Rattle.farm_core.specs.World.{World, view, is_noted, Follows, IsReplayed}
@@ -32,12 +34,19 @@ pub record IsAccount (t : Tenant) (a : Account) : Type 0 where
   pub next : a.next ≡ t.next
   pub used : a.used ≡ t.used
 
+-- each of these rows is of one of so many tenants
+abbrev pub AreOf : ℕ → List Row → Type 0
+AreOf count [] = ⊤
+AreOf count (row ∷ rows) = (row.tenant < count) × AreOf count rows
+
 -- each tenant has its account and is where its entries lead, and the journal has room for all entries that are owed
 pub record IsFarm (w : World) (capacity : ℕ) : Type 0 where
   pub count : length w.accounts ≡ length w.config.tenants
   pub each : (t : ℕ) (d : Account) → t < length w.accounts → IsAccount (view t w) (get_or w.accounts t d)
   pub room : length w.journal + owed w.rows ≤ capacity
   pub replayed : IsReplayed w
+  pub whose : AreOf (length w.accounts) w.rows
+  pub terms : IsTrue (list_all are_terms w.config.tenants)
 
 -- a call makes its tenant's step with this reply; or there was no memory, and nothing has changed
 abbrev pub IsReply : World → ℕ → Event → Reply → World → Type 0

@@ -7,3 +7,4 @@ pub mod Laws
 pub mod Truth
 pub mod Need
 pub mod Farm
+pub mod Turn

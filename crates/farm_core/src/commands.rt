@@ -1,9 +1,10 @@
 //! What tenants ask of the farm.
-ghost use Rattle.std.specs.Prelude.{◌≡◌, ◌<◌, ◌≤◌, ◌+◌, true, false, Some, None, IfOk, IfSome, IfNone, IsTrue, length, option_map};
+ghost use Rattle.std.specs.Prelude.{◌≡◌, ◌<◌, ◌≤◌, ◌+◌, true, false, Some, None, IfOk, IfSome, IfNone, IsTrue, length, option_map, nat_lt};
+ghost use Rattle.std.specs.Option.{option_copied};
 ghost use Rattle.job_table.specs.Table.{JobData, is_out, is_ended};
 ghost use Rattle.job_table.specs.Job.{given_up};
 ghost use Rattle.farm_core.specs.Tenant.{Tenant, find_job, line_of};
-ghost use Rattle.farm_core.specs.Step.{is_amount, funded, noted};
+ghost use Rattle.farm_core.specs.Step.{has_room, is_amount};
 ghost use Rattle.farm_core.specs.World.{World, view, IsOnlyNoted};
 ghost use Rattle.farm_core.specs.Farm.{IsReply, IsFundRefusal, IsGivenUpTo};
 
@@ -19,6 +20,19 @@ fn is_amount(quanta: u64) -> bool
     ensures { result ≡ is_amount quanta }
 {
     0 < quanta && quanta <= 1_000_000_000_000
+}
+
+/// The same schedule once more, where there is one, or an error where there is no memory for it.
+fn clone_best(alloc: Global, best: Option<&Schedule>) -> Result<Option<Schedule>, AllocError>
+    ensures { IfOk result (λ copy. copy ≡ option_copied best.entry) }
+{
+    let Some(schedule) = best else {
+        return Ok(None);
+    };
+    Ok(Some(Schedule {
+        modes: schedule.modes.clone_in(alloc)?,
+        starts: schedule.starts.clone_in(alloc)?,
+    }))
 }
 
 /// Whether a turn of a job in this phase is out.
@@ -109,6 +123,111 @@ impl<J: Strategy> Farm<J> {
     {
         let reply = self.told(tenant, seq);
         self.noted(tenant, Event::Status(seq), reply)
+    }
+
+    /// Takes in a job for a plan, with so many quanta and its search.
+    #[tactic(auto, using(crate::proofs::StepLemmas::submit_amount, crate::proofs::StepLemmas::submit_full))]
+    pub fn submit(&mut self, tenant: u32, plan: Plan, quanta: u64, search: J) -> Reply
+        requires { tenant < length self.old.config.tenants }
+        ensures { IsReply self.old tenant (Event.Submit plan quanta) result self.new }
+    {
+        let Ok(kept) = plan.clone_in(self.alloc) else {
+            return self.unanswered(tenant);
+        };
+        let event = Event::Submit(kept, quanta);
+        if !is_amount(quanta) {
+            return self.noted(tenant, event, Reply::NoAmount);
+        }
+        if !self.may_keep_more(tenant) {
+            return self.noted(tenant, event, Reply::NoJobs);
+        }
+        self.submit_job(tenant, event, plan, quanta, search)
+    }
+
+    /// Whether a tenant keeps fewer jobs than it may.
+    #[tactic(auto, unfolding(crate::specs::World::view))]
+    fn may_keep_more(&self, tenant: u32) -> bool
+        requires { tenant < length self.now.config.tenants }
+        ensures { result ≡ nat_lt (length (view tenant self.now).jobs) (view tenant self.now).terms.jobs }
+    {
+        let line = &self.config.tenants()[tenant as usize];
+        (self.jobs.count_of(tenant) as u64) < line.jobs
+    }
+
+    /// The answer where there is no memory for a command.
+    fn unanswered(&self, tenant: u32) -> Reply
+        requires { tenant < length self.now.config.tenants }
+        ensures room { has_room 1 (view tenant self.now) ≡ true → result ≡ Reply.NoMemory }
+        ensures none { has_room 1 (view tenant self.now) ≡ false → result ≡ Reply.NoRoom }
+    {
+        if self.has_room(tenant, 1) {
+            Reply::NoMemory
+        } else {
+            Reply::NoRoom
+        }
+    }
+
+    /// The same where so many quanta may be given, and the tenant may keep a job more.
+    fn submit_job(&mut self, tenant: u32, event: Event, plan: Plan, quanta: u64, search: J) -> Reply
+        requires known { tenant < length self.old.config.tenants }
+        requires event { event ≡ Event.Submit plan quanta }
+        requires amount { is_amount quanta ≡ true }
+        requires jobs { nat_lt (length (view tenant self.old).jobs) (view tenant self.old).terms.jobs ≡ true }
+        ensures { IsReply self.old tenant (Event.Submit plan quanta) result self.new }
+    {
+        if !self.has_room(tenant, 1) {
+            return Reply::NoRoom;
+        }
+        let mut account = self.accounts[tenant as usize];
+        if let Err(short) = account.book.hold(quanta) {
+            return self.noted(tenant, event, Reply::NoShort(short.free));
+        }
+        let seq = account.next;
+        account.next += 1;
+        account.used += 1;
+        let Ok(()) = keep_room(&mut self.journal, self.jobs.len()) else {
+            return Reply::NoMemory;
+        };
+        let Some(job) = Job::new(self.alloc, tenant, seq, plan, quanta, search) else {
+            return Reply::NoMemory;
+        };
+        let Ok(()) = self.jobs.insert(tenant, job) else {
+            return Reply::NoMemory;
+        };
+        write_down(
+            &mut self.accounts,
+            &mut self.journal,
+            tenant,
+            account,
+            event,
+        );
+        Reply::Job(seq)
+    }
+
+    /// The best schedule of a job, unless that is out.
+    #[tactic(auto, using(crate::proofs::StepLemmas::fetch_unknown, crate::proofs::StepLemmas::fetch_busy, crate::proofs::StepLemmas::fetch_told))]
+    fn fetched(&self, tenant: u32, seq: u64) -> Result<Reply, AllocError>
+        ensures { IfOk result (λ reply. IsOnlyNoted (view tenant self.now) (Event.Fetch seq) reply) }
+    {
+        let Some(job) = self.jobs.find(tenant, seq) else {
+            return Ok(Reply::NoUnknown);
+        };
+        if is_out(job.phase()) {
+            return Ok(Reply::NoBusy);
+        }
+        let best = clone_best(self.alloc, job.best())?;
+        Ok(Reply::Best(seq, best, job.makespan(), job.verdict()))
+    }
+
+    /// Hands out a job's best schedule with its makespan and verdict.
+    pub fn result(&mut self, tenant: u32, seq: u64) -> Reply
+        requires { tenant < length self.old.config.tenants }
+        ensures { IsReply self.old tenant (Event.Fetch seq) result self.new }
+    {
+        let Ok(reply) = self.fetched(tenant, seq) else {
+            return self.unanswered(tenant);
+        };
+        self.noted(tenant, Event::Fetch(seq), reply)
     }
 
     /// Gives a job so many quanta more of those that are free, and it waits.

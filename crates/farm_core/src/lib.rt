@@ -12,6 +12,7 @@ mod name;
 mod reply;
 #[cfg(test)]
 mod tests;
+mod turn;
 
 pub use account::Account;
 pub use config::{Config, TenantLine};
@@ -19,3 +20,4 @@ pub use entry::{Entry, Event};
 pub use farm::Farm;
 pub use name::Name;
 pub use reply::{Line, NoTurn, Reply};
+pub use turn::{Stranger, Turn};

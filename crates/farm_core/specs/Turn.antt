@@ -1,0 +1,56 @@
+-- Turns: a job's search in the hands of a worker.
+use Rattle.std.specs.Prelude.{◌≡◌, ◌⊎◌, ℕ, ◌+◌, ◌-◌, ◌<◌, min, Bool, true, false, Option, Some, IsTrue}
+use Rattle.mrcpsp.specs.Numbers.{first_from}
+use Rattle.strategy.specs.Outcome.{is_closed}
+use Rattle.strategy.specs.Search.{Meaning}
+use Rattle.job_table.specs.Table.{Row, JobData, find_row, is_waiting}
+use Rattle.job_table.specs.Job.{meaning_of, IsOwn}
+use Rattle.job_table.specs.declared.phase.Phase.TheVariants.{Out}
+use Rattle.farm_core.specs.declared.entry.Event.TheVariants.{Take, Give}
+use Rattle.farm_core.specs.declared.reply.Reply.{Reply}
+use Rattle.farm_core.specs.declared.reply.NoTurn.{NoTurn}
+use Rattle.farm_core.specs.declared.reply.NoTurn.TheVariants as no_turn
+use Rattle.farm_core.specs.Tenant.{find_job, line_of}
+use Rattle.farm_core.specs.Step as step
+use Rattle.farm_core.specs.Step.{Replied, Sent, is_slice, has_room}
+use Rattle.farm_core.specs.World.{World, view, Follows}
+
+-- how many nodes a turn of at most `slice` runs from here: as many as the slice and the quanta allow, or until the search is over
+unfoldable pub nodes_of : ℕ → Meaning → ℕ
+nodes_of slice m = first_from (λ r. is_closed m.plan (m.nodes + r)) (min slice m.left) 0
+
+-- the search after so many nodes of a turn
+abbrev pub ran_on : ℕ → Meaning → Meaning
+ran_on r m = record m { nodes = m.nodes + r; left = m.left - r }
+
+-- a turn that has run so many nodes: nothing yet, or all that it could; and the best schedule is still with its search
+pub record IsTurn (slice ran : ℕ) (m : Meaning) : Type 0 where
+  pub best : m.taken ≡ false
+  pub start : Meaning
+  pub after : m ≡ ran_on ran start
+  pub all : (ran ≡ 0) ⊎ (ran ≡ nodes_of slice start)
+
+-- a turn was taken: the search is that of a job that waited, and the call follows
+pub record IsTaken (old : World) (t s slice : ℕ) (m : Meaning) (new : World) : Type 0 where
+  pub job : JobData
+  pub found : find_job s (view t old).jobs ≡ Some job
+  pub search : m ≡ meaning_of t job
+  pub follows : Follows old t (Take s slice) (Sent (line_of (record job { phase = Out slice }))) new
+
+-- none was: the call follows, or there was no memory, and nothing has changed
+abbrev pub IsNotTaken : World → ℕ → ℕ → ℕ → NoTurn → World → Type 0
+IsNotTaken old t s slice no_turn.None new = Follows old t (Take s slice) step.NoTurn new
+IsNotTaken old t s slice no_turn.NoMemory new = new ≡ old
+
+-- a turn came back to the job whose it is
+pub record IsGiven (old : World) (t s slice ran : ℕ) (m : Meaning) (answer : Reply) (new : World) : Type 0 where
+  pub job : JobData
+  pub found : find_row t s old.rows ≡ Some job
+  pub own : IsOwn t slice ran m job
+  pub follows : Follows old t (Give s ran) (Replied answer) new
+
+-- there is no turn to take: the slice is none, or no job waits whose tenant has entries for a turn
+abbrev pub IsIdle : World → ℕ → Type 0
+IsIdle w slice =
+    (is_slice slice ≡ false)
+    ⊎ ((t s : ℕ) (job : JobData) → find_job s (view t w).jobs ≡ Some job → is_waiting job.phase ≡ true → has_room 2 (view t w) ≡ false)

@@ -1,0 +1,213 @@
+//! Turns: a job's search in the hands of a worker, for a while.
+ghost use Rattle.std.specs.Prelude.{◌≡◌, ◌≢◌, ◌<◌, ◌≤◌, ◌+◌, ◌-◌, ◌&&◌, min, true, false, Some, length, IsTrue, IfOk, IfErr, OnErr, OnOk};
+ghost use Rattle.job_table.specs.Job.{IsStrange};
+ghost use Rattle.job_table.specs.Table.{JobData, find_row, is_waiting};
+ghost use Rattle.farm_core.specs.Tenant.{line_of};
+ghost use Rattle.farm_core.specs.Step.{is_slice, has_room};
+ghost use Rattle.farm_core.specs.World.{World, view};
+ghost use Rattle.farm_core.specs.Turn.{nodes_of, ran_on, IsTurn, IsTaken, IsNotTaken, IsGiven, IsIdle};
+
+use crate::farm::{keep_room, line_of, write_down};
+use crate::{Event, Farm, Line, NoTurn, Reply};
+use job_table::{JobTable, Phase};
+use strategy::Strategy;
+
+/// A job's search in the hands of a worker, for at most so many nodes. It is given back to its farm, or abandoned.
+pub struct Turn<J> {
+    pub(crate) tenant: u32,
+    pub(crate) seq: u64,
+    pub(crate) slice: u64,
+    pub(crate) ran: u64,
+    pub(crate) search: J,
+}
+
+/// A turn that is of no job of the farm.
+pub struct Stranger<J>(pub Turn<J>);
+
+/// 1 to 1,000,000 nodes.
+fn is_slice(slice: u64) -> bool
+    ensures { result ≡ is_slice slice }
+{
+    0 < slice && slice <= 1_000_000
+}
+
+/// Whether a turn of a job in this phase may be taken.
+fn is_waiting(phase: Phase) -> bool
+    ensures { result ≡ is_waiting phase }
+{
+    match phase {
+        Phase::Waiting => true,
+        _ => false,
+    }
+}
+
+/// Runs as many nodes as the slice and the search's quanta allow, or until the search is over.
+fn run_slice<S: Strategy>(search: &mut S, slice: u64) -> u64
+    requires { (S.meaning search.old).taken ≡ false }
+    ensures ran { result ≡ nodes_of slice (S.meaning search.old) }
+    ensures search { S.meaning search.new ≡ ran_on result (S.meaning search.old) }
+{
+    for ran in 0..slice {
+        if search.closed() || search.left() == 0 {
+            return ran;
+        }
+        search.advance();
+    }
+    slice
+}
+
+/// What is told of a tenant's job of that number now, or what was told of it where there is none.
+fn told_of<J>(jobs: &JobTable<J>, tenant: u32, seq: u64, before: Line) -> Line
+    ensures { (job : JobData) → find_row tenant seq jobs.now ≡ Some job → result ≡ line_of job }
+{
+    match jobs.find(tenant, seq) {
+        Some(job) => line_of(job),
+        None => before,
+    }
+}
+
+impl<J: Strategy> Turn<J> {
+    /// The number of the tenant whose job it is.
+    pub fn tenant(&self) -> u32
+        ensures { result ≡ self.now.tenant }
+    {
+        self.tenant
+    }
+
+    /// The job's number.
+    pub fn seq(&self) -> u64
+        ensures { result ≡ self.now.seq }
+    {
+        self.seq
+    }
+
+    /// Runs as many nodes as the turn and the job's quanta allow, or until the search is over, and tells how many. A second
+    /// call runs none.
+    pub fn run(&mut self) -> u64
+        requires { IsTurn self.old.slice self.old.ran (J.meaning self.old.search) }
+        ensures first { self.old.ran ≡ 0 → result ≡ nodes_of self.old.slice (J.meaning self.old.search) }
+        ensures again { self.old.ran ≢ 0 → result ≡ 0 }
+        ensures search { J.meaning self.new.search ≡ ran_on result (J.meaning self.old.search) }
+        ensures ran { self.new.ran ≡ self.old.ran + result }
+        ensures tenant { self.new.tenant ≡ self.old.tenant }
+        ensures seq { self.new.seq ≡ self.old.seq }
+        ensures slice { self.new.slice ≡ self.old.slice }
+        ensures turn { IsTurn self.new.slice self.new.ran (J.meaning self.new.search) }
+    {
+        if self.ran > 0 {
+            return 0;
+        }
+        self.ran = run_slice(&mut self.search, self.slice);
+        self.ran
+    }
+
+    /// Drops the turn with its search. The farm goes on to wait for it.
+    pub fn abandon(self) {
+        let Turn {
+            tenant: _,
+            seq: _,
+            slice: _,
+            ran: _,
+            search,
+        } = self;
+        drop(search);
+    }
+}
+
+impl<J: Strategy> Farm<J> {
+    /// Whether a turn of at most so many nodes may be taken of a job of which this is told.
+    fn may_take(&self, tenant: u32, line: Line, slice: u64) -> bool
+        requires { tenant < length self.now.config.tenants }
+        ensures exact { result ≡ (is_waiting line.phase && is_slice slice && has_room 2 (view tenant self.now)) }
+        ensures few { IsTrue result → (view tenant self.now).used ≤ 1000000 }
+    {
+        is_waiting(line.phase) && is_slice(slice) && self.has_room(tenant, 2)
+    }
+
+    /// Takes a turn of a waiting job for at most so many nodes, 1 to 1,000,000, and keeps an entry of the journal for its
+    /// give.
+    #[tactic(auto, using(crate::proofs::GiveLemmas::take_unknown, crate::proofs::GiveLemmas::take_refused))]
+    pub fn take(&mut self, tenant: u32, seq: u64, slice: u64) -> Result<Turn<J>, NoTurn>
+        requires { tenant < length self.old.config.tenants }
+        ensures taken { IfOk result (λ turn. IsTaken self.old tenant seq slice (J.meaning turn.search) self.new) }
+        ensures tenant { IfOk result (λ turn. turn.tenant ≡ tenant) }
+        ensures seq { IfOk result (λ turn. turn.seq ≡ seq) }
+        ensures slice { IfOk result (λ turn. turn.slice ≡ slice) }
+        ensures ran { IfOk result (λ turn. turn.ran ≡ 0) }
+        ensures turn { IfOk result (λ turn. IsTurn turn.slice turn.ran (J.meaning turn.search)) }
+        ensures refused { IfErr result (λ why. IsNotTaken self.old tenant seq slice why self.new) }
+        ensures kept { OnErr result (self.new ≡ self.old) }
+    {
+        let Some(line) = self.snapshot(tenant, seq) else {
+            return Err(NoTurn::None);
+        };
+        if !self.may_take(tenant, line, slice) {
+            return Err(NoTurn::None);
+        }
+        let Ok(()) = keep_room(&mut self.journal, self.jobs.len()) else {
+            return Err(NoTurn::NoMemory);
+        };
+        let mut account = self.accounts[tenant as usize];
+        account.used += 1;
+        let Some(search) = self.jobs.send(tenant, seq, slice) else {
+            return Err(NoTurn::NoMemory);
+        };
+        write_down(
+            &mut self.accounts,
+            &mut self.journal,
+            tenant,
+            account,
+            Event::Take(seq, slice),
+        );
+        Ok(Turn {
+            tenant,
+            seq,
+            slice,
+            ran: 0,
+            search,
+        })
+    }
+
+    /// Takes a turn back, run or unrun, where it is of a job that is out. Takes no memory.
+    pub fn give(&mut self, turn: Turn<J>) -> Result<Reply, Stranger<J>>
+        requires known { turn.tenant < length self.old.config.tenants }
+        requires turn { IsTurn turn.slice turn.ran (J.meaning turn.search) }
+        ensures given { IfOk result (λ reply. IsGiven self.old turn.tenant turn.seq turn.slice turn.ran (J.meaning turn.search) reply self.new) }
+        ensures strange { OnErr result (IsStrange self.old.rows turn.tenant turn.seq turn.slice turn.ran (J.meaning turn.search)) }
+        ensures kept { OnErr result (self.new ≡ self.old) }
+        ensures back { IfErr result (λ stranger. stranger.0 ≡ turn) }
+    {
+        let Some(before) = self.snapshot(turn.tenant, turn.seq) else {
+            return Err(Stranger(turn));
+        };
+        let Turn {
+            tenant,
+            seq,
+            slice,
+            ran,
+            search,
+        } = turn;
+        if let Err(search) = self.jobs.take_back(tenant, seq, slice, ran, search) {
+            return Err(Stranger(Turn {
+                tenant,
+                seq,
+                slice,
+                ran,
+                search,
+            }));
+        }
+        let line = told_of(&self.jobs, tenant, seq, before);
+        let mut account = self.accounts[tenant as usize];
+        account.used += 1;
+        account.book.spend(ran);
+        account.book.free_up(before.left - ran - line.left);
+        write_down(
+            &mut self.accounts,
+            &mut self.journal,
+            tenant,
+            account,
+            Event::Give(seq, ran),
+        );
+        Ok(Reply::Ran(ran, line))
+    }
+}
