@@ -5,3 +5,4 @@ pub mod LineLemmas
 pub mod ScanLemmas
 pub mod TextLemmas
 pub mod ReadLemmas
+mod LawLemmas

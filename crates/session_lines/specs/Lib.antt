@@ -4,3 +4,4 @@ pub mod ReplyText
 pub mod RequestLine
 pub mod Script
 pub mod Taken
+pub mod Laws

@@ -114,6 +114,27 @@ first (Some text) (line ∷ lines) =
 abbrev pub first_of : List ℕ → Option Found
 first_of bytes = first None (lines_of bytes)
 
+-- what a line outside a text begins, in the list of all requests
+abbrev pub heads : Meaning → List Item → (Head → List Item) → List Item
+heads Blank later text = later
+heads (Whole request) later text = plain (Ok request) ∷ later
+heads (Opens head) later text = text head
+heads Long later text = plain (Err (TooLong None)) ∷ later
+heads (Bad who) later text = plain (Err (Syntax who)) ∷ later
+
+-- all requests of these lines, of which the first may belong to a text
+abbrev pub requests : Option TextData → List (List ℕ) → List Item
+requests None [] = []
+requests (Some text) [] = cut_text text ∷ []
+requests None (line ∷ lines) = heads (judged line) (requests None lines) (λ head. requests (Some (opened head)) lines)
+requests (Some text) (line ∷ lines) =
+    let more : TextData = with_line text line in
+    if more.left == 0 then whole_text more ∷ requests None lines else requests (Some more) lines
+
+-- the requests of a script
+abbrev pub requests_of : List ℕ → List Item
+requests_of bytes = requests None (lines_of bytes)
+
 -- ---- what a reader gives
 
 -- an answer for a request: its own, or that there was no memory for a submit. A text that spells no project for want of

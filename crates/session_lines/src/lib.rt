@@ -3,6 +3,7 @@
 
 mod bytes;
 mod display;
+pub mod laws;
 mod line;
 mod put;
 mod reading;

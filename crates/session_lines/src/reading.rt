@@ -54,12 +54,11 @@ fn read_text<R: Read>(
     Err(LineFault::Read)
 }
 
-/// Takes the bytes of the next request, with the blank lines before it, and leaves the rest. Where there is no request, the bytes of
-/// what stands in its place are taken, but after `LineFault::Read`. Only a submit takes memory.
-pub fn read_request<R: Read>(alloc: Global, reader: &mut R) -> Result<Request, LineFault>
-    ensures { Takes 100000000 None (R.remaining reader.old) (R.remaining reader.new) result }
+/// Takes the bytes of the next request, which may have so many.
+pub fn read_within<R: Read>(alloc: Global, reader: &mut R, most: u64) -> Result<Request, LineFault>
+    ensures { Takes most None (R.remaining reader.old) (R.remaining reader.new) result }
 {
-    let mut left = MOST_BYTES;
+    let mut left = most;
     for _ in 0..u64::MAX {
         let mut line = Line::new();
         let Ok(found) = next_line(reader, &mut left, &mut line) else {
@@ -77,4 +76,13 @@ pub fn read_request<R: Read>(alloc: Global, reader: &mut R) -> Result<Request, L
         }
     }
     Err(LineFault::Read)
+}
+
+/// Takes the bytes of the next request, with the blank lines before it, and leaves the rest. Where there is no request, the bytes of
+/// what stands in its place are taken, but after `LineFault::Read`. Only a submit takes memory. It reads byte by byte, so hand in
+/// a reader that reads ahead.
+pub fn read_request<R: Read>(alloc: Global, reader: &mut R) -> Result<Request, LineFault>
+    ensures { Takes 100000000 None (R.remaining reader.old) (R.remaining reader.new) result }
+{
+    read_within(alloc, reader, MOST_BYTES)
 }

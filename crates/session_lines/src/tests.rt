@@ -1,2 +1,5 @@
 //! Lines byte for byte.
+mod limits;
 mod replies;
+mod requests;
+mod scripts;

@@ -2,7 +2,7 @@ use Rattle.std.proofs.Common.{◌≡◌}
 use Rattle.session_lines.specs.declared.line.Meaning.TheVariants.{Blank, Whole, Opens, Long, Bad}
 use Rattle.session_lines.specs.Taken.{judged_by}
 use Rattle.session_lines.proofs.ReadLemmas.{after_line, after_blank, after_head, after_whole, after_long, after_bad, with_head}
-use Rattle.session_lines.proofs.reading.read_request.Goals as goal
+use Rattle.session_lines.proofs.reading.read_within.Goals as goal
 
 pub returns-in-Whole : goal.returns-in-Whole
 returns-in-Whole g c =

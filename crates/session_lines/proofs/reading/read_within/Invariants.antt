@@ -1,7 +1,7 @@
 use Rattle.std.proofs.Common.{None}
 use Rattle.session_lines.specs.Known.{Goes}
 use Rattle.session_lines.proofs.ReadLemmas.{GoesOn}
-use Rattle.session_lines.proofs.reading.read_request.Given as goal
+use Rattle.session_lines.proofs.reading.read_within.Given as goal
 
 -- all lines so far were blank
 abbrev pub invariant-loop : goal.invariant-loop
