@@ -12,3 +12,4 @@ pub mod ChangeLemmas
 pub mod CommandLemmas
 pub mod TurnLemmas
 pub mod GiveLemmas
+pub mod NextLemmas

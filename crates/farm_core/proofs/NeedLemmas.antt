@@ -39,7 +39,7 @@ FundedIn Cancelled plan nodes left given = ⊤
 abbrev pub IsFunded : (ℕ → ℕ) → JobData → Type 0
 IsFunded g job = FundedIn job.phase job.plan job.nodes job.left (g job.seq)
 
-abbrev IsNumberOf : ℕ → List JobData → Type 0
+abbrev pub IsNumberOf : ℕ → List JobData → Type 0
 IsNumberOf s [] = ⊥
 IsNumberOf s (job ∷ jobs) = (job.seq ≡ s) ⊎ IsNumberOf s jobs
 
@@ -429,3 +429,17 @@ nodes_are_the_lesser config calls w run t job has =
     let kept : IsKept given (after_alone (newcomer line) events) = same_kept (λ s. 0 + given_to s (newcomer line) events) given (after_alone (newcomer line) events) (λ s. omega arith) (alone_keeps (λ s. 0) (newcomer line) events (newcomer_kept line)) in
     let there : IsKept given (view t w) = subst (λ (v : Tenant). IsKept given v) (sym alone) kept in
     ran_its_nodes given job (found_funded given (view t w).next job.seq (view t w).jobs job has there.jobs).0
+
+-- a tenant's jobs have different numbers
+abbrev pub AreDistinct : List JobData → Type 0
+AreDistinct [] = ⊤
+AreDistinct (job ∷ jobs) = (IsNumberOf job.seq jobs → ⊥) × AreDistinct jobs
+
+distinct_of : (g : ℕ → ℕ) (next : ℕ) (jobs : List JobData) → AreFunded g next jobs → AreDistinct jobs
+distinct_of g next [] all = tt
+distinct_of g next (job ∷ jobs) all = (all.2, distinct_of g next jobs all.3)
+
+pub alone_distinct : (terms : TenantLine) (events : List Event) → AreDistinct (after_alone (newcomer terms) events).jobs
+alone_distinct terms events =
+    let kept = alone_keeps (λ s. 0) (newcomer terms) events (newcomer_kept terms) in
+    distinct_of (λ s. 0 + given_to s (newcomer terms) events) (after_alone (newcomer terms) events).next (after_alone (newcomer terms) events).jobs kept.jobs

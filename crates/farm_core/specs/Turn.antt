@@ -1,5 +1,5 @@
 -- Turns: a job's search in the hands of a worker.
-use Rattle.std.specs.Prelude.{◌≡◌, ◌⊎◌, ℕ, ◌+◌, ◌-◌, ◌<◌, min, Bool, true, false, Option, Some, IsTrue}
+use Rattle.std.specs.Prelude.{◌≡◌, ◌⊎◌, ℕ, ◌+◌, ◌-◌, ◌<◌, min, Bool, true, false, List, length, Option, Some, IsTrue}
 use Rattle.mrcpsp.specs.Numbers.{first_from}
 use Rattle.strategy.specs.Outcome.{is_closed}
 use Rattle.strategy.specs.Search.{Meaning}
@@ -54,3 +54,12 @@ abbrev pub IsIdle : World → ℕ → Type 0
 IsIdle w slice =
     (is_slice slice ≡ false)
     ⊎ ((t s : ℕ) (job : JobData) → find_job s (view t w).jobs ≡ Some job → is_waiting job.phase ≡ true → has_room 2 (view t w) ≡ false)
+
+-- a job of which a turn can be taken
+pub record IsReady (w : World) (t s slice : ℕ) : Type 0 where
+  pub job : JobData
+  pub known : t < length w.config.tenants
+  pub found : find_job s (view t w).jobs ≡ Some job
+  pub waits : is_waiting job.phase ≡ true
+  pub slice_is : is_slice slice ≡ true
+  pub room : has_room 2 (view t w) ≡ true

@@ -1,11 +1,11 @@
 //! Turns: a job's search in the hands of a worker, for a while.
-ghost use Rattle.std.specs.Prelude.{◌≡◌, ◌≢◌, ◌<◌, ◌≤◌, ◌+◌, ◌-◌, ◌&&◌, min, true, false, Some, length, IsTrue, IfOk, IfErr, OnErr, OnOk};
+ghost use Rattle.std.specs.Prelude.{◌≡◌, ◌≢◌, ◌<◌, ◌≤◌, ◌+◌, ◌-◌, ◌&&◌, min, true, false, Some, length, IsTrue, IfSome, IfNone, IfOk, IfErr, OnErr, OnOk};
 ghost use Rattle.job_table.specs.Job.{IsStrange};
 ghost use Rattle.job_table.specs.Table.{JobData, find_row, is_waiting};
 ghost use Rattle.farm_core.specs.Tenant.{line_of};
 ghost use Rattle.farm_core.specs.Step.{is_slice, has_room};
 ghost use Rattle.farm_core.specs.World.{World, view};
-ghost use Rattle.farm_core.specs.Turn.{nodes_of, ran_on, IsTurn, IsTaken, IsNotTaken, IsGiven, IsIdle};
+ghost use Rattle.farm_core.specs.Turn.{nodes_of, ran_on, IsTurn, IsTaken, IsNotTaken, IsGiven, IsIdle, IsReady};
 
 use crate::farm::{keep_room, line_of, write_down};
 use crate::{Event, Farm, Line, NoTurn, Reply};
@@ -209,5 +209,40 @@ impl<J: Strategy> Farm<J> {
             Event::Give(seq, ran),
         );
         Ok(Reply::Ran(ran, line))
+    }
+
+    /// The first job of which a turn of at most so many nodes can be taken, in the order in which the jobs came.
+    fn next_ready(&self, slice: u64) -> Option<(u32, u64)>
+        ensures ready { IfSome result (λ key. IsReady self.now key.0 key.1 slice) }
+        ensures idle { IfNone result (IsIdle self.now slice) }
+    {
+        if !is_slice(slice) {
+            return None;
+        }
+        for i in 0..self.jobs.len() {
+            let Some((tenant, seq)) = self.jobs.waiting(i) else {
+                return None;
+            };
+            if self.has_room(tenant, 2) {
+                return Some((tenant, seq));
+            }
+        }
+        None
+    }
+
+    /// Takes a turn of some waiting job whose tenant has entries for it.
+    pub fn take_next(&mut self, slice: u64) -> Result<Turn<J>, NoTurn>
+        ensures taken { IfOk result (λ turn. IsTaken self.old turn.tenant turn.seq slice (J.meaning turn.search) self.new) }
+        ensures known { IfOk result (λ turn. turn.tenant < length self.old.config.tenants) }
+        ensures slice { IfOk result (λ turn. turn.slice ≡ slice) }
+        ensures ran { IfOk result (λ turn. turn.ran ≡ 0) }
+        ensures turn { IfOk result (λ turn. IsTurn turn.slice turn.ran (J.meaning turn.search)) }
+        ensures idle { IfErr result (λ why. why ≡ NoTurn.None → IsIdle self.old slice) }
+        ensures kept { OnErr result (self.new ≡ self.old) }
+    {
+        let Some((tenant, seq)) = self.next_ready(slice) else {
+            return Err(NoTurn::None);
+        };
+        self.take(tenant, seq, slice)
     }
 }
