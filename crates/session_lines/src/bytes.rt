@@ -13,7 +13,8 @@ use std::io::{ErrorKind, Read};
 #[derive(Clone, Copy, Debug, PartialEq, Eq)]
 pub struct ReadFault;
 
-/// As many bytes of a line as it takes to tell a long one: 4,096, one more, a carriage return and a line feed.
+/// As many bytes of a line as it takes to tell a long one: 4,096, one more, a carriage return
+/// and a line feed.
 pub const KEPT: usize = 4099;
 
 /// A line that is read: its first bytes, with its end where that is among them.
@@ -55,7 +56,8 @@ impl Line {
     // One more byte that is no line feed.
     fn push(&mut self, byte: u8)
         ensures kept { self.new.kept.items ≡ take KEPT (self.old.kept.items ++ byte ∷ []) }
-        ensures blank { self.new.is_blank ≡ ((self.old.is_blank && not self.old.returns) && ((byte == 13) || is_blank byte)) }
+        ensures blank { self.new.is_blank
+            ≡ ((self.old.is_blank && not self.old.returns) && ((byte == 13) || is_blank byte)) }
         ensures returns { self.new.returns ≡ (byte == 13) }
     {
         self.keep(byte);
@@ -64,12 +66,14 @@ impl Line {
     }
 }
 
-/// The next byte, or `None` at the end. A read that a signal interrupts is made again. `left` is how many bytes may still come.
+/// The next byte, or `None` at the end. A read that a signal interrupts is made again. `left` is how
+/// many bytes may still come.
 pub fn next_byte<R: Read>(reader: &mut R, left: &mut u64) -> Result<Option<u8>, ReadFault>
     ensures { IfOk result (λ found. MatchOption found
-        (Consumes (R.remaining reader.old) (R.remaining reader.new) [] × IsAtEnd (R.remaining reader.new)
-        × (left.new ≡ left.old))
-        (λ b. Consumes (R.remaining reader.old) (R.remaining reader.new) (b ∷ []) × (left.new + 1 ≡ left.old))) }
+        (Consumes (R.remaining reader.old) (R.remaining reader.new) []
+        × IsAtEnd (R.remaining reader.new) × (left.new ≡ left.old))
+        (λ b. Consumes (R.remaining reader.old) (R.remaining reader.new) (b ∷ [])
+        × (left.new + 1 ≡ left.old))) }
 {
     let mut one = [0u8; 1];
     for _ in 0..u64::MAX {

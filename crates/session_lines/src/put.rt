@@ -50,7 +50,8 @@ fn put_part<W: Write>(writer: &mut W, part: Part<'_>) -> Result<(), WriteFault>
     }
 }
 
-/// Writes parts, one after the other. After a fault some bytes of them may have gone out, from the front.
+/// Writes parts, one after the other. After a fault some bytes of them may have gone out, from the
+/// front.
 pub fn put_parts<W: Write>(writer: &mut W, parts: &[Part<'_>]) -> Result<(), WriteFault>
     ensures { Writes result (W.contents writer.old) (W.contents writer.new) (parts_text parts.now) }
 {

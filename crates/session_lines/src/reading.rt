@@ -35,7 +35,8 @@ fn read_text<R: Read>(
     left: &mut u64,
     head: Head,
 ) -> Result<Request, LineFault>
-    ensures { Takes left.old (Some (opened head)) (R.remaining reader.old) (R.remaining reader.new) result }
+    ensures { Takes left.old (Some (opened head)) (R.remaining reader.old) (R.remaining reader.new)
+        result }
 {
     let mut text = Text::new(alloc, head);
     for _ in 0..u64::MAX {
@@ -78,9 +79,9 @@ pub fn read_within<R: Read>(alloc: Global, reader: &mut R, most: u64) -> Result<
     Err(LineFault::Read)
 }
 
-/// Takes the bytes of the next request, with the blank lines before it, and leaves the rest. Where there is no request, the bytes of
-/// what stands in its place are taken, but after `LineFault::Read`. Only a submit takes memory. It reads byte by byte, so hand in
-/// a reader that reads ahead.
+/// Takes the bytes of the next request, with the blank lines before it, and leaves the rest. Where a
+/// line or a text is no request, its bytes are taken too; what is left after `LineFault::Read` is not
+/// known. Only a submit takes memory. It reads byte by byte, so hand in a reader that reads ahead.
 pub fn read_request<R: Read>(alloc: Global, reader: &mut R) -> Result<Request, LineFault>
     ensures { Takes 100000000 None (R.remaining reader.old) (R.remaining reader.new) result }
 {

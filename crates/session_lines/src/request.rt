@@ -67,10 +67,11 @@ pub enum LineFault {
     Eof,
     /// The reader failed, or one request passed 100,000,000 bytes.
     Read,
-    /// A line has more than 4,096 bytes: the request's own, or, with the tenant's name, one of a submit's text.
+    /// A line has more than 4,096 bytes: the request's own, or, with the tenant's name, one of a
+    /// submit's text.
     TooLong(Option<Name>),
-    /// The line is no request, or a submit's text is cut by the end of the input. With the tenant's name where the line
-    /// begins with `@` and a name.
+    /// The line is no request, or a submit's text is cut by the end of the input. With the tenant's
+    /// name where the line begins with `@` and a name.
     Syntax(Option<Name>),
     /// The text of a submit spells no project.
     File(Name, MmFault),

@@ -98,8 +98,9 @@ impl Text {
         ensures left { self.new.left ≡ self.old.left - 1 }
         ensures long { self.new.is_long ≡ (self.old.is_long || is_long line.now) }
         ensures refused { self.new.is_refused ≡ false → self.old.is_refused ≡ false }
-        ensures bytes { (whole : List ℕ) → self.old.bytes.items ≡ take MOST_BYTES whole → self.new.is_refused ≡ false
-            → self.new.is_long ≡ false → self.new.bytes.items ≡ take MOST_BYTES (whole ++ line.now) }
+        ensures bytes { (whole : List ℕ) → self.old.bytes.items ≡ take MOST_BYTES whole
+            → self.new.is_refused ≡ false → self.new.is_long ≡ false
+            → self.new.bytes.items ≡ take MOST_BYTES (whole ++ line.now) }
     {
         self.left = self.left.saturating_sub(1);
         if is_long(line) {

@@ -211,7 +211,8 @@ fn put_place<W: Write>(
 
 // The places of a schedule's activities, where there is one.
 fn put_places<W: Write>(writer: &mut W, schedule: &Option<Schedule>) -> Result<(), WriteFault>
-    ensures { Writes result (W.contents writer.old) (W.contents writer.new) (schedule_text schedule.now) }
+    ensures { Writes result (W.contents writer.old) (W.contents writer.new)
+        (schedule_text schedule.now) }
 {
     match schedule {
         Some(schedule) => put_schedule(writer, schedule),
@@ -227,7 +228,8 @@ fn put_front<W: Write>(
     verdict: Verdict,
 ) -> Result<(), WriteFault>
     ensures { Writes result (W.contents writer.old) (W.contents writer.new)
-        (codes "job " ++ decimal seq ++ codes " makespan " ++ best_text best ++ codes " " ++ verdict_text verdict) }
+        (codes "job " ++ decimal seq ++ codes " makespan " ++ best_text best ++ codes " "
+        ++ verdict_text verdict) }
 {
     let parts = [
         Part::Text(b"job "),
@@ -249,13 +251,25 @@ fn put_best<W: Write>(
     verdict: Verdict,
 ) -> Result<(), WriteFault>
     ensures { Writes result (W.contents writer.old) (W.contents writer.new)
-        (codes "job " ++ decimal seq ++ codes " makespan " ++ best_text best ++ codes " " ++ verdict_text verdict
-        ++ schedule_text schedule.now) }
+        (codes "job " ++ decimal seq ++ codes " makespan " ++ best_text best ++ codes " "
+        ++ verdict_text verdict ++ schedule_text schedule.now) }
 {
     if let Err(fault) = put_front(writer, seq, best, verdict) {
         return Err(fault);
     }
     put_places(writer, schedule)
+}
+
+fn put_forgotten<W: Write>(writer: &mut W, seq: u64) -> Result<(), WriteFault>
+    ensures { Writes result (W.contents writer.old) (W.contents writer.new)
+        (codes "job " ++ decimal seq ++ codes " forgotten") }
+{
+    let parts = [
+        Part::Text(b"job "),
+        Part::Number(seq),
+        Part::Text(b" forgotten"),
+    ];
+    put_parts(writer, &parts)
 }
 
 fn put_reply<W: Write>(writer: &mut W, reply: &Reply) -> Result<(), WriteFault>
@@ -284,14 +298,7 @@ fn put_reply<W: Write>(writer: &mut W, reply: &Reply) -> Result<(), WriteFault>
         Reply::Best(seq, schedule, best, verdict) => {
             put_best(writer, *seq, schedule, *best, *verdict)
         }
-        Reply::Forgotten(seq) => {
-            let parts = [
-                Part::Text(b"job "),
-                Part::Number(*seq),
-                Part::Text(b" forgotten"),
-            ];
-            put_parts(writer, &parts)
-        }
+        Reply::Forgotten(seq) => put_forgotten(writer, *seq),
         Reply::Ledger(book) => put_book(writer, book),
         Reply::NoRoom => put(writer, b"no room"),
         Reply::NoUnknown => put(writer, b"no unknown"),

@@ -93,11 +93,34 @@ fn line(phase: Phase, nodes: u64, left: u64, best: Option<u32>) -> Line {
 
 #[test]
 fn lines_of_jobs(rt: HostRuntime) -> Result<(), Fail> {
+    let rows = [
+        (
+            "a",
+            Said::Reply(Reply::Line(line(Phase::Waiting, 6, 10, Some(4)))),
+            "@a job 1 waiting nodes 6 left 10 best 4 open\n",
+        ),
+        (
+            "b",
+            Said::Reply(Reply::Line(line(Phase::Out(3), 0, 5, None))),
+            "@b job 1 out nodes 0 left 5 best none open\n",
+        ),
+        (
+            "a",
+            Said::Reply(Reply::Line(line(Phase::Leaving(2), 0, 6, None))),
+            "@a job 1 leaving nodes 0 left 6 best none open\n",
+        ),
+        (
+            "b",
+            Said::Reply(Reply::Line(line(Phase::Cancelled, 4, 0, Some(5)))),
+            "@b job 1 cancelled nodes 4 left 0 best 5 open\n",
+        ),
+    ];
+    all_are_lines(&rt, rt.alloc(), &rows)
+}
+
+#[test]
+fn turns_and_numbers_of_jobs(rt: HostRuntime) -> Result<(), Fail> {
     let dry = line(Phase::Dry, 6, 0, Some(4));
-    let waiting = line(Phase::Waiting, 6, 10, Some(4));
-    let out = line(Phase::Out(3), 0, 5, None);
-    let leaving = line(Phase::Leaving(2), 0, 6, None);
-    let cancelled = line(Phase::Cancelled, 4, 0, Some(5));
     let mut closed = line(Phase::Closed, 9, 0, Some(4));
     closed.verdict = Verdict::Optimal;
     let rows = [
@@ -106,26 +129,6 @@ fn lines_of_jobs(rt: HostRuntime) -> Result<(), Fail> {
             "a",
             Said::Reply(Reply::Ran(6, dry)),
             "@a job 1 ran 6 dry nodes 6 left 0 best 4 open\n",
-        ),
-        (
-            "a",
-            Said::Reply(Reply::Line(waiting)),
-            "@a job 1 waiting nodes 6 left 10 best 4 open\n",
-        ),
-        (
-            "b",
-            Said::Reply(Reply::Line(out)),
-            "@b job 1 out nodes 0 left 5 best none open\n",
-        ),
-        (
-            "a",
-            Said::Reply(Reply::Line(leaving)),
-            "@a job 1 leaving nodes 0 left 6 best none open\n",
-        ),
-        (
-            "b",
-            Said::Reply(Reply::Line(cancelled)),
-            "@b job 1 cancelled nodes 4 left 0 best 5 open\n",
         ),
         (
             "a",

@@ -26,56 +26,27 @@ fn forms(rt: HostRuntime) -> Result<(), Fail> {
 
 #[test]
 fn lines_that_are_no_requests(rt: HostRuntime) -> Result<(), Fail> {
-    let rows: [(&str, &[&str]); 8] = [
-        (
-            "hello\n@A ledger\n@a dance\ntake a 1\n",
-            &[
-                "? no syntax",
-                "? no syntax",
-                "a no syntax",
-                "? no syntax",
-                "end",
-            ],
-        ),
-        ("\n \t\r\n\r\n@a ledger\n\n", &["a ledger", "end"]),
-        (
-            "@a\n@a ledger 1\n@ ledger\n",
-            &["a no syntax", "a no syntax", "? no syntax", "end"],
-        ),
-        (
-            "take A 1 2\nturn a 1\ngive a\ngive\n",
-            &[
-                "? no syntax",
-                "? no syntax",
-                "? no syntax",
-                "? no syntax",
-                "end",
-            ],
-        ),
-        (
-            "@a fund 1\n@a status\n@a status x\n@a status -1\n",
-            &[
-                "a no syntax",
-                "a no syntax",
-                "a no syntax",
-                "a no syntax",
-                "end",
-            ],
-        ),
-        (
-            "\r\r\n\x1a\n@a ledger\rx\n@a\x0bledger\n",
-            &[
-                "? no syntax",
-                "? no syntax",
-                "a no syntax",
-                "? no syntax",
-                "end",
-            ],
-        ),
+    let bad: &[&str] = &["a no syntax", "a no syntax", "a no syntax", "end"];
+    let strange: &[&str] = &["? no syntax", "? no syntax", "? no syntax", "end"];
+    let rows: [(&str, &[&str]); 7] = [
+        ("hello\n@A ledger\ntake a 1\n", strange),
+        ("@ ledger\n@_ ledger\n@9 ledger\n", strange),
+        ("take A 1 2\nturn a 1\ngive\n", strange),
+        ("\r\r\n\x1a\n@a\x0bledger\n", strange),
+        ("@a dance\n@a ledger 1\n@a\n", bad),
+        ("@a fund 1\n@a status -1\n@a ledger\rx\n", bad),
         (
             "@a submit tree 6\n@a submit rule 6 1\n@a submit sample: 6 1\n",
-            &["a no syntax", "a no syntax", "a no syntax", "end"],
+            bad,
         ),
+    ];
+    all_are_read(&rt, rt.alloc(), &rows)
+}
+
+#[test]
+fn lines_without_an_answer(rt: HostRuntime) -> Result<(), Fail> {
+    let rows: [(&str, &[&str]); 2] = [
+        ("\n \t\r\n\r\n@a ledger\n\n", &["a ledger", "end"]),
         (
             "@a submit tree 6 0\n@a submit tree 6 20001\n@b ledger\n",
             &["a no syntax", "a no syntax", "b ledger", "end"],
