@@ -1,5 +1,5 @@
 -- Turns that are taken and given back, in the farm.
-use Rattle.std.proofs.Common.{◌≡◌, ◌⊎◌, inl, inr, ℕ, zero, suc, ◌+◌, ◌-◌, ◌<◌, ◌≤◌, ◌*◌, min, ◌==◌, ◌&&◌, ◌||◌, Bool, true, false, cond, Option, Some, None, List, [], ◌∷◌, length, get_or, refl, sym, ap, ◌∙◌, subst, arith, ⊎_elim, eq-eqb}
+use Rattle.std.proofs.Common.{◌≡◌, ◌⊎◌, inl, inr, ℕ, ◌+◌, ◌-◌, ◌<◌, ◌≤◌, ◌*◌, min, ◌==◌, ◌&&◌, ◌||◌, Bool, true, false, cond, Some, None, List, [], ◌∷◌, length, get_or, refl, sym, ap, ◌∙◌, subst, arith, ⊎_elim, eq-eqb}
 use Rattle.std.specs.Prelude.{option_map}
 use Rattle.std.proofs.lemmas.Bool.{cond_both, and_parts, eqb-true}
 use Rattle.std.proofs.lemmas.Bool.Decides.{nat_tests}
@@ -9,18 +9,18 @@ use Rattle.strategy.specs.Outcome.{is_closed}
 use Rattle.strategy.specs.declared.plan.Plan.{Plan}
 use Rattle.strategy.specs.Search.{Meaning}
 use Rattle.job_table.specs.Table.{Row, JobData, is_waiting, is_out, find_row, put_row}
-use Rattle.job_table.specs.Job.{is_turn, is_here, phase_after, back, meaning_of, IsOwn, IsSent, IsBack}
+use Rattle.job_table.specs.Job.{is_turn, phase_after, back, meaning_of, IsOwn, IsSent, IsBack}
 use Rattle.job_table.specs.declared.phase.Phase.{Phase}
 use Rattle.job_table.specs.declared.phase.Phase.TheVariants.{Waiting, Out, Leaving, Dry, Closed, Cancelled}
 use Rattle.farm_core.specs.declared.entry.Event.TheVariants.{Take, Give}
 use Rattle.farm_core.specs.declared.account.Account.{Account}
 use Rattle.farm_core.specs.declared.reply.Line.{Line}
 use Rattle.farm_core.specs.declared.reply.Reply.TheVariants as reply
-use Rattle.farm_core.specs.Tenant.{Tenant, book, held, find_job, line_of, nodes_of_turn}
+use Rattle.farm_core.specs.Tenant.{book, held, find_job, line_of, nodes_of_turn}
 use Rattle.farm_core.specs.Step.{Replied, Sent, NoTurn, is_slice, has_room, may_have_run}
 use Rattle.farm_core.specs.World.{World, view, Follows}
 use Rattle.farm_core.specs.Farm.{IsFarm, owed, owed_in}
-use Rattle.farm_core.specs.Turn.{nodes_of, ran_on, IsTurn}
+use Rattle.farm_core.specs.Turn.{nodes_of, IsTurn}
 use Rattle.farm_core.proofs.MoveLemmas.{IsMove, account_in, spent_in, stays_follows}
 use Rattle.farm_core.proofs.RunningLemmas.{found_held, after_back}
 use Rattle.farm_core.proofs.FarmLemmas.{owed-most}

@@ -4,6 +4,7 @@ pub mod TruthLemmas
 pub mod RunLemmas
 pub mod NeedLemmas
 pub mod RunningLemmas
+pub mod AlikeLemmas
 pub mod ViewLemmas
 pub mod FarmLemmas
 pub mod MoveLemmas

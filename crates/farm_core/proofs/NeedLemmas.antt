@@ -305,10 +305,10 @@ unfolding nodes_of_turn
 turn_most most job = omega (arith, first_from-most (λ k. is_closed job.plan (job.nodes + k)) most 0)
 
 -- what a turn ran was there, and before each of its nodes the search was not over
-abbrev IsTurn : JobData → ℕ → Type 0
+abbrev pub IsTurn : JobData → ℕ → Type 0
 IsTurn job ran = (ran ≤ job.left) × ((r : ℕ) → r < ran → is_closed job.plan (job.nodes + r) ≡ false)
 
-turn_of : (slice ran : ℕ) (job : JobData) → ((ran == 0) || (ran == nodes_of_turn (min slice job.left) job)) ≡ true → IsTurn job ran
+pub turn_of : (slice ran : ℕ) (job : JobData) → ((ran == 0) || (ran == nodes_of_turn (min slice job.left) job)) ≡ true → IsTurn job ran
 turn_of slice ran job may =
     ⊎_elim
     (λ (e : (ran == 0) ≡ true). let none : ran ≡ 0 = eqb-true ran 0 e in (omega arith, λ r l. absurd (omega arith)))
@@ -395,12 +395,12 @@ newcomer_kept : (terms : TenantLine) → IsKept (λ s. 0) (newcomer terms)
 unfolding newcomer
 newcomer_kept terms = record { jobs = tt; later = λ s l. refl }
 
-first_none : (test : ℕ → Bool) (k t : ℕ) → ((j : ℕ) → t ≤ j → j < t + k → test j ≡ false) → first_from test k t ≡ t + k
+pub first_none : (test : ℕ → Bool) (k t : ℕ) → ((j : ℕ) → t ≤ j → j < t + k → test j ≡ false) → first_from test k t ≡ t + k
 first_none test zero t h = omega arith
 first_none test (suc k) t h =
     omega (arith, cond-false (test t) t (first_from test k (t + 1)) (h t (omega arith) (omega arith)), first_none test k (t + 1) (λ j l m. h j (omega arith) (omega arith)))
 
-first_is : (test : ℕ → Bool) (k t n : ℕ) → t ≤ n → n ≤ t + k → test n ≡ true → ((j : ℕ) → t ≤ j → j < n → test j ≡ false) → first_from test k t ≡ n
+pub first_is : (test : ℕ → Bool) (k t n : ℕ) → t ≤ n → n ≤ t + k → test n ≡ true → ((j : ℕ) → t ≤ j → j < n → test j ≡ false) → first_from test k t ≡ n
 first_is test zero t n l m here before = omega arith
 first_is test (suc k) t n l m here before =
     ⊎_elim

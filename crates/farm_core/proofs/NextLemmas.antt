@@ -1,15 +1,12 @@
 -- Which job's turn is next.
-use Rattle.std.proofs.Common.{◌≡◌, ℕ, zero, suc, ◌+◌, ◌<◌, ◌≤◌, ◌==◌, Bool, true, false, cond, Option, Some, None, List, [], ◌∷◌, length, map, filter, refl, sym, ap, ◌∙◌, subst, arith, eq-eqb, inl, inr}
+use Rattle.std.proofs.Common.{◌≡◌, ℕ, zero, suc, ◌<◌, ◌==◌, true, false, Option, Some, None, List, [], ◌∷◌, length, map, filter, refl, sym, ap, ◌∙◌, subst, arith, eq-eqb, inl, inr}
 use Rattle.std.specs.Prelude.{slice_get}
 use Rattle.std.proofs.lemmas.Bool.{cond_both, cond-true, eqb-true, and_parts}
-use Rattle.std.proofs.lemmas.Bool.Decides.{nat_tests}
 use Rattle.job_table.specs.Table.{Row, JobData, is_row, is_waiting, find_row, jobs_of, waiting_keys, AreApart}
-use Rattle.job_table.specs.declared.phase.Phase.{Phase}
-use Rattle.job_table.specs.declared.phase.Phase.TheVariants.{Waiting}
-use Rattle.job_table.proofs.WaitingLemmas.{DoesWait, waiting_found}
+use Rattle.job_table.proofs.WaitingLemmas.{waiting_found}
 use Rattle.farm_core.specs.declared.entry.Event.TheVariants.{Take}
 use Rattle.farm_core.specs.Tenant.{Tenant, newcomer, find_job}
-use Rattle.farm_core.specs.Step.{Answer, NoTurn, Step, step, is_slice, has_room}
+use Rattle.farm_core.specs.Step.{NoTurn, Step, is_slice, has_room}
 use Rattle.farm_core.specs.World.{World, view, terms_in, events_of, after_alone, Follows}
 use Rattle.farm_core.specs.Farm.{IsFarm, AreOf}
 use Rattle.farm_core.specs.Turn.{IsReady, IsIdle}

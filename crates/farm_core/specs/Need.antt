@@ -1,16 +1,16 @@
 -- How many nodes a job runs.
-use Rattle.std.specs.Prelude.{◌≡◌, ℕ, ◌+◌, ◌==◌, ◌⊎◌, cond, List, [], ◌∷◌, Some}
+use Rattle.std.specs.Prelude.{◌≡◌, ℕ, ◌+◌, ◌==◌, ◌⊎◌, ⊤, Bool, true, false, cond, List, [], ◌∷◌, ◌++◌, map, Some}
 use Rattle.mrcpsp.specs.Numbers.{first_from}
 use Rattle.strategy.specs.Outcome.{is_closed}
 use Rattle.strategy.specs.declared.plan.Plan.{Plan}
 use Rattle.job_table.specs.Table.{JobData}
 use Rattle.job_table.specs.declared.phase.Phase.TheVariants.{Dry, Closed}
 use Rattle.farm_core.specs.declared.entry.Event.{Event}
-use Rattle.farm_core.specs.declared.entry.Event.TheVariants.{Submit, Fund}
+use Rattle.farm_core.specs.declared.entry.Event.TheVariants.{Submit, Fund, Cancel, Forget}
 use Rattle.farm_core.specs.declared.reply.Reply.TheVariants as reply
 use Rattle.farm_core.specs.Config.{ConfigData}
 use Rattle.farm_core.specs.Step.{Answer, Replied, step}
-use Rattle.farm_core.specs.Tenant.{Tenant, newcomer, find_job}
+use Rattle.farm_core.specs.Tenant.{Tenant, newcomer, book, find_job, line_of}
 use Rattle.farm_core.specs.World.{World, Call, Run, terms_in, view, own_events}
 
 -- the quanta that a call gave job s: those of the submit that made it, and of each fund that was taken
@@ -41,3 +41,42 @@ HasJob t job = find_job job.seq t.jobs ≡ Some job
 abbrev pub NodesAreTheLesser : Type 0
 NodesAreTheLesser = (config : ConfigData) (calls : List Call) (w : World) → Run config calls w → (t : ℕ) (job : JobData) → HasJob (view t w) job →
     HasRunItsNodes (λ s. given_to s (newcomer (terms_in config t)) (own_events t calls)) job
+
+-- what a call that was accepted asked for, if it was none of status, result and ledger
+abbrev pub asked : Event → Answer → List Event
+asked (Submit plan quanta) (Replied (reply.Job n)) = Submit plan quanta ∷ []
+asked (Fund s quanta) (Replied (reply.Line line)) = Fund s quanta ∷ []
+asked (Cancel s) (Replied (reply.Line line)) = Cancel s ∷ []
+asked (Forget s) (Replied (reply.Forgotten n)) = Forget s ∷ []
+asked e answer = []
+
+-- all that a tenant alone asked for so, over these calls
+abbrev pub asked_by : Tenant → List Event → List Event
+asked_by t [] = []
+asked_by t (e ∷ events) = asked e (step t e).answer ++ asked_by (step t e).after events
+
+-- submits and funds alone
+abbrev pub are_gifts : List Event → Bool
+are_gifts [] = true
+are_gifts (Submit plan quanta ∷ events) = are_gifts events
+are_gifts (Fund s quanta ∷ events) = are_gifts events
+are_gifts (e ∷ events) = false
+
+-- each of these jobs is dry or closed
+abbrev pub AreAtRest : List JobData → Type 0
+AreAtRest [] = ⊤
+AreAtRest (job ∷ jobs) = ((job.phase ≡ Dry) ⊎ (job.phase ≡ Closed)) × AreAtRest jobs
+
+-- two tenants of whom the same is told
+pub record AreAlike (one other : Tenant) : Type 0 where
+  pub lines : map line_of one.jobs ≡ map line_of other.jobs
+  pub ledger : book one ≡ book other
+
+-- two runs in which a tenant has the same terms, was granted the same submits and funds and nothing else but status, result and
+-- ledger, and has only dry and closed jobs at the end, end alike for it, whatever turns, slices and refusals came between
+abbrev pub EachEndsAlike : Type 0
+EachEndsAlike = (config elsewhere : ConfigData) (calls others : List Call) (w x : World) → Run config calls w → Run elsewhere others x →
+    (t u : ℕ) → terms_in config t ≡ terms_in elsewhere u →
+    asked_by (newcomer (terms_in config t)) (own_events t calls) ≡ asked_by (newcomer (terms_in elsewhere u)) (own_events u others) →
+    are_gifts (asked_by (newcomer (terms_in config t)) (own_events t calls)) ≡ true →
+    AreAtRest (view t w).jobs → AreAtRest (view u x).jobs → AreAlike (view t w) (view u x)

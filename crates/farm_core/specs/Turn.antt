@@ -1,9 +1,9 @@
 -- Turns: a job's search in the hands of a worker.
-use Rattle.std.specs.Prelude.{◌≡◌, ◌⊎◌, ℕ, ◌+◌, ◌-◌, ◌<◌, min, Bool, true, false, List, length, Option, Some, IsTrue}
+use Rattle.std.specs.Prelude.{◌≡◌, ◌⊎◌, ℕ, ◌+◌, ◌-◌, ◌<◌, min, true, false, length, Some}
 use Rattle.mrcpsp.specs.Numbers.{first_from}
 use Rattle.strategy.specs.Outcome.{is_closed}
 use Rattle.strategy.specs.Search.{Meaning}
-use Rattle.job_table.specs.Table.{Row, JobData, find_row, is_waiting}
+use Rattle.job_table.specs.Table.{JobData, find_row, is_waiting}
 use Rattle.job_table.specs.Job.{meaning_of, IsOwn}
 use Rattle.job_table.specs.declared.phase.Phase.TheVariants.{Out}
 use Rattle.farm_core.specs.declared.entry.Event.TheVariants.{Take, Give}

@@ -1,7 +1,7 @@
 //! Laws of the farm: each is the proved contract of a function that does nothing.
 ghost use Rattle.farm_core.specs.Laws.{EachIsAlone, EachIsIsolated};
 ghost use Rattle.farm_core.specs.Truth.{EachAnswerIsTrue};
-ghost use Rattle.farm_core.specs.Need.{NodesAreTheLesser};
+ghost use Rattle.farm_core.specs.Need.{NodesAreTheLesser, EachEndsAlike};
 
 /// In every run of calls of all tenants, the answers to one tenant's calls, and its jobs and ledger at the end, are those
 /// of its own calls alone in a farm that no one else uses.
@@ -26,4 +26,11 @@ pub fn each_answer_is_true()
 /// until it was over, whichever is less: turns, slices and workers make no difference.
 pub fn nodes_are_the_lesser()
     ensures { NodesAreTheLesser }
+{}
+
+/// Two runs in which a tenant has the same terms and was granted the same submits and funds, and nothing else but its
+/// status, results and ledger, and at whose end its jobs are all dry or closed, end with the same lines and the same ledger
+/// for it: whatever turns, slices and refusals came between, and whoever else used the farms.
+pub fn each_ends_alike()
+    ensures { EachEndsAlike }
 {}

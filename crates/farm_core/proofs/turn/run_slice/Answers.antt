@@ -1,4 +1,4 @@
-use Rattle.std.proofs.Common.{◌≡◌, ◌≤◌, ◌+◌, sym, ap, ◌∙◌, arith}
+use Rattle.std.proofs.Common.{sym, ◌∙◌, arith}
 use Rattle.farm_core.proofs.TurnLemmas.{run_start, ran_none, one_more}
 use Rattle.farm_core.proofs.turn.run_slice.Goals as goal
 

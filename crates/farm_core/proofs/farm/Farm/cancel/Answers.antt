@@ -1,8 +1,8 @@
-use Rattle.std.proofs.Common.{◌≡◌, ◌+◌, ◌-◌, ◌≤◌, Some, sym, ap, ◌∙◌, arith}
+use Rattle.std.proofs.Common.{◌≡◌, ◌-◌, Some, sym, ◌∙◌, arith}
 use Rattle.std.specs.Prelude.{option_map}
 use Rattle.job_table.specs.Table.{JobData}
 use Rattle.job_table.specs.Job.{given_up}
-use Rattle.farm_core.specs.Tenant.{find_job, line_of}
+use Rattle.farm_core.specs.Tenant.{line_of}
 use Rattle.farm_core.specs.World.{view}
 use Rattle.farm_core.proofs.StepLemmas.{cancel_less, cancel_told}
 use Rattle.farm_core.proofs.farm.Farm.cancel.Goals as goal

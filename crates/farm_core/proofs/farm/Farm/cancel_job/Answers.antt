@@ -1,4 +1,4 @@
-use Rattle.std.proofs.Common.{◌≡◌, ◌+◌, ◌-◌, ◌*◌, ◌≤◌, ◌<◌, ◌++◌, ℕ, List, get_or, set, None, length, true, false, Some, refl, sym, ap, ◌∙◌, subst, arith}
+use Rattle.std.proofs.Common.{◌≡◌, ◌+◌, ◌≤◌, List, get_or, set, None, length, refl, sym, ap, ◌∙◌, subst, arith}
 use Rattle.std.specs.Vec.{vec_capacity}
 use Rattle.std.specs.Prelude.{IfSome}
 use Rattle.tenant_book.specs.Book.{BookData, after_free_up}
@@ -6,15 +6,13 @@ use Rattle.job_table.specs.Table.{Row, find_row}
 use Rattle.job_table.specs.Job.{given_up, IsGivenUp}
 use Rattle.farm_core.proofs.CommandLemmas.{IsCancel, cancel_moves, cancel_did, freed_most, owed_some}
 use Rattle.farm_core.specs.declared.account.Account.{Account}
-use Rattle.farm_core.specs.declared.entry.Event.TheVariants.{Submit, Fund, Status, Fetch, Cancel, Forget, Ledger, Take, Give}
-use Rattle.farm_core.specs.declared.reply.Line.{Line}
+use Rattle.farm_core.specs.declared.entry.Event.TheVariants.{Cancel}
 use Rattle.farm_core.specs.declared.reply.Reply.TheVariants as reply
-use Rattle.farm_core.specs.Step.{Replied, Sent}
-use Rattle.farm_core.specs.World.{World, view, Follows}
+use Rattle.farm_core.specs.Step.{Replied}
+use Rattle.farm_core.specs.World.{World, Follows}
 use Rattle.farm_core.specs.Farm.{IsFarm, owed}
 use Rattle.farm_core.proofs.ViewLemmas.{moved}
-use Rattle.farm_core.proofs.MoveLemmas.{IsMove, account_in, moved_is, written, one_entry}
-use Rattle.farm_core.proofs.FarmLemmas.{owed-most}
+use Rattle.farm_core.proofs.MoveLemmas.{IsMove, moved_is, written, one_entry}
 use Rattle.farm_core.proofs.farm.Farm.cancel_job.Given.{Over}
 use Rattle.farm_core.proofs.farm.Farm.cancel_job.Goals.{After-write_down}
 use Rattle.farm_core.proofs.farm.Farm.cancel_job.Goals as goal

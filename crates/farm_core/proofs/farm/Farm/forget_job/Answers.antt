@@ -1,16 +1,15 @@
-use Rattle.std.proofs.Common.{◌≡◌, ◌+◌, ◌-◌, ◌*◌, ◌≤◌, ◌<◌, ◌++◌, ℕ, List, get_or, length, true, false, Some, refl, sym, ap, ◌∙◌, subst, arith}
+use Rattle.std.proofs.Common.{◌≡◌, ◌+◌, ◌≤◌, ◌++◌, get_or, length, sym, ap, ◌∙◌, subst, arith}
 use Rattle.std.specs.Vec.{vec_capacity}
 use Rattle.job_table.specs.Table.{drop_row}
 use Rattle.farm_core.proofs.CommandLemmas.{forget_moves, owed_drop}
 use Rattle.farm_core.specs.declared.account.Account.{Account}
-use Rattle.farm_core.specs.declared.entry.Event.TheVariants.{Submit, Fund, Status, Fetch, Cancel, Forget, Ledger, Take, Give}
-use Rattle.farm_core.specs.declared.reply.Line.{Line}
+use Rattle.farm_core.specs.declared.entry.Event.TheVariants.{Forget}
 use Rattle.farm_core.specs.declared.reply.Reply.TheVariants as reply
-use Rattle.farm_core.specs.Step.{Replied, Sent}
-use Rattle.farm_core.specs.World.{World, view, Follows}
+use Rattle.farm_core.specs.Step.{Replied}
+use Rattle.farm_core.specs.World.{World, Follows}
 use Rattle.farm_core.specs.Farm.{IsFarm, owed}
 use Rattle.farm_core.proofs.ViewLemmas.{moved}
-use Rattle.farm_core.proofs.MoveLemmas.{IsMove, account_in, moved_is, written, one_entry}
+use Rattle.farm_core.proofs.MoveLemmas.{IsMove, moved_is, written, one_entry}
 use Rattle.farm_core.proofs.FarmLemmas.{owed-most}
 use Rattle.farm_core.proofs.farm.Farm.forget_job.Given.{Over}
 use Rattle.farm_core.proofs.farm.Farm.forget_job.Goals.{After-write_down}

@@ -1,22 +1,20 @@
-use Rattle.std.proofs.Common.{◌≡◌, ◌+◌, ◌-◌, ◌*◌, ◌≤◌, ◌<◌, ◌++◌, ℕ, List, get_or, set, length, true, false, Some, refl, sym, ap, ◌∙◌, subst, arith}
+use Rattle.std.proofs.Common.{◌≡◌, ◌+◌, ◌≤◌, ◌++◌, get_or, set, length, refl, sym, ap, ◌∙◌, subst, arith}
 use Rattle.std.specs.Vec.{vec_capacity}
 use Rattle.tenant_book.specs.Book.{BookData, after_hold}
-use Rattle.job_table.specs.Table.{Row, find_row}
+use Rattle.job_table.specs.Table.{find_row}
 use Rattle.job_table.specs.Job.{IsFunded}
 use Rattle.job_table.specs.declared.phase.Phase.TheVariants.{Waiting}
 use Rattle.farm_core.proofs.CommandLemmas.{IsFunding, fund_moves, fund_bound, fund_line, free_in}
 use Rattle.farm_core.specs.Tenant.{free}
 use Rattle.farm_core.proofs.StepLemmas.{fund_short}
 use Rattle.farm_core.specs.declared.account.Account.{Account}
-use Rattle.farm_core.specs.declared.entry.Event.TheVariants.{Submit, Fund, Status, Fetch, Cancel, Forget, Ledger, Take, Give}
-use Rattle.farm_core.specs.declared.reply.Line.{Line}
+use Rattle.farm_core.specs.declared.entry.Event.TheVariants.{Fund}
 use Rattle.farm_core.specs.declared.reply.Reply.TheVariants as reply
-use Rattle.farm_core.specs.Step.{Replied, Sent}
+use Rattle.farm_core.specs.Step.{Replied}
 use Rattle.farm_core.specs.World.{World, view, Follows}
 use Rattle.farm_core.specs.Farm.{IsFarm, owed}
 use Rattle.farm_core.proofs.ViewLemmas.{moved}
-use Rattle.farm_core.proofs.MoveLemmas.{IsMove, account_in, moved_is, written, one_entry}
-use Rattle.farm_core.proofs.FarmLemmas.{owed-most}
+use Rattle.farm_core.proofs.MoveLemmas.{IsMove, moved_is, written, one_entry}
 use Rattle.farm_core.proofs.farm.Farm.fund_job.Given.{Over}
 use Rattle.farm_core.proofs.farm.Farm.fund_job.Goals.{After-struct_known-1}
 use Rattle.farm_core.proofs.farm.Farm.fund_job.Goals as goal

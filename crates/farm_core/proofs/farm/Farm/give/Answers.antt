@@ -1,21 +1,19 @@
-use Rattle.std.proofs.Common.{◌≡◌, ◌+◌, ◌-◌, ◌*◌, ◌≤◌, ◌<◌, ◌++◌, ℕ, List, get_or, set, None, length, true, false, Some, refl, sym, ap, ◌∙◌, subst, arith}
+use Rattle.std.proofs.Common.{◌≡◌, ◌+◌, ◌-◌, ◌≤◌, get_or, set, length, refl, sym, ap, ◌∙◌, subst, arith}
 use Rattle.std.specs.Vec.{vec_capacity}
 use Rattle.tenant_book.specs.Book.{BookData, after_spend, after_free_up}
 use Rattle.job_table.specs.Job.{IsBack}
 use Rattle.farm_core.proofs.FarmLemmas.{used_most}
 use Rattle.farm_core.proofs.StepLemmas.{untold}
 use Rattle.farm_core.proofs.ChangeLemmas.{own_job}
-use Rattle.farm_core.proofs.GiveLemmas.{IsToldGiving, give_told}
+use Rattle.farm_core.proofs.GiveLemmas.{give_told}
 use Rattle.farm_core.specs.declared.account.Account.{Account}
-use Rattle.farm_core.specs.declared.entry.Event.TheVariants.{Submit, Fund, Status, Fetch, Cancel, Forget, Ledger, Take, Give}
-use Rattle.farm_core.specs.declared.reply.Line.{Line}
+use Rattle.farm_core.specs.declared.entry.Event.TheVariants.{Give}
 use Rattle.farm_core.specs.declared.reply.Reply.TheVariants as reply
-use Rattle.farm_core.specs.Step.{Replied, Sent}
+use Rattle.farm_core.specs.Step.{Replied}
 use Rattle.farm_core.specs.World.{World, view, Follows}
 use Rattle.farm_core.specs.Farm.{IsFarm, owed}
 use Rattle.farm_core.proofs.ViewLemmas.{moved}
 use Rattle.farm_core.proofs.MoveLemmas.{IsMove, account_in, moved_is, written, one_entry}
-use Rattle.farm_core.proofs.FarmLemmas.{owed-most}
 use Rattle.farm_core.proofs.farm.Farm.give.Given.{Over}
 use Rattle.farm_core.proofs.farm.Farm.give.Goals.{After-write_down}
 use Rattle.farm_core.proofs.farm.Farm.give.Goals as goal

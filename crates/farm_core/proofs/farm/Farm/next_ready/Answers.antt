@@ -1,8 +1,8 @@
-use Rattle.std.proofs.Common.{◌≡◌, ℕ, List, Some, None, length, sym, ap, ◌∙◌, subst, arith}
+use Rattle.std.proofs.Common.{◌≡◌, List, Some, None, length, sym, ap, ◌∙◌, subst, arith}
 use Rattle.std.specs.Prelude.{slice_get}
 use Rattle.std.specs.Vec.{vec_capacity}
 use Rattle.job_table.specs.Table.{Row, waiting_keys}
-use Rattle.farm_core.specs.World.{World, view}
+use Rattle.farm_core.specs.World.{World}
 use Rattle.farm_core.specs.Farm.{IsFarm}
 use Rattle.farm_core.proofs.NextLemmas.{key_known, key_count, ready_at, idle_of, found_before}
 use Rattle.farm_core.proofs.farm.Farm.next_ready.Goals as goal

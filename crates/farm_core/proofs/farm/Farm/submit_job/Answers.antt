@@ -1,19 +1,17 @@
-use Rattle.std.proofs.Common.{◌≡◌, ◌+◌, ◌-◌, ◌*◌, ◌≤◌, ◌<◌, ◌++◌, ℕ, List, get_or, set, [], ◌∷◌, length, true, false, Some, refl, sym, ap, ◌∙◌, subst, arith}
+use Rattle.std.proofs.Common.{◌≡◌, ◌+◌, ◌≤◌, ◌++◌, get_or, set, [], ◌∷◌, length, refl, sym, ap, ◌∙◌, subst, arith}
 use Rattle.std.specs.Vec.{vec_capacity}
 use Rattle.tenant_book.specs.Book.{BookData, after_hold}
-use Rattle.job_table.specs.Table.{Row, JobData}
+use Rattle.job_table.specs.Table.{JobData}
 use Rattle.job_table.specs.declared.phase.Phase.TheVariants.{Waiting}
 use Rattle.farm_core.specs.declared.entry.Event.{Event}
 use Rattle.farm_core.proofs.CommandLemmas.{submit_moves, owed_push, next_few, free_in}
 use Rattle.farm_core.specs.Tenant.{free}
 use Rattle.farm_core.proofs.StepLemmas.{submit_short}
-use Rattle.farm_core.specs.declared.entry.Entry.{Entry}
 use Rattle.farm_core.specs.World.{IsOnlyNoted}
 use Rattle.farm_core.specs.declared.account.Account.{Account}
-use Rattle.farm_core.specs.declared.entry.Event.TheVariants.{Submit, Fund, Status, Fetch, Cancel, Forget, Ledger, Take, Give}
-use Rattle.farm_core.specs.declared.reply.Line.{Line}
+use Rattle.farm_core.specs.declared.entry.Event.TheVariants.{Submit}
 use Rattle.farm_core.specs.declared.reply.Reply.TheVariants as reply
-use Rattle.farm_core.specs.Step.{Replied, Sent}
+use Rattle.farm_core.specs.Step.{Replied}
 use Rattle.farm_core.specs.World.{World, view, Follows}
 use Rattle.farm_core.specs.Farm.{IsFarm, owed}
 use Rattle.farm_core.proofs.ViewLemmas.{moved}

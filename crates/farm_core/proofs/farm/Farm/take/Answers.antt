@@ -1,4 +1,4 @@
-use Rattle.std.proofs.Common.{◌≡◌, ◌+◌, ◌-◌, ◌*◌, ◌≤◌, ◌<◌, ◌++◌, ℕ, List, get_or, length, true, false, Some, refl, sym, ap, ◌∙◌, subst, arith}
+use Rattle.std.proofs.Common.{◌≡◌, ◌+◌, ◌≤◌, ◌++◌, get_or, length, refl, sym, ap, ◌∙◌, subst, arith}
 use Rattle.std.specs.Vec.{vec_capacity}
 use Rattle.strategy.specs.Search.{Meaning}
 use Rattle.job_table.specs.Job.{IsSent}
@@ -7,15 +7,12 @@ use Rattle.farm_core.specs.Tenant.{line_of}
 use Rattle.farm_core.proofs.GiveLemmas.{IsGoing, take_moves, take_refused}
 use Rattle.farm_core.proofs.TurnLemmas.{turn_fresh}
 use Rattle.farm_core.specs.declared.account.Account.{Account}
-use Rattle.farm_core.specs.declared.entry.Event.TheVariants.{Submit, Fund, Status, Fetch, Cancel, Forget, Ledger, Take, Give}
-use Rattle.farm_core.specs.declared.reply.Line.{Line}
-use Rattle.farm_core.specs.declared.reply.Reply.TheVariants as reply
-use Rattle.farm_core.specs.Step.{Replied, Sent}
-use Rattle.farm_core.specs.World.{World, view, Follows}
+use Rattle.farm_core.specs.declared.entry.Event.TheVariants.{Take}
+use Rattle.farm_core.specs.Step.{Sent}
+use Rattle.farm_core.specs.World.{World, Follows}
 use Rattle.farm_core.specs.Farm.{IsFarm, owed}
 use Rattle.farm_core.proofs.ViewLemmas.{moved}
 use Rattle.farm_core.proofs.MoveLemmas.{IsMove, account_in, moved_is, written, one_entry}
-use Rattle.farm_core.proofs.FarmLemmas.{owed-most}
 use Rattle.farm_core.proofs.farm.Farm.take.Given.{Over}
 use Rattle.farm_core.proofs.farm.Farm.take.Goals.{After-write_down}
 use Rattle.farm_core.proofs.farm.Farm.take.Goals as goal
