@@ -7,7 +7,7 @@ use Rattle.std.proofs.Math.Seq.{take-append_seam, get_or-append_seam}
 use Rattle.std.specs.List.{list_all}
 use Rattle.std.specs.Io.BufRead.{strip_last, ends_with_byte}
 use Rattle.psplib_mm.specs.Text.{is_blank}
-use Rattle.session_lines.specs.Script.{is_empty}
+use Rattle.session_lines.specs.Script.{is_wordless}
 
 -- ---- the first bytes
 
@@ -90,12 +90,12 @@ Reads-push kept blank returns raw b other r =
 
 -- by a line feed
 pub Reads-feed : (kept : List ℕ) (blank returns : Bool) (raw : List ℕ) → Reads kept blank returns raw
-    → (take 4099 (kept ++ 10 ∷ []) ≡ take 4099 (raw ++ 10 ∷ [])) × (blank ≡ is_empty (raw ++ 10 ∷ []))
+    → (take 4099 (kept ++ 10 ∷ []) ≡ take 4099 (raw ++ 10 ∷ [])) × (blank ≡ is_wordless (raw ++ 10 ∷ []))
 Reads-feed kept blank returns raw r = (
   ap (λ l. take 4099 (l ++ 10 ∷ [])) r.front ∙ take_kept 4099 raw 10,
   r.wordless ∙ ap (λ l. list_all is_blank (strip_last 13 l)) (sym (strip-push 10 raw 10)),
 )
 
 -- by the end of the input
-pub Reads-end : (kept : List ℕ) (blank returns : Bool) (raw : List ℕ) → Reads kept blank returns raw → (kept ≡ take 4099 raw) × (blank ≡ is_empty raw)
+pub Reads-end : (kept : List ℕ) (blank returns : Bool) (raw : List ℕ) → Reads kept blank returns raw → (kept ≡ take 4099 raw) × (blank ≡ is_wordless raw)
 Reads-end kept blank returns raw r = (r.front, r.wordless ∙ ap (λ l. list_all is_blank (strip_last 13 l)) (sym (strip-other 10 raw r.inside)))

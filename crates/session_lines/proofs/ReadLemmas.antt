@@ -10,7 +10,7 @@ use Rattle.session_lines.specs.declared.line.Meaning.{Meaning}
 use Rattle.session_lines.specs.declared.line.Meaning.TheVariants.{Blank, Whole, Opens, Long, Bad}
 use Rattle.session_lines.specs.declared.text.Text.{Text}
 use Rattle.session_lines.specs.Known.{Goes}
-use Rattle.session_lines.specs.Script.{lines_of, onto, shown, is_long, is_empty, judged, TextData, opened, with_line, whole_text, cut_text, Found, found, plain, begins, first, Answers, Cuts, Takes}
+use Rattle.session_lines.specs.Script.{lines_of, onto, shown, is_long, is_wordless, judged, TextData, opened, with_line, whole_text, cut_text, Found, found, plain, begins, first, Answers, Cuts, Takes}
 use Rattle.session_lines.specs.Taken.{TakesLine, judged_by, IsText}
 use Rattle.session_lines.proofs.ScanLemmas.{Goes-map, Goes-trans}
 
@@ -32,8 +32,8 @@ kept-cases raw far near = elim (cases_lt 4099 (length raw)) [
   | inr h ↦ near (take_all 4099 raw h)
 ]
 
-judged-kept : (raw : List ℕ) → judged_by (take 4099 raw) (is_empty raw) ≡ judged raw
-judged-kept raw = kept-cases raw (λ p q. rw (p, q) refl) (λ e. ap (λ k. judged_by k (is_empty raw)) e)
+judged-kept : (raw : List ℕ) → judged_by (take 4099 raw) (is_wordless raw) ≡ judged raw
+judged-kept raw = kept-cases raw (λ p q. rw (p, q) refl) (λ e. ap (λ k. judged_by k (is_wordless raw)) e)
 
 -- ---- a line, and those after it
 

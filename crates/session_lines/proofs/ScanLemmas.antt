@@ -6,7 +6,7 @@ use Rattle.std.proofs.lemmas.List.{length_push}
 use Rattle.std.specs.Io.KnownBytes.{Consumes, IsAtEnd}
 use Rattle.std.specs.Io.BufRead.{take_through, drop_through}
 use Rattle.session_lines.specs.Known.{Goes}
-use Rattle.session_lines.specs.Script.{is_empty}
+use Rattle.session_lines.specs.Script.{is_wordless}
 use Rattle.session_lines.specs.Taken.{TakesLine}
 
 -- raw was taken of the known bytes, and has no line feed
@@ -93,12 +93,12 @@ some_through [] = refl
 some_through (x ∷ xs) = elim (x == 10) as (λ t. nat_lt 0 (suc (length xs)) ≡ nat_lt 0 (length (cond t (x ∷ []) (x ∷ take_through 10 xs)))) [ true ↦ grind (arith, nat_tests) | false ↦ grind (arith, nat_tests) ]
 
 -- a whole line was taken, of which this is kept, and so many bytes may still come
-pub TakesLine-whole : (raw kept : List ℕ) (blank found : Bool) (before after : ℕ) → kept ≡ take 4099 raw → blank ≡ is_empty raw → found ≡ nat_lt 0 (length raw) → length raw + after ≡ before → (xs ys : List ℕ) → IsWhole raw xs ys → TakesLine kept blank found before after xs ys
+pub TakesLine-whole : (raw kept : List ℕ) (blank found : Bool) (before after : ℕ) → kept ≡ take 4099 raw → blank ≡ is_wordless raw → found ≡ nat_lt 0 (length raw) → length raw + after ≡ before → (xs ys : List ℕ) → IsWhole raw xs ys → TakesLine kept blank found before after xs ys
 TakesLine-whole raw kept blank found before after front wordless some paid xs ys w =
     let longer : length xs ≡ length raw + length ys = ap length w.taken ∙ length-append raw ys in
     record {
       front = front ∙ ap (take 4099) (sym w.through);
-      wordless = wordless ∙ ap is_empty (sym w.through);
+      wordless = wordless ∙ ap is_wordless (sym w.through);
       rest = w.rest;
       some = some ∙ ap (λ l. nat_lt 0 (length l)) (sym w.through) ∙ sym (some_through xs);
       paid = omega arith;

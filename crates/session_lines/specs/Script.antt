@@ -33,15 +33,17 @@ lines_of (x ∷ xs) = if x == 10 then (x ∷ []) ∷ lines_of xs else onto x (li
 abbrev pub shown : List ℕ → List ℕ
 shown line = strip_last 13 (strip_last 10 line)
 
+-- it has more than 4,096 bytes
 abbrev pub is_long : List ℕ → Bool
 is_long line = nat_lt 4096 (length (shown line))
 
-abbrev pub is_empty : List ℕ → Bool
-is_empty line = list_all is_blank (shown line)
+-- it has no byte but blanks
+abbrev pub is_wordless : List ℕ → Bool
+is_wordless line = list_all is_blank (shown line)
 
 -- what a line means: one without a word means nothing, however long it is
 abbrev pub judged : List ℕ → Meaning
-judged line = if is_long line then (if is_empty line then Blank else Long) else meaning_of (shown line)
+judged line = if is_long line then (if is_wordless line then Blank else Long) else meaning_of (shown line)
 
 -- ---- the text of a submit
 

@@ -9,13 +9,13 @@ use Rattle.session_lines.specs.declared.line.Meaning.{Meaning}
 use Rattle.session_lines.specs.declared.line.Meaning.TheVariants.{Blank, Long}
 use Rattle.session_lines.specs.declared.text.Text.{Text}
 use Rattle.session_lines.specs.RequestLine.{meaning_of}
-use Rattle.session_lines.specs.Script.{TextData, shown, is_long, is_empty}
+use Rattle.session_lines.specs.Script.{TextData, shown, is_long, is_wordless}
 
 -- the first line of xs was taken, ys are left; the line's first 4,099 bytes are kept, and whether it has no word; found tells
 -- whether there was one. Of the bytes that the request may have, before are spent to after
 pub record TakesLine (kept : List ℕ) (blank found : Bool) (before after : ℕ) (xs ys : List ℕ) : Type 0 where
   pub front : kept ≡ take 4099 (take_through 10 xs)
-  pub wordless : blank ≡ is_empty (take_through 10 xs)
+  pub wordless : blank ≡ is_wordless (take_through 10 xs)
   pub rest : ys ≡ drop_through 10 xs
   pub some : found ≡ nat_lt 0 (length xs)
   pub paid : length xs + after ≡ length ys + before
