@@ -1,8 +1,8 @@
 //! Reading at most so many bytes of a file or of standard input.
-ghost use Rattle.std.specs.Prelude.{◌≡◌, ◌<◌, length, IfOk, IfSome, take};
+ghost use Rattle.std.specs.Prelude.{◌≡◌, ◌<◌, ◌≤◌, length, IfOk, IfSome, MatchOption, take};
 
 use std::alloc::Global;
-use std::io::{ErrorKind, Read};
+use std::io::Read;
 use std::rt::Files;
 use std::{fs, io};
 
@@ -18,16 +18,18 @@ pub fn read_front<R: Read + Drop>(alloc: Global, reader: R) -> io::Result<Vec<u8
     Ok(bytes)
 }
 
-/// All bytes of a reader that has fewer than `MOST_BYTES`. An error is the reader's, want of memory, or that it has more.
-pub fn read_whole<R: Read + Drop>(alloc: Global, reader: R) -> io::Result<Vec<u8>>
-    ensures { IfOk result (λ bytes. IfSome (R.remaining reader)
-        (λ all. (bytes.items ≡ all) × (length all < MOST_BYTES))) }
+/// All bytes of a reader that has fewer than `MOST_BYTES`, or `None` where it has more. An error is the reader's, or want
+/// of memory.
+pub fn read_whole<R: Read + Drop>(alloc: Global, reader: R) -> io::Result<Option<Vec<u8>>>
+    ensures { IfOk result (λ found. IfSome (R.remaining reader) (λ all. MatchOption found
+        (MOST_BYTES ≤ length all)
+        (λ bytes. (bytes.items ≡ all) × (length all < MOST_BYTES)))) }
 {
     let bytes = read_front(alloc, reader)?;
     if bytes.len() as u64 == MOST_BYTES {
-        return Err(io::Error::from(ErrorKind::InvalidData));
+        return Ok(None);
     }
-    Ok(bytes)
+    Ok(Some(bytes))
 }
 
 /// The first bytes of the file at the path, or of standard input at `-`.
