@@ -1,0 +1,29 @@
+//! The farm at boxed searches, call by call: worked scripts of one tenant and of two, cancels at every phase, strangers, the
+//! journal, and what is left in a till. Expected values are those of worked examples.
+//!
+//! - `calls`: calls, what is told of each, and how the farm is asked.
+//! - `cancels`: cancels at every phase.
+//! - `made`: the projects' texts, tills, searches and a farm's configuration.
+//! - `mixed`: the scripts of two tenants in one.
+//! - `play`: a script is played on a farm of its own.
+//! - `scripts`: the worked scripts.
+//! - `strangers`: turns of one farm at another one, and the next turn of any tenant.
+//! - `tests`: the trials.
+#![tactic(auto)]
+
+#[cfg(test)]
+mod calls;
+#[cfg(test)]
+mod cancels;
+#[cfg(test)]
+mod made;
+#[cfg(test)]
+mod mixed;
+#[cfg(test)]
+mod play;
+#[cfg(test)]
+mod scripts;
+#[cfg(test)]
+mod strangers;
+#[cfg(test)]
+mod tests;

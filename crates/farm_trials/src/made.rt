@@ -1,0 +1,223 @@
+//! The projects' texts, tills, searches and a farm's configuration.
+ghost use Rattle.std.specs.Prelude.{◌≡◌, IfOk};
+ghost use Rattle.quanta_till.specs.Lease.{IsEmpty};
+ghost use Rattle.rule_search.specs.Rule.{IsRule};
+ghost use Rattle.strategy.specs.declared.kind.Kind.TheVariants.{Tree};
+
+use farm_core::{Config, Name, TenantLine};
+use mrcpsp::Sequence;
+use psplib_mm::read;
+use quanta_till::{Desk, Lease, Till};
+use rule_search::RuleSearch;
+use sample_search::SampleSearch;
+use std::alloc::{AllocError, Global};
+use std::test::Fail;
+use strategy::{Kind, Plan};
+use tree_search::TreeSearch;
+
+/// Five projects.
+#[derive(Clone, Copy, Debug, PartialEq, Eq)]
+pub(crate) enum Text {
+    /// A source, an activity of one mode, one of two modes, and a sink, with a resource of each sort.
+    Diamond,
+    /// The same, where the second activity has one mode, and not enough of the nonrenewable resource.
+    Starved,
+    /// Three activities in a chain.
+    Chain,
+    /// One activity.
+    Lone,
+    /// A source, and three activities that share a renewable resource of 1; the first of them comes before the last.
+    Shared,
+}
+
+const DIAMOND: &str = "jobs (incl. supersource/sink ): 4
+- renewable : 1 R
+- nonrenewable : 1 N
+PRECEDENCE RELATIONS:
+h
+1 1 2 2 3
+2 1 1 4
+3 2 1 4
+4 1 0
+REQUESTS/DURATIONS:
+h
+1 1 0 0 0
+2 1 3 2 0
+3 1 2 2 1
+2 4 1 0
+4 1 0 0 0
+RESOURCEAVAILABILITIES:
+h
+3 1
+";
+
+const STARVED: &str = "jobs (incl. supersource/sink ): 4
+- renewable : 1 R
+- nonrenewable : 1 N
+PRECEDENCE RELATIONS:
+h
+1 1 2 2 3
+2 1 1 4
+3 1 1 4
+4 1 0
+REQUESTS/DURATIONS:
+h
+1 1 0 0 0
+2 1 3 2 0
+3 1 2 2 1
+4 1 0 0 0
+RESOURCEAVAILABILITIES:
+h
+3 0
+";
+
+const CHAIN: &str = "jobs (incl. supersource/sink ): 3
+PRECEDENCE RELATIONS:
+h
+1 1 1 2
+2 1 1 3
+3 1 0
+REQUESTS/DURATIONS:
+h
+1 1 0
+2 1 5
+3 1 0
+RESOURCEAVAILABILITIES:
+";
+
+const LONE: &str = "jobs (incl. supersource/sink ): 1
+PRECEDENCE RELATIONS:
+h
+1 1 0
+REQUESTS/DURATIONS:
+h
+1 1 0
+RESOURCEAVAILABILITIES:
+";
+
+const SHARED: &str = "jobs (incl. supersource/sink ): 4
+- renewable : 1 R
+PRECEDENCE RELATIONS:
+h
+1 1 2 2 3
+2 1 1 4
+3 1 0
+4 1 0
+REQUESTS/DURATIONS:
+h
+1 1 0 0
+2 1 2 1
+3 1 2 1
+4 1 3 1
+RESOURCEAVAILABILITIES:
+h
+1
+";
+
+/// The project of a text.
+pub(crate) fn plan_of(alloc: Global, text: Text, kind: Kind) -> Result<Plan, Fail>
+    ensures { IfOk result (λ plan. plan.kind ≡ kind) }
+{
+    let lines = match text {
+        Text::Diamond => DIAMOND,
+        Text::Starved => STARVED,
+        Text::Chain => CHAIN,
+        Text::Lone => LONE,
+        Text::Shared => SHARED,
+    };
+    let project = read(alloc, lines.as_bytes())?;
+    Ok(Plan { project, kind })
+}
+
+/// The search of a project's precedence tree, which has run nothing.
+pub(crate) fn tree_of(alloc: Global, text: Text, lease: Lease) -> Result<TreeSearch, Fail>
+    requires { IsEmpty lease }
+{
+    let plan = plan_of(alloc, text, Kind::Tree)?;
+    match TreeSearch::new(alloc, plan, lease) {
+        Ok(search) => Ok(search),
+        Err(_) => Err(Fail::from("no memory")),
+    }
+}
+
+/// The search of one pass by a rule, which has run nothing.
+pub(crate) fn rule_of(
+    alloc: Global,
+    text: Text,
+    kind: Kind,
+    lease: Lease,
+) -> Result<RuleSearch, Fail>
+    requires kind { IsRule kind }
+    requires lease { IsEmpty lease }
+{
+    let plan = plan_of(alloc, text, kind)?;
+    match RuleSearch::new(alloc, plan, lease) {
+        Ok(search) => Ok(search),
+        Err(_) => Err(Fail::from("no memory")),
+    }
+}
+
+/// The search of passes drawn from a seed, which has run nothing.
+pub(crate) fn sample_of(
+    alloc: Global,
+    text: Text,
+    seed: u64,
+    lease: Lease,
+) -> Result<SampleSearch, Fail>
+    requires { IsEmpty lease }
+{
+    let plan = plan_of(alloc, text, Kind::Sample(seed))?;
+    match SampleSearch::new(alloc, plan, lease) {
+        Ok(search) => Ok(search),
+        Err(_) => Err(Fail::from("no memory")),
+    }
+}
+
+/// A till and its desk.
+#[derive(Drop)]
+pub(crate) struct Purse {
+    till: Till,
+    desk: Desk,
+    ghost same: { desk.id ≡ till.id },
+}
+
+impl Purse {
+    /// A tenant's till with so many quanta, and its first desk.
+    pub(crate) fn new(alloc: Global, tenant: u32, granted: u64) -> Result<Purse, AllocError> {
+        let (till, desk) = Till::new(alloc, tenant, granted)?;
+        Ok(Purse { till, desk })
+    }
+
+    /// An empty lease.
+    pub(crate) fn lease(&mut self) -> Result<Lease, AllocError>
+        ensures { IfOk result IsEmpty }
+    {
+        self.till.lease(&mut self.desk)
+    }
+
+    /// The words POOL, SPENT and GRANTED.
+    pub(crate) fn words(&mut self) -> [u64; 3] {
+        let words = self.till.words(&mut self.desk);
+        [words.pool, words.spent, words.granted]
+    }
+}
+
+/// The line of a tenant who may keep two jobs.
+fn line_of(name: &str, quanta: u64, entries: u64) -> Result<TenantLine, Fail> {
+    let name = Name::new(name.as_bytes()).ok_or("a name")?;
+    Ok(TenantLine {
+        name,
+        quanta,
+        jobs: 2,
+        entries,
+    })
+}
+
+/// Tenants a with 100 quanta and so many entries of the journal, and b with 10 quanta and 100 entries; two workers, and turns
+/// of 2 nodes.
+pub(crate) fn config_of(alloc: Global, entries: u64) -> Result<Config, Fail> {
+    let mut lines = Vec::new(alloc);
+    lines.push(line_of("a", 100, entries)?)?;
+    lines.push(line_of("b", 10, 100)?)?;
+    Ok(Config::new(Sequence::from(lines), 2, 2).ok_or("within the limits")?)
+}

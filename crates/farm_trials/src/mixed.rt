@@ -1,0 +1,45 @@
+//! The scripts of two tenants in one.
+use crate::play::Step;
+use std::alloc::{AllocError, Global};
+
+/// Which of two comes next: x becomes x * 1103515245 + 12345 modulo 2^31, and its bit 16 tells.
+#[derive(Drop)]
+pub(crate) struct Coin {
+    x: u32,
+}
+
+impl Coin {
+    /// The tosses of a seed.
+    pub(crate) fn new(seed: u32) -> Coin {
+        Coin { x: seed }
+    }
+
+    /// The next toss.
+    fn toss(&mut self) -> bool {
+        let next = self.x.wrapping_mul(1_103_515_245).wrapping_add(12_345);
+        self.x = next & 0x7fff_ffff;
+        self.x & 0x1_0000 != 0
+    }
+}
+
+/// All steps of two scripts, those of each in their order.
+pub(crate) fn mixed(
+    alloc: Global,
+    coin: &mut Coin,
+    one: &[Step],
+    other: &[Step],
+) -> Result<Vec<Step>, AllocError> {
+    let mut steps = Vec::new(alloc);
+    let (mut rest, mut rest_of_other) = (one.iter(), other.iter());
+    for _ in 0..one.len().saturating_add(other.len()) {
+        let next = if coin.toss() {
+            rest.next().or_else(|| rest_of_other.next())
+        } else {
+            rest_of_other.next().or_else(|| rest.next())
+        };
+        if let Some(step) = next {
+            steps.push(*step)?;
+        }
+    }
+    Ok(steps)
+}

@@ -1,0 +1,113 @@
+//! Turns of one farm at another one, and the next turn of any tenant.
+ghost use Rattle.std.specs.Prelude.{◌≡◌, IfSome, IfOk, IfErr};
+ghost use Rattle.farm_core.specs.Turn.{IsTurn};
+
+use crate::calls::{Answer, Ready, Shown, give, put_back, submit, take};
+use crate::play::seen_of;
+use farm_core::{Farm, Turn};
+use job_table::Phase;
+use std::process::Abort;
+use strategy::{Strategy, Verdict};
+
+/// A job with 6 quanta that waits.
+const WAITING: Shown = Shown(1, Phase::Waiting, 0, 6, None, Verdict::Going);
+
+/// A turn is handed back by a farm whose job it is not, and nothing changes there.
+fn refuse<J: Strategy>(
+    rt: &impl Abort,
+    farm: &mut Farm<J>,
+    turn: Turn<J>,
+) -> Result<Turn<J>, Answer>
+    requires { IsTurn turn.slice turn.ran (J.meaning turn.search) }
+    ensures { IfOk result (λ turn. IsTurn turn.slice turn.ran (J.meaning turn.search)) }
+{
+    let before = seen_of(farm, 0);
+    let told = give(farm, turn);
+    assert_eq!(rt; seen_of(farm, 0), before);
+    match told {
+        Ok(answer) => Err(answer),
+        Err(turn) => Ok(turn),
+    }
+}
+
+/// A turn of a job is of no job of another farm: not while that has none, and not while a turn of at most so many nodes is out
+/// of its own one of that number. The job's farm takes it back as it is.
+pub(crate) fn stray<J: Strategy>(
+    rt: &impl Abort,
+    home: &mut Farm<J>,
+    farm: &mut Farm<J>,
+    own: Ready<J>,
+    other: Ready<J>,
+    slice: u64,
+) {
+    assert_eq!(rt; submit(home, 0, 6, Some(own)), Answer::Job(1));
+    let Ok(turn) = take(home, 0, 1, 2) else {
+        panic!(rt; "no turn");
+    };
+    let Ok(turn) = refuse(rt, farm, turn) else {
+        panic!(rt; "taken by a farm without jobs");
+    };
+    assert_eq!(rt; submit(farm, 0, 6, Some(other)), Answer::Job(1));
+    let Ok(there) = take(farm, 0, 1, slice) else {
+        panic!(rt; "no turn there");
+    };
+    let Ok(turn) = refuse(rt, farm, turn) else {
+        panic!(rt; "taken for another job");
+    };
+    assert_eq!(rt; put_back(home, turn), Answer::Ran(0, WAITING));
+    assert_eq!(rt; put_back(farm, there), Answer::Ran(0, WAITING));
+}
+
+/// Turns of two jobs that agree in all that is compared serve each for the other.
+pub(crate) fn exchange<J: Strategy>(
+    rt: &impl Abort,
+    home: &mut Farm<J>,
+    farm: &mut Farm<J>,
+    own: Ready<J>,
+    other: Ready<J>,
+) {
+    assert_eq!(rt; submit(home, 0, 6, Some(own)), Answer::Job(1));
+    assert_eq!(rt; submit(farm, 0, 6, Some(other)), Answer::Job(1));
+    let Ok(here) = take(home, 0, 1, 2) else {
+        panic!(rt; "no turn");
+    };
+    let Ok(there) = take(farm, 0, 1, 2) else {
+        panic!(rt; "no turn there");
+    };
+    assert_eq!(rt; put_back(farm, here), Answer::Ran(0, WAITING));
+    assert_eq!(rt; put_back(home, there), Answer::Ran(0, WAITING));
+}
+
+/// Takes a turn of some waiting job, gives it back as it is, and tells whose it was.
+fn next_of<J: Strategy>(farm: &mut Farm<J>, slice: u64) -> Option<(u32, u64)> {
+    match farm.take_next(slice) {
+        Ok(turn) => {
+            let whose = (turn.tenant(), turn.seq());
+            put_back(farm, turn);
+            Some(whose)
+        }
+        Err(_) => None,
+    }
+}
+
+/// A job of a, which has no entry of the journal left, and one of b wait: the next turn is b's. There is none where nothing
+/// waits, where only a's job does, or of no nodes or too many.
+pub(crate) fn take_any<J: Strategy>(
+    rt: &impl Abort,
+    farm: &mut Farm<J>,
+    ready: Ready<J>,
+    other: Ready<J>,
+) {
+    assert_eq!(rt; next_of(farm, 2), None);
+    assert_eq!(rt; submit(farm, 0, 6, Some(ready)), Answer::Job(1));
+    assert_eq!(rt; next_of(farm, 2), None);
+    assert_eq!(rt; submit(farm, 1, 6, Some(other)), Answer::Job(1));
+    assert_eq!(rt; [next_of(farm, 0), next_of(farm, 1_000_001)], [None, None]);
+    assert_eq!(rt; next_of(farm, 1_000_000), Some((1, 1)));
+    assert_eq!(rt; next_of(farm, 1), Some((1, 1)));
+    let held = take(farm, 1, 1, 2);
+    assert_eq!(rt; next_of(farm, 2), None);
+    if let Ok(turn) = held {
+        assert_eq!(rt; put_back(farm, turn), Answer::Ran(0, WAITING));
+    }
+}
