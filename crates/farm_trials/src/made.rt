@@ -202,6 +202,38 @@ impl Purse {
     }
 }
 
+/// The tills of a, with 100 quanta, and of b, with 10.
+#[derive(Drop)]
+pub(crate) struct Purses {
+    first: Purse,
+    second: Purse,
+}
+
+impl Purses {
+    /// The tills with all their quanta.
+    pub(crate) fn new(alloc: Global) -> Result<Purses, AllocError> {
+        Ok(Purses {
+            first: Purse::new(alloc, 0, 100)?,
+            second: Purse::new(alloc, 1, 10)?,
+        })
+    }
+
+    /// An empty lease of a tenant.
+    pub(crate) fn lease_of(&mut self, tenant: u32) -> Result<Lease, AllocError>
+        ensures { IfOk result IsEmpty }
+    {
+        if tenant == 0 {
+            return self.first.lease();
+        }
+        self.second.lease()
+    }
+
+    /// The words of a's till and of b's.
+    pub(crate) fn words(&mut self) -> [[u64; 3]; 2] {
+        [self.first.words(), self.second.words()]
+    }
+}
+
 /// The line of a tenant who may keep two jobs.
 fn line_of(name: &str, quanta: u64, entries: u64) -> Result<TenantLine, Fail> {
     let name = Name::new(name.as_bytes()).ok_or("a name")?;

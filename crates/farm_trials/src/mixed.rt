@@ -43,3 +43,17 @@ pub(crate) fn mixed(
     }
     Ok(steps)
 }
+
+/// The steps of two scripts in turn, until one of them ends.
+pub(crate) fn in_turn(
+    alloc: Global,
+    one: &[Step],
+    other: &[Step],
+) -> Result<Vec<Step>, AllocError> {
+    let mut steps = Vec::new(alloc);
+    for (step, step_of_other) in one.iter().zip(other) {
+        steps.push(*step)?;
+        steps.push(*step_of_other)?;
+    }
+    Ok(steps)
+}

@@ -3,7 +3,7 @@ ghost use Rattle.std.specs.Prelude.{◌≡◌, IfSome};
 ghost use Rattle.farm_core.specs.Turn.{IsTurn};
 
 use crate::calls::{Answer, Call, Ready, Shown, ask, numbers_of, put_back, snapshot};
-use crate::made::{Purse, config_of, plan_of, rule_of, sample_of, tree_of};
+use crate::made::{Purses, Text, config_of, plan_of, rule_of, sample_of, tree_of};
 use farm_core::{Event, Farm, Turn};
 use std::alloc::{AllocError, Global};
 use std::process::Abort;
@@ -147,72 +147,103 @@ fn noted_by(event: &Event) -> Noted {
     }
 }
 
-/// Compares the journal with these entries of tenant 0.
-fn compare_journal<J>(rt: &impl Abort, farm: &Farm<J>, entries: &[Noted]) {
-    assert_eq!(rt; farm.journal().len(), entries.len());
-    for (entry, noted) in farm.journal().iter().zip(entries) {
-        assert_eq!(rt; (entry.tenant, noted_by(&entry.event)), (0, *noted));
+/// Compares a tenant's entries of the journal.
+fn compare_journal<J>(rt: &impl Abort, farm: &Farm<J>, tenant: u32, entries: &[Noted]) {
+    let mut rest = entries.iter();
+    for entry in farm.journal() {
+        if entry.tenant == tenant {
+            assert_eq!(rt; rest.next().copied(), Some(noted_by(&entry.event)));
+        }
     }
+    assert!(rt; rest.next().is_none(), "an entry less");
+}
+
+/// A submit of a script: whose, of which kind, and for which project.
+#[derive(Clone, Copy, Debug)]
+struct Wanted {
+    tenant: u32,
+    kind: Kind,
+    text: Text,
 }
 
 /// The submits of a script, the last one first, and where memory may be scarce each of them twice.
-fn submits_of(alloc: Global, manner: Manner, steps: &[Step]) -> Result<Vec<Step>, AllocError> {
+fn submits_of(alloc: Global, manner: Manner, steps: &[Step]) -> Result<Vec<Wanted>, AllocError> {
     let mut submits = Vec::new(alloc);
     for step in steps.iter().rev() {
-        if let Step(_, Call::Submit(_, _, _), _) = step {
-            submits.push(*step)?;
+        if let Step(tenant, Call::Submit(kind, _, text), _) = *step {
+            let wanted = Wanted { tenant, kind, text };
+            submits.push(wanted)?;
             if manner == Manner::Scarce {
-                submits.push(*step)?;
+                submits.push(wanted)?;
             }
         }
     }
     Ok(submits)
 }
 
-/// What a script is played with: how many entries of the journal a has, the manner, and the entries of the journal in the end,
-/// all of tenant 0, or none where they are not compared.
+/// What a script is played with: how many entries of the journal a has, and the manner.
 #[derive(Clone, Copy, Debug)]
 pub(crate) struct Stage {
     pub(crate) entries: u64,
     pub(crate) manner: Manner,
 }
 
-/// Plays a script on a farm of its own. The journal is compared where its entries are told, all of tenant 0. Tells the words
-/// of a's till and of b's once the farm is gone.
+/// Plays a script on a farm of its own, with searches for its submits, and compares the entries of the journal where a's and b's
+/// are told.
+fn play_with<J: Strategy>(
+    rt: &impl Abort,
+    alloc: Global,
+    stage: Stage,
+    ready: Vec<Ready<J>>,
+    steps: &[Step],
+    journal: Option<&[Noted]>,
+    journal_of_other: Option<&[Noted]>,
+) -> Result<(), Fail> {
+    let config = config_of(alloc, stage.entries)?;
+    let mut farm = Farm::new(alloc, &config)?;
+    play_all(rt, &mut farm, ready, stage.manner, steps);
+    if let Some(entries) = journal {
+        compare_journal(rt, &farm, 0, entries);
+    }
+    if let Some(entries) = journal_of_other {
+        compare_journal(rt, &farm, 1, entries);
+    }
+    Ok(())
+}
+
+/// Plays a script on a farm of its own. The entries of the journal are compared where a's and b's are told. Tells the words of
+/// a's till and of b's once the farm is gone.
 pub(crate) fn play(
     rt: &impl Abort,
     alloc: Global,
     stage: Stage,
     steps: &[Step],
     journal: Option<&[Noted]>,
+    journal_of_other: Option<&[Noted]>,
 ) -> Result<[[u64; 3]; 2], Fail> {
-    let config = config_of(alloc, stage.entries)?;
-    let mut first = Purse::new(alloc, 0, 100)?;
-    let mut second = Purse::new(alloc, 1, 10)?;
-    let submits = submits_of(alloc, stage.manner, steps)?;
+    let mut purses = Purses::new(alloc)?;
     let mut ready: Vec<Ready<Box<dyn Strategy>>> = Vec::new(alloc);
-    for Step(tenant, call, _) in submits.iter() {
-        let Call::Submit(kind, _, text) = *call else {
-            continue;
-        };
-        let lease = if *tenant == 0 {
-            first.lease()?
-        } else {
-            second.lease()?
-        };
-        let search: Box<dyn Strategy> = match kind {
-            Kind::Tree => Box::new(alloc, tree_of(alloc, text, lease)?)?,
-            Kind::Sample(seed) => Box::new(alloc, sample_of(alloc, text, seed, lease)?)?,
-            _ => Box::new(alloc, rule_of(alloc, text, kind, lease)?)?,
-        };
-        let plan = plan_of(alloc, text, kind)?;
-        ready.push(Ready { plan, search })?;
+    for wanted in submits_of(alloc, stage.manner, steps)?.iter() {
+        let lease = purses.lease_of(wanted.tenant)?;
+        let plan = plan_of(alloc, wanted.text, wanted.kind)?;
+        match wanted.kind {
+            Kind::Tree => {
+                let search = tree_of(alloc, wanted.text, lease)?;
+                let search: Box<dyn Strategy> = Box::new(alloc, search)?;
+                ready.push(Ready { plan, search })?;
+            }
+            Kind::Sample(seed) => {
+                let search = sample_of(alloc, wanted.text, seed, lease)?;
+                let search: Box<dyn Strategy> = Box::new(alloc, search)?;
+                ready.push(Ready { plan, search })?;
+            }
+            Kind::RuleLft | Kind::RuleMts | Kind::RuleSpt => {
+                let search = rule_of(alloc, wanted.text, wanted.kind, lease)?;
+                let search: Box<dyn Strategy> = Box::new(alloc, search)?;
+                ready.push(Ready { plan, search })?;
+            }
+        }
     }
-    let mut farm = Farm::new(alloc, &config)?;
-    play_all(rt, &mut farm, ready, stage.manner, steps);
-    if let Some(entries) = journal {
-        compare_journal(rt, &farm, entries);
-    }
-    drop(farm);
-    Ok([first.words(), second.words()])
+    play_with(rt, alloc, stage, ready, steps, journal, journal_of_other)?;
+    Ok(purses.words())
 }

@@ -1,16 +1,26 @@
 //! Turns of one farm at another one, and the next turn of any tenant.
-ghost use Rattle.std.specs.Prelude.{◌≡◌, IfSome, IfOk, IfErr};
+ghost use Rattle.std.specs.Prelude.{◌≡◌, IfOk, IfErr};
 ghost use Rattle.farm_core.specs.Turn.{IsTurn};
 
 use crate::calls::{Answer, Ready, Shown, give, put_back, submit, take};
 use crate::play::seen_of;
-use farm_core::{Farm, Turn};
+use farm_core::{Farm, NoTurn, Turn};
 use job_table::Phase;
 use std::process::Abort;
 use strategy::{Strategy, Verdict};
 
 /// A job with 6 quanta that waits.
 const WAITING: Shown = Shown(1, Phase::Waiting, 0, 6, None, Verdict::Going);
+
+/// A turn of a tenant's job 1 that waits, of at most so many nodes.
+fn sent<J: Strategy>(rt: &impl Abort, farm: &mut Farm<J>, tenant: u32, slice: u64) -> Turn<J>
+    ensures { IsTurn result.slice result.ran (J.meaning result.search) }
+{
+    match take(farm, tenant, 1, slice) {
+        Ok(turn) => turn,
+        Err(why) => panic!(rt; "{why:?}"),
+    }
+}
 
 /// A turn is handed back by a farm whose job it is not, and nothing changes there.
 fn refuse<J: Strategy>(
@@ -41,16 +51,12 @@ pub(crate) fn stray<J: Strategy>(
     slice: u64,
 ) {
     assert_eq!(rt; submit(home, 0, 6, Some(own)), Answer::Job(1));
-    let Ok(turn) = take(home, 0, 1, 2) else {
-        panic!(rt; "no turn");
-    };
+    let turn = sent(rt, home, 0, 2);
     let Ok(turn) = refuse(rt, farm, turn) else {
         panic!(rt; "taken by a farm without jobs");
     };
     assert_eq!(rt; submit(farm, 0, 6, Some(other)), Answer::Job(1));
-    let Ok(there) = take(farm, 0, 1, slice) else {
-        panic!(rt; "no turn there");
-    };
+    let there = sent(rt, farm, 0, slice);
     let Ok(turn) = refuse(rt, farm, turn) else {
         panic!(rt; "taken for another job");
     };
@@ -68,25 +74,21 @@ pub(crate) fn exchange<J: Strategy>(
 ) {
     assert_eq!(rt; submit(home, 0, 6, Some(own)), Answer::Job(1));
     assert_eq!(rt; submit(farm, 0, 6, Some(other)), Answer::Job(1));
-    let Ok(here) = take(home, 0, 1, 2) else {
-        panic!(rt; "no turn");
-    };
-    let Ok(there) = take(farm, 0, 1, 2) else {
-        panic!(rt; "no turn there");
-    };
+    let here = sent(rt, home, 0, 2);
+    let there = sent(rt, farm, 0, 2);
     assert_eq!(rt; put_back(farm, here), Answer::Ran(0, WAITING));
     assert_eq!(rt; put_back(home, there), Answer::Ran(0, WAITING));
 }
 
 /// Takes a turn of some waiting job, gives it back as it is, and tells whose it was.
-fn next_of<J: Strategy>(farm: &mut Farm<J>, slice: u64) -> Option<(u32, u64)> {
+fn next_of<J: Strategy>(farm: &mut Farm<J>, slice: u64) -> Result<(u32, u64), NoTurn> {
     match farm.take_next(slice) {
         Ok(turn) => {
             let whose = (turn.tenant(), turn.seq());
             put_back(farm, turn);
-            Some(whose)
+            Ok(whose)
         }
-        Err(_) => None,
+        Err(why) => Err(why),
     }
 }
 
@@ -98,16 +100,16 @@ pub(crate) fn take_any<J: Strategy>(
     ready: Ready<J>,
     other: Ready<J>,
 ) {
-    assert_eq!(rt; next_of(farm, 2), None);
+    const NONE: Result<(u32, u64), NoTurn> = Err(NoTurn::None);
+    assert_eq!(rt; next_of(farm, 2), NONE);
     assert_eq!(rt; submit(farm, 0, 6, Some(ready)), Answer::Job(1));
-    assert_eq!(rt; next_of(farm, 2), None);
+    assert_eq!(rt; next_of(farm, 2), NONE);
     assert_eq!(rt; submit(farm, 1, 6, Some(other)), Answer::Job(1));
-    assert_eq!(rt; [next_of(farm, 0), next_of(farm, 1_000_001)], [None, None]);
-    assert_eq!(rt; next_of(farm, 1_000_000), Some((1, 1)));
-    assert_eq!(rt; next_of(farm, 1), Some((1, 1)));
-    let held = take(farm, 1, 1, 2);
-    assert_eq!(rt; next_of(farm, 2), None);
-    if let Ok(turn) = held {
-        assert_eq!(rt; put_back(farm, turn), Answer::Ran(0, WAITING));
-    }
+    assert_eq!(rt; next_of(farm, 0), NONE);
+    assert_eq!(rt; next_of(farm, 1_000_001), NONE);
+    assert_eq!(rt; next_of(farm, 1_000_000), Ok((1, 1)));
+    assert_eq!(rt; next_of(farm, 1), Ok((1, 1)));
+    let held = sent(rt, farm, 1, 2);
+    assert_eq!(rt; next_of(farm, 2), NONE);
+    assert_eq!(rt; put_back(farm, held), Answer::Ran(0, WAITING));
 }

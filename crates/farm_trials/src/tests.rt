@@ -2,7 +2,7 @@
 use crate::calls::Ready;
 use crate::cancels;
 use crate::made::{Purse, Text, config_of, plan_of, tree_of};
-use crate::mixed::{Coin, mixed};
+use crate::mixed::{Coin, in_turn, mixed};
 use crate::play::{Manner, Noted, Stage, Step, play};
 use crate::scripts::{
     ABANDONED, CANCEL_WHILE_OUT, CHAIN_RULE, DRY_RULE, FEW_ENTRIES, LONE_TREE, OTHER, REFUSALS,
@@ -28,7 +28,7 @@ fn end_with(
         entries,
         manner: Manner::Ample,
     };
-    let [first, _] = play(rt, alloc, stage, steps, None)?;
+    let [first, _] = play(rt, alloc, stage, steps, None, None)?;
     assert_eq!(rt; first, words);
     Ok(())
 }
@@ -120,7 +120,7 @@ fn note_down(
         entries: 100,
         manner,
     };
-    play(rt, alloc, stage, steps, Some(journal))?;
+    play(rt, alloc, stage, steps, Some(journal), Some(&[]))?;
     Ok(())
 }
 
@@ -211,12 +211,14 @@ fn scarce_memory_for_refusals(rt: HostRuntime) -> Result<(), Fail> {
     )
 }
 
-/// Plays the scripts of two tenants, mixed twenty times, and compares the words of both tills.
+/// Plays the scripts of two tenants, mixed in twenty ways, and compares the journal of each and the words of both tills.
 fn mix(
     rt: &impl Abort,
     alloc: Global,
     one: &[Step],
+    noted: &[Noted],
     other: &[Step],
+    noted_of_other: &[Noted],
     words: [[u64; 3]; 2],
 ) -> Result<(), Fail> {
     let mut coin = Coin::new(42);
@@ -227,20 +229,83 @@ fn mix(
     for _ in 0..20 {
         let steps = mixed(alloc, &mut coin, one, other)?;
         assert_eq!(rt; steps.len(), one.len().saturating_add(other.len()));
-        assert_eq!(rt; play(rt, alloc, stage, &steps, None)?, words);
+        let told = play(rt, alloc, stage, &steps, Some(noted), Some(noted_of_other))?;
+        assert_eq!(rt; told, words);
     }
     Ok(())
 }
 
+/// The turn that is held in the end is given back as it is.
+const NOTED_OF_OTHER: [Noted; 8] = [
+    Noted::Submit(Kind::Tree, 6),
+    Noted::Take(1, 4),
+    Noted::Give(1, 4),
+    Noted::Cancel(1),
+    Noted::Ledger,
+    Noted::Submit(Kind::RuleSpt, 5),
+    Noted::Take(2, 3),
+    Noted::Give(2, 0),
+];
+
 #[test]
-fn two_tenants_side_by_side(rt: HostRuntime) -> Result<(), Fail> {
-    mix(&rt, rt.alloc(), &TREE, &OTHER, [[91, 9, 100], [6, 4, 10]])?;
+fn two_tenants_in_turn(rt: HostRuntime) -> Result<(), Fail> {
+    let stage = Stage {
+        entries: 100,
+        manner: Manner::Ample,
+    };
+    let steps = in_turn(rt.alloc(), &TREE, &OTHER)?;
+    assert_eq!(rt; steps.len(), 12);
+    let words = play(
+        &rt,
+        rt.alloc(),
+        stage,
+        &steps,
+        Some(&NOTED_OF_TREE),
+        Some(&NOTED_OF_OTHER),
+    )?;
+    assert_eq!(rt; words, [[91, 9, 100], [6, 4, 10]]);
+    Ok(())
+}
+
+#[test]
+fn a_funded_tree_beside_another_tenant(rt: HostRuntime) -> Result<(), Fail> {
+    let words = [[91, 9, 100], [6, 4, 10]];
+    mix(
+        &rt,
+        rt.alloc(),
+        &TREE,
+        &NOTED_OF_TREE,
+        &OTHER,
+        &NOTED_OF_OTHER,
+        words,
+    )
+}
+
+#[test]
+fn a_cancelled_tree_beside_another_tenant(rt: HostRuntime) -> Result<(), Fail> {
+    let words = [[98, 2, 100], [6, 4, 10]];
+    mix(
+        &rt,
+        rt.alloc(),
+        &CANCEL_WHILE_OUT,
+        &NOTED_OF_CANCEL,
+        &OTHER[..5],
+        &NOTED_OF_OTHER[..6],
+        words,
+    )
+}
+
+#[test]
+fn refusals_beside_another_tenant(rt: HostRuntime) -> Result<(), Fail> {
+    let words = [[96, 4, 100], [6, 4, 10]];
     mix(
         &rt,
         rt.alloc(),
         &REFUSALS,
+        &NOTED_OF_REFUSALS,
         &OTHER,
-        [[96, 4, 100], [6, 4, 10]],
+        &NOTED_OF_OTHER,
+        words,
     )
 }
 
