@@ -251,3 +251,19 @@ pub(crate) const WHOLE_TREES: [Step; 4] = [
         Ran(8, Shown(2, Closed, 8, 0, Some(7), Optimal)),
     ),
 ];
+
+/// Each command that is answered uses one of three entries of the journal.
+pub(crate) const THREE_COMMANDS: [Step; 4] = [
+    Step(0, Submit(Tree, 6, Diamond), Job(1)),
+    Step(0, Fund(1, 4), Told(Shown(1, Waiting, 0, 10, None, Going))),
+    Step(0, Cancel(1), Told(Shown(1, Cancelled, 0, 0, None, Going))),
+    Step(0, Forget(1), NoRoom),
+];
+
+/// So does each that is refused.
+pub(crate) const THREE_REFUSALS: [Step; 4] = [
+    Step(0, Cancel(9), NoUnknown),
+    Step(0, Fund(9, 0), NoUnknown),
+    Step(0, Submit(Tree, 0, Diamond), NoAmount),
+    Step(0, Submit(Tree, 6, Diamond), NoRoom),
+];

@@ -6,8 +6,8 @@ use crate::mixed::{Coin, in_turn, mixed};
 use crate::play::{Manner, Noted, Stage, Step, play};
 use crate::scripts::{
     ABANDONED, CANCEL_WHILE_OUT, CHAIN_RULE, DRY_RULE, FEW_ENTRIES, LONE_TREE, OTHER, REFUSALS,
-    RULE_IN_TURNS, SAMPLE, SAMPLE_OF_SHARED, STARVED_RULE, STARVED_TREE, TREE, WHILE_OUT,
-    WHOLE_TREES, rule,
+    RULE_IN_TURNS, SAMPLE, SAMPLE_OF_SHARED, STARVED_RULE, STARVED_TREE, THREE_COMMANDS,
+    THREE_REFUSALS, TREE, WHILE_OUT, WHOLE_TREES, rule,
 };
 use crate::strangers::{exchange, stray, take_any};
 use farm_core::Farm;
@@ -62,7 +62,9 @@ fn samples(rt: HostRuntime) -> Result<(), Fail> {
 
 #[test]
 fn three_entries(rt: HostRuntime) -> Result<(), Fail> {
-    end_with(&rt, rt.alloc(), 3, &FEW_ENTRIES, [98, 2, 100])
+    end_with(&rt, rt.alloc(), 3, &FEW_ENTRIES, [98, 2, 100])?;
+    end_with(&rt, rt.alloc(), 3, &THREE_COMMANDS, [100, 0, 100])?;
+    end_with(&rt, rt.alloc(), 3, &THREE_REFUSALS, [100, 0, 100])
 }
 
 #[test]
