@@ -12,6 +12,9 @@ use strategy::{Strategy, Verdict};
 /// A job with 6 quanta that waits.
 const WAITING: Shown = Shown(1, Phase::Waiting, 0, 6, None, Verdict::Going);
 
+/// The same after 2 nodes of the tree.
+const BEGUN: Shown = Shown(1, Phase::Waiting, 2, 4, None, Verdict::Going);
+
 /// A turn of a tenant's job 1 that waits, of at most so many nodes.
 fn sent<J: Strategy>(rt: &impl Abort, farm: &mut Farm<J>, tenant: u32, slice: u64) -> Turn<J>
     ensures { IsTurn result.slice result.ran (J.meaning result.search) }
@@ -64,7 +67,8 @@ pub(crate) fn stray<J: Strategy>(
     assert_eq!(rt; put_back(farm, there), Answer::Ran(0, WAITING));
 }
 
-/// Turns of two jobs that agree in all that is compared serve each for the other.
+/// Turns of two jobs that agree in all that is compared serve each for the other. One of them runs, and runs no more when it is
+/// run again.
 pub(crate) fn exchange<J: Strategy>(
     rt: &impl Abort,
     home: &mut Farm<J>,
@@ -74,9 +78,11 @@ pub(crate) fn exchange<J: Strategy>(
 ) {
     assert_eq!(rt; submit(home, 0, 6, Some(own)), Answer::Job(1));
     assert_eq!(rt; submit(farm, 0, 6, Some(other)), Answer::Job(1));
-    let here = sent(rt, home, 0, 2);
+    let mut here = sent(rt, home, 0, 2);
     let there = sent(rt, farm, 0, 2);
-    assert_eq!(rt; put_back(farm, here), Answer::Ran(0, WAITING));
+    assert_eq!(rt; here.run(), 2);
+    assert_eq!(rt; here.run(), 0);
+    assert_eq!(rt; put_back(farm, here), Answer::Ran(2, BEGUN));
     assert_eq!(rt; put_back(home, there), Answer::Ran(0, WAITING));
 }
 
