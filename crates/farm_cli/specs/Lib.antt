@@ -1,3 +1,4 @@
 pub mod Summary
 pub mod ConfigText
 pub mod Config
+pub mod Replay

@@ -10,6 +10,13 @@ pub enum Task<'a> {
         /// A path, or `-` for standard input.
         file: &'a str,
     },
+    /// Replay a script of requests through a farm.
+    Replay {
+        /// The path of the configuration; `-` is a file of that name.
+        config: &'a str,
+        /// A path, or `-` for standard input.
+        script: &'a str,
+    },
 }
 
 /// The command `farm` with its subcommands, or an error where there is no memory for it.
@@ -23,7 +30,24 @@ pub fn farm_command<'a>(alloc: Global) -> Result<Command<'a>, AllocError> {
     Command::new(alloc, "farm")
         .about("Schedules multi-mode projects for several tenants")
         .subcommand_required(true)
-        .subcommand(check)
+        .subcommand(check)?
+        .subcommand(replay_command(alloc)?)
+}
+
+/// The subcommand `replay`.
+fn replay_command<'a>(alloc: Global) -> Result<Command<'a>, AllocError> {
+    let config = Arg::new(alloc, "config")
+        .long("config")
+        .value_name("F")
+        .help("The farm's configuration, a JSON file")
+        .required(true);
+    let script = Arg::new(alloc, "SCRIPT")
+        .help("Requests, one a line, or - for standard input")
+        .required(true);
+    Command::new(alloc, "replay")
+        .about("Replays a script of requests and prints the replies")
+        .arg(config)?
+        .arg(script)
 }
 
 /// What the words ask for; the first one is the program's name. With no other word that is `check -`. An error is what
@@ -41,6 +65,10 @@ fn task_of<'a>(matches: &ArgMatches<'a>) -> Task<'a> {
     match matches.subcommand() {
         Some(("check", chosen)) => Task::Check {
             file: chosen.get_str("FILE").unwrap_or("-"),
+        },
+        Some(("replay", chosen)) => Task::Replay {
+            config: chosen.get_str("config").unwrap_or("-"),
+            script: chosen.get_str("SCRIPT").unwrap_or("-"),
         },
         _ => Task::Check { file: "-" },
     }

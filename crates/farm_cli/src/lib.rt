@@ -6,6 +6,7 @@ mod config;
 mod input;
 pub mod laws;
 mod program;
+mod script;
 mod summary;
 #[cfg(test)]
 mod tests;
@@ -14,4 +15,5 @@ pub use arguments::{Task, farm_command, parse_words};
 pub use config::{ConfigFault, Key, read_config};
 pub use input::{MOST_BYTES, read_front, read_whole};
 pub use program::{run, run_words};
+pub use script::{ReplayFault, replay};
 pub use summary::{Summary, summarize};

@@ -1,11 +1,15 @@
 //! The programs: what each task does, and the status that it ends with.
 use crate::arguments::{Task, parse_words};
-use crate::input::read_path;
+use crate::config::read_config;
+use crate::input::{read_path, read_whole};
+use crate::script::{ReplayFault, replay};
 use crate::summary::summarize;
+use farm_core::Config;
 use psplib_mm::read;
-use std::env;
+use std::io::{BufWriter, Eprint, Read, Write};
 use std::process::ExitCode;
-use std::rt::Runtime;
+use std::rt::{Files, Runtime};
+use std::{env, fs, io};
 
 /// Runs the program on the words of the process. The status is 0, 1 for a fault, and 2 for a command line that is refused
 /// and for a request for help.
@@ -23,6 +27,7 @@ pub fn run<R: Runtime + AllocGlobal>(rt: &R) -> ExitCode {
 pub fn run_words<R: Runtime + AllocGlobal>(rt: &R, words: &[String]) -> ExitCode {
     match parse_words(rt.alloc(), words) {
         Ok(Task::Check { file }) => run_check(rt, file),
+        Ok(Task::Replay { config, script }) => run_replay(rt, config, script),
         Err(error) => {
             let _ = error.print(rt);
             ExitCode::from(2)
@@ -46,6 +51,69 @@ fn run_check<R: Runtime + AllocGlobal>(rt: &R, file: &str) -> ExitCode {
         }
         Err(fault) => {
             let _ = eprintln!(rt; "farm: no file {fault}");
+            ExitCode::FAILURE
+        }
+    }
+}
+
+/// The configuration in the file at the path, or the text for standard error.
+fn config_at<R: Files + AllocGlobal + Eprint>(rt: &R, path: &str) -> Option<Config> {
+    let bytes = match fs::open(rt, path) {
+        Ok(file) => read_whole(rt.alloc(), file),
+        Err(error) => Err(error),
+    };
+    let Ok(Some(bytes)) = bytes else {
+        let _ = eprintln!(rt; "farm: cannot read {path}");
+        return None;
+    };
+    match read_config(rt.alloc(), &bytes) {
+        Ok(config) => Some(config),
+        Err(fault) => {
+            let _ = eprintln!(rt; "farm: config {fault}");
+            None
+        }
+    }
+}
+
+/// Replays a script on a farm of the configuration, and prints the replies.
+fn run_replay<R: Runtime + AllocGlobal>(rt: &R, config: &str, script: &str) -> ExitCode {
+    let Some(config) = config_at(rt, config) else {
+        return ExitCode::FAILURE;
+    };
+    if script == "-" {
+        return end_replay(rt, replay_to(rt, &config, rt.reader()));
+    }
+    match fs::open(rt, script) {
+        Ok(file) => end_replay(rt, replay_to(rt, &config, file)),
+        Err(_) => {
+            let _ = eprintln!(rt; "farm: cannot read {script}");
+            ExitCode::FAILURE
+        }
+    }
+}
+
+/// Replays a script to standard output, through a buffer that is written out at the end and after a fault.
+fn replay_to<R: Runtime + AllocGlobal, S: Read + Drop>(
+    rt: &R,
+    config: &Config,
+    script: S,
+) -> Result<(), ReplayFault> {
+    let Ok(mut output) = BufWriter::new(rt.alloc(), io::writer(rt)) else {
+        return Err(ReplayFault::NoMemory);
+    };
+    let ended = replay(rt.alloc(), config, script, &mut output);
+    match output.flush() {
+        Ok(()) => ended,
+        Err(_) => Err(ReplayFault::Write),
+    }
+}
+
+/// The status of a replay, with its fault on standard error.
+fn end_replay<R: Eprint>(rt: &R, ended: Result<(), ReplayFault>) -> ExitCode {
+    match ended {
+        Ok(()) => ExitCode::SUCCESS,
+        Err(fault) => {
+            let _ = eprintln!(rt; "farm: replay {fault}");
             ExitCode::FAILURE
         }
     }

@@ -16,12 +16,58 @@ fn words(alloc: Global, texts: &[&str]) -> Result<Vec<String>, AllocError> {
     Ok(words)
 }
 
-// What the words ask for is a check of this file.
-fn checks(rt: &impl Abort, alloc: Global, texts: &[&str], path: &str) -> Result<(), Fail> {
+// What the words ask for is this.
+fn asks(rt: &impl Abort, alloc: Global, texts: &[&str], expected: Task<'_>) -> Result<(), Fail> {
     let words = words(alloc, texts)?;
     let task = parse_words(alloc, &words)?;
-    assert!(rt; task == Task::Check { file: path });
+    assert!(rt; task == expected);
     Ok(())
+}
+
+// What the words ask for is a check of this file.
+fn checks(rt: &impl Abort, alloc: Global, texts: &[&str], path: &str) -> Result<(), Fail> {
+    asks(rt, alloc, texts, Task::Check { file: path })
+}
+
+#[test]
+fn words_of_a_replay(rt: HostRuntime) -> Result<(), Fail> {
+    let rows = [
+        (["farm", "replay", "--config", "k.json", "s"], "k.json", "s"),
+        (["farm", "replay", "--config", "k.json", "-"], "k.json", "-"),
+        (["farm", "replay", "s", "--config", "k.json"], "k.json", "s"),
+        (["farm", "replay", "--config", "-", "s"], "-", "s"),
+    ];
+    for (texts, config, script) in rows {
+        asks(&rt, rt.alloc(), &texts, Task::Replay { config, script })?;
+    }
+    asks(
+        &rt,
+        rt.alloc(),
+        &["farm", "replay", "--config=k", "s"],
+        Task::Replay {
+            config: "k",
+            script: "s",
+        },
+    )
+}
+
+#[test]
+fn words_of_no_replay(rt: HostRuntime) -> Result<(), Fail> {
+    let alloc = rt.alloc();
+    refuses(&rt, alloc, &["farm", "replay", "--config", "k"], false)?;
+    refuses(&rt, alloc, &["farm", "replay", "s", "--config"], false)?;
+    refuses(
+        &rt,
+        alloc,
+        &["farm", "replay", "--config", "k", "s", "t"],
+        false,
+    )?;
+    refuses(
+        &rt,
+        alloc,
+        &["farm", "replay", "--config", "k", "--config", "k", "s"],
+        false,
+    )
 }
 
 // The words are refused, or ask for help, which goes to standard output.
