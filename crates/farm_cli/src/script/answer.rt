@@ -1,5 +1,6 @@
 //! What the farm answers to a request.
 ghost use Rattle.std.specs.Prelude.{◌≡◌, ◌<◌, length};
+ghost use Rattle.farm_cli.specs.Replay.{IsSaid};
 
 use super::hear::Ask;
 use farm_core::{Farm, NoTurn, Reply, Stranger};
@@ -29,7 +30,8 @@ fn turn<J: Strategy>(farm: &mut Farm<J>, tenant: u32, seq: u64, slice: u64) -> S
 /// Asks the farm.
 pub(crate) fn answer<J: Strategy>(farm: &mut Farm<J>, tenant: u32, ask: Ask) -> Said
     requires { tenant < length farm.old.config.tenants }
-    ensures { farm.new.config ≡ farm.old.config }
+    ensures config { farm.new.config ≡ farm.old.config }
+    ensures said { IsSaid farm.old tenant ask result farm.new }
 {
     let reply = match ask {
         Ask::Fund(seq, quanta) => farm.fund(tenant, seq, quanta),

@@ -4,9 +4,10 @@ ghost use Rattle.strategy.specs.declared.kind.Kind.TheVariants as kind;
 ghost use Rattle.quanta_till.specs.Lease.{IsEmpty};
 ghost use Rattle.rule_search.specs.Rule.{IsRule};
 ghost use Rattle.sample_search.specs.Search.{IsSample};
+ghost use Rattle.farm_cli.specs.Replay.{IsReplied};
 
 use super::counter::Counter;
-use farm_core::{Farm, Reply};
+use farm_core::{Event, Farm, Reply};
 use quanta_till::Lease;
 use rule_search::RuleSearch;
 use sample_search::SampleSearch;
@@ -89,7 +90,8 @@ pub(crate) fn submit<J: Strategy, M: Fn(Ready) -> Option<J>>(
 ) -> Said
     requires known { tenant < length farm.old.config.tenants }
     requires make { M.IsAlwaysCallable make.now }
-    ensures { farm.new.config ≡ farm.old.config }
+    ensures config { farm.new.config ≡ farm.old.config }
+    ensures said { IsReplied farm.old tenant (Event.Submit plan quanta) result farm.new }
 {
     let Some(ready) = Ready::new(alloc, counter, &plan) else {
         return Said::Reply(Reply::NoMemory);
