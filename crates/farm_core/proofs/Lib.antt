@@ -14,3 +14,4 @@ pub mod CommandLemmas
 pub mod TurnLemmas
 pub mod GiveLemmas
 pub mod NextLemmas
+pub mod HeldLemmas

@@ -71,7 +71,7 @@ key_at (row ∷ rows) t s job found waits =
     cond_both (is_row t s row) (Some row.job) (find_row t s rows) (λ (o : Option JobData). o ≡ Some job → IsKeyAt (row ∷ rows) t s)
     (λ key h. key_first row rows t s job key h waits) (λ _ h. key_later row rows t s (key_at rows t s job h waits)) found
 
-no_job : (s : ℕ) (jobs : List JobData) → (IsNumberOf s jobs → ⊥) → find_job s jobs ≡ None
+pub no_job : (s : ℕ) (jobs : List JobData) → (IsNumberOf s jobs → ⊥) → find_job s jobs ≡ None
 no_job s [] not = refl
 no_job s (job ∷ jobs) not =
     cond_both (job.seq == s) (Some job) (find_job s jobs) (λ (o : Option JobData). o ≡ None) (λ e. absurd (not (inl (eqb-true job.seq s e)))) (λ _. no_job s jobs (λ i. not (inr i)))

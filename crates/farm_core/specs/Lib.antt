@@ -8,3 +8,4 @@ pub mod Truth
 pub mod Need
 pub mod Farm
 pub mod Turn
+pub mod Held

@@ -2,6 +2,7 @@
 ghost use Rattle.farm_core.specs.Laws.{EachIsAlone, EachIsIsolated};
 ghost use Rattle.farm_core.specs.Truth.{EachAnswerIsTrue};
 ghost use Rattle.farm_core.specs.Need.{NodesAreTheLesser, EachEndsAlike};
+ghost use Rattle.farm_core.specs.Held.{TakenTurnsAreHeld, TurnsStayHeld, HeldTurnsAreNoStrangers, HeldTurnsRunTheirNodes, OnlyTakenJobsAreOut, GivenJobsAreNotOut};
 
 /// In every run of calls of all tenants, the answers to one tenant's calls, and its jobs and ledger at the end, are those
 /// of its own calls alone in a farm that no one else uses.
@@ -33,4 +34,34 @@ pub fn nodes_are_the_lesser()
 /// for it: whatever turns, slices and refusals came between, and whoever else used the farms.
 pub fn each_ends_alike()
     ensures { EachEndsAlike }
+{}
+
+/// A turn that was taken is its job's: the job is out for it.
+pub fn taken_turns_are_held()
+    ensures { TakenTurnsAreHeld }
+{}
+
+/// A turn stays its job's until it is given back, whatever else is asked of the farm.
+pub fn turns_stay_held()
+    ensures { TurnsStayHeld }
+{}
+
+/// A turn that is its job's is no stranger to the farm, before it has run and after.
+pub fn held_turns_are_no_strangers()
+    ensures { HeldTurnsAreNoStrangers }
+{}
+
+/// A turn that is its job's runs as many nodes as the farm tells of that job.
+pub fn held_turns_run_their_nodes()
+    ensures { HeldTurnsRunTheirNodes }
+{}
+
+/// In a farm that is where its journal leads, a job goes out only where a turn of it is taken.
+pub fn only_taken_jobs_are_out()
+    ensures { OnlyTakenJobsAreOut }
+{}
+
+/// A job whose turn came back is out no more.
+pub fn given_jobs_are_not_out()
+    ensures { GivenJobsAreNotOut }
 {}
