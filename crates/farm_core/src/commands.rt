@@ -35,26 +35,6 @@ fn clone_best(alloc: Global, best: Option<&Schedule>) -> Result<Option<Schedule>
     }))
 }
 
-/// Whether a turn of a job in this phase is out.
-fn is_out(phase: Phase) -> bool
-    ensures { result ≡ is_out phase }
-{
-    match phase {
-        Phase::Out(_) | Phase::Leaving(_) => true,
-        _ => false,
-    }
-}
-
-/// Whether a job in this phase has come to its end.
-fn is_ended(phase: Phase) -> bool
-    ensures { result ≡ is_ended phase }
-{
-    match phase {
-        Phase::Closed | Phase::Cancelled => true,
-        _ => false,
-    }
-}
-
 /// Why a job in this phase is not given so many quanta.
 #[tactic(auto, unfolding(crate::specs::Step::funded))]
 fn fund_refusal(phase: Phase, quanta: u64) -> Option<Reply>
@@ -63,10 +43,10 @@ fn fund_refusal(phase: Phase, quanta: u64) -> Option<Reply>
     ensures ended { IfNone result (is_ended phase ≡ false) }
     ensures amount { IfNone result (is_amount quanta ≡ true) }
 {
-    if is_out(phase) {
+    if phase.is_out() {
         return Some(Reply::NoBusy);
     }
-    if is_ended(phase) {
+    if phase.is_ended() {
         return Some(Reply::NoOver);
     }
     if !is_amount(quanta) {
@@ -212,7 +192,7 @@ impl<J: Strategy> Farm<J> {
         let Some(job) = self.jobs.find(tenant, seq) else {
             return Ok(Reply::NoUnknown);
         };
-        if is_out(job.phase()) {
+        if job.phase().is_out() {
             return Ok(Reply::NoBusy);
         }
         let best = clone_best(self.alloc, job.best())?;
@@ -332,7 +312,7 @@ impl<J: Strategy> Farm<J> {
         let Some(line) = self.snapshot(tenant, seq) else {
             return self.noted(tenant, Event::Forget(seq), Reply::NoUnknown);
         };
-        if !is_ended(line.phase) {
+        if !line.phase.is_ended() {
             return self.noted(tenant, Event::Forget(seq), Reply::NoBusy);
         }
         self.forget_job(tenant, seq, line)

@@ -9,7 +9,7 @@ ghost use Rattle.farm_core.specs.Turn.{nodes_of, ran_on, IsTurn, IsTaken, IsNotT
 
 use crate::farm::{keep_room, line_of, write_down};
 use crate::{Event, Farm, Line, NoTurn, Reply};
-use job_table::{JobTable, Phase};
+use job_table::JobTable;
 use strategy::Strategy;
 
 /// A job's search in the hands of a worker, for at most so many nodes. It is given back to its farm, or abandoned.
@@ -29,16 +29,6 @@ fn is_slice(slice: u64) -> bool
     ensures { result ≡ is_slice slice }
 {
     0 < slice && slice <= 1_000_000
-}
-
-/// Whether a turn of a job in this phase may be taken.
-fn is_waiting(phase: Phase) -> bool
-    ensures { result ≡ is_waiting phase }
-{
-    match phase {
-        Phase::Waiting => true,
-        _ => false,
-    }
 }
 
 /// Runs as many nodes as the slice and the search's quanta allow, or until the search is over.
@@ -121,7 +111,7 @@ impl<J: Strategy> Farm<J> {
         ensures exact { result ≡ (is_waiting line.phase && is_slice slice && has_room 2 (view tenant self.now)) }
         ensures few { IsTrue result → (view tenant self.now).used ≤ 1000000 }
     {
-        is_waiting(line.phase) && is_slice(slice) && self.has_room(tenant, 2)
+        line.phase.is_waiting() && is_slice(slice) && self.has_room(tenant, 2)
     }
 
     /// Takes a turn of a waiting job for at most so many nodes, 1 to 1,000,000, and keeps an entry of the journal for its

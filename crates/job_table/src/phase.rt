@@ -1,4 +1,6 @@
 //! The phases of a job.
+ghost use Rattle.std.specs.Prelude.{◌≡◌};
+ghost use Rattle.job_table.specs.Table.{is_waiting, is_out, is_ended};
 
 /// Where a job stands.
 #[derive(Clone, Copy, Debug, PartialEq, Eq)]
@@ -15,4 +17,33 @@ pub enum Phase {
     Closed,
     /// It was cancelled, and no worker holds its turn.
     Cancelled,
+}
+
+impl Phase {
+    /// Whether a turn may be taken.
+    pub fn is_waiting(self) -> bool
+        ensures { result ≡ is_waiting self }
+    {
+        self == Phase::Waiting
+    }
+
+    /// Whether a turn is out.
+    pub fn is_out(self) -> bool
+        ensures { result ≡ is_out self }
+    {
+        match self {
+            Phase::Out(_) | Phase::Leaving(_) => true,
+            _ => false,
+        }
+    }
+
+    /// Whether the job has come to its end.
+    pub fn is_ended(self) -> bool
+        ensures { result ≡ is_ended self }
+    {
+        match self {
+            Phase::Closed | Phase::Cancelled => true,
+            _ => false,
+        }
+    }
 }

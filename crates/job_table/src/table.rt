@@ -2,7 +2,7 @@
 ghost use Rattle.std.specs.Prelude.{◌≡◌, ◌↔◌, ◌+◌, ◌≤◌, IsTrue, IsFalse, true, if◌then◌else◌, [], ◌∷◌, ◌++◌, Some, None, IfSome, OnSome, IfNone, IfErr, OnOk, OnErr, false, length, filter, position, slice_get};
 ghost use Rattle.std.specs.Option.{option_copied};
 ghost use Rattle.strategy.specs.Outcome.{is_closed};
-ghost use Rattle.job_table.specs.Table.{is_row, is_waiting, is_out, find_row, drop_row, jobs_of, waiting_keys};
+ghost use Rattle.job_table.specs.Table.{is_row, is_out, find_row, drop_row, jobs_of, waiting_keys};
 ghost use Rattle.job_table.specs.Job.{meaning_of, given_up, back, is_here, IsOwn, IsSent, IsBack, IsStrange, IsFunded, IsGivenUp};
 
 use crate::job::is_here;
@@ -93,23 +93,6 @@ impl<J: Strategy> Row<J> {
     }
 }
 
-/// Whether a turn of a job in this phase may be taken.
-fn is_waiting(phase: Phase) -> bool
-    ensures { result ≡ is_waiting phase }
-{
-    phase == Phase::Waiting
-}
-
-/// Whether a turn of a job in this phase is out.
-fn is_out(phase: Phase) -> bool
-    ensures { result ≡ is_out phase }
-{
-    match phase {
-        Phase::Out(_) | Phase::Leaving(_) => true,
-        _ => false,
-    }
-}
-
 /// Where the row of a tenant's job of that number lies.
 fn place_of<J>(rows: &[Row<J>], tenant: u32, seq: u64) -> Option<usize>
     ensures { result ≡ position (is_row tenant seq) rows.now }
@@ -179,7 +162,7 @@ impl<J> JobTable<J> {
     {
         let mut count = 0;
         for row in self.rows.iter() {
-            if row.tenant == tenant && is_out(row.job.phase()) {
+            if row.tenant == tenant && row.job.phase().is_out() {
                 count += 1;
             }
         }
@@ -193,7 +176,7 @@ impl<J> JobTable<J> {
     {
         let mut before = i;
         for row in self.rows.iter() {
-            if is_waiting(row.job.phase()) {
+            if row.job.phase().is_waiting() {
                 if before == 0 {
                     return Some((row.tenant, row.job.seq()));
                 }
