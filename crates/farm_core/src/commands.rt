@@ -3,8 +3,9 @@ ghost use Rattle.std.specs.Prelude.{◌≡◌, ◌<◌, ◌≤◌, ◌+◌, true
 ghost use Rattle.std.specs.Option.{option_copied};
 ghost use Rattle.job_table.specs.Table.{JobData, is_out, is_ended};
 ghost use Rattle.job_table.specs.Job.{given_up};
+ghost use Rattle.farm_core.specs.declared.reply.Line.{Line};
 ghost use Rattle.farm_core.specs.Tenant.{Tenant, find_job, line_of};
-ghost use Rattle.farm_core.specs.Step.{has_room, is_amount};
+ghost use Rattle.farm_core.specs.Step.{Replied, step, has_room, is_amount};
 ghost use Rattle.farm_core.specs.World.{World, view, IsOnlyNoted};
 ghost use Rattle.farm_core.specs.Farm.{IsReply, IsFundRefusal, IsGivenUpTo};
 
@@ -269,7 +270,8 @@ impl<J: Strategy> Farm<J> {
     #[tactic(auto, using(crate::proofs::StepLemmas::cancel_unknown, crate::proofs::StepLemmas::cancel_over, crate::proofs::StepLemmas::cancel_told, crate::proofs::StepLemmas::cancel_less))]
     pub fn cancel(&mut self, tenant: u32, seq: u64) -> Reply
         requires { tenant < length self.old.config.tenants }
-        ensures { IsReply self.old tenant (Event.Cancel seq) result self.new }
+        ensures follows { IsReply self.old tenant (Event.Cancel seq) result self.new }
+        ensures accepted { (line : Line) → (step (view tenant self.old) (Event.Cancel seq)).answer ≡ Replied (Reply.Line line) → result ≡ Reply.Line line }
     {
         let Some(line) = self.snapshot(tenant, seq) else {
             return self.noted(tenant, Event::Cancel(seq), Reply::NoUnknown);
@@ -284,7 +286,8 @@ impl<J: Strategy> Farm<J> {
     fn cancel_job(&mut self, tenant: u32, seq: u64, freed: u64, then: Line) -> Reply
         requires known { tenant < length self.old.config.tenants }
         requires given_up { IsGivenUpTo (view tenant self.old) seq freed then }
-        ensures { IsReply self.old tenant (Event.Cancel seq) result self.new }
+        ensures follows { IsReply self.old tenant (Event.Cancel seq) result self.new }
+        ensures accepted { has_room 1 (view tenant self.old) ≡ true → result ≡ Reply.Line then }
     {
         if !self.has_room(tenant, 1) {
             return Reply::NoRoom;

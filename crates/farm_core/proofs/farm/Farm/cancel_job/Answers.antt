@@ -57,5 +57,5 @@ wrote g c =
 pub invariant_of-self : goal.invariant_of-self
 invariant_of-self g c = (wrote g c).0
 
-pub returns : goal.returns
-returns g c = (wrote g c).1
+pub returns-clause-follows : goal.returns-clause-follows
+returns-clause-follows g c = (wrote g c).1
