@@ -1,6 +1,6 @@
 -- A call that moves the world, and what it keeps.
 use Rattle.std.proofs.Common.{◌≡◌, ◌≢◌, ℕ, zero, suc, ◌+◌, ◌<◌, ◌≤◌, true, false, List, [], ◌∷◌, ◌++◌, length, get_or, set, refl, sym, ap, ◌∙◌, subst, arith, ⊎_elim, length-append}
-use Rattle.std.proofs.lemmas.Bool.{cases_eq, cond-true, cond-false}
+use Rattle.std.proofs.lemmas.Bool.{cases_eq, cond-true}
 use Rattle.std.proofs.lemmas.Bool.Decides.{nat_tests}
 use Rattle.job_table.specs.Table.{Row, jobs_of}
 use Rattle.farm_core.specs.declared.entry.Entry.{Entry}
@@ -10,7 +10,7 @@ use Rattle.farm_core.specs.declared.reply.Reply.{Reply}
 use Rattle.farm_core.specs.Config.{ConfigData}
 use Rattle.farm_core.specs.declared.reply.Reply.TheVariants as reply
 use Rattle.farm_core.specs.Tenant.{Tenant, newcomer, book, held, free}
-use Rattle.farm_core.specs.Step.{Answer, Replied, Step, step, noted, unnoted, has_room, commanded}
+use Rattle.farm_core.specs.Step.{Answer, Replied, Step, step, noted, unnoted, has_room}
 use Rattle.farm_core.specs.World.{World, terms_in, view, entries_of, events_of, is_noted, entry_of, Follows, IsReplayed, IsOnlyNoted, after_alone}
 use Rattle.farm_core.specs.Farm.{IsAccount, IsFarm, AreOf, owed, IsReply}
 use Rattle.farm_core.proofs.ViewLemmas.{moved, set_own, set_other, follows_from}
@@ -132,11 +132,6 @@ stays_follows w t event answer steps told = record {
   journal = rw told (no_more w.journal);
   config = refl;
 }
-
--- a command for which there is no room
-pub no_room_follows : (w : World) (t : ℕ) (event : Event) (s : Step) → step (view t w) event ≡ commanded (view t w) s → has_room 1 (view t w) ≡ false → Follows w t event (Replied reply.NoRoom) w
-no_room_follows w t event s steps room =
-    stays_follows w t event (Replied reply.NoRoom) (steps ∙ cond-false (has_room 1 (view t w)) s (unnoted (view t w) (Replied reply.NoRoom)) room) refl
 
 -- a command that changes nothing but the journal
 pub noted_moves : (w : World) (t capacity : ℕ) (account : Account) (event : Event) (answer : Reply) → IsFarm w capacity → t < length w.config.tenants → account ≡ get_or w.accounts t account

@@ -4,14 +4,12 @@ use Rattle.std.specs.Prelude.{slice_get}
 use Rattle.std.proofs.lemmas.Bool.{cond_both, cond-true, eqb-true, and_parts}
 use Rattle.job_table.specs.Table.{Row, JobData, is_row, is_waiting, find_row, jobs_of, waiting_keys, AreApart}
 use Rattle.job_table.proofs.WaitingLemmas.{waiting_found}
-use Rattle.farm_core.specs.declared.entry.Event.TheVariants.{Take}
 use Rattle.farm_core.specs.Tenant.{Tenant, newcomer, find_job}
-use Rattle.farm_core.specs.Step.{NoTurn, Step, is_slice, has_room}
-use Rattle.farm_core.specs.World.{World, view, terms_in, events_of, after_alone, Follows}
+use Rattle.farm_core.specs.Step.{is_slice, has_room}
+use Rattle.farm_core.specs.World.{World, view, terms_in, events_of, after_alone}
 use Rattle.farm_core.specs.Farm.{IsFarm, AreOf}
 use Rattle.farm_core.specs.Turn.{IsReady, IsIdle}
 use Rattle.farm_core.proofs.ViewLemmas.{found_own}
-use Rattle.farm_core.proofs.StepLemmas.{take_steps}
 use Rattle.farm_core.proofs.ChangeLemmas.{own_job}
 use Rattle.farm_core.proofs.CommandLemmas.{own_row}
 use Rattle.farm_core.proofs.NeedLemmas.{IsNumberOf, AreDistinct, alone_distinct}
@@ -118,13 +116,6 @@ ready_at w capacity i t s slice farm here slice_is room =
 -- where none of the waiting keys has, there is no turn
 pub idle_of : (w : World) (slice : ℕ) → ((i t s : ℕ) → slice_get (waiting_keys w.rows) i ≡ Some (t, s) → has_room 2 (view t w) ≡ false) → IsIdle w slice
 idle_of w slice none = inr (λ t s job found waits. let it = key_at w.rows t s job (own_row w t s job found) waits in none it.at t s it.here)
-
--- a turn that is ready is not refused
-pub ready_taken : (w new : World) (t s slice : ℕ) → IsReady w t s slice → Follows w t (Take s slice) NoTurn new → ⊥
-ready_taken w new t s slice it follows =
-    let steps = take_steps (view t w) s slice it.job it.found it.waits it.slice_is it.room in
-    let answer = follows.answer_is ∙ ap (λ (x : Step). x.answer) steps in
-    absurd (cc)
 
 -- what is found lies before the first place where nothing is
 pub found_before : {A : Type 0} (xs : List A) (i j : ℕ) (x : A) → slice_get xs i ≡ None → slice_get xs j ≡ Some x → j < i

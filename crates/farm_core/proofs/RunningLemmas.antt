@@ -99,10 +99,6 @@ pub found_held : (s : ℕ) (jobs : List JobData) (job : JobData) → find_job s 
 found_held s [] job found = absurd (cc)
 found_held s (one ∷ jobs) job found = grind (arith, nat_tests, found_held s jobs job)
 
-found_out : (s : ℕ) (jobs : List JobData) (job : JobData) → find_job s jobs ≡ Some job → out_in job.phase ≤ outs jobs
-found_out s [] job found = absurd (cc)
-found_out s (one ∷ jobs) job found = grind (arith, nat_tests, found_out s jobs job)
-
 room_is : (n : ℕ) (t : Tenant) → has_room n t ≡ true → t.used + kept t + n ≤ t.terms.entries
 room_is n t room = leb-true (t.used + kept t + n) t.terms.entries room
 
@@ -235,14 +231,6 @@ forget_runs t s job found room it =
       covered = omega (arith, it.covered, held_drop s job t.jobs found);
     }))
     (λ _. noted_runs t reply.NoBusy room it)
-
-waiting_in : (phase : Phase) → is_waiting phase ≡ true → out_in phase ≡ 0
-waiting_in Waiting w = refl
-waiting_in (Out slice) w = absurd (cc)
-waiting_in (Leaving slice) w = absurd (cc)
-waiting_in Dry w = refl
-waiting_in Closed w = refl
-waiting_in Cancelled w = refl
 
 taken_runs : (t : Tenant) (s slice : ℕ) (found : Option JobData) → find_job s t.jobs ≡ found → IsRunning t → Runs (taken t slice found)
 taken_runs t s slice None is it = it

@@ -71,10 +71,6 @@ push_known : (made : Made) (new : JobData) (jobs : List JobData) → IsKnown mad
 push_known made new [] one all = (one, tt)
 push_known made new (job ∷ jobs) one all = (all.0, push_known made new jobs one all.1)
 
--- the job with other nodes, quanta and phase is for the same plan
-same_known : (made : Made) (job : JobData) (phase : Phase) (nodes left : ℕ) → IsKnown made job → IsKnown made (record job { phase = phase; nodes = nodes; left = left })
-same_known made job phase nodes left known = record { plan = known.plan; project = known.project }
-
 changed_good : (made : Made) (t : Tenant) (new : JobData) (answer : Answer) → AreKnown made t.jobs → IsKnown made new → IsTrueAnswer made answer → IsGood made (changed t new answer)
 changed_good made t new answer all one true_ = record { answer = true_; jobs = put_known made new.seq new t.jobs one all }
 

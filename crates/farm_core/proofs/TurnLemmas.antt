@@ -1,6 +1,6 @@
 -- A turn, node by node.
-use Rattle.std.proofs.Common.{◌≡◌, ℕ, zero, suc, ◌+◌, ◌-◌, ◌<◌, ◌≤◌, min, Bool, true, false, ◌||◌, refl, sym, ap, ◌∙◌, arith, inl}
-use Rattle.std.proofs.lemmas.Bool.{cond-true, cond-false}
+use Rattle.std.proofs.Common.{◌≡◌, ℕ, suc, ◌+◌, ◌-◌, ◌<◌, ◌≤◌, min, false, ◌||◌, refl, sym, ap, ◌∙◌, arith, inl}
+use Rattle.std.proofs.lemmas.Bool.{cond-false}
 use Rattle.std.proofs.lemmas.Bool.Decides.{nat_tests}
 use Rattle.mrcpsp.specs.Numbers.{first_from}
 use Rattle.strategy.specs.Outcome.{is_closed}
@@ -19,16 +19,6 @@ pub run_more : (slice : ℕ) (m : Meaning) (k : ℕ) → k < slice → k < m.lef
 run_more slice m k l n going =
     let one : min slice m.left - k ≡ suc (min slice m.left - (k + 1)) = omega arith in
     rw one (cond-false (is_closed m.plan (m.nodes + k)) k (first_from (λ r. is_closed m.plan (m.nodes + r)) (min slice m.left - (k + 1)) (k + 1)) going)
-
-stops : (test : ℕ → Bool) (n k : ℕ) → test k ≡ true → first_from test n k ≡ k
-stops test zero k over = refl
-stops test (suc n) k over = cond-true (test k) k (first_from test n (k + 1)) over
-
-pub run_closed : (slice : ℕ) (m : Meaning) (k : ℕ) → is_closed m.plan (m.nodes + k) ≡ true → nodes_from slice m k ≡ k
-run_closed slice m k over = stops (λ r. is_closed m.plan (m.nodes + r)) (min slice m.left - k) k over
-
-pub run_out : (slice : ℕ) (m : Meaning) (k : ℕ) → min slice m.left ≤ k → nodes_from slice m k ≡ k
-run_out slice m k out = let none : min slice m.left - k ≡ 0 = omega arith in rw none refl
 
 pub turn_fresh : (slice : ℕ) (m : Meaning) → m.taken ≡ false → IsTurn slice 0 m
 turn_fresh slice m best =

@@ -1,4 +1,3 @@
 pub mod JobLemmas
 pub mod PlaceLemmas
 pub mod WaitingLemmas
-pub mod ApartLemmas
