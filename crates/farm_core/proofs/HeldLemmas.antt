@@ -21,7 +21,7 @@ use Rattle.farm_core.specs.Tenant.{Tenant, book, free, find_job, put_job, drop_j
 use Rattle.farm_core.specs.Step.{Replied, Sent, NoTurn, Step, step, has_room, is_amount, is_slice, unnoted, noted, changed, fresh_job, submitted, about, funded, fetched, cancelled_as, cancelled, forgotten, commanded, taken, may_have_run, gave}
 use Rattle.farm_core.specs.World.{World, terms_in, view, events_of, IsReplayed}
 use Rattle.farm_core.specs.Turn.{nodes_of}
-use Rattle.farm_core.specs.Held.{is_out_of, takes, gives, nodes_out_in, nodes_out, TakenTurnsAreHeld, TurnsStayHeld, HeldTurnsAreNoStrangers, HeldTurnsRunTheirNodes, OnlyTakenJobsAreOut, GivenJobsAreNotOut}
+use Rattle.farm_core.specs.Held.{is_out_of, takes, gives, nodes_out_in, nodes_out, TakenTurnsAreHeld, TakenJobsWereNotOut, TurnsStayHeld, HeldTurnsAreNoStrangers, HeldTurnsRunTheirNodes, OnlyTakenJobsAreOut, GivenJobsAreNotOut}
 use Rattle.farm_core.proofs.CommandLemmas.{own_row}
 use Rattle.farm_core.proofs.NeedLemmas.{IsNumberOf, AreDistinct, alone_distinct, first_from-most}
 use Rattle.farm_core.proofs.NextLemmas.{no_job}
@@ -331,6 +331,19 @@ sent t s slice job line found =
     (λ (it : Step). Sent line ≡ it.answer → find_job s it.after.jobs ≡ Some new)
     (λ _ _. let seq : job.seq ≡ s = found_seq s t.jobs job found in ap (λ k. find_job s (put_job k new t.jobs)) seq ∙ put_own s job new t.jobs found seq)
     (λ _ is. absurd (cc))
+
+waited : (t : Tenant) (slice : ℕ) (job : JobData) (line : Line) → Sent line ≡ (taken t slice (Some job)).answer → is_out job.phase ≡ false
+waited t slice job line =
+    let new : JobData = record job { phase = Out slice } in
+    cond_both (is_waiting job.phase && is_slice slice && has_room 2 t) (changed t new (Sent (line_of new))) (unnoted t NoTurn) (λ (it : Step). Sent line ≡ it.answer → is_out job.phase ≡ false)
+    (λ may _. waits_here job.phase (and_parts (is_waiting job.phase) (is_slice slice) (and_parts (is_waiting job.phase && is_slice slice) (has_room 2 t) may).0).0)
+    (λ _ is. absurd (cc))
+
+pub taken_jobs_were_not_out : TakenJobsWereNotOut
+taken_jobs_were_not_out old new t s slice m it =
+    let out : JobData = record it.job { phase = Out slice } in
+    let stepped : step (view t old) (Take s slice) ≡ taken (view t old) slice (Some it.job) = ap (taken (view t old) slice) it.found in
+    ap is_out_of it.found ∙ waited (view t old) slice it.job (line_of out) (it.follows.answer_is ∙ ap (λ (x : Step). x.answer) stepped)
 
 pub taken_turns_are_held : TakenTurnsAreHeld
 taken_turns_are_held old new t s slice m it =

@@ -1,5 +1,6 @@
 pub mod NameLemmas
 pub mod AloneLemmas
+pub mod ReplayLemmas
 pub mod TruthLemmas
 pub mod RunLemmas
 pub mod NeedLemmas

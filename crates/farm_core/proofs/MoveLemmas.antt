@@ -1,7 +1,6 @@
 -- A call that moves the world, and what it keeps.
 use Rattle.std.proofs.Common.{◌≡◌, ◌≢◌, ℕ, zero, suc, ◌+◌, ◌<◌, ◌≤◌, true, false, List, [], ◌∷◌, ◌++◌, length, get_or, set, refl, sym, ap, ◌∙◌, subst, arith, ⊎_elim, length-append}
 use Rattle.std.proofs.lemmas.Bool.{cases_eq, cond-true}
-use Rattle.std.proofs.lemmas.Bool.Decides.{nat_tests}
 use Rattle.job_table.specs.Table.{Row, jobs_of}
 use Rattle.farm_core.specs.declared.entry.Entry.{Entry}
 use Rattle.farm_core.specs.declared.entry.Event.{Event}
@@ -9,11 +8,12 @@ use Rattle.farm_core.specs.declared.account.Account.{Account}
 use Rattle.farm_core.specs.declared.reply.Reply.{Reply}
 use Rattle.farm_core.specs.Config.{ConfigData}
 use Rattle.farm_core.specs.declared.reply.Reply.TheVariants as reply
-use Rattle.farm_core.specs.Tenant.{Tenant, newcomer, book, held, free}
+use Rattle.farm_core.specs.Tenant.{Tenant, book, held, free}
 use Rattle.farm_core.specs.Step.{Answer, Replied, Step, step, noted, unnoted, has_room}
-use Rattle.farm_core.specs.World.{World, terms_in, view, entries_of, events_of, is_noted, entry_of, Follows, IsReplayed, IsOnlyNoted, after_alone}
+use Rattle.farm_core.specs.World.{World, terms_in, view, entries_of, is_noted, entry_of, Follows, IsOnlyNoted}
 use Rattle.farm_core.specs.Farm.{IsAccount, IsFarm, AreOf, owed, IsReply}
 use Rattle.farm_core.proofs.ViewLemmas.{moved, set_own, set_other, follows_from}
+use Rattle.farm_core.proofs.ReplayLemmas.{no_more, replayed_on}
 
 -- what tenant t is after the call, if its account and the rows are these
 abbrev pub moved_view : World → ℕ → List Row → Account → Tenant
@@ -50,30 +50,6 @@ set_length [] t x = refl
 set_length (y ∷ xs) zero x = refl
 set_length (y ∷ xs) (suc t) x = omega (arith, set_length xs t x)
 
-alone_more : (t : Tenant) (events : List Event) (e : Event) → after_alone t (events ++ e ∷ []) ≡ (step (after_alone t events) e).after
-alone_more t [] e = refl
-alone_more t (d ∷ events) e = alone_more (step t d).after events e
-
-own_events_more : (t : ℕ) (event : Event) (journal : List Entry) → events_of t (journal ++ one_entry t event) ≡ events_of t journal ++ event ∷ []
-own_events_more t event [] = grind (arith, nat_tests)
-own_events_more t event (entry ∷ journal) = grind (arith, nat_tests, own_events_more t event journal)
-
-other_events_more : (u t : ℕ) (event : Event) (journal : List Entry) → u ≢ t → events_of u (journal ++ one_entry t event) ≡ events_of u journal
-other_events_more u t event [] differ = grind (arith, nat_tests)
-other_events_more u t event (entry ∷ journal) differ = grind (arith, nat_tests, other_events_more u t event journal differ)
-
-move_replayed : (w : World) (t : ℕ) (rows : List Row) (account : Account) (event : Event) (answer : Answer) → IsMove w t rows account event answer → IsReplayed w
-    → IsReplayed (moved w t rows account (one_entry t event))
-move_replayed w t rows account event answer move before u =
-    let follows = move_follows w t rows account event answer move in
-    ⊎_elim
-    (λ (same : u ≡ t).
-    subst (λ (v : ℕ). view v (moved w t rows account (one_entry t event)) ≡ after_alone (newcomer (terms_in w.config v)) (events_of v (w.journal ++ one_entry t event))) (sym same)
-    (follows.own ∙ ap (λ (v : Tenant). (step v event).after) (before t) ∙ sym (alone_more (newcomer (terms_in w.config t)) (events_of t w.journal) event)
-    ∙ ap (after_alone (newcomer (terms_in w.config t))) (sym (own_events_more t event w.journal))))
-    (λ (other : u ≡ t → ⊥). follows.others u other ∙ before u ∙ ap (after_alone (newcomer (terms_in w.config u))) (sym (other_events_more u t event w.journal other)))
-    (cases_eq u t)
-
 pub move_farm : (w : World) (t : ℕ) (rows : List Row) (account : Account) (event : Event) (answer : Answer) (old new : ℕ) → IsFarm w old → IsMove w t rows account event answer
     → length w.journal + 1 + owed rows ≤ new → IsFarm (moved w t rows account (one_entry t event)) new
 move_farm w t rows account event answer old new farm move room =
@@ -89,7 +65,7 @@ move_farm w t rows account event answer old new farm move room =
           (λ (other : u ≡ t → ⊥). rw (follows.others u other, set_other w.accounts u t account d other) (farm.each u d (omega (arith, set_length w.accounts t account))))
           (cases_eq u t);
       room = omega (arith, room, length-append w.journal (one_entry t event));
-      replayed = move_replayed w t rows account event answer move farm.replayed;
+      replayed = replayed_on w (moved w t rows account (one_entry t event)) t event answer farm.replayed follows;
       whose = subst (λ n. AreOf n rows) (sym (set_length w.accounts t account)) move.whose;
       terms = farm.terms;
     }
@@ -118,10 +94,6 @@ reply_is w t event reply.NoAmount new told h = h
 reply_is w t event reply.NoJobs new told h = h
 reply_is w t event (reply.NoShort free) new told h = h
 reply_is w t event reply.NoMemory new told h = absurd (cc)
-
-no_more : {A : Type 0} (xs : List A) → xs ≡ xs ++ []
-no_more [] = refl
-no_more (x ∷ xs) = ap (λ ys. x ∷ ys) (no_more xs)
 
 -- a call that changes nothing and leaves no entry
 pub stays_follows : (w : World) (t : ℕ) (event : Event) (answer : Answer) → step (view t w) event ≡ unnoted (view t w) answer → is_noted answer ≡ false → Follows w t event answer w

@@ -9,10 +9,11 @@ use Rattle.farm_core.specs.declared.entry.Event.{Event}
 use Rattle.farm_core.specs.declared.entry.Event.TheVariants.{Take, Give}
 use Rattle.farm_core.specs.declared.reply.Reply.{Reply}
 use Rattle.farm_core.specs.declared.turn.Turn.{Turn}
+use Rattle.farm_core.specs.Config.{ConfigData}
 use Rattle.farm_core.specs.Tenant.{find_job, nodes_of_turn}
 use Rattle.farm_core.specs.Step.{Answer, Replied}
 use Rattle.farm_core.specs.Turn.{nodes_of, ran_on, IsTaken}
-use Rattle.farm_core.specs.World.{World, view, Follows, IsReplayed}
+use Rattle.farm_core.specs.World.{World, opened, view, Follows, IsReplayed}
 
 -- a job is out, where there is one
 abbrev pub is_out_of : Option JobData → Bool
@@ -74,7 +75,16 @@ HeldTurnsAreNoStrangers = (w : World) (t s slice : ℕ) (m after : Meaning) → 
 abbrev pub HeldTurnsRunTheirNodes : Type 0
 HeldTurnsRunTheirNodes = (w : World) (t s slice : ℕ) (m : Meaning) → IsHeld w t s slice m → nodes_of slice m ≡ nodes_out (find_job s (view t w).jobs)
 
--- a job goes out by a take alone
+-- a farm is where its journal leads, when it is made and after each call
+pub record FarmsAreReplayed : Type 0 where
+  pub made : (config : ConfigData) → IsReplayed (opened config)
+  pub kept : (old new : World) (t : ℕ) (e : Event) (answer : Answer) → IsReplayed old → Follows old t e answer new → IsReplayed new
+
+-- a turn is taken of a job that was not out
+abbrev pub TakenJobsWereNotOut : Type 0
+TakenJobsWereNotOut = (old new : World) (t s slice : ℕ) (m : Meaning) → IsTaken old t s slice m new → is_out_of (find_job s (view t old).jobs) ≡ false
+
+-- in such a farm a job goes out by a take alone
 abbrev pub OnlyTakenJobsAreOut : Type 0
 OnlyTakenJobsAreOut = (old new : World) (t : ℕ) (e : Event) (answer : Answer) → IsReplayed old → Follows old t e answer new →
     (u s : ℕ) → is_out_of (find_job s (view u new).jobs) ≡ true →

@@ -2,7 +2,7 @@
 ghost use Rattle.farm_core.specs.Laws.{EachIsAlone, EachIsIsolated};
 ghost use Rattle.farm_core.specs.Truth.{EachAnswerIsTrue};
 ghost use Rattle.farm_core.specs.Need.{NodesAreTheLesser, EachEndsAlike};
-ghost use Rattle.farm_core.specs.Held.{TakenTurnsAreHeld, TurnsStayHeld, HeldTurnsAreNoStrangers, HeldTurnsRunTheirNodes, OnlyTakenJobsAreOut, GivenJobsAreNotOut};
+ghost use Rattle.farm_core.specs.Held.{TakenTurnsAreHeld, TurnsStayHeld, HeldTurnsAreNoStrangers, HeldTurnsRunTheirNodes, FarmsAreReplayed, TakenJobsWereNotOut, OnlyTakenJobsAreOut, GivenJobsAreNotOut};
 
 /// In every run of calls of all tenants, the answers to one tenant's calls, and its jobs and ledger at the end, are those
 /// of its own calls alone in a farm that no one else uses.
@@ -54,6 +54,16 @@ pub fn held_turns_are_no_strangers()
 /// A turn that is its job's runs as many nodes as the farm tells of that job.
 pub fn held_turns_run_their_nodes()
     ensures { HeldTurnsRunTheirNodes }
+{}
+
+/// A farm is where its journal leads, when it is made and after each call.
+pub fn farms_are_replayed()
+    ensures { FarmsAreReplayed }
+{}
+
+/// A turn is taken only of a job that is not out.
+pub fn taken_jobs_were_not_out()
+    ensures { TakenJobsWereNotOut }
 {}
 
 /// In a farm that is where its journal leads, a job goes out only where a turn of it is taken.
