@@ -251,6 +251,11 @@ impl<J: Strategy> Farm<J> {
             return Reply::NoMemory;
         }
         account.used += 1;
+        let funded = Line {
+            phase: Phase::Waiting,
+            left: line.left + quanta,
+            ..line
+        };
         write_down(
             &mut self.accounts,
             &mut self.journal,
@@ -258,11 +263,7 @@ impl<J: Strategy> Farm<J> {
             account,
             event,
         );
-        Reply::Line(Line {
-            phase: Phase::Waiting,
-            left: line.left + quanta,
-            ..line
-        })
+        Reply::Line(funded)
     }
 
     /// Gives a job up that is not at its end: while a worker holds its turn it is leaving, and else it is cancelled and

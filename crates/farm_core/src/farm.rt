@@ -160,9 +160,9 @@ impl<J> Farm<J> {
         ensures few { (view tenant self.now).used ≤ 1000000 }
         ensures limited { (view tenant self.now).terms.quanta ≤ 1000000000000 }
     {
-        let line = &self.config.tenants()[tenant as usize];
-        let account = self.accounts[tenant as usize];
-        account.used + self.jobs.out_of(tenant) as u64 + entries <= line.entries
+        let limit = self.config.tenants()[tenant as usize].entries;
+        let used = self.accounts[tenant as usize].used;
+        used + self.jobs.out_of(tenant) as u64 + entries <= limit
     }
 
     /// Answers a command that changes no job: leaves its entry, where there is room and memory for one.

@@ -16,7 +16,7 @@ use Rattle.farm_core.specs.Farm.{IsFarm, owed}
 use Rattle.farm_core.proofs.ViewLemmas.{moved}
 use Rattle.farm_core.proofs.MoveLemmas.{IsMove, moved_is, written, one_entry}
 use Rattle.farm_core.proofs.farm.Farm.fund_job.Given.{Over}
-use Rattle.farm_core.proofs.farm.Farm.fund_job.Goals.{After-struct_known-1}
+use Rattle.farm_core.proofs.farm.Farm.fund_job.Goals.{After-write_down}
 use Rattle.farm_core.proofs.farm.Farm.fund_job.Goals as goal
 
 pub noted-requires-clause-step : goal.noted-requires-clause-step
@@ -31,22 +31,22 @@ fund-requires-after_bounds g c κs within =
     let rows_are : c.self.inside.jobs ≡ c.args.self.now.rows = ap (λ (x : World). x.rows) c.self.view_is in
     rw rows_are (fund_bound c.args.self.now c.args.tenant c.args.seq c.args.quanta (vec_capacity c.self.inside.journal) c.index.result.now (find_row c.args.tenant c.args.seq c.args.self.now.rows) (subst (λ (x : World). IsFarm x (vec_capacity c.self.inside.journal)) c.self.view_is c.self.invariant) c.requires.known (c.index.ensures ∙ ap (λ (x : World). get_or x.accounts c.args.tenant c.index.result.now) c.self.view_is) refl (c.in_default.ensures.enough.0 refl) c.has_room.ensures.limited)
 
-pub overflow_add-result : goal.overflow_add-result
-overflow_add-result g c =
+pub overflow_add-funded : goal.overflow_add-funded
+overflow_add-funded g c =
     omega (arith, fund_line c.args.self.now c.args.tenant c.args.seq c.args.quanta (vec_capacity c.self.inside.journal) c.index.result.now c.args.line (subst (λ (x : World). IsFarm x (vec_capacity c.self.inside.journal)) c.self.view_is c.self.invariant) c.requires.known (c.index.ensures ∙ ap (λ (x : World). get_or x.accounts c.args.tenant c.index.result.now) c.self.view_is) c.requires.line (c.in_default.ensures.enough.0 refl) c.has_room.ensures.limited)
 
-some : (g : Over) (c : After-struct_known-1 g) → c.args.quanta ≤ c.index.result.now.book.free
+some : (g : Over) (c : After-write_down g) → c.args.quanta ≤ c.index.result.now.book.free
 some g c = c.in_default.ensures.enough.0 refl
 
-it : (g : Over) (c : After-struct_known-1 g) → IsFunding c.args.self.now c.args.tenant c.args.seq c.args.quanta c.index.result.now c.args.line c.fund.new.self
+it : (g : Over) (c : After-write_down g) → IsFunding c.args.self.now c.args.tenant c.args.seq c.args.quanta c.index.result.now c.args.line c.fund.new.self
 it g c =
     let did : IsFunded c.args.self.now.rows c.args.tenant c.args.seq c.args.quanta c.fund.new.self = subst (λ (x : World). IsFunded x.rows c.args.tenant c.args.seq c.args.quanta c.fund.new.self) c.self.view_is (c.fund.ensures.funded c.if-not-fund.false) in
     fund_moves c.args.self.now c.args.tenant c.args.seq c.args.quanta (vec_capacity c.self.inside.journal) c.index.result.now c.args.line c.fund.new.self (subst (λ (x : World). IsFarm x (vec_capacity c.self.inside.journal)) c.self.view_is c.self.invariant) c.requires.known (c.index.ensures ∙ ap (λ (x : World). get_or x.accounts c.args.tenant c.index.result.now) c.self.view_is) (sym c.has_room.ensures.exact ∙ c.if-not-has_room.false) c.requires.line c.requires.out c.requires.ended c.requires.amount (some g c) did
 
-moves : (g : Over) (c : After-struct_known-1 g) → IsMove c.args.self.now c.args.tenant c.fund.new.self (record c.index.result.now { book = after_hold c.args.quanta c.index.result.now.book; used = c.index.result.now.used + 1 }) (Fund c.args.seq c.args.quanta) (Replied (reply.Line (record c.args.line { phase = Waiting; left = c.args.line.left + c.args.quanta })))
+moves : (g : Over) (c : After-write_down g) → IsMove c.args.self.now c.args.tenant c.fund.new.self (record c.index.result.now { book = after_hold c.args.quanta c.index.result.now.book; used = c.index.result.now.used + 1 }) (Fund c.args.seq c.args.quanta) (Replied (reply.Line (record c.args.line { phase = Waiting; left = c.args.line.left + c.args.quanta })))
 moves g c = (it g c).moves
 
-wrote : (g : Over) (c : After-struct_known-1 g) →
+wrote : (g : Over) (c : After-write_down g) →
     let v : World = record { config = c.self.inside.config; rows = c.fund.new.self; journal = c.write_down.new.journal.items; accounts = c.write_down.new.accounts.items } in
     IsFarm v (vec_capacity c.write_down.new.journal) × Follows c.args.self.now c.args.tenant (Fund c.args.seq c.args.quanta) (Replied (reply.Line (record c.args.line { phase = Waiting; left = c.args.line.left + c.args.quanta }))) v
 wrote g c =
