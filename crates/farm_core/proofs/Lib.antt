@@ -16,3 +16,4 @@ pub mod TurnLemmas
 pub mod GiveLemmas
 pub mod NextLemmas
 pub mod HeldLemmas
+pub mod Examples

@@ -1,0 +1,168 @@
+-- The steps of a tenant alone over three scripts, computed.
+use Rattle.std.proofs.Common.{◌≡◌, ℕ, List, [], ◌∷◌, Option, Some, None, refl}
+use Rattle.mrcpsp.specs.Project.{ProjectData, ModeData, size, renewables, nonrenewables, modes, mode_count, successors, duration, request, consumption, capacity, stock, precedes}
+use Rattle.mrcpsp.specs.Schedule.{mode_of, start_of, finish, load, makespan}
+use Rattle.mrcpsp.specs.Values.{shortest, least, tail, lft}
+use Rattle.mrcpsp.specs.Placed.{placed_use, placed_consumption, last_start, are_ready, fits, is_allowed, earliest, is_eligible, is_executable, reserve, is_affordable, schedule_of}
+use Rattle.strategy.specs.Candidate.{placed_from, eligible_ones, is_allowed_mode, allowed_modes}
+use Rattle.strategy.specs.Tree as tree
+use Rattle.strategy.specs.Pass.{chosen_at, pass}
+use Rattle.strategy.specs.Outcome.{best_after, is_closed, verdict_after}
+use Rattle.strategy.specs.declared.kind.Kind.{Kind}
+use Rattle.strategy.specs.declared.kind.Kind.TheVariants.{Tree, RuleLft}
+use Rattle.strategy.specs.declared.plan.Plan.{Plan}
+use Rattle.strategy.specs.declared.verdict.Verdict.{Verdict}
+use Rattle.strategy.specs.declared.verdict.Verdict.TheVariants.{Going, Optimal, Ended}
+use Rattle.job_table.specs.declared.phase.Phase.{Phase}
+use Rattle.job_table.specs.declared.phase.Phase.TheVariants.{Waiting, Out, Leaving, Dry, Closed, Cancelled}
+use Rattle.farm_core.specs.declared.config.TenantLine.{TenantLine}
+use Rattle.farm_core.specs.declared.entry.Event.{Event}
+use Rattle.farm_core.specs.declared.entry.Event.TheVariants.{Submit, Fund, Status, Fetch, Cancel, Forget, Ledger, Take, Give}
+use Rattle.farm_core.specs.declared.reply.Line.{Line}
+use Rattle.farm_core.specs.declared.reply.Reply.TheVariants as reply
+use Rattle.farm_core.specs.Tenant.{newcomer, held, free, book, kept, line_of, nodes_of_turn}
+use Rattle.farm_core.specs.Step.{Answer, Replied, Sent, NoTurn, submitted, funded, fetched, cancelled, forgotten}
+use Rattle.farm_core.specs.World.{answers_alone}
+
+-- ---- a project, whose searches are over after three nodes, and what is told
+
+abbrev mode : ℕ → List ModeData
+mode d = record { duration = d; renewable = []; nonrenewable = [] } ∷ []
+
+-- one activity of five periods between a source and a sink
+abbrev chain : ProjectData
+chain = record {
+  activities =
+      record { modes = mode 0; successors = 2 ∷ [] }
+      ∷ record { modes = mode 5; successors = 3 ∷ [] }
+      ∷ record { modes = mode 0; successors = [] }
+      ∷ [];
+  renewable = [];
+  nonrenewable = [];
+}
+
+abbrev by : Kind → Plan
+by kind = record { project = chain; kind = kind }
+
+abbrev line : ℕ → Phase → ℕ → ℕ → Option ℕ → Verdict → Line
+line seq phase nodes left best verdict = record { seq = seq; phase = phase; nodes = nodes; left = left; best = best; verdict = verdict }
+
+abbrev ledger : ℕ → ℕ → ℕ → ℕ → Answer
+ledger granted free held spent = Replied (reply.Ledger (record { granted = granted; free = free; held = held; spent = spent }))
+
+abbrev terms : ℕ → ℕ → ℕ → TenantLine
+terms quanta jobs entries = record { name = 97 ∷ []; quanta = quanta; jobs = jobs; entries = entries }
+
+-- ---- a job that is cancelled while its turn is out, and refusals: 100 quanta, 1 job, 14 entries
+
+abbrev cancelling : List Event
+cancelling =
+    Submit (by RuleLft) 6
+    ∷ Take 1 2
+    ∷ Fund 1 5
+    ∷ Fetch 1
+    ∷ Cancel 1
+    ∷ Cancel 1
+    ∷ Ledger
+    ∷ Give 1 1
+    ∷ Give 1 2
+    ∷ Ledger
+    ∷ Fund 1 5
+    ∷ Forget 1
+    ∷ Status 1
+    ∷ Submit (by Tree) 99
+    ∷ Submit (by Tree) 0
+    ∷ Status 1
+    ∷ []
+
+-- after a give that no turn can have made nothing changes, and the last call finds no room
+cancelled_while_out : answers_alone (newcomer (terms 100 1 14)) cancelling ≡
+    Replied (reply.Job 1)
+    ∷ Sent (line 1 (Out 2) 0 6 None Going)
+    ∷ Replied reply.NoBusy
+    ∷ Replied reply.NoBusy
+    ∷ Replied (reply.Line (line 1 (Leaving 2) 0 6 None Going))
+    ∷ Replied reply.NoOver
+    ∷ ledger 100 94 6 0
+    ∷ NoTurn
+    ∷ Replied (reply.Ran 2 (line 1 Cancelled 2 0 None Going))
+    ∷ ledger 100 98 0 2
+    ∷ Replied reply.NoOver
+    ∷ Replied (reply.Forgotten 1)
+    ∷ Replied reply.NoUnknown
+    ∷ Replied (reply.NoShort 98)
+    ∷ Replied reply.NoAmount
+    ∷ Replied reply.NoRoom
+    ∷ []
+unfolding newcomer submitted funded fetched cancelled forgotten held free book kept line_of nodes_of_turn best_after is_closed verdict_after pass chosen_at eligible_ones allowed_modes is_allowed_mode placed_from lft duration size modes renewables nonrenewables mode_count successors request consumption capacity stock precedes load shortest least placed_use placed_consumption are_ready fits is_allowed earliest is_eligible is_executable reserve is_affordable schedule_of makespan finish start_of mode_of
+cancelled_while_out = refl
+
+-- ---- a search to its end, by turns of which one is given back unrun: 10 quanta, 1 job, 20 entries
+
+abbrev finishing : List Event
+finishing =
+    Submit (by Tree) 9
+    ∷ Take 1 100
+    ∷ Give 1 0
+    ∷ Take 1 2
+    ∷ Give 1 2
+    ∷ Take 1 100
+    ∷ Give 1 1
+    ∷ Ledger
+    ∷ Fetch 1
+    ∷ Take 1 1
+    ∷ Forget 1
+    ∷ Submit (by RuleLft) 7
+    ∷ []
+
+-- the third node places the sink, and the tree is whole; what is left is free again; no number comes twice
+searched_to_the_end : answers_alone (newcomer (terms 10 1 20)) finishing ≡
+    Replied (reply.Job 1)
+    ∷ Sent (line 1 (Out 100) 0 9 None Going)
+    ∷ Replied (reply.Ran 0 (line 1 Waiting 0 9 None Going))
+    ∷ Sent (line 1 (Out 2) 0 9 None Going)
+    ∷ Replied (reply.Ran 2 (line 1 Waiting 2 7 None Going))
+    ∷ Sent (line 1 (Out 100) 2 7 None Going)
+    ∷ Replied (reply.Ran 1 (line 1 Closed 3 0 (Some 5) Optimal))
+    ∷ ledger 10 7 0 3
+    ∷ Replied (reply.Best 1 (Some (record { modes = 1 ∷ 1 ∷ 1 ∷ []; starts = 0 ∷ 0 ∷ 5 ∷ [] })) (Some 5) Optimal)
+    ∷ NoTurn
+    ∷ Replied (reply.Forgotten 1)
+    ∷ Replied (reply.Job 2)
+    ∷ []
+unfolding newcomer submitted funded fetched cancelled forgotten held free book kept line_of nodes_of_turn best_after is_closed verdict_after tree.best_after tree.is_closed tree.all_visits tree.candidates tree.is_pruned tree.updated tree.visit_one pass chosen_at eligible_ones allowed_modes is_allowed_mode placed_from lft duration size modes renewables nonrenewables mode_count successors request consumption capacity stock precedes load shortest least placed_use placed_consumption last_start are_ready fits is_allowed earliest is_eligible is_executable reserve is_affordable tail schedule_of makespan finish start_of mode_of
+searched_to_the_end = refl
+
+-- ---- a job that runs dry and is funded, and the entry that is kept for a give: 3 quanta, 2 jobs, 8 entries
+
+abbrev running_dry : List Event
+running_dry =
+    Submit (by RuleLft) 2
+    ∷ Take 1 5
+    ∷ Give 1 2
+    ∷ Take 1 1
+    ∷ Forget 1
+    ∷ Fund 1 2
+    ∷ Fund 1 1
+    ∷ Take 1 1
+    ∷ Status 1
+    ∷ Give 1 1
+    ∷ Status 1
+    ∷ []
+
+-- with seven entries and a turn out the eighth is the give's
+dry_and_funded : answers_alone (newcomer (terms 3 2 8)) running_dry ≡
+    Replied (reply.Job 1)
+    ∷ Sent (line 1 (Out 5) 0 2 None Going)
+    ∷ Replied (reply.Ran 2 (line 1 Dry 2 0 None Going))
+    ∷ NoTurn
+    ∷ Replied reply.NoBusy
+    ∷ Replied (reply.NoShort 1)
+    ∷ Replied (reply.Line (line 1 Waiting 2 1 None Going))
+    ∷ Sent (line 1 (Out 1) 2 1 None Going)
+    ∷ Replied reply.NoRoom
+    ∷ Replied (reply.Ran 1 (line 1 Closed 3 0 (Some 5) Ended))
+    ∷ Replied reply.NoRoom
+    ∷ []
+unfolding newcomer submitted funded fetched cancelled forgotten held free book kept line_of nodes_of_turn best_after is_closed verdict_after pass chosen_at eligible_ones allowed_modes is_allowed_mode placed_from lft duration size modes renewables nonrenewables mode_count successors request consumption capacity stock precedes load shortest least placed_use placed_consumption are_ready fits is_allowed earliest is_eligible is_executable reserve is_affordable schedule_of makespan finish start_of mode_of
+dry_and_funded = refl
