@@ -265,4 +265,5 @@ def main():
         print(k, shown(p, best), "closed" if closed else "going", verdict)
 
 
-main()
+if __name__ == "__main__":
+    main()
