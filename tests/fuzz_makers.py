@@ -247,7 +247,7 @@ def submit(r, name, text, quanta=None):
     if r.random() < 0.01:
         many = r.choice([0, 1, many - 1, many + 1, 20000, 20001])
     if quanta is None:
-        quanta = r.choice([1, 2, 5, 10, 50, 200, 1000, 1000])
+        quanta = r.choice([1, 2, 5, 10, 50, 200, 1000, 1000] if r.random() < 0.9 else [0, 10 ** 6, 10 ** 12, 10 ** 12 + 1])
     return b"@%s submit %s %d %d\n" % (name.encode(), kind.encode(), quanta, many) + text
 
 
@@ -256,13 +256,17 @@ def request(r, name, submitted, held):
     seq = r.randint(max(1, submitted - 2), max(1, submitted))
     if r.random() < 0.05:
         seq = r.choice([0, 1, submitted + 1, 1000, 10 ** 18 - 1])
+    # What is asked of a job while its turn is out is of interest by itself.
+    is_out = held and r.random() < 0.5
+    if is_out:
+        name, seq = r.choice(sorted(held))
     slice_ = r.choice([1, 2, 3, 5, 20, 100, 300, 1000]) if r.random() < 0.97 else r.choice([0, 1000000, 1000001])
     quanta = r.choice([1, 2, 3, 10, 100, 500]) if r.random() < 0.9 else r.choice([0, 10 ** 12, 10 ** 12 + 1, 10 ** 6])
     back = r.choice(sorted(held)) if held and r.random() < 0.9 else (name, seq)
     forms = [f"@{name} fund {seq} {quanta}", f"@{name} status {seq}", f"@{name} result {seq}", f"@{name} cancel {seq}",
              f"@{name} forget {seq}", f"@{name} ledger", f"turn {name} {seq} {slice_}", f"take {name} {seq} {slice_}",
              f"give {back[0]} {back[1]}"]
-    line = r.choices(forms, [4, 4, 4, 1, 2, 2, 8, 3, 4])[0]
+    line = r.choices(forms, [2, 2, 2, 3, 2, 2, 1, 1, 3] if is_out else [4, 4, 4, 1, 2, 2, 8, 4, 4])[0]
     if line.startswith("take"):
         held.add((name, seq))
     elif line.startswith("give"):
@@ -331,7 +335,7 @@ def terms(r, names):
     """The configuration of a script, as a value."""
     quanta = lambda: r.choice([0, 5, 100, 1000, 3000, 10000, 10 ** 12])
     return {"tenants": [{"name": name, "quanta": quanta(), "jobs": r.choice([1, 2, 3, 10, 1000]),
-                         "entries": r.choice([1, 3, 20, 60, 1000, 1000, 1000000])} for name in names],
+                         "entries": r.choice([1, r.randint(2, 12), r.randint(2, 40), 1000, 1000, 1000000])} for name in names],
             "workers": 2, "slice": 1000}
 
 
