@@ -12,7 +12,7 @@ use Rattle.farm_core.specs.declared.reply.Reply.{Reply}
 use Rattle.farm_core.specs.declared.reply.Reply.TheVariants as reply
 use Rattle.farm_core.specs.Config.{are_terms}
 use Rattle.farm_core.specs.Tenant.{Tenant, book, find_job, line_of}
-use Rattle.farm_core.specs.Step.{Replied, funded, noted}
+use Rattle.farm_core.specs.Step.{Replied, funded, has_room, noted}
 use Rattle.farm_core.specs.World.{World, view, is_noted, Follows, IsReplayed}
 
 -- how many entries may still come of a job without asking for memory: one for its cancel, one for its give
@@ -48,9 +48,9 @@ pub record IsFarm (w : World) (capacity : ℕ) : Type 0 where
   pub whose : AreOf (length w.accounts) w.rows
   pub terms : IsTrue (list_all are_terms w.config.tenants)
 
--- a call makes its tenant's step with this reply; or there was no memory, and nothing has changed
+-- a call makes its tenant's step with this reply; or the journal has room but there was no memory, and nothing has changed
 abbrev pub IsReply : World → ℕ → Event → Reply → World → Type 0
-IsReply old t event reply.NoMemory new = new ≡ old
+IsReply old t event reply.NoMemory new = (new ≡ old) × (has_room 1 (view t old) ≡ true)
 IsReply old t event answer new = Follows old t event (Replied answer) new
 
 -- why a job in this phase is not given so many quanta, whatever else stands
