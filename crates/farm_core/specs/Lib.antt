@@ -9,3 +9,4 @@ pub mod Need
 pub mod Farm
 pub mod Turn
 pub mod Held
+pub mod NoTurnText

@@ -1,6 +1,11 @@
 //! What the farm answers.
+ghost use Rattle.std.specs.Prelude.{Some};
+ghost use Rattle.farm_core.specs.NoTurnText.{no_turn_text};
+
 use job_table::Phase;
 use mrcpsp::Schedule;
+use std::error::Error;
+use std::fmt;
 use strategy::Verdict;
 use tenant_book::Book;
 
@@ -42,7 +47,7 @@ pub enum Reply {
     NoUnknown,
     /// The job is out, or not yet at its end.
     NoBusy,
-    /// The job is at its end.
+    /// The job is at its end, or, for a cancel, was cancelled while its turn is out.
     NoOver,
     /// No such amount can be given: 0, or more than 10^12.
     NoAmount,
@@ -62,3 +67,16 @@ pub enum NoTurn {
     /// A growth was refused; nothing has changed.
     NoMemory,
 }
+
+impl fmt::Display for NoTurn {
+    ghost output = { λ why. Some (no_turn_text why) };
+
+    fn fmt<W: fmt::Write>(&self, f: &mut fmt::Formatter<W>) -> fmt::Result {
+        match self {
+            NoTurn::None => write!(f, "no turn"),
+            NoTurn::NoMemory => write!(f, "no memory"),
+        }
+    }
+}
+
+impl Error for NoTurn {}
