@@ -76,7 +76,7 @@ fn given_up(line: Line) -> Option<Line>
 }
 
 impl<J: Strategy> Farm<J> {
-    /// Tells a tenant's ledger.
+    /// Tells a tenant's ledger. Refused: `NoRoom`; `NoMemory` in place of the ledger.
     pub fn ledger(&mut self, tenant: u32) -> Reply
         requires { tenant < length self.old.config.tenants }
         ensures { IsReply self.old tenant Event.Ledger result self.new }
@@ -97,7 +97,7 @@ impl<J: Strategy> Farm<J> {
         }
     }
 
-    /// Tells where a job stands.
+    /// Tells where a job stands. Refused, the first of: `NoRoom`, `NoUnknown`; `NoMemory` in place of any answer but `NoRoom`.
     pub fn status(&mut self, tenant: u32, seq: u64) -> Reply
         requires { tenant < length self.old.config.tenants }
         ensures { IsReply self.old tenant (Event.Status seq) result self.new }
@@ -106,7 +106,10 @@ impl<J: Strategy> Farm<J> {
         self.noted(tenant, Event::Status(seq), reply)
     }
 
-    /// Takes in a job for a plan, with so many quanta and its search.
+    /// Takes in a job for a plan, with so many quanta and its search. The search has to be fresh, without quanta, and of this
+    /// tenant and plan; any other is answered `NoMemory` where such a one would be taken in. Where the job is refused, the
+    /// search is dropped. Refused, the first of: `NoRoom`, `NoAmount`, `NoJobs`, `NoShort`; `NoMemory` in place of any answer
+    /// but `NoRoom`.
     #[tactic(auto, using(crate::proofs::StepLemmas::submit_amount, crate::proofs::StepLemmas::submit_full))]
     pub fn submit(&mut self, tenant: u32, plan: Plan, quanta: u64, search: J) -> Reply
         requires { tenant < length self.old.config.tenants }
@@ -200,7 +203,8 @@ impl<J: Strategy> Farm<J> {
         Ok(Reply::Best(seq, best, job.makespan(), job.verdict()))
     }
 
-    /// Hands out a job's best schedule with its makespan and verdict.
+    /// Hands out a job's best schedule with its makespan and verdict. Refused, the first of: `NoRoom`, `NoUnknown`, `NoBusy`;
+    /// `NoMemory` in place of any answer but `NoRoom`.
     pub fn result(&mut self, tenant: u32, seq: u64) -> Reply
         requires { tenant < length self.old.config.tenants }
         ensures { IsReply self.old tenant (Event.Fetch seq) result self.new }
@@ -211,7 +215,8 @@ impl<J: Strategy> Farm<J> {
         self.noted(tenant, Event::Fetch(seq), reply)
     }
 
-    /// Gives a job so many quanta more of those that are free, and it waits.
+    /// Gives a job so many quanta more of those that are free, and it waits. Refused, the first of: `NoRoom`, `NoUnknown`,
+    /// `NoBusy`, `NoOver`, `NoAmount`, `NoShort`; `NoMemory` in place of any answer but `NoRoom`.
     #[tactic(auto, using(crate::proofs::StepLemmas::fund_unknown, crate::proofs::StepLemmas::fund_refused))]
     pub fn fund(&mut self, tenant: u32, seq: u64, quanta: u64) -> Reply
         requires { tenant < length self.old.config.tenants }
@@ -267,7 +272,8 @@ impl<J: Strategy> Farm<J> {
     }
 
     /// Gives a job up that is not at its end: while a worker holds its turn it is leaving, and else it is cancelled and
-    /// what it held is free. Takes no memory where it does.
+    /// what it held is free. Takes no memory where it does. Refused, the first of: `NoRoom`, `NoUnknown`, `NoOver`; `NoMemory`
+    /// in place of the last two.
     #[tactic(auto, using(crate::proofs::StepLemmas::cancel_unknown, crate::proofs::StepLemmas::cancel_over, crate::proofs::StepLemmas::cancel_told, crate::proofs::StepLemmas::cancel_less))]
     pub fn cancel(&mut self, tenant: u32, seq: u64) -> Reply
         requires { tenant < length self.old.config.tenants }
@@ -307,7 +313,8 @@ impl<J: Strategy> Farm<J> {
         Reply::Line(then)
     }
 
-    /// Keeps a job no longer that has come to its end.
+    /// Keeps a job no longer that has come to its end. Refused, the first of: `NoRoom`, `NoUnknown`, `NoBusy`; `NoMemory` in
+    /// place of any answer but `NoRoom`.
     #[tactic(auto, using(crate::proofs::StepLemmas::forget_unknown, crate::proofs::StepLemmas::forget_busy))]
     pub fn forget(&mut self, tenant: u32, seq: u64) -> Reply
         requires { tenant < length self.old.config.tenants }

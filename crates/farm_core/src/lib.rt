@@ -1,5 +1,4 @@
-//! The farm: one table of jobs, one journal and one waiting list for all tenants, and yet each tenant's replies are those
-//! of a farm of its own.
+//! The farm: one table of jobs and one journal for all tenants, and yet each tenant's replies are those of a farm of its own.
 #![tactic(auto)]
 
 mod account;

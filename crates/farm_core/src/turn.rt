@@ -158,7 +158,8 @@ impl<J: Strategy> Farm<J> {
         })
     }
 
-    /// Takes a turn back, run or unrun, where it is of a job that is out. Takes no memory.
+    /// Takes a turn back, run or unrun, where it is of a job that is out. Any other turn is handed back, and nothing has
+    /// changed. Takes no memory.
     pub fn give(&mut self, turn: Turn<J>) -> Result<Reply, Stranger<J>>
         requires known { turn.tenant < length self.old.config.tenants }
         requires turn { IsTurn turn.slice turn.ran (J.meaning turn.search) }

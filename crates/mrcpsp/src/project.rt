@@ -13,7 +13,8 @@ use std::marker::Model;
 /// A project within the limits: 1 to 202 activities of 1 to 10 modes each, 0 to 8 renewable and 0 to
 /// 8 nonrenewable resources, durations of at most 1,000 periods, requests, consumptions and
 /// capacities of at most 1,000,000, and a horizon of at most 20,000 periods. Each mode has one number
-/// for each resource. The successors of an activity are distinct, and their numbers are above its own.
+/// for each resource. The successors of an activity are distinct, and their numbers are above its own
+/// and at most the number of activities.
 #[derive(Debug, Drop)]
 pub struct Project {
     activities: Sequence<Activity>,
