@@ -17,11 +17,11 @@ use Rattle.farm_core.specs.declared.entry.Event.TheVariants.{Submit, Fund, Statu
 use Rattle.farm_core.specs.declared.reply.Line.{Line}
 use Rattle.farm_core.specs.declared.reply.Reply.{Reply}
 use Rattle.farm_core.specs.declared.reply.Reply.TheVariants as reply
-use Rattle.farm_core.specs.Tenant.{Tenant, book, free, find_job, put_job, drop_job, line_of, nodes_of_turn}
+use Rattle.farm_core.specs.Tenant.{Tenant, book, free, find_job, put_job, drop_job, line_of, nodes_of_turn, nodes_out_in}
 use Rattle.farm_core.specs.Step.{Replied, Sent, NoTurn, Step, step, has_room, is_amount, is_slice, unnoted, noted, changed, fresh_job, submitted, about, funded, fetched, cancelled_as, cancelled, forgotten, commanded, taken, may_have_run, gave}
 use Rattle.farm_core.specs.World.{World, terms_in, view, events_of, IsReplayed}
 use Rattle.farm_core.specs.Turn.{nodes_of}
-use Rattle.farm_core.specs.Held.{is_out_of, takes, gives, nodes_out_in, nodes_out, TakenTurnsAreHeld, TakenJobsWereNotOut, TurnsStayHeld, HeldTurnsAreNoStrangers, HeldTurnsRunTheirNodes, OnlyTakenJobsAreOut, GivenJobsAreNotOut}
+use Rattle.farm_core.specs.Held.{is_out_of, takes, gives, nodes_out, TakenTurnsAreHeld, TakenJobsWereNotOut, TurnsStayHeld, HeldTurnsAreNoStrangers, HeldTurnsRunTheirNodes, OnlyTakenJobsAreOut, GivenJobsAreNotOut}
 use Rattle.farm_core.proofs.CommandLemmas.{own_row}
 use Rattle.farm_core.proofs.NeedLemmas.{IsNumberOf, AreDistinct, alone_distinct, first_from-most}
 use Rattle.farm_core.proofs.NextLemmas.{no_job}

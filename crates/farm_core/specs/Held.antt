@@ -1,16 +1,14 @@
 -- Turns that were taken and are not back yet.
-use Rattle.std.specs.Prelude.{◌≡◌, ◌⊎◌, ⊤, ℕ, ◌<◌, min, Bool, true, false, ◌==◌, List, [], ◌∷◌, length, Option, Some, None}
+use Rattle.std.specs.Prelude.{◌≡◌, ◌⊎◌, ⊤, ℕ, ◌<◌, Bool, true, false, ◌==◌, List, [], ◌∷◌, length, Option, Some, None}
 use Rattle.strategy.specs.Search.{Meaning}
 use Rattle.job_table.specs.Table.{JobData, is_out}
 use Rattle.job_table.specs.Job.{IsOwn, IsStrange}
-use Rattle.job_table.specs.declared.phase.Phase.{Phase}
-use Rattle.job_table.specs.declared.phase.Phase.TheVariants.{Waiting, Out, Leaving, Dry, Closed, Cancelled}
 use Rattle.farm_core.specs.declared.entry.Event.{Event}
 use Rattle.farm_core.specs.declared.entry.Event.TheVariants.{Take, Give}
 use Rattle.farm_core.specs.declared.reply.Reply.{Reply}
 use Rattle.farm_core.specs.declared.turn.Turn.{Turn}
 use Rattle.farm_core.specs.Config.{ConfigData}
-use Rattle.farm_core.specs.Tenant.{find_job, nodes_of_turn}
+use Rattle.farm_core.specs.Tenant.{find_job, nodes_out_in}
 use Rattle.farm_core.specs.Step.{Answer, Replied}
 use Rattle.farm_core.specs.Turn.{nodes_of, ran_on, IsTaken}
 use Rattle.farm_core.specs.World.{World, opened, view, Follows, IsReplayed}
@@ -36,16 +34,7 @@ pub record IsHeld (w : World) (t s slice : ℕ) (m : Meaning) : Type 0 where
   pub own : IsOwn t slice 0 m job
   pub best : m.taken ≡ false
 
--- how many nodes the turn of a job runs that is out: as many as its slice and its quanta allow, or until its search is over;
--- none where no turn is out
-abbrev pub nodes_out_in : JobData → Phase → ℕ
-nodes_out_in job Waiting = 0
-nodes_out_in job (Out slice) = nodes_of_turn (min slice job.left) job
-nodes_out_in job (Leaving slice) = nodes_of_turn (min slice job.left) job
-nodes_out_in job Dry = 0
-nodes_out_in job Closed = 0
-nodes_out_in job Cancelled = 0
-
+-- how many nodes the turn runs that is out of a job, where there is one
 abbrev pub nodes_out : Option JobData → ℕ
 nodes_out None = 0
 nodes_out (Some job) = nodes_out_in job job.phase

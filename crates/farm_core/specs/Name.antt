@@ -2,7 +2,7 @@
 use Rattle.std.specs.Prelude.{ℕ, Bool, false, ◌&&◌, ◌||◌, nat_le, ◌==◌, List, [], ◌∷◌, length}
 use Rattle.std.specs.List.{list_all}
 
--- a small letter, and a byte that may follow one: a small letter, a digit, _ or -
+-- a lowercase letter, and a byte that may follow one: a lowercase letter, a digit, _ or -
 abbrev pub is_letter : ℕ → Bool
 is_letter b = nat_le 97 b && nat_le b 122
 

@@ -1,18 +1,18 @@
 -- What each call of a tenant is answered, and what becomes of the tenant's part of the farm.
-use Rattle.std.specs.Prelude.{ℕ, ◌+◌, min, Bool, false, cond, ◌&&◌, ◌||◌, ◌==◌, nat_le, nat_lt, [], ◌∷◌, ◌++◌, length, Option, Some, None, option_map}
+use Rattle.std.specs.Prelude.{ℕ, ◌+◌, Bool, cond, ◌&&◌, ◌||◌, ◌==◌, nat_le, nat_lt, [], ◌∷◌, ◌++◌, length, Option, Some, None, option_map}
 use Rattle.mrcpsp.specs.Schedule.{makespan}
 use Rattle.strategy.specs.Outcome.{best_after, verdict_after}
 use Rattle.strategy.specs.declared.plan.Plan.{Plan}
 use Rattle.job_table.specs.Table.{JobData, is_waiting, is_out, is_ended}
 use Rattle.job_table.specs.Job.{given_up, back}
 use Rattle.job_table.specs.declared.phase.Phase.{Phase}
-use Rattle.job_table.specs.declared.phase.Phase.TheVariants.{Waiting, Out, Leaving, Dry, Closed, Cancelled}
+use Rattle.job_table.specs.declared.phase.Phase.TheVariants.{Waiting, Out}
 use Rattle.farm_core.specs.declared.entry.Event.{Event}
 use Rattle.farm_core.specs.declared.entry.Event.TheVariants.{Submit, Fund, Status, Fetch, Cancel, Forget, Ledger, Take, Give}
 use Rattle.farm_core.specs.declared.reply.Line.{Line}
 use Rattle.farm_core.specs.declared.reply.Reply.{Reply}
 use Rattle.farm_core.specs.declared.reply.Reply.TheVariants as reply
-use Rattle.farm_core.specs.Tenant.{Tenant, book, free, kept, find_job, put_job, drop_job, line_of, nodes_of_turn}
+use Rattle.farm_core.specs.Tenant.{Tenant, book, free, kept, find_job, put_job, drop_job, line_of, nodes_out_in}
 
 -- a command and a turn that is given are replied to; a turn that is taken is sent with what is known of its job, or there
 -- is none
@@ -41,11 +41,11 @@ is_slice slice = nat_lt 0 slice && nat_le slice 1000000
 abbrev pub unnoted : Tenant → Answer → Step
 unnoted t answer = record { answer = answer; after = t }
 
--- it leaves an entry,
+-- it leaves an entry
 abbrev pub noted : Tenant → Reply → Step
 noted t answer = record { answer = Replied answer; after = record t { used = t.used + 1 } }
 
--- and a job stands otherwise
+-- it leaves an entry, and one job is changed
 abbrev pub changed : Tenant → JobData → Answer → Step
 changed t job answer = record { answer = answer; after = record t { used = t.used + 1; jobs = put_job job.seq job t.jobs } }
 
@@ -111,12 +111,7 @@ taken t slice (Some job) =
 
 -- a turn that is back ran nothing, or all that it could
 abbrev pub may_have_run : ℕ → JobData → Phase → Bool
-may_have_run ran job Waiting = false
-may_have_run ran job (Out slice) = (ran == 0) || (ran == nodes_of_turn (min slice job.left) job)
-may_have_run ran job (Leaving slice) = (ran == 0) || (ran == nodes_of_turn (min slice job.left) job)
-may_have_run ran job Dry = false
-may_have_run ran job Closed = false
-may_have_run ran job Cancelled = false
+may_have_run ran job phase = is_out phase && ((ran == 0) || (ran == nodes_out_in job phase))
 
 abbrev pub gave : Tenant → ℕ → Option JobData → Step
 gave t ran None = unnoted t NoTurn

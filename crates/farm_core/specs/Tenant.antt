@@ -1,10 +1,12 @@
 -- One tenant's part of a farm.
-use Rattle.std.specs.Prelude.{ℕ, ◌+◌, ◌-◌, cond, ◌==◌, List, [], ◌∷◌, length, filter, Option, Some, None, option_map}
+use Rattle.std.specs.Prelude.{ℕ, ◌+◌, ◌-◌, min, cond, ◌==◌, List, [], ◌∷◌, length, filter, Option, Some, None, option_map}
 use Rattle.mrcpsp.specs.Numbers.{first_from}
 use Rattle.mrcpsp.specs.Schedule.{makespan}
 use Rattle.strategy.specs.Outcome.{best_after, is_closed, verdict_after}
 use Rattle.tenant_book.specs.Book.{BookData}
 use Rattle.job_table.specs.Table.{JobData, is_out}
+use Rattle.job_table.specs.declared.phase.Phase.{Phase}
+use Rattle.job_table.specs.declared.phase.Phase.TheVariants.{Waiting, Out, Leaving, Dry, Closed, Cancelled}
 use Rattle.farm_core.specs.declared.config.TenantLine.{TenantLine}
 use Rattle.farm_core.specs.declared.reply.Line.{Line}
 
@@ -64,6 +66,16 @@ line_of job = record {
   verdict = verdict_after job.plan job.nodes;
 }
 
--- how many nodes a turn of it runs: as many as the slice and its quanta allow, or until its search is over
+-- how many nodes a turn of at most `most` runs: so many, or fewer where its search is over before
 unfoldable pub nodes_of_turn : ℕ → JobData → ℕ
 nodes_of_turn most job = first_from (λ r. is_closed job.plan (job.nodes + r)) most 0
+
+-- how many nodes the turn runs that is out of a job in this phase: as many as its slice and the job's quanta allow, or until
+-- the search is over; none where no turn is out
+abbrev pub nodes_out_in : JobData → Phase → ℕ
+nodes_out_in job Waiting = 0
+nodes_out_in job (Out slice) = nodes_of_turn (min slice job.left) job
+nodes_out_in job (Leaving slice) = nodes_of_turn (min slice job.left) job
+nodes_out_in job Dry = 0
+nodes_out_in job Closed = 0
+nodes_out_in job Cancelled = 0

@@ -49,7 +49,7 @@ pub record IsGiven (old : World) (t s slice ran : ℕ) (m : Meaning) (answer : R
   pub own : IsOwn t slice ran m job
   pub follows : Follows old t (Give s ran) (Replied answer) new
 
--- there is no turn to take: the slice is none, or no job waits whose tenant has entries for a turn
+-- there is no turn to take: the slice is not 1 to 1,000,000, or no job waits whose tenant has entries for a turn
 abbrev pub IsIdle : World → ℕ → Type 0
 IsIdle w slice =
     (is_slice slice ≡ false)

@@ -64,11 +64,7 @@ given_up job Cancelled = None
 -- without quanta is dry, and any other waits
 abbrev pub phase_after : Phase → Bool → ℕ → Phase
 phase_after (Leaving slice) closed left = Cancelled
-phase_after Waiting closed left = cond closed Closed (cond (left == 0) Dry Waiting)
-phase_after (Out slice) closed left = cond closed Closed (cond (left == 0) Dry Waiting)
-phase_after Dry closed left = cond closed Closed (cond (left == 0) Dry Waiting)
-phase_after Closed closed left = cond closed Closed (cond (left == 0) Dry Waiting)
-phase_after Cancelled closed left = cond closed Closed (cond (left == 0) Dry Waiting)
+phase_after phase closed left = cond closed Closed (cond (left == 0) Dry Waiting)
 
 -- a job holds quanta only while its search is with it or out
 abbrev pub settled : JobData → Phase → JobData

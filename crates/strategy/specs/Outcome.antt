@@ -46,7 +46,7 @@ final_verdict RuleMts best = Ended
 final_verdict RuleSpt best = Ended
 final_verdict (Sample seed) best = Ended
 
--- the same for a plan
+-- of a plan after k nodes: its best schedule, whether its search is over, and its verdict
 unfoldable pub best_after : Plan → ℕ → Option ScheduleData
 best_after plan k = best_of plan.project plan.kind k
 
