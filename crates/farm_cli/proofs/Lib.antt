@@ -1,2 +1,4 @@
 pub mod ConfigLemmas
 pub mod InputLemmas
+pub mod FloorLemmas
+pub mod PlayLemmas

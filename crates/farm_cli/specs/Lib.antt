@@ -2,3 +2,5 @@ pub mod Summary
 pub mod ConfigText
 pub mod Config
 pub mod Replay
+pub mod Output
+pub mod Floor

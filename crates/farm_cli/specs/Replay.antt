@@ -1,40 +1,36 @@
--- Replays.
-use Rattle.std.specs.Prelude.{◌≡◌, ℕ, ◌<◌, ⊤}
-use Rattle.farm_core.specs.declared.entry.Event.{Event}
-use Rattle.farm_core.specs.declared.entry.Event.TheVariants.{Fund, Status, Fetch, Cancel, Forget, Ledger, Take}
-use Rattle.farm_core.specs.declared.reply.Reply.{Reply}
-use Rattle.farm_core.specs.World.{World}
-use Rattle.farm_core.specs.Farm.{IsReply}
-use Rattle.session_lines.specs.declared.said.Said.{Said}
-use Rattle.session_lines.specs.declared.said.Said.TheVariants as told
-use Rattle.farm_cli.specs.declared.script.hear.Ask.{Ask}
-use Rattle.farm_cli.specs.declared.script.hear.Ask.TheVariants as ask
+-- What a read of a request comes to.
+use Rattle.std.specs.Prelude.{◌≢◌, ⊤, ℕ, List, [], Option, Some, None, Result, Ok, Err}
+use Rattle.farm_core.specs.declared.reply.Reply.TheVariants as reply
+use Rattle.farm_core.specs.Config.{ConfigData}
+use Rattle.session_lines.specs.declared.request.Request.{Request}
+use Rattle.session_lines.specs.declared.request.What.{What}
+use Rattle.session_lines.specs.declared.request.LineFault.{LineFault}
+use Rattle.session_lines.specs.declared.request.LineFault.TheVariants.{Eof, Read, TooLong, Syntax, File, NoMemory}
+use Rattle.session_lines.specs.declared.said.Said.TheVariants as said
+use Rattle.session_lines.specs.Script.{requests_of}
+use Rattle.farm_cli.specs.declared.script.ReplayFault.{ReplayFault}
+use Rattle.farm_cli.specs.declared.script.ReplayFault.TheVariants as fault
 use Rattle.farm_cli.specs.declared.script.hear.Heard.{Heard}
-use Rattle.farm_cli.specs.declared.script.hear.Heard.TheVariants.{Submit, Asked}
+use Rattle.farm_cli.specs.declared.script.hear.Heard.TheVariants.{Over, Broken, Told, Asked}
+use Rattle.farm_cli.specs.Output.{number_of}
 
--- what was heard is of one of so many tenants
-abbrev pub IsHeard : ℕ → Heard → Type 0
-IsHeard count (Submit job) = job.tenant < count
-IsHeard count (Asked tenant who ask) = tenant < count
-IsHeard count other = ⊤
+-- a request of a tenant of that number, if there is one
+abbrev pub heard_for : List ℕ → What → Option ℕ → Heard
+heard_for who what None = Told (Some who) said.NoTenant
+heard_for who what (Some t) = Asked t who what
 
--- what the farm is asked for
-abbrev pub event_of : Ask → Event
-event_of (ask.Fund s quanta) = Fund s quanta
-event_of (ask.Status s) = Status s
-event_of (ask.Fetch s) = Fetch s
-event_of (ask.Cancel s) = Cancel s
-event_of (ask.Forget s) = Forget s
-event_of ask.Ledger = Ledger
-event_of (ask.Turn s slice) = Take s slice
+abbrev pub heard_of : ConfigData → Result Request LineFault → Heard
+heard_of config (Ok request) = heard_for request.who request.what (number_of request.who config)
+heard_of config (Err Eof) = Over
+heard_of config (Err Read) = Broken
+heard_of config (Err (TooLong who)) = Told who said.LongLine
+heard_of config (Err (Syntax who)) = Told who said.Syntax
+heard_of config (Err (File who fault)) = Told (Some who) (said.File fault)
+heard_of config (Err (NoMemory who)) = Told (Some who) (said.Reply reply.NoMemory)
 
--- the farm was asked for that, and its reply is said
-pub record IsReplied (old : World) (tenant : ℕ) (event : Event) (said : Said) (new : World) : Type 0 where
-  pub reply : Reply
-  pub is : said ≡ told.Reply reply
-  pub follows : IsReply old tenant event reply new
-
--- what is said to each request but a turn
-abbrev pub IsSaid : World → ℕ → Ask → Said → World → Type 0
-IsSaid old tenant (ask.Turn s slice) said new = ⊤
-IsSaid old tenant other said new = IsReplied old tenant (event_of other) said new
+-- the reader failed, or there is one request more
+abbrev pub GoesOn : ReplayFault → List ℕ → Type 0
+GoesOn fault.Read bytes = ⊤
+GoesOn fault.Write bytes = ⊥
+GoesOn fault.Requests bytes = requests_of bytes ≢ []
+GoesOn fault.NoMemory bytes = ⊥

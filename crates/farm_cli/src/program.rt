@@ -12,7 +12,7 @@ use std::rt::{Files, Runtime};
 use std::{env, fs, io};
 
 /// Runs the program on the words of the process. The status is 0, 1 for a fault, and 2 for a command line that is refused
-/// and for a request for help.
+/// and for a request for help; where the text that tells so cannot be printed, it is 1.
 pub fn run<R: Runtime + AllocGlobal>(rt: &R) -> ExitCode {
     let Ok(found) = env::args(rt) else {
         return ExitCode::FAILURE;
@@ -28,10 +28,10 @@ pub fn run_words<R: Runtime + AllocGlobal>(rt: &R, words: &[String]) -> ExitCode
     match parse_words(rt.alloc(), words) {
         Ok(Task::Check { file }) => run_check(rt, file),
         Ok(Task::Replay { config, script }) => run_replay(rt, config, script),
-        Err(error) => {
-            let _ = error.print(rt);
-            ExitCode::from(2)
-        }
+        Err(error) => match error.print(rt) {
+            Ok(()) => ExitCode::from(2),
+            Err(_) => ExitCode::FAILURE,
+        },
     }
 }
 

@@ -1,20 +1,27 @@
 //! Scripts of requests, run one after another on a farm of one thread.
-ghost use Rattle.std.specs.Prelude.{◌≡◌, ◌<◌, length, IfOk, IfSome};
-ghost use Rattle.strategy.specs.declared.kind.Kind.TheVariants as kind;
-ghost use Rattle.quanta_till.specs.Lease.{IsEmpty};
+ghost use Rattle.std.specs.Prelude.{◌≡◌, [], length, IfSome, IfErr, OnOk};
+ghost use Rattle.farm_core.specs.World.{opened};
+ghost use Rattle.session_lines.specs.Known.{Writes};
+ghost use Rattle.session_lines.specs.ReplyText.{reply_line};
+ghost use Rattle.session_lines.specs.Script.{requests_of};
+ghost use Rattle.farm_cli.specs.Floor.{IsFloor};
+ghost use Rattle.farm_cli.specs.Output.{IsWritten, IsCutOff};
+ghost use Rattle.farm_cli.specs.Replay.{GoesOn};
 
-mod answer;
 mod counter;
+mod floor;
 mod hear;
 mod made;
 #[cfg(test)]
 mod tests;
 
-use answer::answer;
-use counter::open_counters;
-use farm_core::{Config, Farm, Name, Reply};
+use counter::{Counter, open_counters};
+use farm_core::laws::farms_are_replayed;
+use farm_core::{Config, Name};
+use floor::Floor;
 use hear::{Heard, hear};
-use made::{Ready, submit};
+use made::Ready;
+use session_lines::laws::requests_come_in_turn;
 use session_lines::{LineFault, Said, read_request, write_reply};
 use std::alloc::Global;
 use std::io::{BufReader, Read, Write};
@@ -41,28 +48,89 @@ pub enum ReplayFault {
 }
 
 /// Writes a reply line.
-fn tell<W: Write>(writer: &mut W, who: Option<Name>, said: &Said) -> Result<(), ReplayFault> {
-    match write_reply(writer, who, said) {
+fn tell<W: Write>(writer: &mut W, who: Option<Name>, said: Said) -> Result<(), ReplayFault>
+    ensures writes { Writes result (W.contents writer.old) (W.contents writer.new) (reply_line who said) }
+    ensures fault { IfErr result (λ fault. fault ≡ ReplayFault.Write) }
+{
+    match write_reply(writer, who, &said) {
         Ok(()) => Ok(()),
         Err(_) => Err(ReplayFault::Write),
     }
 }
 
-/// Runs a script of requests on a new farm of the configuration, and writes one reply line for each. After a fault the lines of
-/// the requests before it stand whole, and of its own line an unknown part.
+/// Whether a script ends here, or goes on past its last request that may be.
+fn end<R: Read>(alloc: Global, script: &mut R) -> Result<(), ReplayFault>
+    ensures over { OnOk result (IfSome (R.remaining script.old) (λ bytes. requests_of bytes ≡ [])) }
+    ensures fault { IfErr result (λ fault. IfSome (R.remaining script.old) (λ bytes. GoesOn fault bytes)) }
+{
+    requests_come_in_turn();
+    match read_request(alloc, script) {
+        Err(LineFault::Eof) => Ok(()),
+        Err(LineFault::Read) => Err(ReplayFault::Read),
+        _ => Err(ReplayFault::Requests),
+    }
+}
+
+/// Answers the requests of a script, one line each.
+fn play<J: Strategy, R: Read, W: Write, M: Fn(Ready) -> Option<J>>(
+    alloc: Global,
+    config: &Config,
+    floor: &mut Floor<J>,
+    counters: &mut [Counter],
+    script: &mut R,
+    writer: &mut W,
+    make: &M,
+) -> Result<(), ReplayFault>
+    requires farm { floor.old.farm ≡ opened config.now }
+    requires counters { length counters.old ≡ length config.now.tenants }
+    requires make { M.IsAlwaysCallable make.now }
+    requires floor { IsFloor J.meaning floor.old.farm floor.old.held.items }
+    ensures written { OnOk result (IfSome (R.remaining script.old) (λ bytes. IsWritten config.now bytes (W.contents writer.old) (W.contents writer.new))) }
+    ensures cut_off { IfErr result (λ fault. IfSome (R.remaining script.old) (λ bytes. IsCutOff config.now fault bytes (W.contents writer.old) (W.contents writer.new))) }
+    ensures floor { IsFloor J.meaning floor.new.farm floor.new.held.items }
+{
+    requests_come_in_turn();
+    farms_are_replayed();
+    for _answered in 0..MOST_REQUESTS {
+        match hear(config, read_request(alloc, script)) {
+            Heard::Over => return Ok(()),
+            Heard::Broken => return Err(ReplayFault::Read),
+            Heard::Told(who, said) => {
+                if let Err(fault) = tell(writer, who, said) {
+                    return Err(fault);
+                }
+            }
+            Heard::Asked(tenant, who, asked) => {
+                let counter = &mut counters[tenant as usize];
+                let said = floor.answer(alloc, counter, tenant, asked, make);
+                if let Err(fault) = tell(writer, Some(who), said) {
+                    return Err(fault);
+                }
+            }
+        }
+    }
+    end(alloc, script)
+}
+
+/// Runs a script of requests on a new farm of the configuration, and writes one reply line for each. Turns that the script still
+/// holds at its end are given back unrun. After a fault the lines of the requests before it stand whole, and of its own line an
+/// unknown part.
 pub fn replay<R: Read + Drop, W: Write>(
     alloc: Global,
     config: &Config,
     reader: R,
     writer: &mut W,
-) -> Result<(), ReplayFault> {
+) -> Result<(), ReplayFault>
+    ensures written { OnOk result (IfSome (R.remaining reader) (λ script. IsWritten config.now script (W.contents writer.old) (W.contents writer.new))) }
+    ensures cut_off { IfErr result (λ fault. IfSome (R.remaining reader) (λ script. IsCutOff config.now fault script (W.contents writer.old) (W.contents writer.new))) }
+{
     let Ok(mut script) = BufReader::new(alloc, reader) else {
         return Err(ReplayFault::NoMemory);
     };
     let Ok(mut counters) = open_counters(alloc, config) else {
         return Err(ReplayFault::NoMemory);
     };
-    let Ok(mut farm) = Farm::<Box<dyn Strategy>>::new(alloc, config) else {
+    let Ok(mut floor) = Floor::<Box<dyn Strategy>>::new(alloc, config) else {
         return Err(ReplayFault::NoMemory);
     };
     let make = |ready: Ready| -> Option<Box<dyn Strategy>> {
@@ -81,27 +149,15 @@ pub fn replay<R: Read + Drop, W: Write>(
             }
         }
     };
-    for _ in 0..MOST_REQUESTS {
-        match hear(config, read_request(alloc, &mut script)) {
-            Heard::Over => return Ok(()),
-            Heard::Broken => return Err(ReplayFault::Read),
-            Heard::Told(who, said) => tell(writer, who, &said)?,
-            Heard::Asked(tenant, who, ask) => {
-                let said = answer(&mut farm, tenant, ask);
-                tell(writer, Some(who), &said)?;
-            }
-            Heard::Submit(job) => {
-                let counter = &mut counters[job.tenant as usize];
-                let said = submit(
-                    alloc, &mut farm, counter, job.tenant, job.plan, job.quanta, &make,
-                );
-                tell(writer, Some(job.who), &said)?;
-            }
-        }
-    }
-    match read_request(alloc, &mut script) {
-        Err(LineFault::Eof) => Ok(()),
-        Err(LineFault::Read) => Err(ReplayFault::Read),
-        _ => Err(ReplayFault::Requests),
-    }
+    let ended = play(
+        alloc,
+        config,
+        &mut floor,
+        &mut counters,
+        &mut script,
+        writer,
+        &make,
+    );
+    floor.close();
+    ended
 }

@@ -1,20 +1,17 @@
 //! The searches of submitted jobs.
-ghost use Rattle.std.specs.Prelude.{◌≡◌, ◌<◌, length, IfOk, IfSome};
+ghost use Rattle.std.specs.Prelude.{◌≡◌};
 ghost use Rattle.strategy.specs.declared.kind.Kind.TheVariants as kind;
 ghost use Rattle.quanta_till.specs.Lease.{IsEmpty};
 ghost use Rattle.rule_search.specs.Rule.{IsRule};
 ghost use Rattle.sample_search.specs.Search.{IsSample};
-ghost use Rattle.farm_cli.specs.Replay.{IsReplied};
 
 use super::counter::Counter;
-use farm_core::{Event, Farm, Reply};
 use quanta_till::Lease;
 use rule_search::RuleSearch;
 use sample_search::SampleSearch;
-use session_lines::Said;
 use std::alloc::Global;
 use std::marker::Model;
-use strategy::{Kind, Plan, Strategy};
+use strategy::{Kind, Plan};
 use tree_search::TreeSearch;
 
 /// What a search is made of. Contracts see its plan's kind.
@@ -37,7 +34,7 @@ impl Model for Ready {
 
 impl Ready {
     /// A copy of the plan, with a lease of the tenant's till. There is nothing where there is no memory for it.
-    fn new(alloc: Global, counter: &mut Counter, plan: &Plan) -> Option<Ready> {
+    pub(crate) fn new(alloc: Global, counter: &mut Counter, plan: &Plan) -> Option<Ready> {
         let plan = plan.clone_in(alloc).ok()?;
         let lease = counter.lease().ok()?;
         Some(Ready { plan, lease })
@@ -76,28 +73,4 @@ impl Ready {
         let search = RuleSearch::new(alloc, plan, lease).ok()?;
         Box::new(alloc, search).ok()
     }
-}
-
-/// Submits a job for a plan, with the search that is made for it.
-pub(crate) fn submit<J: Strategy, M: Fn(Ready) -> Option<J>>(
-    alloc: Global,
-    farm: &mut Farm<J>,
-    counter: &mut Counter,
-    tenant: u32,
-    plan: Plan,
-    quanta: u64,
-    make: &M,
-) -> Said
-    requires known { tenant < length farm.old.config.tenants }
-    requires make { M.IsAlwaysCallable make.now }
-    ensures config { farm.new.config ≡ farm.old.config }
-    ensures said { IsReplied farm.old tenant (Event.Submit plan quanta) result farm.new }
-{
-    let Some(ready) = Ready::new(alloc, counter, &plan) else {
-        return Said::Reply(Reply::NoMemory);
-    };
-    let Some(search) = make(ready) else {
-        return Said::Reply(Reply::NoMemory);
-    };
-    Said::Reply(farm.submit(tenant, plan, quanta, search))
 }
