@@ -4,3 +4,4 @@ pub mod Config
 pub mod Replay
 pub mod Output
 pub mod Floor
+pub mod Isolation

@@ -1,8 +1,20 @@
-//! Laws of what the programs read: each is the proved contract of a function that does nothing.
+//! Laws of what the programs read and write: each is the proved contract of a function that does nothing.
 ghost use Rattle.farm_cli.specs.Config.{FaultsAreWhatIsNoConfiguration};
+ghost use Rattle.farm_cli.specs.Isolation.{EachReplaysAlone, ReplaysAreIsolated};
 
 /// What is written in the shape of a configuration has a fault exactly where it is no configuration: where it breaks a limit,
 /// or a name is ill formed.
 pub fn faults_are_what_is_no_configuration()
     ensures { FaultsAreWhatIsNoConfiguration }
+{}
+
+/// In the output of every script, the lines that begin with a tenant's name are the output of that tenant's requests alone.
+pub fn each_replays_alone()
+    ensures { EachReplaysAlone }
+{}
+
+/// Two replays that agree in a tenant's line of the configuration and in its own requests write the same lines for it, whatever
+/// the other tenants ask for.
+pub fn replays_are_isolated()
+    ensures { ReplaysAreIsolated }
 {}
