@@ -3,3 +3,5 @@ pub mod InputLemmas
 pub mod FloorLemmas
 pub mod PlayLemmas
 pub mod IsolationLemmas
+pub mod TruthLemmas
+pub mod PlannedLemmas

@@ -1,5 +1,5 @@
 -- How a replay goes on from request to request.
-use Rattle.std.proofs.Common.{◌≡◌, ◌≢◌, ℕ, ◌+◌, ◌==◌, Bool, true, false, cond, List, [], ◌∷◌, ◌++◌, length, Option, Some, None, refl, sym, ap, ◌∙◌, subst, arith, ⊎_elim, eq-eqb, append_assoc, append-nil, length-append}
+use Rattle.std.proofs.Common.{◌≡◌, ◌≢◌, ℕ, ◌+◌, ◌≤◌, ◌==◌, Bool, true, false, cond, List, [], ◌∷◌, ◌++◌, length, Option, Some, None, refl, sym, ap, ◌∙◌, subst, arith, ⊎_elim, eq-eqb, append_assoc, append-nil, length-append}
 use Rattle.std.specs.Prelude.{Result, Ok, Err, IfSome, IfErr, OnOk, ⊤}
 use Rattle.std.specs.List.{flat_map}
 use Rattle.std.specs.Io.KnownBytes.{Appends}
@@ -68,7 +68,7 @@ lines_more : (config : ConfigData) (parts : Parts) (ms : List Marked) (m : Marke
 lines_more config parts [] m = refl
 lines_more config parts (n ∷ ms) m = ap (λ l. (next config parts n).line ∷ l) (lines_more config (next config parts n).parts ms m)
 
-parts_more : (config : ConfigData) (parts : Parts) (ms : List Marked) (m : Marked) → parts_after config parts (ms ++ m ∷ []) ≡ (next config (parts_after config parts ms) m).parts
+pub parts_more : (config : ConfigData) (parts : Parts) (ms : List Marked) (m : Marked) → parts_after config parts (ms ++ m ∷ []) ≡ (next config (parts_after config parts ms) m).parts
 parts_more config parts [] m = refl
 parts_more config parts (n ∷ ms) m = parts_more config (next config parts n).parts ms m
 
@@ -140,10 +140,11 @@ cut_between config xs ys old new count w why it cause = record {
   cause = cause;
 }
 
-played_whole : (config : ConfigData) (xs ys : List ℕ) (old new : Option (List ℕ)) (count : ℕ) (w : World) → requests_of ys ≡ [] → IsPlayed config xs ys old new count w → IsWritten config xs old new
-played_whole config xs ys old new count w none it = record {
+played_whole : (config : ConfigData) (xs ys : List ℕ) (old new : Option (List ℕ)) (count : ℕ) (w : World) → count ≤ 1000000 → requests_of ys ≡ [] → IsPlayed config xs ys old new count w → IsWritten config xs old new
+played_whole config xs ys old new count w most none it = record {
   requests = it.requests;
   all = sym (it.reads ∙ ap (λ l. items_of it.requests ++ l) none ∙ append-nil (items_of it.requests));
+  few = omega (arith, it.number);
   written = it.written;
 }
 
@@ -353,22 +354,22 @@ asked_cut turns config a b c old mid new count w w' answer t who what words is t
     (answered_asked config xs ys zs old mid count w w' t who what words it s told) part))
     (λ xs zs known it. it)
 
-pub play_over : EachInTurn → (config : ConfigData) (a b c old new : Option (List ℕ)) (count : ℕ) (w : World) (answer : Result Request LineFault) → heard.Over ≡ heard_of config answer
+pub play_over : EachInTurn → (config : ConfigData) (a b c old new : Option (List ℕ)) (count : ℕ) (w : World) (answer : Result Request LineFault) → count ≤ 1000000 → heard.Over ≡ heard_of config answer
     → Takes 100000000 None b c answer → Played config a b old new count w → IfSome a (λ xs. IsWritten config xs old new)
-play_over turns config a b c old new count w answer is takes played =
+play_over turns config a b c old new count w answer most is takes played =
     known_first a c (λ xs zs. IsWritten config xs old new) (λ xs. IsWritten config xs old new)
     (goes_on a b c (λ xs ys. IsPlayed config xs ys old new count w) (λ ys zs. requests_of ys ≡ []) (λ xs zs. IsWritten config xs old new) played (over_takes turns config 100000000 b c answer is takes)
-    (λ xs ys zs it none. played_whole config xs ys old new count w none it))
+    (λ xs ys zs it none. played_whole config xs ys old new count w most none it))
     (λ xs zs known it. it)
 
 pub play_broken : (config : ConfigData) (a b old new : Option (List ℕ)) (count : ℕ) (w : World) → Played config a b old new count w → IfSome a (λ xs. IsCutOff config fault.Read xs old new)
 play_broken config a b old new count w played =
     known_first a b (λ xs ys. IsPlayed config xs ys old new count w) (λ xs. IsCutOff config fault.Read xs old new) played (λ xs ys known it. cut_between config xs ys old new count w fault.Read it refl)
 
-pub play_ends : (config : ConfigData) (a b old new : Option (List ℕ)) (count : ℕ) (w : World) → Played config a b old new count w → IfSome b (λ ys. requests_of ys ≡ []) → IfSome a (λ xs. IsWritten config xs old new)
-play_ends config a b old new count w played over =
+pub play_ends : (config : ConfigData) (a b old new : Option (List ℕ)) (count : ℕ) (w : World) → count ≤ 1000000 → Played config a b old new count w → IfSome b (λ ys. requests_of ys ≡ []) → IfSome a (λ xs. IsWritten config xs old new)
+play_ends config a b old new count w most played over =
     known_first a b (λ xs ys. IsPlayed config xs ys old new count w) (λ xs. IsWritten config xs old new) played
-    (λ xs ys known it. played_whole config xs ys old new count w (subst (λ o. IfSome o (λ ys. requests_of ys ≡ [])) known over) it)
+    (λ xs ys known it. played_whole config xs ys old new count w most (subst (λ o. IfSome o (λ ys. requests_of ys ≡ [])) known over) it)
 
 pub play_stops : (config : ConfigData) (a b old new : Option (List ℕ)) (w : World) (why : ReplayFault) → Played config a b old new 1000000 w → IfSome b (λ ys. GoesOn why ys)
     → IfSome a (λ xs. IsCutOff config why xs old new)
@@ -382,10 +383,10 @@ play_stops config a b old new w why played stops =
     cause fault.Requests xs ys it h = (refl, it.number, h)
     cause fault.NoMemory xs ys it h = absurd h
 
-pub play_written : (config : ConfigData) (a b old new : Option (List ℕ)) (count : ℕ) (w : World) (result : Result ⊤ ReplayFault) → Played config a b old new count w
+pub play_written : (config : ConfigData) (a b old new : Option (List ℕ)) (count : ℕ) (w : World) (result : Result ⊤ ReplayFault) → count ≤ 1000000 → Played config a b old new count w
     → OnOk result (IfSome b (λ ys. requests_of ys ≡ [])) → OnOk result (IfSome a (λ xs. IsWritten config xs old new))
-play_written config a b old new count w (Ok u) played over = play_ends config a b old new count w played over
-play_written config a b old new count w (Err why) played over = tt
+play_written config a b old new count w (Ok u) most played over = play_ends config a b old new count w most played over
+play_written config a b old new count w (Err why) most played over = tt
 
 pub play_cut : (config : ConfigData) (a b old new : Option (List ℕ)) (w : World) (result : Result ⊤ ReplayFault) → Played config a b old new 1000000 w
     → IfErr result (λ why. IfSome b (λ ys. GoesOn why ys)) → IfErr result (λ why. IfSome a (λ xs. IsCutOff config why xs old new))

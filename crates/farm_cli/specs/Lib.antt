@@ -5,3 +5,4 @@ pub mod Replay
 pub mod Output
 pub mod Floor
 pub mod Isolation
+pub mod Truth

@@ -1,5 +1,5 @@
 -- What a replay writes: one line for each request of its script, which the farm's steps give.
-use Rattle.std.specs.Prelude.{◌≡◌, ◌≢◌, ℕ, Bool, true, false, not, cond, ◌&&◌, ◌==◌, List, [], ◌∷◌, ◌++◌, Option, Some, None, Result, Ok, Err, length, map, position}
+use Rattle.std.specs.Prelude.{◌≡◌, ◌≢◌, ℕ, Bool, true, false, not, cond, ◌&&◌, ◌==◌, ◌≤◌, List, [], ◌∷◌, ◌++◌, Option, Some, None, Result, Ok, Err, length, map, position}
 use Rattle.std.specs.Io.KnownBytes.{Appends}
 use Rattle.std.specs.List.{flat_map}
 use Rattle.farm_core.specs.declared.config.TenantLine.{TenantLine}
@@ -176,10 +176,11 @@ output_of config ms = flat_map line_text (lines_for config (opening config) ms)
 abbrev pub items_of : List Marked → List Item
 items_of ms = map (λ (m : Marked). m.item) ms
 
--- the whole output of a script was written, whatever memory was refused
+-- the whole output of a script of at most 1,000,000 requests was written, whatever memory was refused
 pub record IsWritten (config : ConfigData) (script : List ℕ) (old new : Option (List ℕ)) : Type 0 where
   pub requests : List Marked
   pub all : items_of requests ≡ requests_of script
+  pub few : length requests ≤ 1000000
   pub written : Appends old new (output_of config requests)
 
 -- a part of the line of the first of these requests, from its front

@@ -1,6 +1,9 @@
-//! Laws of what the programs read and write: each is the proved contract of a function that does nothing.
+//! Laws of what the programs read and write: each is the proved contract of a function that does nothing, or that calls another law.
 ghost use Rattle.farm_cli.specs.Config.{FaultsAreWhatIsNoConfiguration};
 ghost use Rattle.farm_cli.specs.Isolation.{EachReplaysAlone, ReplaysAreIsolated};
+ghost use Rattle.farm_cli.specs.Truth.{EachLineIsTrue};
+
+use psplib_mm::laws::what_is_read_is_a_project;
 
 /// What is written in the shape of a configuration has a fault exactly where it is no configuration: where it breaks a limit,
 /// or a name is ill formed.
@@ -18,3 +21,12 @@ pub fn each_replays_alone()
 pub fn replays_are_isolated()
     ensures { ReplaysAreIsolated }
 {}
+
+/// In the output of every script, each line about a job is true of the plan that its tenant has submitted under that number: a
+/// schedule is feasible and has the makespan that is named, with 'optimal' no feasible schedule is shorter, and with 'infeasible'
+/// there is none.
+pub fn each_line_is_true()
+    ensures { EachLineIsTrue }
+{
+    what_is_read_is_a_project();
+}

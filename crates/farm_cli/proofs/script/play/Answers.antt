@@ -18,7 +18,7 @@ loop-answered-init g c = (
 pub returns-in-Over-clause-written : goal.returns-in-Over-clause-written
 returns-in-Over-clause-written g c =
     play_over c.requests_come_in_turn.ensures c.args.config.now (g.R.Read.remaining c.args.script.now) (g.R.Read.remaining c.loop-answered.script) (g.R.Read.remaining c.read_request.new.reader)
-    (g.W.Write.contents c.args.writer.now) (g.W.Write.contents c.loop-answered.writer) c.loop-answered._answered c.loop-answered.floor.farm c.read_request.result (cc (c.in-Over.is, c.hear.ensures))
+    (g.W.Write.contents c.args.writer.now) (g.W.Write.contents c.loop-answered.writer) c.loop-answered._answered c.loop-answered.floor.farm c.read_request.result (omega arith) (cc (c.in-Over.is, c.hear.ensures))
     c.read_request.ensures c.loop-answered.invariant.3
 
 pub returns-in-Err-clause-cut_off : goal.returns-in-Err-clause-cut_off
@@ -64,7 +64,7 @@ loop-answered-preserved g c =
 pub returns-clause-written : goal.returns-clause-written
 returns-clause-written g c =
     play_written c.args.config.now (g.R.Read.remaining c.args.script.now) (g.R.Read.remaining c.loop-answered.script) (g.W.Write.contents c.args.writer.now) (g.W.Write.contents c.loop-answered.writer)
-    c.loop-answered._answered c.loop-answered.floor.farm c.end.result c.loop-answered.invariant.3 c.end.ensures.over
+    c.loop-answered._answered c.loop-answered.floor.farm c.end.result (omega arith) c.loop-answered.invariant.3 c.end.ensures.over
 
 pub returns-clause-cut_off : goal.returns-clause-cut_off
 returns-clause-cut_off g c =
