@@ -5,3 +5,4 @@ pub mod PlayLemmas
 pub mod IsolationLemmas
 pub mod TruthLemmas
 pub mod PlannedLemmas
+pub mod Examples
