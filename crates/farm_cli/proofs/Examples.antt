@@ -1,13 +1,12 @@
 -- What is written for small scripts, computed.
-use Rattle.std.proofs.Common.{◌≡◌, ℕ, List, [], ◌∷◌, ◌++◌, Some, None, refl, map}
-use Rattle.std.specs.Prelude.{codes, Ok, Err}
+use Rattle.std.proofs.Common.{◌≡◌, ℕ, List, [], ◌∷◌, ◌++◌, refl, map}
+use Rattle.std.specs.Prelude.{codes}
 use Rattle.std.specs.Fmt.{digits}
-use Rattle.farm_core.specs.declared.config.TenantLine.{TenantLine}
 use Rattle.farm_core.specs.Config.{ConfigData}
 use Rattle.farm_core.specs.Name.{is_name}
 use Rattle.farm_core.specs.Tenant.{newcomer, kept, held, free, book}
 use Rattle.session_lines.specs.Script.{Item, requests_of}
-use Rattle.farm_cli.specs.Output.{Refused, Nowhere, Answering, Marked, output_of}
+use Rattle.farm_cli.specs.Output.{Nowhere, Answering, Marked, output_of}
 use Rattle.farm_cli.specs.Isolation.{own_requests}
 
 two : ConfigData

@@ -110,7 +110,7 @@ answered_who : (config : ConfigData) (refused : Bool) (p : Parts) (answer : Resu
 answered_who config refused p (Ok request) = asked_who refused p request (number_of request.who config)
 answered_who config refused p (Err fault) = refl
 
-next_who : (config : ConfigData) (p : Parts) (m : Marked) → (next config p m).line.who ≡ whose m
+pub next_who : (config : ConfigData) (p : Parts) (m : Marked) → (next config p m).line.who ≡ whose m
 next_who config p m = by (unread m.refused m.item.submits)
   where
     by : (submits : Option (List ℕ)) → (unless_unread submits p (answered config (is_answering m.refused) p m.item.answer)).line.who ≡ who_first submits (who_in m.item.answer)

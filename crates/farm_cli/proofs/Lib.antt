@@ -6,3 +6,4 @@ pub mod IsolationLemmas
 pub mod TruthLemmas
 pub mod PlannedLemmas
 pub mod Examples
+pub mod BeginLemmas

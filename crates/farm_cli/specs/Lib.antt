@@ -6,3 +6,4 @@ pub mod Output
 pub mod Floor
 pub mod Isolation
 pub mod Truth
+pub mod Begins

@@ -1,5 +1,6 @@
 //! Laws of what the programs read and write: each is the proved contract of a function that does nothing, or that calls another law.
 ghost use Rattle.farm_cli.specs.Config.{FaultsAreWhatIsNoConfiguration};
+ghost use Rattle.farm_cli.specs.Begins.{LinesTellWhose};
 ghost use Rattle.farm_cli.specs.Isolation.{EachReplaysAlone, ReplaysAreIsolated};
 ghost use Rattle.farm_cli.specs.Truth.{EachLineIsTrue};
 
@@ -20,6 +21,11 @@ pub fn each_replays_alone()
 /// the other tenants ask for.
 pub fn replays_are_isolated()
     ensures { ReplaysAreIsolated }
+{}
+
+/// In the output of every script, a line begins with `@`, a tenant's name and a space exactly where it is that tenant's.
+pub fn lines_tell_whose()
+    ensures { LinesTellWhose }
 {}
 
 /// In the output of every script, each line about a job is true of the plan that its tenant has submitted under that number: a
