@@ -7,3 +7,4 @@ pub mod TruthLemmas
 pub mod PlannedLemmas
 pub mod Examples
 pub mod BeginLemmas
+pub mod CounterLemmas

@@ -7,3 +7,4 @@ pub mod Floor
 pub mod Isolation
 pub mod Truth
 pub mod Begins
+pub mod Counter

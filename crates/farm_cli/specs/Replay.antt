@@ -34,3 +34,9 @@ GoesOn fault.Read bytes = ⊤
 GoesOn fault.Write bytes = ⊥
 GoesOn fault.Requests bytes = requests_of bytes ≢ []
 GoesOn fault.NoMemory bytes = ⊥
+
+-- how a replay ends after its last request that may be: with the script, with a reader that failed, or with a request too many
+abbrev pub end_of : Result Request LineFault → Result ⊤ ReplayFault
+end_of (Err Eof) = Ok tt
+end_of (Err Read) = Err fault.Read
+end_of answer = Err fault.Requests

@@ -4,9 +4,10 @@ ghost use Rattle.farm_core.specs.World.{opened};
 ghost use Rattle.session_lines.specs.Known.{Writes};
 ghost use Rattle.session_lines.specs.ReplyText.{reply_line};
 ghost use Rattle.session_lines.specs.Script.{requests_of};
+ghost use Rattle.farm_cli.specs.Counter.{counters_of};
 ghost use Rattle.farm_cli.specs.Floor.{IsFloor};
 ghost use Rattle.farm_cli.specs.Output.{IsWritten, IsCutOff};
-ghost use Rattle.farm_cli.specs.Replay.{GoesOn};
+ghost use Rattle.farm_cli.specs.Replay.{end_of, GoesOn};
 
 mod counter;
 mod floor;
@@ -22,7 +23,7 @@ use floor::Floor;
 use hear::{Heard, hear};
 use made::Ready;
 use session_lines::laws::requests_come_in_turn;
-use session_lines::{LineFault, Said, read_request, write_reply};
+use session_lines::{LineFault, Request, Said, read_request, write_reply};
 use std::alloc::Global;
 use std::io::{BufReader, Read, Write};
 use strategy::{Kind, Strategy};
@@ -58,17 +59,24 @@ fn tell<W: Write>(writer: &mut W, who: Option<Name>, said: Said) -> Result<(), R
     }
 }
 
+/// How a replay ends that has answered all requests that it may, by what is read then.
+fn ended(read: Result<Request, LineFault>) -> Result<(), ReplayFault>
+    ensures { result ≡ end_of read }
+{
+    match read {
+        Err(LineFault::Eof) => Ok(()),
+        Err(LineFault::Read) => Err(ReplayFault::Read),
+        _ => Err(ReplayFault::Requests),
+    }
+}
+
 /// Whether a script ends here, or goes on past its last request that may be.
 fn end<R: Read>(alloc: Global, script: &mut R) -> Result<(), ReplayFault>
     ensures over { OnOk result (IfSome (R.remaining script.old) (λ bytes. requests_of bytes ≡ [])) }
     ensures fault { IfErr result (λ fault. IfSome (R.remaining script.old) (λ bytes. GoesOn fault bytes)) }
 {
     requests_come_in_turn();
-    match read_request(alloc, script) {
-        Err(LineFault::Eof) => Ok(()),
-        Err(LineFault::Read) => Err(ReplayFault::Read),
-        _ => Err(ReplayFault::Requests),
-    }
+    ended(read_request(alloc, script))
 }
 
 /// Answers the requests of a script, one line each.
@@ -82,7 +90,7 @@ fn play<J: Strategy, R: Read, W: Write, M: Fn(Ready) -> Option<J>>(
     make: &M,
 ) -> Result<(), ReplayFault>
     requires farm { floor.old.farm ≡ opened config.now }
-    requires counters { length counters.old ≡ length config.now.tenants }
+    requires counters { counters.old ≡ counters_of config.now }
     requires make { M.IsAlwaysCallable make.now }
     requires floor { IsFloor J.meaning floor.old.farm floor.old.held.items }
     ensures written { OnOk result (IfSome (R.remaining script.old) (λ bytes. IsWritten config.now bytes (W.contents writer.old) (W.contents writer.new))) }

@@ -1,7 +1,7 @@
 //! The farm of a script, and the turns that the script holds.
 ghost use Rattle.std.specs.Prelude.{◌≡◌, ◌≢◌, ℕ, ◌<◌, ◌-◌, [], length, position, false, IfOk, IfErr};
 ghost use Rattle.farm_core.specs.Tenant.{find_job};
-ghost use Rattle.farm_core.specs.World.{World, opened, view, IsReplayed, Follows};
+ghost use Rattle.farm_core.specs.World.{World, opened, terms_in, view, IsReplayed, Follows};
 ghost use Rattle.farm_core.specs.Step.{Sent};
 ghost use Rattle.farm_core.specs.Turn.{IsNotTaken};
 ghost use Rattle.farm_core.specs.Held.{is_out_of, TakenTurnsAreHeld, TakenJobsWereNotOut, TurnsStayHeld, HeldTurnsAreNoStrangers, HeldTurnsRunTheirNodes, OnlyTakenJobsAreOut, GivenJobsAreNotOut};
@@ -85,8 +85,11 @@ impl<J: Strategy> Floor<J> {
         make: &M,
     ) -> Said
         requires known { tenant < length self.old.farm.config.tenants }
+        requires counter { counter.old.tenant ≡ tenant }
+        requires granted { counter.old.granted ≡ (terms_in self.old.farm.config tenant).quanta }
         requires make { M.IsAlwaysCallable make.now }
         requires floor { IsFloor J.meaning self.old.farm self.old.held.items }
+        ensures counter { counter.new ≡ counter.old }
         ensures told { IsTold self.old.farm tenant (what.Submit plan.kind quanta plan.project) result self.new.farm }
         ensures floor { IsFloor J.meaning self.new.farm self.new.held.items }
     {
@@ -178,8 +181,11 @@ impl<J: Strategy> Floor<J> {
         make: &M,
     ) -> Said
         requires known { tenant < length self.old.farm.config.tenants }
+        requires counter { counter.old.tenant ≡ tenant }
+        requires granted { counter.old.granted ≡ (terms_in self.old.farm.config tenant).quanta }
         requires make { M.IsAlwaysCallable make.now }
         requires floor { IsFloor J.meaning self.old.farm self.old.held.items }
+        ensures counter { counter.new ≡ counter.old }
         ensures told { IsTold self.old.farm tenant asked result self.new.farm }
         ensures floor { IsFloor J.meaning self.new.farm self.new.held.items }
     {

@@ -34,7 +34,9 @@ impl Model for Ready {
 
 impl Ready {
     /// A copy of the plan, with a lease of the tenant's till. There is nothing where there is no memory for it.
-    pub(crate) fn new(alloc: Global, counter: &mut Counter, plan: &Plan) -> Option<Ready> {
+    pub(crate) fn new(alloc: Global, counter: &mut Counter, plan: &Plan) -> Option<Ready>
+        ensures { counter.new ≡ counter.old }
+    {
         let plan = plan.clone_in(alloc).ok()?;
         let lease = counter.lease().ok()?;
         Some(Ready { plan, lease })

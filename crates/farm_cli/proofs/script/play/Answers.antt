@@ -1,7 +1,8 @@
-use Rattle.std.proofs.Common.{sym, ap, ◌∙◌, subst, arith, ◌≡◌}
-use Rattle.farm_core.specs.World.{opened}
+use Rattle.std.proofs.Common.{◌≡◌, ◌<◌, length, arith, sym, ap, ◌∙◌, subst}
+use Rattle.farm_cli.proofs.CounterLemmas.{known_number, own_counter, kept_counters, counters_length}
+use Rattle.farm_core.specs.World.{terms_in, opened}
 use Rattle.farm_cli.specs.Floor.{IsFloor}
-use Rattle.farm_cli.proofs.PlayLemmas.{Played, begun, play_begins, settled_on, settled_cut, asked_on, asked_cut, play_over, play_written, play_cut}
+use Rattle.farm_cli.proofs.PlayLemmas.{Played, begun, play_begins, settled_on, settled_cut, asked_known, asked_on, asked_cut, play_over, play_written, play_cut}
 use Rattle.farm_cli.proofs.script.play.Goals as goal
 use Rattle.farm_cli.proofs.script.play.Goals.{in-Told+in_default, in-Asked+in_default-tell}
 
@@ -42,7 +43,7 @@ loop-answered-preserved g c =
     elim c.match-hear.branch [
       | in-Told+in_default w ↦ (
         ap (λ x. x.farm.config) w.floor-is ∙ inv.0,
-        c.match-hear.auto.counters ∙ inv.1,
+        w.counters-is ∙ inv.1,
         subst (λ x. IsFloor g.J.Strategy.meaning x.farm x.held.items) (sym w.floor-is) inv.2,
         rw (w.floor-is, w.writer-is)
             (settled_on c.requests_come_in_turn.ensures c.args.config.now (g.R.Read.remaining c.args.script.now) (g.R.Read.remaining c.loop-answered.script) (g.R.Read.remaining c.read_request.new.reader)
@@ -51,7 +52,12 @@ loop-answered-preserved g c =
       )
       | in-Asked+in_default-tell w ↦ (
         ap (λ x. x.farm.config) w.floor-is ∙ w.answer-said.ensures.told.config ∙ inv.0,
-        c.match-hear.auto.counters ∙ inv.1,
+        w.counters-is
+            ∙ kept_counters c.loop-answered.counters w.in-Asked.tenant w.index-counters-tenant.result w.answer-said.new.counter
+            (subst (λ k. w.in-Asked.tenant < k) (sym (ap length inv.1 ∙ counters_length 0 c.args.config.now.tenants))
+            (known_number w.in-Asked.who c.args.config.now w.in-Asked.tenant (asked_known c.args.config.now c.read_request.result w.in-Asked.tenant w.in-Asked.who w.in-Asked.asked (cc (w.in-Asked.is, c.hear.ensures)))))
+            w.index-counters-tenant.is w.answer-said.ensures.counter
+            ∙ inv.1,
         subst (λ x. IsFloor g.J.Strategy.meaning x.farm x.held.items) (sym w.floor-is) w.answer-said.ensures.floor,
         rw (w.floor-is, w.writer-is)
             (asked_on c.requests_come_in_turn.ensures c.args.config.now (g.R.Read.remaining c.args.script.now) (g.R.Read.remaining c.loop-answered.script) (g.R.Read.remaining c.read_request.new.reader)
@@ -73,3 +79,21 @@ returns-clause-cut_off g c =
     c.loop-answered.floor.farm c.end.result
     (subst (λ n. Played c.args.config.now (g.R.Read.remaining c.args.script.now) (g.R.Read.remaining c.loop-answered.script) (g.W.Write.contents c.args.writer.now) (g.W.Write.contents c.loop-answered.writer) n c.loop-answered.floor.farm)
     all c.loop-answered.invariant.3) c.end.ensures.fault
+
+pub bounds-counters-tenant : goal.bounds-counters-tenant
+bounds-counters-tenant g c =
+    subst (λ k. c.in-Asked.tenant < k) (sym (ap length c.loop-answered.invariant.1 ∙ counters_length 0 c.args.config.now.tenants))
+    (known_number c.in-Asked.who c.args.config.now c.in-Asked.tenant (asked_known c.args.config.now c.read_request.result c.in-Asked.tenant c.in-Asked.who c.in-Asked.asked (cc (c.in-Asked.is, c.hear.ensures))))
+
+pub answer-said-requires-clause-counter : goal.answer-said-requires-clause-counter
+answer-said-requires-clause-counter g c κs within =
+    ap (λ x. x.tenant)
+    (own_counter c.args.config.now c.loop-answered.counters c.in-Asked.tenant c.index-counters-tenant.result c.loop-answered.invariant.1
+    (known_number c.in-Asked.who c.args.config.now c.in-Asked.tenant (asked_known c.args.config.now c.read_request.result c.in-Asked.tenant c.in-Asked.who c.in-Asked.asked (cc (c.in-Asked.is, c.hear.ensures)))))
+
+pub answer-said-requires-clause-granted : goal.answer-said-requires-clause-granted
+answer-said-requires-clause-granted g c κs within =
+    ap (λ x. x.granted)
+    (own_counter c.args.config.now c.loop-answered.counters c.in-Asked.tenant c.index-counters-tenant.result c.loop-answered.invariant.1
+    (known_number c.in-Asked.who c.args.config.now c.in-Asked.tenant (asked_known c.args.config.now c.read_request.result c.in-Asked.tenant c.in-Asked.who c.in-Asked.asked (cc (c.in-Asked.is, c.hear.ensures)))))
+    ∙ ap (λ k. (terms_in k c.in-Asked.tenant).quanta) (sym c.loop-answered.invariant.0)
