@@ -121,8 +121,8 @@ fn play<J: Strategy, R: Read, W: Write, M: Fn(Ready) -> Option<J>>(
 }
 
 /// Runs a script of requests on a new farm of the configuration, and writes one reply line for each. Turns that the script still
-/// holds at its end are given back unrun. After a fault the lines of the requests before it stand whole, and of its own line an
-/// unknown part.
+/// holds at its end are given back unrun. After a fault the lines of the requests before it stand whole; after `Write` a front part
+/// of the next line stands behind them.
 pub fn replay<R: Read + Drop, W: Write>(
     alloc: Global,
     config: &Config,

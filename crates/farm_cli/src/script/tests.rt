@@ -2,6 +2,7 @@
 mod commands;
 mod faults;
 mod growths;
+mod limits;
 mod tenants;
 mod texts;
 mod turns;
