@@ -1,5 +1,17 @@
-//! Multi-mode resource-constrained projects, MPS|prec|Cmax: the types, and what the words of the
-//! problem mean.
+//! Multi-mode resource-constrained projects, MPS|prec|Cmax: the types, and what the words of the problem mean.
+//!
+//! Who holds a [`Project`] may rest on its limits and on its successors being distinct and above their activity: its type
+//! keeps them. [`check`] answers `Ok` exactly where a schedule is feasible, with its makespan, and else what it breaks first;
+//! the definitions behind these words (`specs/Schedule`, `specs/Earliest`, `specs/Values`) are what all crates above cite.
+//! Inside, activities, modes and resources are places from 0; files, schedules and breaches count from 1.
+//!
+//! - `sequence`: `Sequence`, a vector that contracts see as a list.
+//! - `mode`, `activity`, `schedule`: the types with public fields, their copies and their equality.
+//! - `limits`: the tests of the limits, and the rule on successors.
+//! - `project`: `Project`, its readers by place, and `same`.
+//! - `breach`: what a schedule breaks, and its text.
+//! - `feasibility`: `check` and `makespan`.
+//! - `laws`: that the earliest start is the least one at which nothing is broken.
 #![tactic(auto)]
 
 mod activity;

@@ -1,4 +1,14 @@
 //! Prepaid quanta: a till's three atomic words, the desks at which threads read them, and the leases that draw on them.
+//!
+//! A [`Till`] is opened with its quanta. Whoever draws on it may rest on this, whatever other threads do between two steps:
+//! what is in the pool, what leases hold and what was used are together what was granted. A [`Lease`] uses only what it
+//! drew, and hands the rest back when it is dropped. A [`Desk`] loads the three words one after the other.
+//!
+//! - `rule`: the words, what each seat at them knows, and what every atomic step keeps.
+//! - `account`: what a till shares with its leases.
+//! - `purse`: the inner part of a lease, linear: it ends only where it holds nothing.
+//! - `lease`: `Lease`, and its drop.
+//! - `till`: `Till`, `Desk`, and the words that a desk reads.
 #![tactic(auto)]
 
 mod account;

@@ -1,4 +1,16 @@
 //! The lines of a session: which requests a script's bytes are, and the bytes of each reply.
+//!
+//! [`read_request`] takes from a reader exactly the bytes of the next request and answers what the definition makes of them
+//! (`specs/Script`): a request, the named fault of its line, or the end. [`write_reply`] writes exactly the line of a reply
+//! (`specs/ReplyText`), or a front part of it where the writer fails. Reading a line and writing one take no memory; the text of
+//! a submit takes what it needs, and its want is told.
+//!
+//! - `bytes`, `words`: lines of a reader with their first bytes; words and numbers of a line.
+//! - `line`, `text`: what one line means; the text of a submit while its lines come.
+//! - `request`, `reading`: `Request`, `LineFault`, and `read_request`.
+//! - `said`, `display`: what is replied to a line, and its texts.
+//! - `put`, `writer`: writing pieces, and `write_reply`.
+//! - `laws`: that requests come in turn.
 #![tactic(auto)]
 
 mod bytes;
