@@ -103,14 +103,14 @@ module _ (granted slots id : ℕ) (me : Me (Unit {0}) SeatView) where
       let granted_word = ap (λ ws. get_or ws GRANTED 0) same in
       stays s k at i (get_or s.words i 0) w (λ t d b. omega arith) (λ t u. omega arith) (granted_word ∙ k.grant) (omega (arith, h.0), grant ∙ h.1)
 
-  pub loads_pool : Allows Rule slots id me POOL (λ x. x) (λ found m. m.0 ≡ after_pool_load me.0 found)
-  loads_pool s k _ at _ = (after_pool_load me.0 (get_or s.words POOL 0), keeps, tt, looks s k at POOL _ refl refl refl refl, refl)
+  pub loads_pool : Allows Rule slots id me POOL (λ x. x) (λ found m. (POOL ≡ POOL) × (m.0 ≡ after_pool_load me.0 found))
+  loads_pool s k _ at _ = (after_pool_load me.0 (get_or s.words POOL 0), keeps, tt, looks s k at POOL _ refl refl refl refl, (refl, refl))
 
-  pub loads_spent : Allows Rule slots id me SPENT (λ x. x) (λ found m. m.0 ≡ after_spent_load me.0 found)
-  loads_spent s k _ at _ = (after_spent_load me.0 (get_or s.words SPENT 0), keeps, tt, looks s k at SPENT _ refl refl refl refl, refl)
+  pub loads_spent : Allows Rule slots id me SPENT (λ x. x) (λ found m. (SPENT ≡ SPENT) × (m.0 ≡ after_spent_load me.0 found))
+  loads_spent s k _ at _ = (after_spent_load me.0 (get_or s.words SPENT 0), keeps, tt, looks s k at SPENT _ refl refl refl refl, (refl, refl))
 
-  pub loads_granted : Allows Rule slots id me GRANTED (λ x. x) (λ found m. (found ≡ me.0.granted) × (m.0 ≡ after_granted_load me.0))
-  loads_granted s k _ at _ = (after_granted_load me.0, keeps, tt, looks s k at GRANTED _ refl refl refl refl, (k.grant ∙ sym (k.covered id me.0 at).1, refl))
+  pub loads_granted : Allows Rule slots id me GRANTED (λ x. x) (λ found m. (GRANTED ≡ GRANTED) × (found ≡ me.0.granted) × (m.0 ≡ after_granted_load me.0))
+  loads_granted s k _ at _ = (after_granted_load me.0, keeps, tt, looks s k at GRANTED _ refl refl refl refl, (refl, k.grant ∙ sym (k.covered id me.0 at).1, refl))
 
 -- a seat that did nothing joins
 pub splits : (granted id : ℕ) (v : SeatView) → Splits (IsBalanced granted) id v (after_split v) (new_view v.granted)

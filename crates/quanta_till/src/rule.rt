@@ -96,8 +96,9 @@ pub(crate) struct LoadPool;
 impl Play<(), SeatView> for LoadPool {
     ghost use Rattle.std.specs.Prelude.{◌≡◌};
     ghost use Rattle.quanta_till.specs.Till.{after_pool_load};
+    ghost use Rattle.quanta_till.specs.declared.rule.TheConstants.{POOL};
 
-    ghost then = { λ _ before found after. after.0 ≡ after_pool_load before.0 found };
+    ghost then = { λ step before found after. (step.word ≡ POOL) × (after.0 ≡ after_pool_load before.0 found) };
 }
 
 /// SPENT is loaded.
@@ -106,8 +107,9 @@ pub(crate) struct LoadSpent;
 impl Play<(), SeatView> for LoadSpent {
     ghost use Rattle.std.specs.Prelude.{◌≡◌};
     ghost use Rattle.quanta_till.specs.Till.{after_spent_load};
+    ghost use Rattle.quanta_till.specs.declared.rule.TheConstants.{SPENT};
 
-    ghost then = { λ _ before found after. after.0 ≡ after_spent_load before.0 found };
+    ghost then = { λ step before found after. (step.word ≡ SPENT) × (after.0 ≡ after_spent_load before.0 found) };
 }
 
 /// GRANTED is loaded, which is what the seat knows.
@@ -116,6 +118,7 @@ pub(crate) struct LoadGranted;
 impl Play<(), SeatView> for LoadGranted {
     ghost use Rattle.std.specs.Prelude.{◌≡◌};
     ghost use Rattle.quanta_till.specs.Till.{after_granted_load};
+    ghost use Rattle.quanta_till.specs.declared.rule.TheConstants.{GRANTED};
 
-    ghost then = { λ _ before found after. (found ≡ before.0.granted) × (after.0 ≡ after_granted_load before.0) };
+    ghost then = { λ step before found after. (step.word ≡ GRANTED) × (found ≡ before.0.granted) × (after.0 ≡ after_granted_load before.0) };
 }
