@@ -30,10 +30,10 @@ pub record IsBoard (b : BoardData) : Type 0 where
 abbrev pub KeepsCapacities : ProjectData → List Placed → Type 0
 KeepsCapacities p placed = (r u : ℕ) → r < renewables p → placed_use p placed r u ≤ capacity p r
 
--- what its fields keep: there is memory for all activities
+-- what its fields keep: there is memory for all activities, and for no more
 pub record HasMemory (b : BoardData) (capacity : ℕ) : Type 0 where
   pub board : IsBoard b
-  pub reserved : size b.project ≤ capacity
+  pub reserved : capacity ≡ size b.project
 
 -- the finish of activity j, once it is placed
 abbrev pub finish_in : ProjectData → List Placed → ℕ → ℕ
