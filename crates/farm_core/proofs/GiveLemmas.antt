@@ -20,7 +20,7 @@ use Rattle.farm_core.specs.Tenant.{book, held, find_job, line_of, nodes_of_turn}
 use Rattle.farm_core.specs.Step.{Replied, Sent, NoTurn, is_slice, has_room, may_have_run}
 use Rattle.farm_core.specs.World.{World, view, Follows}
 use Rattle.farm_core.specs.Farm.{IsFarm, owed, owed_in}
-use Rattle.farm_core.specs.Turn.{nodes_of, IsTurn}
+use Rattle.farm_core.specs.Turn.{nodes_of, IsTurn, IsReady}
 use Rattle.farm_core.proofs.MoveLemmas.{IsMove, account_in, spent_in, stays_follows}
 use Rattle.farm_core.proofs.RunningLemmas.{found_held, after_back}
 use Rattle.farm_core.proofs.FarmLemmas.{owed-most}
@@ -41,6 +41,17 @@ take_refused w t s slice line is not =
     let phase : it.job.phase ≡ line.phase = ap (λ (l : Line). l.phase) it.line_is in
     let not_is : (is_waiting it.job.phase && is_slice slice && has_room 2 (view t w)) ≡ false = ap (λ (p : Phase). is_waiting p && is_slice slice && has_room 2 (view t w)) phase ∙ not in
     stays_follows w t (Take s slice) NoTurn (take_not (view t w) s slice it.job it.found not_is) refl
+
+-- where it can be taken, the job is ready
+pub take_ready : (w : World) (t s slice : ℕ) (line : Line) → t < length w.config.tenants → option_map line_of (find_job s (view t w).jobs) ≡ Some line
+    → (is_waiting line.phase && is_slice slice && has_room 2 (view t w)) ≡ true → IsReady w t s slice
+unfolding line_of
+take_ready w t s slice line known is may =
+    let it = told (view t w) s line is in
+    let phase : it.job.phase ≡ line.phase = ap (λ (l : Line). l.phase) it.line_is in
+    let parts = and_parts (is_waiting line.phase && is_slice slice) (has_room 2 (view t w)) may in
+    let first = and_parts (is_waiting line.phase) (is_slice slice) parts.0 in
+    record { job = it.job; known = known; found = it.found; waits = ap is_waiting phase ∙ first.0; slice_is = first.1; room = parts.1 }
 
 -- a turn that goes out
 pub record IsGoing (w : World) (t s slice : ℕ) (account : Account) (m : Meaning) (rows : List Row) : Type 0 where

@@ -1,9 +1,9 @@
 -- Turns: a job's search in the hands of a worker.
-use Rattle.std.specs.Prelude.{◌≡◌, ◌⊎◌, ℕ, ◌+◌, ◌-◌, ◌<◌, min, true, false, length, Some}
+use Rattle.std.specs.Prelude.{◌≡◌, ◌⊎◌, ℕ, ◌+◌, ◌-◌, ◌<◌, min, true, false, length, Some, slice_get}
 use Rattle.mrcpsp.specs.Numbers.{first_from}
 use Rattle.strategy.specs.Outcome.{is_closed}
 use Rattle.strategy.specs.Search.{Meaning}
-use Rattle.job_table.specs.Table.{JobData, find_row, is_waiting}
+use Rattle.job_table.specs.Table.{JobData, find_row, is_waiting, waiting_keys}
 use Rattle.job_table.specs.Job.{meaning_of, IsOwn}
 use Rattle.job_table.specs.declared.phase.Phase.TheVariants.{Out}
 use Rattle.farm_core.specs.declared.entry.Event.TheVariants.{Take, Give}
@@ -63,3 +63,9 @@ pub record IsReady (w : World) (t s slice : ℕ) : Type 0 where
   pub waits : is_waiting job.phase ≡ true
   pub slice_is : is_slice slice ≡ true
   pub room : has_room 2 (view t w) ≡ true
+
+-- it is the first of them in the order in which the jobs came: no waiting job before it is of a tenant that has entries for a turn
+pub record IsFirstReady (w : World) (t s : ℕ) : Type 0 where
+  pub at : ℕ
+  pub here : slice_get (waiting_keys w.rows) at ≡ Some (t, s)
+  pub before : (j u n : ℕ) → j < at → slice_get (waiting_keys w.rows) j ≡ Some (u, n) → has_room 2 (view u w) ≡ false

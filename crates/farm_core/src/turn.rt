@@ -1,11 +1,11 @@
 //! Turns: a job's search in the hands of a worker, for a while.
-ghost use Rattle.std.specs.Prelude.{◌≡◌, ◌≢◌, ◌<◌, ◌≤◌, ◌+◌, ◌-◌, ◌&&◌, min, true, false, Some, length, IsTrue, IfSome, IfNone, IfOk, IfErr, OnErr, OnOk};
+ghost use Rattle.std.specs.Prelude.{◌≡◌, ◌≢◌, ℕ, ◌<◌, ◌≤◌, ◌+◌, ◌-◌, ◌&&◌, min, true, false, Some, length, IsTrue, IfSome, IfNone, IfOk, IfErr, OnErr, OnOk};
 ghost use Rattle.job_table.specs.Job.{IsStrange};
 ghost use Rattle.job_table.specs.Table.{JobData, find_row, is_waiting};
 ghost use Rattle.farm_core.specs.Tenant.{line_of};
 ghost use Rattle.farm_core.specs.Step.{is_slice, has_room};
 ghost use Rattle.farm_core.specs.World.{World, view};
-ghost use Rattle.farm_core.specs.Turn.{nodes_of, ran_on, IsTurn, IsTaken, IsNotTaken, IsGiven, IsIdle, IsReady};
+ghost use Rattle.farm_core.specs.Turn.{nodes_of, ran_on, IsTurn, IsTaken, IsNotTaken, IsGiven, IsIdle, IsReady, IsFirstReady};
 
 use crate::farm::{keep_room, line_of, write_down};
 use crate::{Event, Farm, Line, NoTurn, Reply};
@@ -115,7 +115,7 @@ impl<J: Strategy> Farm<J> {
     }
 
     /// Takes a turn of a waiting job for at most so many nodes, 1 to 1,000,000, and keeps an entry of the journal for its
-    /// give.
+    /// give. Only where one could be taken is there `NoMemory`.
     #[tactic(auto, using(crate::proofs::GiveLemmas::take_unknown, crate::proofs::GiveLemmas::take_refused))]
     pub fn take(&mut self, tenant: u32, seq: u64, slice: u64) -> Result<Turn<J>, NoTurn>
         requires { tenant < length self.old.config.tenants }
@@ -126,6 +126,7 @@ impl<J: Strategy> Farm<J> {
         ensures ran { IfOk result (λ turn. turn.ran ≡ 0) }
         ensures turn { IfOk result (λ turn. IsTurn turn.slice turn.ran (J.meaning turn.search)) }
         ensures refused { IfErr result (λ why. IsNotTaken self.old tenant seq slice why self.new) }
+        ensures ready { IfErr result (λ why. why ≡ NoTurn.NoMemory → IsReady self.old tenant seq slice) }
         ensures kept { OnErr result (self.new ≡ self.old) }
     {
         let Some(line) = self.snapshot(tenant, seq) else {
@@ -205,6 +206,7 @@ impl<J: Strategy> Farm<J> {
     /// The first job of which a turn of at most so many nodes can be taken, in the order in which the jobs came.
     fn next_ready(&self, slice: u64) -> Option<(u32, u64)>
         ensures ready { IfSome result (λ key. IsReady self.now key.0 key.1 slice) }
+        ensures first { IfSome result (λ key. IsFirstReady self.now key.0 key.1) }
         ensures idle { IfNone result (IsIdle self.now slice) }
     {
         if !is_slice(slice) {
@@ -221,14 +223,17 @@ impl<J: Strategy> Farm<J> {
         None
     }
 
-    /// Takes a turn of some waiting job whose tenant has entries for it.
+    /// Takes a turn of the first waiting job whose tenant has entries for it, in the order in which the jobs came.
+    /// Only where there is one is there `NoMemory`.
     pub fn take_next(&mut self, slice: u64) -> Result<Turn<J>, NoTurn>
         ensures taken { IfOk result (λ turn. IsTaken self.old turn.tenant turn.seq slice (J.meaning turn.search) self.new) }
+        ensures first { IfOk result (λ turn. IsFirstReady self.old turn.tenant turn.seq) }
         ensures known { IfOk result (λ turn. turn.tenant < length self.old.config.tenants) }
         ensures slice { IfOk result (λ turn. turn.slice ≡ slice) }
         ensures ran { IfOk result (λ turn. turn.ran ≡ 0) }
         ensures turn { IfOk result (λ turn. IsTurn turn.slice turn.ran (J.meaning turn.search)) }
         ensures idle { IfErr result (λ why. why ≡ NoTurn.None → IsIdle self.old slice) }
+        ensures ready { IfErr result (λ why. why ≡ NoTurn.NoMemory → (t : ℕ) × (s : ℕ) × IsReady self.old t s slice) }
         ensures kept { OnErr result (self.new ≡ self.old) }
     {
         let Some((tenant, seq)) = self.next_ready(slice) else {

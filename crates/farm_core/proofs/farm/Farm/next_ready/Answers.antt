@@ -29,3 +29,12 @@ returns-then-has_room-clause-ready g c =
 pub returns-clause-idle : goal.returns-clause-idle
 returns-clause-idle g c =
     idle_of c.args.self.now c.args.slice (λ j t s here. c.loop-i.invariant j t s (omega (arith, key_count c.args.self.now.rows j t s here, c.len-i-end.ensures, c.loop-i-test.false, c.loop-i.auto.i-end, ap (λ (x : World). length x.rows) c.self.view_is)) here)
+
+pub returns-then-has_room-clause-first : goal.returns-then-has_room-clause-first
+returns-then-has_room-clause-first g c =
+    let rows_are : c.self.inside.jobs ≡ c.args.self.now.rows = ap (λ (x : World). x.rows) c.self.view_is in
+    record {
+      at = c.loop-i.i;
+      here = ap (λ (rs : List Row). slice_get (waiting_keys rs) c.loop-i.i) (sym rows_are) ∙ sym c.waiting.ensures ∙ c.in-Some.is;
+      before = c.loop-i.invariant;
+    }

@@ -4,7 +4,7 @@ use Rattle.strategy.specs.Search.{Meaning}
 use Rattle.job_table.specs.Job.{IsSent}
 use Rattle.job_table.specs.declared.phase.Phase.TheVariants.{Out}
 use Rattle.farm_core.specs.Tenant.{line_of}
-use Rattle.farm_core.proofs.GiveLemmas.{IsGoing, take_moves, take_refused}
+use Rattle.farm_core.proofs.GiveLemmas.{IsGoing, take_moves, take_ready, take_refused}
 use Rattle.farm_core.proofs.TurnLemmas.{turn_fresh}
 use Rattle.farm_core.specs.declared.account.Account.{Account}
 use Rattle.farm_core.specs.declared.entry.Event.TheVariants.{Take}
@@ -60,3 +60,11 @@ overflow_add-account g c =
 pub returns-then-not-may_take-clause-refused : goal.returns-then-not-may_take-clause-refused
 returns-then-not-may_take-clause-refused g c =
     take_refused c.args.self.now c.args.tenant c.args.seq c.args.slice c.in-Some.line (sym c.snapshot.ensures ∙ c.in-Some.is) (sym c.may_take.ensures.exact ∙ c.if-not-may_take.true)
+
+pub returns-in_default-keep_room-clause-ready : goal.returns-in_default-keep_room-clause-ready
+returns-in_default-keep_room-clause-ready g c =
+    λ _. take_ready c.args.self.now c.args.tenant c.args.seq c.args.slice c.in-Some.line c.requires (sym c.snapshot.ensures ∙ c.in-Some.is) (sym c.may_take.ensures.exact ∙ c.if-not-may_take.false)
+
+pub returns-in_default-send-clause-ready : goal.returns-in_default-send-clause-ready
+returns-in_default-send-clause-ready g c =
+    λ _. take_ready c.args.self.now c.args.tenant c.args.seq c.args.slice c.in-Some.line c.requires (sym c.snapshot.ensures ∙ c.in-Some.is) (sym c.may_take.ensures.exact ∙ c.if-not-may_take.false)
