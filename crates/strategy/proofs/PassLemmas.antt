@@ -25,11 +25,11 @@ find-holds : (P : ℕ → Type 0) (test : ℕ → Bool) (xs : List ℕ) → All 
 find-holds P test [] h = tt
 find-holds P test (x ∷ xs) h = cond_both (test x) (Some x) (find test xs) (λ o. IfSome o P) (λ _. All-head P x xs h) (λ _. find-holds P test xs (All-tail P x xs h))
 
-drawn-holds : (P : ℕ → Type 0) (weight : ℕ → ℕ) (n : ℕ) (xs : List ℕ) → All P xs → IfSome (drawn_at weight n xs) P
+pub drawn-holds : (P : ℕ → Type 0) (weight : ℕ → ℕ) (n : ℕ) (xs : List ℕ) → All P xs → IfSome (drawn_at weight n xs) P
 drawn-holds P weight n [] h = tt
 drawn-holds P weight n (x ∷ xs) h = cond_both (nat_lt n (weight x)) (Some x) (drawn_at weight (n - weight x) xs) (λ o. IfSome o P) (λ _. All-head P x xs h) (λ _. drawn-holds P weight (n - weight x) xs (All-tail P x xs h))
 
-get-holds : (P : ℕ → Type 0) (xs : List ℕ) (i : ℕ) → All P xs → IfSome (slice_get xs i) P
+pub get-holds : (P : ℕ → Type 0) (xs : List ℕ) (i : ℕ) → All P xs → IfSome (slice_get xs i) P
 get-holds P [] i h = tt
 get-holds P (x ∷ xs) zero h = All-head P x xs h
 get-holds P (x ∷ xs) (suc i) h = get-holds P xs i (All-tail P x xs h)
@@ -49,20 +49,20 @@ mode-holds P p RuleSpt i j xs h = find-holds P (λ x. list_all (λ y. nat_le (du
 mode-holds P p (Sample seed) i j xs h = get-holds P xs (word_at seed (2 * i + 1) % length xs) h
 
 -- an eligible activity, and an allowed mode of it
-abbrev IsEligibleOne : ProjectData → List Placed → ℕ → Type 0
+abbrev pub IsEligibleOne : ProjectData → List Placed → ℕ → Type 0
 IsEligibleOne p placed j = (j < size p) × (is_eligible p placed j ≡ true)
 
-abbrev IsAllowedMode : ProjectData → List Placed → ℕ → ℕ → Type 0
+abbrev pub IsAllowedMode : ProjectData → List Placed → ℕ → ℕ → Type 0
 IsAllowedMode p placed j m = (m < mode_count p j) × (is_allowed_mode p placed j m ≡ true)
 
-eligible-hold : (p : ProjectData) (placed : List Placed) → All (IsEligibleOne p placed) (eligible_ones p placed)
+pub eligible-hold : (p : ProjectData) (placed : List Placed) → All (IsEligibleOne p placed) (eligible_ones p placed)
 unfolding eligible_ones
 eligible-hold p placed k d l = (
   All-filter (is_eligible p placed) (λ i. i < size p) (range_with_len 0 (size p)) (All-range (λ i. i < size p) (size p) (λ i h. h)) k d l,
   filter_passes (is_eligible p placed) (range_with_len 0 (size p)) k d l,
 )
 
-allowed-hold : (p : ProjectData) (placed : List Placed) (j : ℕ) → All (IsAllowedMode p placed j) (allowed_modes p placed j)
+pub allowed-hold : (p : ProjectData) (placed : List Placed) (j : ℕ) → All (IsAllowedMode p placed j) (allowed_modes p placed j)
 unfolding allowed_modes
 allowed-hold p placed j k d l = (
   All-filter (is_allowed_mode p placed j) (λ i. i < mode_count p j) (range_with_len 0 (mode_count p j)) (All-range (λ i. i < mode_count p j) (mode_count p j) (λ i h. h)) k d l,
