@@ -37,7 +37,7 @@ impl Model for Pass {
 }
 
 impl Pass {
-    ghost use Rattle.serial_pass.specs.Pass.{fresh, eligible_in, allowed_in, grown, MayComeNext, HasRoom};
+    ghost use Rattle.serial_pass.specs.Pass.{fresh, eligible_in, allowed_in, grown, blank_schedule, MayComeNext, HasRoom};
 
     /// A pass of which no node has run, or an error where there is no memory for it. It copies the project, and has all the
     /// memory that it will need: no other call but `blank` takes any.
@@ -145,9 +145,11 @@ impl Pass {
         }
     }
 
-    /// A schedule with room for all activities, or an error where there is no memory for it.
+    /// A schedule with room for all activities, each of which has no mode and starts at 0, or an error where there is no
+    /// memory for it.
     pub fn blank(&self, alloc: Global) -> Result<Schedule, AllocError>
-        ensures { IfOk result (λ room. HasRoom (size self.now.project) room) }
+        ensures blank { IfOk result (λ schedule. schedule ≡ blank_schedule (size self.now.project)) }
+        ensures room { IfOk result (λ schedule. HasRoom (size self.now.project) schedule) }
     {
         blank(alloc, self.board.project().size())
     }
