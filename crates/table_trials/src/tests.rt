@@ -13,9 +13,8 @@ fn compare<J>(rt: &impl Abort, table: &JobTable<J>, tenant: u32, line: Line) {
     assert_eq!(rt; line_of(table, tenant, 1), Some(line));
 }
 
-/// Two jobs of the same number, of tenants 0 and 1, are apart; the first one is sent, and the other one runs dry, is funded and
-/// is removed.
-fn part_two<J: Strategy>(rt: &impl Abort, table: &mut JobTable<J>) {
+/// Two jobs of the same number, of tenants 0 and 1, are apart, and the first one is sent.
+fn send_first<J: Strategy>(rt: &impl Abort, table: &mut JobTable<J>) {
     compare(rt, table, 0, FRESH);
     compare(rt, table, 1, Line { left: 2, ..FRESH });
     assert_eq!(rt; line_of(table, 2, 1), None);
@@ -41,6 +40,10 @@ fn part_two<J: Strategy>(rt: &impl Abort, table: &mut JobTable<J>) {
         [Some((1, 1)), None]
     );
     assert_eq!(rt; [table.out_of(0), table.out_of(1)], [1, 0]);
+}
+
+/// The other one runs dry, is funded and is removed.
+fn remove_other<J: Strategy>(rt: &impl Abort, table: &mut JobTable<J>) {
     assert_eq!(rt; turn(table, 1, 1, 10), Some(2));
     assert_eq!(rt; table.first_waiting(), None);
     assert!(rt; fund(table, 1, 1, 3));
@@ -74,7 +77,8 @@ fn jobs_of_two_tenants(rt: HostRuntime) -> Result<(), Fail> {
     let search = search_of(alloc, CHAIN, other_till.lease(&mut other_desk)?)?;
     let chain: Box<dyn Strategy> = Box::new(alloc, search)?;
     insert(alloc, &mut table, 1, 1, 2, chain)?;
-    part_two(&rt, &mut table);
+    send_first(&rt, &mut table);
+    remove_other(&rt, &mut table);
     Ok(())
 }
 
