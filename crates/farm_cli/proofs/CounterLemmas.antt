@@ -1,12 +1,13 @@
 -- The tills of tenants, by their numbers.
-use Rattle.std.proofs.Common.{◌≡◌, ℕ, zero, suc, ◌+◌, ◌<◌, List, [], ◌∷◌, ◌++◌, length, get_or, set, take, Some, refl, sym, ap, ◌∙◌, arith}
-use Rattle.std.proofs.lemmas.List.{take_more, length-take-le}
+use Rattle.std.proofs.Common.{◌≡◌, ℕ, zero, suc, ◌+◌, ◌<◌, List, [], ◌∷◌, ◌++◌, length, map, get_or, set, take, Some, refl, sym, ap, ◌∙◌, arith}
+use Rattle.std.proofs.lemmas.List.{take_more, length-take-le, length-map, map-append, get_or-map}
 use Rattle.std.proofs.lemmas.List.Quantifiers.{position-Some}
+use Rattle.quanta_till.specs.Till.{TillValue}
 use Rattle.farm_core.specs.declared.config.TenantLine.{TenantLine}
 use Rattle.farm_core.specs.Config.{ConfigData}
 use Rattle.farm_core.specs.World.{no_terms, terms_in}
 use Rattle.farm_cli.specs.Output.{is_named, number_of}
-use Rattle.farm_cli.specs.Counter.{CounterData, counters_from, counters_of}
+use Rattle.farm_cli.specs.Counter.{CounterData, counter_of, counters_from, counters_of}
 
 pub counters_more : (n : ℕ) (lines : List TenantLine) (line : TenantLine)
     → counters_from n lines ++ (let it : CounterData = record { tenant = n + length lines; granted = line.quanta } in it) ∷ [] ≡ counters_from n (lines ++ line ∷ [])
@@ -42,15 +43,32 @@ counters_on lines t line counter old new known is made before pushed =
     ∙ ap (λ k. counters_from 0 (take t lines) ++ (let it : CounterData = record { tenant = k; granted = line.quanta } in it) ∷ []) (sym number)
     ∙ counters_more 0 (take t lines) line ∙ ap (λ x. counters_from 0 (take t lines ++ x ∷ [])) is ∙ ap (counters_from 0) (sym (take_more lines t line known))
 
+-- the same of the tills themselves
+pub tills_on : (lines : List TenantLine) (t : ℕ) (line : TenantLine) (till : TillValue) (old new : List TillValue) → t < length lines → line ≡ get_or lines t line
+    → counter_of till ≡ record { tenant = t; granted = line.quanta } → map counter_of old ≡ counters_from 0 (take t lines) → new ≡ old ++ till ∷ [] → map counter_of new ≡ counters_from 0 (take (t + 1) lines)
+tills_on lines t line till old new known is made before pushed =
+    counters_on lines t line (counter_of till) (map counter_of old) (map counter_of new) known is made before (ap (map counter_of) pushed ∙ map-append counter_of old (till ∷ []))
+
 -- a tenant that has a name has a number
 pub known_number : (who : List ℕ) (config : ConfigData) (t : ℕ) → number_of who config ≡ Some t → t < length config.tenants
 known_number who config t at = (position-Some (is_named who) config.tenants t no_terms at).0
 
--- the till of that number is its tenant's own
+-- there is a till for each tenant
+pub tills_length : (config : ConfigData) (tills : List TillValue) (t : ℕ) → map counter_of tills ≡ counters_of config → t < length config.tenants → t < length tills
+tills_length config tills t are known = omega (arith, known, ap length are, length-map tills counter_of, counters_length 0 config.tenants)
+
+-- what is told of the till of that number is its tenant's own
 pub own_counter : (config : ConfigData) (counters : List CounterData) (t : ℕ) (d : CounterData) → counters ≡ counters_of config → t < length config.tenants
     → get_or counters t d ≡ record { tenant = t; granted = (terms_in config t).quanta }
 own_counter config counters t d are known =
     ap (λ cs. get_or cs t d) are ∙ counter_at 0 config.tenants t d known ∙ ap (λ k. let it : CounterData = record { tenant = k; granted = (terms_in config t).quanta } in it) (omega arith)
 
-pub kept_counters : (counters : List CounterData) (t : ℕ) (d new : CounterData) → t < length counters → d ≡ get_or counters t d → new ≡ get_or counters t d → set counters t new ≡ counters
-kept_counters counters t d new h is same = ap (set counters t) (same ∙ sym is) ∙ set_same counters t d h is
+-- and so is that of the till itself
+pub own_till : (config : ConfigData) (tills : List TillValue) (t : ℕ) (d : TillValue) → map counter_of tills ≡ counters_of config → t < length config.tenants
+    → counter_of (get_or tills t d) ≡ record { tenant = t; granted = (terms_in config t).quanta }
+own_till config tills t d are known =
+    let few : t < length tills = tills_length config tills t are known in
+    sym (get_or-map counter_of tills t d (counter_of d) few) ∙ own_counter config (map counter_of tills) t (counter_of d) are known
+
+pub kept_tills : (tills : List TillValue) (t : ℕ) (d new : TillValue) → t < length tills → d ≡ get_or tills t d → new ≡ get_or tills t d → set tills t new ≡ tills
+kept_tills tills t d new h is same = ap (set tills t) (same ∙ sym is) ∙ set_same tills t d h is

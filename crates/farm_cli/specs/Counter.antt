@@ -1,5 +1,8 @@
--- The tills of a script's tenants.
+-- The tills of a script's tenants, and what their searches are made of.
 use Rattle.std.specs.Prelude.{ℕ, ◌+◌, List, [], ◌∷◌}
+use Rattle.strategy.specs.declared.plan.Plan.{Plan}
+use Rattle.quanta_till.specs.Till.{TillValue}
+use Rattle.quanta_till.specs.Lease.{LeaseValue}
 use Rattle.farm_core.specs.declared.config.TenantLine.{TenantLine}
 use Rattle.farm_core.specs.Config.{ConfigData}
 
@@ -8,6 +11,9 @@ pub record CounterData : Type 0 where
   pub tenant : ℕ
   pub granted : ℕ
 
+abbrev pub counter_of : TillValue → CounterData
+counter_of till = record { tenant = till.tenant; granted = till.granted }
+
 -- one for each of these tenants, which are numbered from n on, opened with its quanta
 abbrev pub counters_from : ℕ → List TenantLine → List CounterData
 counters_from n [] = []
@@ -15,3 +21,8 @@ counters_from n (line ∷ lines) = record { tenant = n; granted = line.quanta } 
 
 abbrev pub counters_of : ConfigData → List CounterData
 counters_of config = counters_from 0 config.tenants
+
+-- what a search is made of: its plan, and the lease that it draws on
+pub record ReadyData : Type 0 where
+  pub plan : Plan
+  pub lease : LeaseValue

@@ -1,4 +1,7 @@
 //! The programs: what each task does, and the status that it ends with.
+ghost use Rattle.std.specs.Prelude.{◌≡◌, ◌≤◌, OnOk, OnErr};
+ghost use Rattle.std.specs.Process.{exit_status};
+
 use crate::arguments::{Task, parse_words};
 use crate::config::read_config;
 use crate::input::{read_path, read_whole};
@@ -13,7 +16,9 @@ use std::{env, fs, io};
 
 /// Runs the program on the words of the process. The status is 0, 1 for a fault, and 2 for a command line that is refused
 /// and for a request for help; where the text that tells so cannot be printed, it is 1.
-pub fn run<R: Runtime + AllocGlobal>(rt: &R) -> ExitCode {
+pub fn run<R: Runtime + AllocGlobal>(rt: &R) -> ExitCode
+    ensures { exit_status result ≤ 2 }
+{
     let Ok(words) = words_of(rt) else {
         let _ = eprintln!(rt; "farm: cannot read the command line");
         return ExitCode::FAILURE;
@@ -27,7 +32,9 @@ fn words_of<R: Runtime + AllocGlobal>(rt: &R) -> io::Result<Vec<String>> {
 }
 
 /// Runs the program on these words, the first of which is its name.
-pub fn run_words<R: Runtime + AllocGlobal>(rt: &R, words: &[String]) -> ExitCode {
+pub fn run_words<R: Runtime + AllocGlobal>(rt: &R, words: &[String]) -> ExitCode
+    ensures { exit_status result ≤ 2 }
+{
     match parse_words(rt.alloc(), words) {
         Ok(Task::Check { file }) => run_check(rt, file),
         Ok(Task::Replay { config, script }) => run_replay(rt, config, script),
@@ -39,7 +46,9 @@ pub fn run_words<R: Runtime + AllocGlobal>(rt: &R, words: &[String]) -> ExitCode
 }
 
 /// Prints what the project of a file holds, or the fault of the file.
-fn run_check<R: Runtime + AllocGlobal>(rt: &R, file: &str) -> ExitCode {
+fn run_check<R: Runtime + AllocGlobal>(rt: &R, file: &str) -> ExitCode
+    ensures { exit_status result ≤ 1 }
+{
     let Ok(text) = read_path(rt, file) else {
         let _ = eprintln!(rt; "farm: cannot read {file}");
         return ExitCode::FAILURE;
@@ -79,7 +88,9 @@ fn config_at<R: Files + AllocGlobal + Eprint>(rt: &R, path: &str) -> Option<Conf
 }
 
 /// Replays a script on a farm of the configuration, and prints the replies.
-fn run_replay<R: Runtime + AllocGlobal>(rt: &R, config: &str, script: &str) -> ExitCode {
+fn run_replay<R: Runtime + AllocGlobal>(rt: &R, config: &str, script: &str) -> ExitCode
+    ensures { exit_status result ≤ 1 }
+{
     let Some(config) = config_at(rt, config) else {
         return ExitCode::FAILURE;
     };
@@ -112,7 +123,10 @@ fn replay_to<R: Runtime + AllocGlobal, S: Read + Drop>(
 }
 
 /// The status of a replay, with its fault on standard error.
-fn end_replay<R: Eprint>(rt: &R, ended: Result<(), ReplayFault>) -> ExitCode {
+fn end_replay<R: Eprint>(rt: &R, ended: Result<(), ReplayFault>) -> ExitCode
+    ensures ok { OnOk ended (exit_status result ≡ 0) }
+    ensures fault { OnErr ended (exit_status result ≡ 1) }
+{
     match ended {
         Ok(()) => ExitCode::SUCCESS,
         Err(fault) => {

@@ -1,10 +1,10 @@
 //! Scripts of requests, run one after another on a farm of one thread.
-ghost use Rattle.std.specs.Prelude.{◌≡◌, [], length, IfSome, IfErr, OnOk};
+ghost use Rattle.std.specs.Prelude.{◌≡◌, [], length, map, IfSome, IfErr, OnOk};
 ghost use Rattle.farm_core.specs.World.{opened};
 ghost use Rattle.session_lines.specs.Known.{Writes};
 ghost use Rattle.session_lines.specs.ReplyText.{reply_line};
 ghost use Rattle.session_lines.specs.Script.{requests_of};
-ghost use Rattle.farm_cli.specs.Counter.{counters_of};
+ghost use Rattle.farm_cli.specs.Counter.{counter_of, counters_of};
 ghost use Rattle.farm_cli.specs.Floor.{IsFloor};
 ghost use Rattle.farm_cli.specs.Output.{IsWritten, IsCutOff};
 ghost use Rattle.farm_cli.specs.Replay.{end_of, GoesOn};
@@ -90,7 +90,7 @@ fn play<J: Strategy, R: Read, W: Write, M: Fn(Ready) -> Option<J>>(
     make: &M,
 ) -> Result<(), ReplayFault>
     requires farm { floor.old.farm ≡ opened config.now }
-    requires counters { counters.old ≡ counters_of config.now }
+    requires counters { map counter_of counters.old ≡ counters_of config.now }
     requires make { M.IsAlwaysCallable make.now }
     requires floor { IsFloor J.meaning floor.old.farm floor.old.held.items }
     ensures written { OnOk result (IfSome (R.remaining script.old) (λ bytes. IsWritten config.now bytes (W.contents writer.old) (W.contents writer.new))) }

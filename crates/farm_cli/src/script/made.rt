@@ -1,8 +1,11 @@
 //! The searches of submitted jobs.
-ghost use Rattle.std.specs.Prelude.{◌≡◌};
+ghost use Rattle.std.specs.Prelude.{◌≡◌, IfSome};
 ghost use Rattle.strategy.specs.declared.kind.Kind.TheVariants as kind;
-ghost use Rattle.quanta_till.specs.Lease.{IsEmpty};
+ghost use Rattle.quanta_till.specs.Lease.{empty_lease};
+ghost use Rattle.tree_search.specs.Search as tree_search;
 ghost use Rattle.rule_search.specs.Rule.{IsRule};
+ghost use Rattle.rule_search.specs.Search as rule_search;
+ghost use Rattle.sample_search.specs.Search as sample_search;
 ghost use Rattle.sample_search.specs.Search.{IsSample};
 
 use super::counter::Counter;
@@ -14,7 +17,7 @@ use std::marker::Model;
 use strategy::{Kind, Plan};
 use tree_search::TreeSearch;
 
-/// What a search is made of. Contracts see its plan's kind.
+/// What a search is made of. Contracts see the plan and the lease.
 #[derive(Drop)]
 pub(crate) struct Ready {
     plan: Plan,
@@ -22,12 +25,12 @@ pub(crate) struct Ready {
 }
 
 impl Model for Ready {
-    ghost use Rattle.strategy.specs.declared.kind.Kind.{Kind};
     ghost use Rattle.quanta_till.specs.Lease.{IsEmpty};
+    ghost use Rattle.farm_cli.specs.Counter.{ReadyData};
 
-    ghost Value = { Kind };
+    ghost Value = { ReadyData };
 
-    ghost view = { λ r. r.plan.kind };
+    ghost view = { λ r. record { plan = r.plan; lease = r.lease } };
 
     ghost invariant = { λ r. IsEmpty r.lease };
 }
@@ -35,7 +38,8 @@ impl Model for Ready {
 impl Ready {
     /// A copy of the plan, with a lease of the tenant's till. There is nothing where there is no memory for it.
     pub(crate) fn new(alloc: Global, counter: &mut Counter, plan: &Plan) -> Option<Ready>
-        ensures { counter.new ≡ counter.old }
+        ensures counter { counter.new ≡ counter.old }
+        ensures made { IfSome result (λ ready. ready ≡ record { plan = plan.now; lease = empty_lease counter.old }) }
     {
         let plan = plan.clone_in(alloc).ok()?;
         let lease = counter.lease().ok()?;
@@ -44,14 +48,15 @@ impl Ready {
 
     /// How it is searched.
     pub(crate) fn kind(&self) -> Kind
-        ensures { result ≡ self.now }
+        ensures { result ≡ self.now.plan.kind }
     {
         self.plan.kind
     }
 
     /// The search of the precedence tree.
     pub(crate) fn tree(self, alloc: Global) -> Option<Box<TreeSearch>>
-        requires { self ≡ kind.Tree }
+        requires { self.plan.kind ≡ kind.Tree }
+        ensures { IfSome result (λ search. search.value ≡ tree_search.fresh self.plan self.lease) }
     {
         let Ready { plan, lease } = self;
         let search = TreeSearch::new(alloc, plan, lease).ok()?;
@@ -60,7 +65,8 @@ impl Ready {
 
     /// The search of passes drawn from a seed.
     pub(crate) fn sample(self, alloc: Global) -> Option<Box<SampleSearch>>
-        requires { IsSample self }
+        requires { IsSample self.plan.kind }
+        ensures { IfSome result (λ search. search.value ≡ sample_search.fresh self.plan self.lease) }
     {
         let Ready { plan, lease } = self;
         let search = SampleSearch::new(alloc, plan, lease).ok()?;
@@ -69,7 +75,8 @@ impl Ready {
 
     /// The search of one pass by a rule.
     pub(crate) fn rule(self, alloc: Global) -> Option<Box<RuleSearch>>
-        requires { IsRule self }
+        requires { IsRule self.plan.kind }
+        ensures { IfSome result (λ search. search.value ≡ rule_search.fresh self.plan self.lease) }
     {
         let Ready { plan, lease } = self;
         let search = RuleSearch::new(alloc, plan, lease).ok()?;

@@ -1,6 +1,7 @@
-use Rattle.std.proofs.Common.{◌≡◌, ◌<◌, length, arith, sym, ap, ◌∙◌, subst}
-use Rattle.farm_cli.proofs.CounterLemmas.{known_number, own_counter, kept_counters, counters_length}
+use Rattle.std.proofs.Common.{◌≡◌, ◌<◌, map, arith, sym, ap, ◌∙◌, subst}
+use Rattle.farm_cli.proofs.CounterLemmas.{known_number, own_till, kept_tills, tills_length}
 use Rattle.farm_core.specs.World.{terms_in, opened}
+use Rattle.farm_cli.specs.Counter.{counter_of}
 use Rattle.farm_cli.specs.Floor.{IsFloor}
 use Rattle.farm_cli.proofs.PlayLemmas.{Played, begun, play_begins, settled_on, settled_cut, asked_known, asked_on, asked_cut, play_over, play_written, play_cut}
 use Rattle.farm_cli.proofs.script.play.Goals as goal
@@ -43,7 +44,7 @@ loop-answered-preserved g c =
     elim c.match-hear.branch [
       | in-Told+in_default w ↦ (
         ap (λ x. x.farm.config) w.floor-is ∙ inv.0,
-        w.counters-is ∙ inv.1,
+        ap (map counter_of) w.counters-is ∙ inv.1,
         subst (λ x. IsFloor g.J.Strategy.meaning x.farm x.held.items) (sym w.floor-is) inv.2,
         rw (w.floor-is, w.writer-is)
             (settled_on c.requests_come_in_turn.ensures c.args.config.now (g.R.Read.remaining c.args.script.now) (g.R.Read.remaining c.loop-answered.script) (g.R.Read.remaining c.read_request.new.reader)
@@ -52,11 +53,12 @@ loop-answered-preserved g c =
       )
       | in-Asked+in_default-tell w ↦ (
         ap (λ x. x.farm.config) w.floor-is ∙ w.answer-said.ensures.told.config ∙ inv.0,
-        w.counters-is
-            ∙ kept_counters c.loop-answered.counters w.in-Asked.tenant w.index-counters-tenant.result w.answer-said.new.counter
-            (subst (λ k. w.in-Asked.tenant < k) (sym (ap length inv.1 ∙ counters_length 0 c.args.config.now.tenants))
+        ap (map counter_of)
+            (w.counters-is
+            ∙ kept_tills c.loop-answered.counters w.in-Asked.tenant w.index-counters-tenant.result w.answer-said.new.counter
+            (tills_length c.args.config.now c.loop-answered.counters w.in-Asked.tenant inv.1
             (known_number w.in-Asked.who c.args.config.now w.in-Asked.tenant (asked_known c.args.config.now c.read_request.result w.in-Asked.tenant w.in-Asked.who w.in-Asked.asked (cc (w.in-Asked.is, c.hear.ensures)))))
-            w.index-counters-tenant.is w.answer-said.ensures.counter
+            w.index-counters-tenant.is w.answer-said.ensures.counter)
             ∙ inv.1,
         subst (λ x. IsFloor g.J.Strategy.meaning x.farm x.held.items) (sym w.floor-is) w.answer-said.ensures.floor,
         rw (w.floor-is, w.writer-is)
@@ -82,18 +84,18 @@ returns-clause-cut_off g c =
 
 pub bounds-counters-tenant : goal.bounds-counters-tenant
 bounds-counters-tenant g c =
-    subst (λ k. c.in-Asked.tenant < k) (sym (ap length c.loop-answered.invariant.1 ∙ counters_length 0 c.args.config.now.tenants))
+    tills_length c.args.config.now c.loop-answered.counters c.in-Asked.tenant c.loop-answered.invariant.1
     (known_number c.in-Asked.who c.args.config.now c.in-Asked.tenant (asked_known c.args.config.now c.read_request.result c.in-Asked.tenant c.in-Asked.who c.in-Asked.asked (cc (c.in-Asked.is, c.hear.ensures))))
 
 pub answer-said-requires-clause-counter : goal.answer-said-requires-clause-counter
 answer-said-requires-clause-counter g c κs within =
     ap (λ x. x.tenant)
-    (own_counter c.args.config.now c.loop-answered.counters c.in-Asked.tenant c.index-counters-tenant.result c.loop-answered.invariant.1
+    (own_till c.args.config.now c.loop-answered.counters c.in-Asked.tenant c.index-counters-tenant.result c.loop-answered.invariant.1
     (known_number c.in-Asked.who c.args.config.now c.in-Asked.tenant (asked_known c.args.config.now c.read_request.result c.in-Asked.tenant c.in-Asked.who c.in-Asked.asked (cc (c.in-Asked.is, c.hear.ensures)))))
 
 pub answer-said-requires-clause-granted : goal.answer-said-requires-clause-granted
 answer-said-requires-clause-granted g c κs within =
     ap (λ x. x.granted)
-    (own_counter c.args.config.now c.loop-answered.counters c.in-Asked.tenant c.index-counters-tenant.result c.loop-answered.invariant.1
+    (own_till c.args.config.now c.loop-answered.counters c.in-Asked.tenant c.index-counters-tenant.result c.loop-answered.invariant.1
     (known_number c.in-Asked.who c.args.config.now c.in-Asked.tenant (asked_known c.args.config.now c.read_request.result c.in-Asked.tenant c.in-Asked.who c.in-Asked.asked (cc (c.in-Asked.is, c.hear.ensures)))))
     ∙ ap (λ k. (terms_in k c.in-Asked.tenant).quanta) (sym c.loop-answered.invariant.0)

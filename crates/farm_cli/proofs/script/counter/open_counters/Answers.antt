@@ -1,6 +1,6 @@
 use Rattle.std.proofs.Common.{◌≡◌, ◌<◌, length, get_or, sym, ap, ◌∙◌, subst}
 use Rattle.farm_cli.specs.Counter.{CounterData}
-use Rattle.farm_cli.proofs.CounterLemmas.{counters_on}
+use Rattle.farm_cli.proofs.CounterLemmas.{tills_on}
 use Rattle.farm_cli.proofs.script.counter.open_counters.Goals as goal
 
 pub loop-tenant-preserved : goal.loop-tenant-preserved
@@ -12,6 +12,6 @@ loop-tenant-preserved c =
     let below : t < length c.tenants-lines.result.now = c.loop-tenant-test.true in
     let known : t < length lines = subst (λ xs. t < length xs) all below in
     let is : line ≡ get_or lines t line = c.index-lines-tenant.is ∙ ap (λ xs. get_or xs t line) all in
-    counters_on lines t line c.in_ok-open.field-0 c.loop-tenant.counters.items c.push.new.self.items known is
+    tills_on lines t line c.in_ok-open.field-0 c.loop-tenant.counters.items c.push.new.self.items known is
     (c.in_ok-open.ensures ∙ ap (λ l. let it : CounterData = record { tenant = t; granted = l.quanta } in it) (sym c.index-lines-tenant.is))
     c.loop-tenant.invariant c.in_ok-push.ensures.items
