@@ -4,6 +4,7 @@
     plain_searches.py KIND FILE [NODES]     what the search of a .mm file shows after each node
     plain_searches.py groups SEED GROUPS N      of each group of N small random projects, what each kind of search shows:
                                             how many nodes there were, and a sum over all that was shown after each
+    plain_searches.py largest                   the same of a project at the limits, whose activities follow one another
 
 KIND is tree, rule:lft, rule:mts, rule:spt or sample:SEED. Nothing here is shared with the service: no code, no
 tables. Activities and modes are counted from 0 inside, and from 1 in what is printed.
@@ -253,7 +254,17 @@ def group(drawn, n):
     return shown
 
 
+def largest():
+    """202 activities, one after another, of 10 periods, with eight resources of each sort. The last has ten modes."""
+    modes = [[(10, [1] * 8, [1] * 8) for _ in range(10 if j == 201 else 1)] for j in range(202)]
+    return Project(modes, [[j + 1] if j < 201 else [] for j in range(202)], [1] * 8, [202] * 8)
+
+
 def main():
+    if sys.argv[1] == "largest":
+        kinds = ["tree", "rule:lft", "rule:mts", "rule:spt", "sample:0"]
+        print([digest(largest(), kind, 205, 0) for kind in kinds])
+        return
     if sys.argv[1] == "groups":
         drawn = Drawn(int(sys.argv[2]))
         for _ in range(int(sys.argv[3])):

@@ -4,11 +4,14 @@
 //!
 //! - `drawn`: small random projects.
 //! - `shown`: a sum over all that a search shows after each of its nodes.
+//! - `largest`: a project at the limits, whose line `plain_searches.py largest` prints.
 //! - `tests`: the table.
 #![tactic(auto)]
 
 #[cfg(test)]
 mod drawn;
+#[cfg(test)]
+mod largest;
 #[cfg(test)]
 mod shown;
 #[cfg(test)]

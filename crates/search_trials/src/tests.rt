@@ -1,5 +1,6 @@
-//! The table: 120 random projects in twelve groups.
+//! The table: 120 random projects in twelve groups; and a project at the limits.
 use crate::drawn::Drawn;
+use crate::largest::largest;
 use crate::shown::Shown;
 use std::alloc::Global;
 use std::process::Abort;
@@ -94,6 +95,15 @@ const TABLE: [[(u64, u32); 5]; 12] = [
     ],
 ];
 
+/// The same of the project at the limits, after at most 205 nodes.
+const LARGEST: [(u64, u32); 5] = [
+    (205, 341_652_620),
+    (202, 3_513_922_436),
+    (202, 3_513_922_436),
+    (202, 3_513_922_436),
+    (205, 2_342_807_724),
+];
+
 /// What the five kinds show of ten projects: sampling with the seeds 0 to 9 and for four passes, the others to their ends,
 /// but the tree for at most 400 nodes.
 fn group(alloc: Global, drawn: &mut Drawn) -> Result<[Shown; 5], Fail> {
@@ -130,5 +140,23 @@ fn random_projects_node_by_node(rt: HostRuntime) -> Result<(), Fail> {
         let shown = group(rt.alloc(), &mut drawn)?;
         compare(&rt, &shown, line);
     }
+    Ok(())
+}
+
+#[test]
+fn a_project_at_the_limits(rt: HostRuntime) -> Result<(), Fail> {
+    let project = largest(rt.alloc())?.ok_or("within the limits")?;
+    let mut shown = [Shown { nodes: 0, sum: 0 }; 5];
+    let kinds = [
+        Kind::Tree,
+        Kind::RuleLft,
+        Kind::RuleMts,
+        Kind::RuleSpt,
+        Kind::Sample(0),
+    ];
+    for (one, kind) in shown.iter_mut().zip(kinds) {
+        one.add_kind(rt.alloc(), &project, kind, 205)?;
+    }
+    compare(&rt, &shown, &LARGEST);
     Ok(())
 }
