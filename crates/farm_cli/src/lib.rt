@@ -3,7 +3,8 @@
 //! [`replay`] is the main job: what it writes is the output that the definitions make of the script's bytes (`specs/Output`), whole
 //! or cut off by a named fault, and the `laws` say what a user may rest on: each tenant's lines are those of its own requests,
 //! and each line about a job is true. [`read_config`] and [`summarize`] answer exactly what their definitions say of the
-//! bytes. [`run`] is the program, with its words, files and exit status: it is proved to be safe and to return, and tested.
+//! bytes. [`run`] is the program, with its words, files and exit status: it is proved to be safe and to
+//! return a status of at most 2, and tested.
 //!
 //! - `arguments`: the words of a command line.
 //! - `input`: reading at most so many bytes of a file or of standard input.
