@@ -1,4 +1,4 @@
-//! Reply lines byte for byte, and a writer that fails.
+//! Reply lines byte for byte, and writers that fail or are interrupted.
 use crate::{Said, WriteFault, write_reply};
 use farm_core::{Line, Name, Reply};
 use job_table::Phase;
@@ -6,7 +6,7 @@ use mrcpsp::{Schedule, Sequence};
 use psplib_mm::{LimitName, MmFault, SectionName};
 use std::alloc::{AllocError, Global};
 use std::io;
-use std::io::Write;
+use std::io::{Error, ErrorKind, Write};
 use std::process::Abort;
 use std::test::Fail;
 use strategy::Verdict;
@@ -208,5 +208,40 @@ fn a_writer_that_is_full(rt: HostRuntime) -> Result<(), Fail> {
     let Full { taken, room } = writer;
     assert!(rt; taken.as_slice() == b"@a job".as_slice());
     assert!(rt; room == 0);
+    Ok(())
+}
+
+// Takes three bytes at a time, with an interrupted write before each.
+#[derive(Drop)]
+struct Halting {
+    taken: Vec<u8>,
+    interrupts: bool,
+}
+
+impl Write for Halting {
+    fn write(&mut self, buf: &[u8]) -> io::Result<usize> {
+        self.interrupts = !self.interrupts;
+        if self.interrupts {
+            return Err(Error::from(ErrorKind::Interrupted));
+        }
+        let most = buf.len().min(3);
+        self.taken.extend_from_slice(&buf[..most])?;
+        Ok(most)
+    }
+
+    fn flush(&mut self) -> io::Result<()> {
+        Ok(())
+    }
+}
+
+#[test]
+fn a_writer_that_is_interrupted(rt: HostRuntime) -> Result<(), Fail> {
+    let mut writer = Halting {
+        taken: Vec::new(rt.alloc()),
+        interrupts: false,
+    };
+    let said = Said::Reply(Reply::Job(1));
+    assert!(rt; write_reply(&mut writer, Name::new(b"a"), &said) == Ok(()));
+    assert!(rt; writer.taken.as_slice() == b"@a job 1\n".as_slice());
     Ok(())
 }
