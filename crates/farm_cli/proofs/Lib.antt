@@ -8,3 +8,5 @@ pub mod PlannedLemmas
 pub mod Examples
 pub mod BeginLemmas
 pub mod CounterLemmas
+pub mod CommandLineLemmas
+pub mod CommandLineExamples

@@ -8,3 +8,4 @@ pub mod Isolation
 pub mod Truth
 pub mod Begins
 pub mod Counter
+pub mod CommandLine

@@ -1,4 +1,8 @@
 //! The words of a command line.
+ghost use Rattle.std.specs.Prelude.{◌≡◌, ◌<◌, ◌≤◌, IfOk, IsOkAnd, length, map, codes, string_bytes};
+ghost use Rattle.clap.specs.Words.{app_of, fault_of, subcommand_of, subcommand_rows_of, FailsBy};
+ghost use Rattle.farm_cli.specs.CommandLine.{farm_app, Checks, Asks};
+
 use clap::{Arg, ArgMatches, Command, Error};
 use std::alloc::{AllocError, Global};
 
@@ -20,22 +24,15 @@ pub enum Task<'a> {
 }
 
 /// The command `farm` with its subcommands, or an error where there is no memory for it.
-pub fn farm_command<'a>(alloc: Global) -> Result<Command<'a>, AllocError> {
+pub fn farm_command<'a>(alloc: Global) -> Result<Command<'a>, AllocError>
+    ensures { IfOk result (λ command. app_of command ≡ farm_app) }
+{
     let file = Arg::new(alloc, "FILE")
         .help("A PSPLIB multi-mode file, or - for standard input")
         .required(true);
     let check = Command::new(alloc, "check")
         .about("Reads a multi-mode project and prints what it holds")
         .arg(file)?;
-    Command::new(alloc, "farm")
-        .about("Schedules multi-mode projects for several tenants")
-        .subcommand_required(true)
-        .subcommand(check)?
-        .subcommand(replay_command(alloc)?)
-}
-
-/// The subcommand `replay`.
-fn replay_command<'a>(alloc: Global) -> Result<Command<'a>, AllocError> {
     let config = Arg::new(alloc, "config")
         .long("config")
         .value_name("F")
@@ -44,24 +41,38 @@ fn replay_command<'a>(alloc: Global) -> Result<Command<'a>, AllocError> {
     let script = Arg::new(alloc, "SCRIPT")
         .help("Requests, one a line, or - for standard input")
         .required(true);
-    Command::new(alloc, "replay")
+    let replay = Command::new(alloc, "replay")
         .about("Replays a script of requests and prints the replies")
         .arg(config)?
-        .arg(script)
+        .arg(script)?;
+    Command::new(alloc, "farm")
+        .about("Schedules multi-mode projects for several tenants")
+        .subcommand_required(true)
+        .subcommand(check)?
+        .subcommand(replay)
 }
 
 /// What the words ask for; the first one is the program's name. With no other word that is `check -`. An error is what
 /// the command line refuses, or the help that was asked for.
-pub fn parse_words<'a>(alloc: Global, words: &'a [String]) -> Result<Task<'a>, Error> {
+pub fn parse_words<'a>(alloc: Global, words: &'a [String]) -> Result<Task<'a>, Error>
+    ensures bare { length words.now < 2 → IsOkAnd result (Checks (codes "-")) }
+    ensures asked { 2 ≤ length words.now → IfOk result (Asks (subcommand_of farm_app (map string_bytes words.now))) }
+    ensures judged { 2 ≤ length words.now → FailsBy (fault_of farm_app (map string_bytes words.now)) result }
+{
     if words.len() < 2 {
         return Ok(Task::Check { file: "-" });
     }
     let command = farm_command(alloc)?;
-    let matches = command.try_get_matches_from(words)?;
-    Ok(task_of(&matches))
+    match command.try_get_matches_from(words) {
+        Ok(matches) => Ok(task_of(&matches)),
+        Err(error) => Err(error),
+    }
 }
 
-fn task_of<'a>(matches: &ArgMatches<'a>) -> Task<'a> {
+/// What a subcommand and its arguments ask for.
+fn task_of<'a>(matches: &ArgMatches<'a>) -> Task<'a>
+    ensures { Asks (subcommand_rows_of matches.now) result }
+{
     match matches.subcommand() {
         Some(("check", chosen)) => Task::Check {
             file: chosen.get_str("FILE").unwrap_or("-"),

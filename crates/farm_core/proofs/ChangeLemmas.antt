@@ -1,13 +1,13 @@
 -- Calls that change a job, make one, or keep one no longer, and what a tenant's account tells then.
-use Rattle.std.proofs.Common.{◌≡◌, ℕ, ◌+◌, ◌-◌, ◌<◌, true, Some, List, [], ◌∷◌, ◌++◌, length, get_or, refl, sym, ap, ◌∙◌, arith}
-use Rattle.std.proofs.lemmas.Bool.{cond_both}
+use Rattle.std.proofs.Common.{◌≡◌, ℕ, ◌+◌, ◌-◌, ◌<◌, ◌==◌, true, Option, Some, List, [], ◌∷◌, ◌++◌, length, get_or, refl, sym, ap, ◌∙◌, arith, inl, inr}
+use Rattle.std.proofs.lemmas.Bool.{cond_both, eqb-true, and_parts}
 use Rattle.tenant_book.specs.Book.{BookData}
 use Rattle.job_table.specs.Table.{Row, JobData, is_row, find_row, put_row, drop_row, jobs_of}
 use Rattle.farm_core.specs.declared.entry.Event.{Event}
 use Rattle.farm_core.specs.declared.account.Account.{Account}
 use Rattle.farm_core.specs.Tenant.{book, held, held_by, free, find_job, put_job, drop_job}
 use Rattle.farm_core.specs.Step.{Answer, Step, step}
-use Rattle.farm_core.specs.World.{World, terms_in, view, entries_of, is_noted}
+use Rattle.farm_core.specs.World.{World, terms_in, view, entries_of, is_noted, keys, IsWithout}
 use Rattle.farm_core.specs.Farm.{IsFarm, AreOf}
 use Rattle.farm_core.proofs.ViewLemmas.{found_own, put_own, put_other, drop_own, drop_other, push_own, push_other}
 use Rattle.farm_core.proofs.MoveLemmas.{IsMove, account_in, spent_in}
@@ -61,6 +61,45 @@ push_whose : (n t : ℕ) (new : JobData) (rows : List Row) → t < n → AreOf n
 push_whose n t new [] l all = (l, tt)
 push_whose n t new (row ∷ rows) l all = (all.0, push_whose n t new rows l all.1)
 
+abbrev key_of : Row → ℕ × ℕ
+key_of row = (row.tenant, row.job.seq)
+
+key_is : (t s : ℕ) (row : Row) → is_row t s row ≡ true → key_of row ≡ (t, s)
+key_is t s row is =
+    let parts = and_parts (row.tenant == t) (row.job.seq == s) is in
+    ap {B = ℕ × ℕ} (λ n. (n, row.job.seq)) (eqb-true row.tenant t parts.0) ∙ ap {B = ℕ × ℕ} (λ n. (t, n)) (eqb-true row.job.seq s parts.1)
+
+put_keys : (t s : ℕ) (new : JobData) (rows : List Row) → new.seq ≡ s → keys (put_row t s new rows) ≡ keys rows
+put_keys t s new [] seq = refl
+put_keys t s new (row ∷ rows) seq =
+    cond_both (is_row t s row) (record { tenant = t; job = new } ∷ rows) (row ∷ put_row t s new rows) (λ (rs : List Row). keys rs ≡ keys (row ∷ rows))
+    (λ is. ap {B = List (ℕ × ℕ)} (λ k. k ∷ keys rows) (ap {B = ℕ × ℕ} (λ n. (t, n)) seq ∙ sym (key_is t s row is)))
+    (λ _. ap {B = List (ℕ × ℕ)} (λ ks. key_of row ∷ ks) (put_keys t s new rows seq))
+
+drop_keys : (t s : ℕ) (job : JobData) (rows : List Row) → find_row t s rows ≡ Some job → IsWithout t (keys rows) (keys (drop_row t s rows))
+drop_keys t s job [] found = absurd (cc)
+drop_keys t s job (row ∷ rows) found =
+    cond_both (is_row t s row) (Some row.job) (find_row t s rows) (λ (o : Option JobData). o ≡ Some job → IsWithout t (keys (row ∷ rows)) (keys (drop_row t s (row ∷ rows))))
+    (λ is _. record {
+      seq = s;
+      before = [];
+      behind = keys rows;
+      was = ap {B = List (ℕ × ℕ)} (λ k. k ∷ keys rows) (key_is t s row is);
+      is = rw is refl;
+    })
+    (λ isnt h. let it = drop_keys t s job rows h in record {
+      seq = it.seq;
+      before = key_of row ∷ it.before;
+      behind = it.behind;
+      was = ap {B = List (ℕ × ℕ)} (λ ks. key_of row ∷ ks) it.was;
+      is = rw isnt (ap {B = List (ℕ × ℕ)} (λ ks. key_of row ∷ ks) it.is);
+    })
+    found
+
+push_keys : (t : ℕ) (new : JobData) (rows : List Row) → keys (rows ++ record { tenant = t; job = new } ∷ []) ≡ keys rows ++ (t, new.seq) ∷ []
+push_keys t new [] = refl
+push_keys t new (row ∷ rows) = ap {B = List (ℕ × ℕ)} (λ ks. key_of row ∷ ks) (push_keys t new rows)
+
 -- a job stands otherwise
 pub changed_moves : (w : World) (t s capacity : ℕ) (account : Account) (job new : JobData) (then : BookData) (event : Event) (answer : Answer)
     → IsFarm w capacity → t < length w.config.tenants → account ≡ get_or w.accounts t account → find_row t s w.rows ≡ Some job → new.seq ≡ job.seq
@@ -86,6 +125,7 @@ changed_moves w t s capacity account job new then event answer farm l is found n
         used = omega (arith, a.used);
       };
       others = λ u differ. put_other u t s new w.rows differ;
+      order = inl (put_keys t s new w.rows seq);
       whose = put_whose (length w.accounts) t s new w.rows (omega (arith, farm.count)) farm.whose;
     }
 
@@ -115,6 +155,7 @@ dropped_moves w t s capacity account job event answer farm l is found none steps
         used = omega (arith, a.used);
       };
       others = λ u differ. drop_other u t s w.rows differ;
+      order = inr (inr (drop_keys t s job w.rows found));
       whose = drop_whose (length w.accounts) t s w.rows farm.whose;
     }
 
@@ -142,5 +183,6 @@ pushed_moves w t capacity account new then event answer farm l is steps told gra
         used = omega (arith, a.used);
       };
       others = λ u differ. push_other u t new w.rows differ;
+      order = inr (inl (new.seq, push_keys t new w.rows));
       whose = push_whose (length w.accounts) t new w.rows (omega (arith, farm.count)) farm.whose;
     }

@@ -1,5 +1,6 @@
 -- The steps of a tenant alone over three scripts, computed.
-use Rattle.std.proofs.Common.{◌≡◌, ℕ, List, [], ◌∷◌, Option, Some, None, refl}
+use Rattle.std.proofs.Common.{◌≡◌, ℕ, zero, suc, ◌+◌, ◌<◌, true, false, List, [], ◌∷◌, Option, Some, None, length, refl, ap, ◌∙◌, subst, arith, inl, inr, length-append}
+use Rattle.std.specs.Prelude.{slice_get}
 use Rattle.mrcpsp.specs.Project.{ProjectData, ModeData, size, renewables, nonrenewables, modes, mode_count, successors, duration, request, consumption, capacity, stock, precedes}
 use Rattle.mrcpsp.specs.Schedule.{mode_of, start_of, finish, load, makespan}
 use Rattle.mrcpsp.specs.Values.{shortest, least, tail, lft}
@@ -13,6 +14,7 @@ use Rattle.strategy.specs.declared.kind.Kind.TheVariants.{Tree, RuleLft}
 use Rattle.strategy.specs.declared.plan.Plan.{Plan}
 use Rattle.strategy.specs.declared.verdict.Verdict.{Verdict}
 use Rattle.strategy.specs.declared.verdict.Verdict.TheVariants.{Going, Optimal, Ended}
+use Rattle.job_table.specs.Table.{Row, waiting_keys}
 use Rattle.job_table.specs.declared.phase.Phase.{Phase}
 use Rattle.job_table.specs.declared.phase.Phase.TheVariants.{Waiting, Out, Leaving, Dry, Closed, Cancelled}
 use Rattle.farm_core.specs.declared.config.TenantLine.{TenantLine}
@@ -21,8 +23,9 @@ use Rattle.farm_core.specs.declared.entry.Event.TheVariants.{Submit, Fund, Statu
 use Rattle.farm_core.specs.declared.reply.Line.{Line}
 use Rattle.farm_core.specs.declared.reply.Reply.TheVariants as reply
 use Rattle.farm_core.specs.Tenant.{newcomer, held, free, book, kept, line_of, nodes_of_turn}
-use Rattle.farm_core.specs.Step.{Answer, Replied, Sent, NoTurn, submitted, funded, fetched, cancelled, forgotten}
-use Rattle.farm_core.specs.World.{answers_alone}
+use Rattle.farm_core.specs.Step.{Answer, Replied, Sent, NoTurn, submitted, funded, fetched, cancelled, forgotten, has_room}
+use Rattle.farm_core.specs.Turn.{IsFirstReady}
+use Rattle.farm_core.specs.World.{World, view, KeepsOrder, answers_alone}
 
 -- ---- a project, whose searches are over after three nodes, and what is told
 
@@ -166,3 +169,79 @@ dry_and_funded : answers_alone (newcomer (terms 3 2 8)) running_dry ≡
     ∷ []
 unfolding newcomer submitted funded fetched cancelled forgotten held free book kept line_of nodes_of_turn best_after is_closed verdict_after pass chosen_at eligible_ones allowed_modes is_allowed_mode placed_from lft duration size modes renewables nonrenewables mode_count successors request consumption capacity stock precedes load shortest least placed_use placed_consumption are_ready fits is_allowed earliest is_eligible is_executable reserve is_affordable schedule_of makespan finish start_of mode_of
 dry_and_funded = refl
+
+-- ---- whose turn is next: tenant 0's job came first, but it has one entry left; of tenant 1's three jobs the first is out
+
+abbrev row : ℕ → ℕ → Phase → Row
+row t s phase = record { tenant = t; job = record { seq = s; plan = by RuleLft; phase = phase; nodes = 0; left = 5 } }
+
+abbrev queue : World
+queue = record {
+  config = record { tenants = terms 100 3 1 ∷ terms 100 3 9 ∷ []; workers = 1; slice = 5 };
+  rows = row 0 1 Waiting ∷ row 1 1 (Out 2) ∷ row 1 2 Waiting ∷ row 1 3 Waiting ∷ [];
+  journal = [];
+  accounts = [];
+}
+
+waiting_in_order : waiting_keys queue.rows ≡ (0, 1) ∷ (1, 2) ∷ (1, 3) ∷ []
+waiting_in_order = refl
+
+tenant_in : Option (ℕ × ℕ) → ℕ
+tenant_in None = 0
+tenant_in (Some k) = k.0
+
+number_in : Option (ℕ × ℕ) → ℕ
+number_in None = 0
+number_in (Some k) = k.1
+
+-- what is asked of the waiting jobs before the one at this place
+abbrev NoneBefore : ℕ → Type 0
+NoneBefore at = (j u n : ℕ) → j < at → slice_get (waiting_keys queue.rows) j ≡ Some (u, n) → has_room 2 (view u queue) ≡ false
+
+none_before : NoneBefore 1
+unfolding tenant_in view kept
+none_before zero u n l here = let is : 0 ≡ u = ap tenant_in here in subst (λ v. has_room 2 (view v queue) ≡ false) is refl
+none_before (suc j) u n l here = absurd (omega (arith, l))
+
+second_of_1_is_next : IsFirstReady queue 1 2 5
+unfolding view kept
+second_of_1_is_next = record {
+  ready = record {
+    job = record { seq = 2; plan = by RuleLft; phase = Waiting; nodes = 0; left = 5 };
+    known = omega arith;
+    found = refl;
+    waits = refl;
+    slice_is = refl;
+    room = refl;
+  };
+  at = 1;
+  here = refl;
+  before = none_before;
+}
+
+third_at : (at : ℕ) → slice_get (waiting_keys queue.rows) at ≡ Some (1, 3) → NoneBefore at → ⊥
+unfolding tenant_in number_in view kept
+third_at zero here none = let is : 0 ≡ 1 = ap tenant_in here in omega (arith, is)
+third_at (suc zero) here none = let is : 2 ≡ 3 = ap number_in here in omega (arith, is)
+third_at (suc (suc at)) here none = let is : true ≡ false = none 1 1 2 (omega arith) refl in absurd (cc)
+
+third_of_1_is_not : IsFirstReady queue 1 3 5 → ⊥
+third_of_1_is_not it = third_at it.at it.here it.before
+
+-- ---- a job that is gone, and two that changed places
+
+second_gone : KeepsOrder 1 (waiting_keys queue.rows) ((0, 1) ∷ (1, 3) ∷ [])
+second_gone = inr (inr (record { seq = 2; before = (0, 1) ∷ []; behind = (1, 3) ∷ []; was = refl; is = refl }))
+
+first_in : List (ℕ × ℕ) → ℕ
+first_in [] = 0
+first_in (k ∷ ks) = k.0
+
+passed : KeepsOrder 1 ((0, 1) ∷ (1, 2) ∷ []) ((1, 2) ∷ (0, 1) ∷ []) → ⊥
+unfolding first_in
+passed (inl same) = let is : 1 ≡ 0 = ap first_in same in omega (arith, is)
+passed (inr (inl more)) = let is : 2 ≡ 3 = ap {B = ℕ} length more.1 in omega (arith, is)
+passed (inr (inr one)) =
+    let was : 2 ≡ length one.before + suc (length one.behind) = ap {B = ℕ} length one.was ∙ length-append one.before ((1, one.seq) ∷ one.behind) in
+    let is : 2 ≡ length one.before + length one.behind = ap {B = ℕ} length one.is ∙ length-append one.before one.behind in
+    omega (arith, was, is)

@@ -1,5 +1,5 @@
 -- A call that moves the world, and what it keeps.
-use Rattle.std.proofs.Common.{◌≡◌, ◌≢◌, ℕ, zero, suc, ◌+◌, ◌<◌, ◌≤◌, true, false, List, [], ◌∷◌, ◌++◌, length, get_or, set, refl, sym, ap, ◌∙◌, subst, arith, ⊎_elim, length-append}
+use Rattle.std.proofs.Common.{◌≡◌, ◌≢◌, ℕ, zero, suc, ◌+◌, ◌<◌, ◌≤◌, true, false, List, [], ◌∷◌, ◌++◌, length, get_or, set, refl, sym, ap, ◌∙◌, subst, arith, inl, ⊎_elim, length-append}
 use Rattle.std.proofs.lemmas.Bool.{cases_eq, cond-true}
 use Rattle.job_table.specs.Table.{Row, jobs_of}
 use Rattle.farm_core.specs.declared.entry.Entry.{Entry}
@@ -10,7 +10,7 @@ use Rattle.farm_core.specs.Config.{ConfigData}
 use Rattle.farm_core.specs.declared.reply.Reply.TheVariants as reply
 use Rattle.farm_core.specs.Tenant.{Tenant, book, held, free}
 use Rattle.farm_core.specs.Step.{Answer, Replied, Step, step, noted, unnoted, has_room}
-use Rattle.farm_core.specs.World.{World, terms_in, view, entries_of, is_noted, entry_of, Follows, IsOnlyNoted}
+use Rattle.farm_core.specs.World.{World, terms_in, view, entries_of, is_noted, entry_of, keys, KeepsOrder, Follows, IsOnlyNoted}
 use Rattle.farm_core.specs.Farm.{IsAccount, IsFarm, AreOf, owed, IsReply}
 use Rattle.farm_core.proofs.ViewLemmas.{moved, set_own, set_other, follows_from}
 use Rattle.farm_core.proofs.ReplayLemmas.{no_more, replayed_on}
@@ -27,6 +27,7 @@ pub record IsMove (w : World) (t : ℕ) (rows : List Row) (account : Account) (e
   pub noted : is_noted answer ≡ true
   pub told_of : IsAccount (moved_view w t rows account) account
   pub others : (u : ℕ) → u ≢ t → jobs_of u rows ≡ jobs_of u w.rows
+  pub order : KeepsOrder t (keys w.rows) (keys rows)
   pub whose : AreOf (length w.accounts) rows
 
 abbrev pub one_entry : ℕ → Event → List Entry
@@ -43,7 +44,7 @@ move_follows w t rows account event answer move =
     subst (λ (es : List Entry). Follows w t event answer (moved w t rows account es)) one
     (follows_from w t rows account event answer move.known move.told
     (move.after ∙ ap (λ n. let it : Tenant = record { terms = terms_in w.config t; spent = account.book.spent; next = account.next; used = length (entries_of t w.journal) + n; jobs = jobs_of t rows } in it) (sym count))
-    move.others)
+    move.others move.order)
 
 set_length : {A : Type 0} (xs : List A) (t : ℕ) (x : A) → length (set xs t x) ≡ length xs
 set_length [] t x = refl
@@ -101,6 +102,7 @@ stays_follows w t event answer steps told = record {
   answer_is = sym (ap (λ (s : Step). s.answer) steps);
   own = sym (ap (λ (s : Step). s.after) steps);
   others = λ u differ. refl;
+  order = inl refl;
   journal = rw told (no_more w.journal);
   config = refl;
 }
@@ -120,6 +122,7 @@ noted_moves w t capacity account event answer farm l is room it =
       noted = it.noted;
       told_of = record { book = a.book ∙ rw spent refl; next = refl; used = omega (arith, a.used) };
       others = λ u differ. refl;
+      order = inl refl;
       whose = farm.whose;
     }
 

@@ -9,7 +9,7 @@ use Rattle.farm_core.specs.declared.entry.Event.{Event}
 use Rattle.farm_core.specs.Tenant.{find_job, put_job, drop_job}
 use Rattle.farm_core.specs.Step.{Answer, step}
 use Rattle.farm_core.specs.declared.account.Account.{Account}
-use Rattle.farm_core.specs.World.{World, account_of, no_terms, terms_in, view, entries_of, is_noted, entry_of, Follows}
+use Rattle.farm_core.specs.World.{World, account_of, no_terms, terms_in, view, entries_of, is_noted, entry_of, keys, KeepsOrder, Follows}
 
 -- a tenant's job is found among its own
 pub found_own : (t s : ℕ) (rows : List Row) → find_job s (jobs_of t rows) ≡ find_row t s rows
@@ -90,11 +90,13 @@ pub follows_from : (w : World) (t : ℕ) (rows : List Row) (account : Account) (
     → (step (view t w) event).after
     ≡ record { terms = terms_in w.config t; spent = account.book.spent; next = account.next; used = length (entries_of t w.journal) + length (entry_of t event answer); jobs = jobs_of t rows }
     → ((u : ℕ) → u ≢ t → jobs_of u rows ≡ jobs_of u w.rows)
+    → KeepsOrder t (keys w.rows) (keys rows)
     → Follows w t event answer (moved w t rows account (entry_of t event answer))
-follows_from w t rows account event answer l told after others = record {
+follows_from w t rows account event answer l told after others order = record {
   answer_is = told;
   own = moved_own w t rows account event answer l ∙ sym after;
   others = λ u differ. moved_other w u t rows account event answer differ (others u differ);
+  order = order;
   journal = refl;
   config = refl;
 }

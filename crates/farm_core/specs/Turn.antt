@@ -64,8 +64,9 @@ pub record IsReady (w : World) (t s slice : ℕ) : Type 0 where
   pub slice_is : is_slice slice ≡ true
   pub room : has_room 2 (view t w) ≡ true
 
--- it is the first of them in the order in which the jobs came: no waiting job before it is of a tenant that has entries for a turn
-pub record IsFirstReady (w : World) (t s : ℕ) : Type 0 where
+-- the first of these in the order in which the jobs came: no waiting job before it is of a tenant that has entries for a turn
+pub record IsFirstReady (w : World) (t s slice : ℕ) : Type 0 where
+  pub ready : IsReady w t s slice
   pub at : ℕ
   pub here : slice_get (waiting_keys w.rows) at ≡ Some (t, s)
   pub before : (j u n : ℕ) → j < at → slice_get (waiting_keys w.rows) j ≡ Some (u, n) → has_room 2 (view u w) ≡ false

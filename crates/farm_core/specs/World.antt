@@ -1,5 +1,5 @@
 -- The farm of all tenants, what one of them sees of it, and whole runs.
-use Rattle.std.specs.Prelude.{Bool, true, false, cond, ◌≡◌, ◌≢◌, ℕ, ◌==◌, List, [], ◌∷◌, ◌++◌, length, map, filter, get_or}
+use Rattle.std.specs.Prelude.{Bool, true, false, cond, ◌≡◌, ◌≢◌, ◌⊎◌, ℕ, ◌==◌, List, [], ◌∷◌, ◌++◌, length, map, filter, get_or}
 use Rattle.tenant_book.specs.Book as book
 use Rattle.tenant_book.specs.Book.{BookData}
 use Rattle.job_table.specs.Table.{Row, jobs_of}
@@ -64,11 +64,28 @@ pub record IsOnlyNoted (t : Tenant) (event : Event) (answer : Reply) : Type 0 wh
 abbrev pub entry_of : ℕ → Event → Answer → List Entry
 entry_of t event answer = cond (is_noted answer) (record { tenant = t; event = event } ∷ []) []
 
--- a call of tenant t makes its own step, and no other tenant's part changes
+-- whose the jobs are, and their numbers, in the order in which they came
+abbrev pub keys : List Row → List (ℕ × ℕ)
+keys rows = map (λ (row : Row). (row.tenant, row.job.seq)) rows
+
+-- one of tenant t is gone, and the others stand as they stood
+pub record IsWithout (t : ℕ) (old new : List (ℕ × ℕ)) : Type 0 where
+  pub seq : ℕ
+  pub before : List (ℕ × ℕ)
+  pub behind : List (ℕ × ℕ)
+  pub was : old ≡ before ++ (t, seq) ∷ behind
+  pub is : new ≡ before ++ behind
+
+-- no job passes another: all stand as they stood, one of tenant t came behind them, or one of tenant t is gone
+abbrev pub KeepsOrder : ℕ → List (ℕ × ℕ) → List (ℕ × ℕ) → Type 0
+KeepsOrder t old new = (new ≡ old) ⊎ ((seq : ℕ) × (new ≡ old ++ (t, seq) ∷ [])) ⊎ IsWithout t old new
+
+-- a call of tenant t makes its own step, no other tenant's part changes, and no job passes another
 pub record Follows (old : World) (t : ℕ) (event : Event) (answer : Answer) (new : World) : Type 0 where
   pub answer_is : answer ≡ (step (view t old) event).answer
   pub own : view t new ≡ (step (view t old) event).after
   pub others : (u : ℕ) → u ≢ t → view u new ≡ view u old
+  pub order : KeepsOrder t (keys old.rows) (keys new.rows)
   pub journal : new.journal ≡ old.journal ++ entry_of t event answer
   pub config : new.config ≡ old.config
 

@@ -205,8 +205,7 @@ impl<J: Strategy> Farm<J> {
 
     /// The first job of which a turn of at most so many nodes can be taken, in the order in which the jobs came.
     fn next_ready(&self, slice: u64) -> Option<(u32, u64)>
-        ensures ready { IfSome result (λ key. IsReady self.now key.0 key.1 slice) }
-        ensures first { IfSome result (λ key. IsFirstReady self.now key.0 key.1) }
+        ensures first { IfSome result (λ key. IsFirstReady self.now key.0 key.1 slice) }
         ensures idle { IfNone result (IsIdle self.now slice) }
     {
         if !is_slice(slice) {
@@ -227,7 +226,7 @@ impl<J: Strategy> Farm<J> {
     /// Only where there is one is there `NoMemory`.
     pub fn take_next(&mut self, slice: u64) -> Result<Turn<J>, NoTurn>
         ensures taken { IfOk result (λ turn. IsTaken self.old turn.tenant turn.seq slice (J.meaning turn.search) self.new) }
-        ensures first { IfOk result (λ turn. IsFirstReady self.old turn.tenant turn.seq) }
+        ensures first { IfOk result (λ turn. IsFirstReady self.old turn.tenant turn.seq slice) }
         ensures known { IfOk result (λ turn. turn.tenant < length self.old.config.tenants) }
         ensures slice { IfOk result (λ turn. turn.slice ≡ slice) }
         ensures ran { IfOk result (λ turn. turn.ran ≡ 0) }

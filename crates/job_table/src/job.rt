@@ -43,8 +43,7 @@ impl<J> Model for Job<J> {
 
 /// Whether a search is at this point, with its best schedule, and not over.
 fn agrees<S: Strategy>(search: &S, tenant: u32, plan: &Plan, nodes: u64, left: u64) -> bool
-    ensures same { IsTrue result → S.meaning search.now ≡ record { tenant = tenant; plan = plan.now; nodes = nodes; left = left; taken = false } }
-    ensures going { IsTrue result → is_closed plan.now nodes ≡ false }
+    ensures { IsTrue result ↔ ((S.meaning search.now ≡ record { tenant = tenant; plan = plan.now; nodes = nodes; left = left; taken = false }) × (is_closed plan.now nodes ≡ false)) }
 {
     !search.closed()
         && search.tenant() == tenant

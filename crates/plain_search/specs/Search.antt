@@ -8,9 +8,9 @@ use Rattle.strategy.specs.declared.plan.Plan.{Plan}
 use Rattle.strategy.specs.declared.kind.Kind.TheVariants.{Tree}
 use Rattle.strategy.specs.declared.verdict.Verdict.{Verdict}
 
--- a search that has run no node
-abbrev pub fresh : Plan → LeaseValue → Meaning
-fresh plan lease = record { tenant = lease.tenant; plan = plan; nodes = 0; left = lease.left; taken = false }
+-- a search that has run no node, with its lease
+abbrev pub fresh : Plan → LeaseValue → Meaning × LeaseValue
+fresh plan lease = (record { tenant = lease.tenant; plan = plan; nodes = 0; left = lease.left; taken = false }, lease)
 
 -- what the search's fields keep: each node was paid, the verdict is the one after them, and until the best was taken the
 -- list has all nodes of the tree

@@ -27,12 +27,13 @@ pub struct PlainSearch {
 }
 
 impl Model for PlainSearch {
+    ghost use Rattle.quanta_till.specs.Lease.{LeaseValue};
     ghost use Rattle.strategy.specs.Search.{Meaning};
     ghost use Rattle.plain_search.specs.Search.{IsSearch};
 
-    ghost Value = { Meaning };
+    ghost Value = { Meaning × LeaseValue };
 
-    ghost view = { λ s. record { tenant = s.lease.tenant; plan = s.plan; nodes = s.nodes; left = s.lease.left; taken = s.taken } };
+    ghost view = { λ s. (record { tenant = s.lease.tenant; plan = s.plan; nodes = s.nodes; left = s.lease.left; taken = s.taken }, s.lease) };
 
     ghost invariant = { λ s. IsSearch s.plan s.nodes s.lease.used s.taken s.shown s.visits.items };
 }
@@ -126,7 +127,7 @@ fn best_out_of(visits: &mut Vec<Visit>, nodes: usize) -> Option<Schedule>
 }
 
 impl Strategy for PlainSearch {
-    ghost meaning = { λ s. s };
+    ghost meaning = { λ s. s.0 };
 
     fn tenant(&self) -> u32 {
         self.lease.tenant()

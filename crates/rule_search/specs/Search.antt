@@ -10,9 +10,9 @@ use Rattle.strategy.specs.declared.plan.Plan.{Plan}
 use Rattle.serial_pass.specs.Pass.{PassData, HasRoom}
 use Rattle.rule_search.specs.Rule.{IsRule}
 
--- a search that has run no node
-abbrev pub fresh : Plan → LeaseValue → Meaning
-fresh plan lease = record { tenant = lease.tenant; plan = plan; nodes = 0; left = lease.left; taken = false }
+-- a search that has run no node, with its lease
+abbrev pub fresh : Plan → LeaseValue → Meaning × LeaseValue
+fresh plan lease = (record { tenant = lease.tenant; plan = plan; nodes = 0; left = lease.left; taken = false }, lease)
 
 -- what its pass and its measures keep: they are of its project, and the pass has run its nodes
 pub record IsAt (plan : Plan) (nodes : ℕ) (pass : PassData) (measures : List ValuesData) : Type 0 where

@@ -33,12 +33,13 @@ pub struct RuleSearch {
 }
 
 impl Model for RuleSearch {
+    ghost use Rattle.quanta_till.specs.Lease.{LeaseValue};
     ghost use Rattle.strategy.specs.Search.{Meaning};
     ghost use Rattle.rule_search.specs.Search.{IsSearch};
 
-    ghost Value = { Meaning };
+    ghost Value = { Meaning × LeaseValue };
 
-    ghost view = { λ s. record { tenant = s.lease.tenant; plan = s.plan; nodes = s.nodes; left = s.lease.left; taken = s.taken } };
+    ghost view = { λ s. (record { tenant = s.lease.tenant; plan = s.plan; nodes = s.nodes; left = s.lease.left; taken = s.taken }, s.lease) };
 
     ghost invariant = { λ s. IsSearch (record { tenant = s.lease.tenant; plan = s.plan; nodes = s.nodes; left = s.lease.left; taken = s.taken }) s.lease.used s.size s.pass s.measures s.room s.best };
 }
@@ -148,7 +149,7 @@ fn write_best(best: &mut Option<Schedule>, pass: &Pass, room: Option<Schedule>)
 }
 
 impl Strategy for RuleSearch {
-    ghost meaning = { λ s. s };
+    ghost meaning = { λ s. s.0 };
 
     fn tenant(&self) -> u32 {
         self.lease.tenant()

@@ -1,5 +1,5 @@
 -- What two words draw may come next.
-use Rattle.std.proofs.Common.{ℕ, ◌-◌, ◌%◌, List, length, Option, Some, None, IfSome, option_map}
+use Rattle.std.proofs.Common.{ℕ, ◌%◌, List, length, Option, Some, None, IfSome, option_map}
 use Rattle.std.specs.Prelude.{IsSomeAnd, option_and_then, sum_by}
 use Rattle.mrcpsp.specs.Project.{ProjectData}
 use Rattle.mrcpsp.specs.Placed.{Placed}

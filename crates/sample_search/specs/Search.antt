@@ -22,9 +22,9 @@ IsSample RuleMts = ⊥
 IsSample RuleSpt = ⊥
 IsSample (Sample seed) = Unit {0}
 
--- a search that has run no node
-abbrev pub fresh : Plan → LeaseValue → Meaning
-fresh plan lease = record { tenant = lease.tenant; plan = plan; nodes = 0; left = lease.left; taken = false }
+-- a search that has run no node, with its lease
+abbrev pub fresh : Plan → LeaseValue → Meaning × LeaseValue
+fresh plan lease = (record { tenant = lease.tenant; plan = plan; nodes = 0; left = lease.left; taken = false }, lease)
 
 -- what the search's fields keep. Two words were drawn for each node, and each node was paid. The pass stands where these
 -- nodes leave it, nothing placed where they are whole passes, and until it was taken the best is that of all whole passes

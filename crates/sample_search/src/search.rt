@@ -37,13 +37,14 @@ pub struct SampleSearch {
 }
 
 impl Model for SampleSearch {
+    ghost use Rattle.quanta_till.specs.Lease.{LeaseValue};
     ghost use Rattle.strategy.specs.Search.{Meaning};
     ghost use Rattle.sample_search.specs.Best.{is_taken};
     ghost use Rattle.sample_search.specs.Search.{IsSearch};
 
-    ghost Value = { Meaning };
+    ghost Value = { Meaning × LeaseValue };
 
-    ghost view = { λ s. record { tenant = s.lease.tenant; plan = s.plan; nodes = s.nodes; left = s.lease.left; taken = is_taken s.best } };
+    ghost view = { λ s. (record { tenant = s.lease.tenant; plan = s.plan; nodes = s.nodes; left = s.lease.left; taken = is_taken s.best }, s.lease) };
 
     ghost invariant = { λ s. IsSearch s.plan s.lease s.measures s.words s.pass s.nodes s.best };
 }
@@ -151,7 +152,7 @@ fn end_pass(pass: &mut Pass, best: &mut Best)
 }
 
 impl Strategy for SampleSearch {
-    ghost meaning = { λ s. s };
+    ghost meaning = { λ s. s.0 };
 
     fn tenant(&self) -> u32 {
         self.lease.tenant()

@@ -26,7 +26,7 @@ pub(crate) enum Before {
 /// in the end.
 #[derive(Clone, Copy, Debug)]
 pub(crate) struct Case {
-    pub(crate) quanta: u64,
+    pub(crate) quanta: u32,
     before: Before,
     cancels: bool,
     phase: Phase,

@@ -190,7 +190,7 @@ fn cancels_at_every_phase(rt: HostRuntime) -> Result<(), Fail> {
         let mut table = JobTable::new(alloc);
         let search = search_of(alloc, DIAMOND, till.lease(&mut desk)?)?;
         let boxed: Box<dyn Strategy> = Box::new(alloc, search)?;
-        insert(alloc, &mut table, 0, 1, case.quanta, boxed)?;
+        insert(alloc, &mut table, 0, 1, u64::from(case.quanta), boxed)?;
         cancel_in(&rt, &mut table, case);
         let words = till.words(&mut desk);
         assert_eq!(rt;

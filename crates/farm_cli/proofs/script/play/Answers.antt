@@ -1,4 +1,4 @@
-use Rattle.std.proofs.Common.{◌≡◌, ◌<◌, map, arith, sym, ap, ◌∙◌, subst}
+use Rattle.std.proofs.Common.{◌≡◌, map, arith, sym, ap, ◌∙◌, subst}
 use Rattle.farm_cli.proofs.CounterLemmas.{known_number, own_till, kept_tills, tills_length}
 use Rattle.farm_core.specs.World.{terms_in, opened}
 use Rattle.farm_cli.specs.Counter.{counter_of}

@@ -19,22 +19,18 @@ has_room-requires-clause-known g c =
     let known = key_known (length c.self.inside.accounts.items) c.self.inside.jobs c.loop-i.i c.in-Some.tenant c.in-Some.seq c.self.invariant.whose here in
     omega (arith, known, c.self.invariant.count, ap (λ (x : World). length x.config.tenants) c.self.view_is)
 
-pub returns-then-has_room-clause-ready : goal.returns-then-has_room-clause-ready
-returns-then-has_room-clause-ready g c =
-    let farm : IsFarm c.args.self.now (vec_capacity c.self.inside.journal) = subst (λ (x : World). IsFarm x (vec_capacity c.self.inside.journal)) c.self.view_is c.self.invariant in
-    let rows_are : c.self.inside.jobs ≡ c.args.self.now.rows = ap (λ (x : World). x.rows) c.self.view_is in
-    let here : slice_get (waiting_keys c.args.self.now.rows) c.loop-i.i ≡ Some (c.in-Some.tenant, c.in-Some.seq) = ap (λ (rs : List Row). slice_get (waiting_keys rs) c.loop-i.i) (sym rows_are) ∙ sym c.waiting.ensures ∙ c.in-Some.is in
-    ready_at c.args.self.now (vec_capacity c.self.inside.journal) c.loop-i.i c.in-Some.tenant c.in-Some.seq c.args.slice farm here (sym c.is_slice.ensures ∙ c.if-not-is_slice.false) (sym c.has_room.ensures.exact ∙ c.if-has_room.true)
-
 pub returns-clause-idle : goal.returns-clause-idle
 returns-clause-idle g c =
     idle_of c.args.self.now c.args.slice (λ j t s here. c.loop-i.invariant j t s (omega (arith, key_count c.args.self.now.rows j t s here, c.len-i-end.ensures, c.loop-i-test.false, c.loop-i.auto.i-end, ap (λ (x : World). length x.rows) c.self.view_is)) here)
 
 pub returns-then-has_room-clause-first : goal.returns-then-has_room-clause-first
 returns-then-has_room-clause-first g c =
+    let farm : IsFarm c.args.self.now (vec_capacity c.self.inside.journal) = subst (λ (x : World). IsFarm x (vec_capacity c.self.inside.journal)) c.self.view_is c.self.invariant in
     let rows_are : c.self.inside.jobs ≡ c.args.self.now.rows = ap (λ (x : World). x.rows) c.self.view_is in
+    let here : slice_get (waiting_keys c.args.self.now.rows) c.loop-i.i ≡ Some (c.in-Some.tenant, c.in-Some.seq) = ap (λ (rs : List Row). slice_get (waiting_keys rs) c.loop-i.i) (sym rows_are) ∙ sym c.waiting.ensures ∙ c.in-Some.is in
     record {
+      ready = ready_at c.args.self.now (vec_capacity c.self.inside.journal) c.loop-i.i c.in-Some.tenant c.in-Some.seq c.args.slice farm here (sym c.is_slice.ensures ∙ c.if-not-is_slice.false) (sym c.has_room.ensures.exact ∙ c.if-has_room.true);
       at = c.loop-i.i;
-      here = ap (λ (rs : List Row). slice_get (waiting_keys rs) c.loop-i.i) (sym rows_are) ∙ sym c.waiting.ensures ∙ c.in-Some.is;
+      here = here;
       before = c.loop-i.invariant;
     }
