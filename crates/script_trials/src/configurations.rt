@@ -1,5 +1,5 @@
 //! What texts are read as where that is a configuration, and the texts of faults.
-use farm_cli::{ConfigFault, ReplayFault, parse_words, read_config, Task};
+use farm_cli::{ConfigFault, ReplayFault, Task, parse_words, read_config};
 use farm_core::{Config, Name};
 use std::alloc::Global;
 use std::process::Abort;
@@ -67,8 +67,14 @@ fn texts(rt: HostRuntime) -> Result<(), Fail> {
 // Of all faults these alone come of no file.
 #[test]
 fn texts_of_want_of_memory(rt: HostRuntime) -> Result<(), Fail> {
-    assert_eq!(rt; ReplayFault::NoMemory.to_string(rt.alloc())?.as_str(), "NoMemory");
-    assert_eq!(rt; ConfigFault::NoMemory.to_string(rt.alloc())?.as_str(), "NoMemory");
+    assert_eq!(rt;
+        ReplayFault::NoMemory.to_string(rt.alloc())?.as_str(),
+        "NoMemory"
+    );
+    assert_eq!(rt;
+        ConfigFault::NoMemory.to_string(rt.alloc())?.as_str(),
+        "NoMemory"
+    );
     Ok(())
 }
 

@@ -82,8 +82,16 @@ fn is_cut_off(rt: &impl Abort, alloc: Global, config: &Config, bytes: &[u8]) -> 
     let reader = Cut { rest: bytes };
     let ended = replay(alloc, config, reader, &mut written);
     let expected = first_lines(TREE_TOLD.as_bytes(), line_ends(bytes).saturating_sub(19));
-    assert!(rt; ended == Err(ReplayFault::Read), "after {} bytes", bytes.len());
-    assert!(rt; written.as_slice() == expected, "after {} bytes", bytes.len());
+    assert!(rt;
+        ended == Err(ReplayFault::Read),
+        "after {} bytes",
+        bytes.len()
+    );
+    assert!(rt;
+        written.as_slice() == expected,
+        "after {} bytes",
+        bytes.len()
+    );
     Ok(())
 }
 
@@ -122,7 +130,10 @@ fn writers_that_fail(rt: HostRuntime) -> Result<(), Fail> {
         let (taken, ended) = written_into(rt.alloc(), &config, &script, room, fails)?;
         assert!(rt; ended == Err(ReplayFault::Write), "after {room} bytes");
         assert!(rt; expected.starts_with(&taken), "after {room} bytes");
-        assert!(rt; line_ends(&taken) == line_ends(&expected[..room]), "after {room} bytes");
+        assert!(rt;
+            line_ends(&taken) == line_ends(&expected[..room]),
+            "after {room} bytes"
+        );
     }
     Ok(())
 }

@@ -61,7 +61,10 @@ fn misses_one(
     );
     let script = spelled(alloc, &others(alloc, requests, place)?)?;
     let lines = without(alloc, all, place)?;
-    assert!(rt; lines.as_str() == told(alloc, &script)?.as_str(), "the other lines");
+    assert!(rt;
+        lines.as_str() == told(alloc, &script)?.as_str(),
+        "the other lines"
+    );
     Ok(())
 }
 

@@ -34,7 +34,8 @@ impl<'a> Read for Cut<'a> {
 // Whether the next request is tenant a's for its ledger.
 fn reads_ledger<R: Read>(alloc: Global, reader: &mut R) -> bool {
     match read_request(alloc, reader) {
-        Ok(request) => request.who.as_bytes() == b"a" && matches!(&request.what, What::Ledger),
+        Ok(request) => request.who.as_bytes() == b"a".as_slice()
+            && matches!(&request.what, What::Ledger),
         Err(_) => false,
     }
 }
