@@ -4,7 +4,6 @@
 //! - `configurations`: what is read, and the texts of faults.
 //! - `faults`: replays whose reader or writer fails.
 //! - `growths`: replays of which a growth may be refused.
-//! - `lines`: request lines and reply lines one at a time.
 //! - `made`: the configuration, the script and the text that these share.
 #![tactic(auto)]
 
@@ -14,7 +13,5 @@ mod configurations;
 mod faults;
 #[cfg(test)]
 mod growths;
-#[cfg(test)]
-mod lines;
 #[cfg(test)]
 mod made;

@@ -1,5 +1,4 @@
-//! Request lines and reply lines one at a time: readers that fail or are interrupted, writers that are full or interrupted, and
-//! lines that come only of want of memory.
+//! The trials.
 use farm_core::{Name, Reply};
 use psplib_mm::MmFault;
 use session_lines::{LineFault, Said, What, WriteFault, read_request, write_reply};
