@@ -7,8 +7,6 @@ ghost use Rattle.farm_cli.specs.Config.{HasFault, Means};
 mod draft;
 mod fault;
 mod judge;
-#[cfg(test)]
-mod tests;
 
 use draft::draft_of;
 use farm_core::Config;

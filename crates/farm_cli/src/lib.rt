@@ -22,8 +22,6 @@ pub mod laws;
 mod program;
 mod script;
 mod summary;
-#[cfg(test)]
-mod tests;
 
 pub use arguments::{Task, farm_command, parse_words};
 pub use config::{ConfigFault, Key, read_config};

@@ -13,8 +13,6 @@ mod counter;
 mod floor;
 mod hear;
 mod made;
-#[cfg(test)]
-mod tests;
 
 use counter::{Counter, open_counters};
 use farm_core::laws::farms_are_replayed;

@@ -23,8 +23,6 @@ mod farm;
 pub mod laws;
 mod name;
 mod reply;
-#[cfg(test)]
-mod tests;
 mod turn;
 
 pub use account::Account;

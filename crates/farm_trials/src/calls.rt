@@ -10,7 +10,7 @@ use strategy::{Kind, Plan, Strategy, Verdict};
 use tenant_book::Book;
 
 /// What a tenant, or a worker for it, asks for. Jobs are told by their numbers.
-#[derive(Clone, Copy, Debug, PartialEq, Eq)]
+#[derive(Clone, Copy)]
 pub(crate) enum Call {
     /// A job of this kind for this project, with so many quanta.
     Submit(Kind, u64, Text),
@@ -39,7 +39,7 @@ pub(crate) enum Call {
 }
 
 /// A job's number, phase, nodes, quanta, best makespan and verdict.
-#[derive(Clone, Copy, Debug, PartialEq, Eq)]
+#[derive(Clone, Copy, PartialEq)]
 pub(crate) struct Shown(
     pub(crate) u64,
     pub(crate) Phase,
@@ -50,11 +50,11 @@ pub(crate) struct Shown(
 );
 
 /// The mode and start of each of so many activities, and zeros after them.
-#[derive(Clone, Copy, Debug, PartialEq, Eq)]
+#[derive(Clone, Copy, PartialEq)]
 pub(crate) struct Placed(pub(crate) usize, pub(crate) [(u32, u32); 4]);
 
 /// What is answered to a call.
-#[derive(Clone, Copy, Debug, PartialEq, Eq)]
+#[derive(Clone, Copy, PartialEq)]
 pub(crate) enum Answer {
     /// A job of this number was made.
     Job(u64),

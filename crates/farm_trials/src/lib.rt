@@ -3,9 +3,11 @@
 //!
 //! - `calls`: calls, what is told of each, and how the farm is asked.
 //! - `cancels`: cancels at every phase.
+//! - `limits`: configurations at both sides of each limit.
 //! - `made`: the projects' texts, tills, searches and a farm's configuration.
 //! - `mixed`: the scripts of two tenants in one.
 //! - `play`: a script is played on a farm of its own.
+//! - `ready`: the searches of a script's submits.
 //! - `scripts`: the worked scripts.
 //! - `strangers`: turns of one farm at another one, and the next turn of any tenant.
 //! - `tests`: the trials.
@@ -16,11 +18,15 @@ mod calls;
 #[cfg(test)]
 mod cancels;
 #[cfg(test)]
+mod limits;
+#[cfg(test)]
 mod made;
 #[cfg(test)]
 mod mixed;
 #[cfg(test)]
 mod play;
+#[cfg(test)]
+mod ready;
 #[cfg(test)]
 mod scripts;
 #[cfg(test)]

@@ -16,7 +16,7 @@ use strategy::{Kind, Plan};
 use tree_search::TreeSearch;
 
 /// Five projects.
-#[derive(Clone, Copy, Debug, PartialEq, Eq)]
+#[derive(Clone, Copy)]
 pub(crate) enum Text {
     /// A source, an activity of one mode, one of two modes, and a sink, with a resource of each sort.
     Diamond,

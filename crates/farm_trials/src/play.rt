@@ -3,7 +3,8 @@ ghost use Rattle.std.specs.Prelude.{◌≡◌, IfSome};
 ghost use Rattle.farm_core.specs.Turn.{IsTurn};
 
 use crate::calls::{Answer, Call, Ready, Shown, ask, numbers_of, put_back, snapshot};
-use crate::made::{Purses, Text, config_of, plan_of, rule_of, sample_of, tree_of};
+use crate::made::{Purses, config_of};
+use crate::ready::{Wanted, all_ready};
 use farm_core::{Event, Farm, Turn};
 use std::alloc::{AllocError, Global};
 use std::process::Abort;
@@ -11,11 +12,11 @@ use std::test::Fail;
 use strategy::{Kind, Strategy};
 
 /// A call of the tenant of that number, and what is answered.
-#[derive(Clone, Copy, Debug, PartialEq, Eq)]
+#[derive(Clone, Copy)]
 pub(crate) struct Step(pub(crate) u32, pub(crate) Call, pub(crate) Answer);
 
 /// What is to become of a call that finds no memory.
-#[derive(Clone, Copy, Debug, PartialEq, Eq)]
+#[derive(Clone, Copy, PartialEq)]
 pub(crate) enum Manner {
     /// It is not met.
     Ample,
@@ -24,7 +25,7 @@ pub(crate) enum Manner {
 }
 
 /// How many entries the journal has, a tenant's ledger, and what is told of its jobs 1 to 3.
-#[derive(Clone, Copy, Debug, PartialEq, Eq)]
+#[derive(Clone, Copy, PartialEq)]
 pub(crate) struct Seen {
     entries: usize,
     book: [u64; 4],
@@ -71,8 +72,8 @@ fn insist<J: Strategy>(
     let before = seen_of(farm, tenant);
     let told = ask(farm, hand, ready, tenant, call);
     if told == Answer::NoMemory {
-        assert!(rt; may_want_memory(step), "{step:?}");
-        assert_eq!(rt; seen_of(farm, tenant), before, "{step:?}");
+        assert!(rt; may_want_memory(step), "a call that takes no memory");
+        assert!(rt; seen_of(farm, tenant) == before, "something has changed");
         return ask(farm, hand, ready, tenant, call);
     }
     if let Call::Submit(_, _, _) = call {
@@ -105,13 +106,14 @@ fn play_all<J: Strategy>(
     rt: &impl Abort,
     farm: &mut Farm<J>,
     mut ready: Vec<Ready<J>>,
-    manner: Manner,
+    stage: Stage,
     steps: &[Step],
 ) {
     let mut hand = None;
-    for step in steps {
-        let told = make(rt, farm, &mut hand, &mut ready, *step, manner);
-        assert_eq!(rt; told, step.2, "{step:?}");
+    let name = stage.name;
+    for (at, step) in steps.iter().enumerate() {
+        let told = make(rt, farm, &mut hand, &mut ready, *step, stage.manner);
+        assert!(rt; told == step.2, "{name}, call {at}");
     }
     if let Some(turn) = hand {
         put_back(farm, turn);
@@ -119,7 +121,7 @@ fn play_all<J: Strategy>(
 }
 
 /// An entry of the journal: what was asked for, a submit by its kind and quanta, a give by the nodes that ran.
-#[derive(Clone, Copy, Debug, PartialEq, Eq)]
+#[derive(Clone, Copy, PartialEq)]
 pub(crate) enum Noted {
     Submit(Kind, u64),
     Fund(u64, u64),
@@ -148,22 +150,17 @@ fn noted_by(event: &Event) -> Noted {
 }
 
 /// Compares a tenant's entries of the journal.
-fn compare_journal<J>(rt: &impl Abort, farm: &Farm<J>, tenant: u32, entries: &[Noted]) {
+fn compare_journal<J>(rt: &impl Abort, farm: &Farm<J>, tenant: u32, entries: &[Noted], name: &str) {
     let mut rest = entries.iter();
     for entry in farm.journal() {
         if entry.tenant == tenant {
-            assert_eq!(rt; rest.next().copied(), Some(noted_by(&entry.event)));
+            assert!(rt;
+                rest.next().copied() == Some(noted_by(&entry.event)),
+                "{name}"
+            );
         }
     }
-    assert!(rt; rest.next().is_none(), "an entry less");
-}
-
-/// A submit of a script: whose, of which kind, and for which project.
-#[derive(Clone, Copy, Debug)]
-struct Wanted {
-    tenant: u32,
-    kind: Kind,
-    text: Text,
+    assert!(rt; rest.next().is_none(), "{name}, an entry less");
 }
 
 /// The submits of a script, the last one first, and where memory may be scarce each of them twice.
@@ -181,9 +178,10 @@ fn submits_of(alloc: Global, manner: Manner, steps: &[Step]) -> Result<Vec<Wante
     Ok(submits)
 }
 
-/// What a script is played with: how many entries of the journal a has, and the manner.
-#[derive(Clone, Copy, Debug)]
+/// What a script is played with: its name for messages, how many entries of the journal a has, and the manner.
+#[derive(Clone, Copy)]
 pub(crate) struct Stage {
+    pub(crate) name: &'static str,
     pub(crate) entries: u64,
     pub(crate) manner: Manner,
 }
@@ -196,54 +194,35 @@ fn play_with<J: Strategy>(
     stage: Stage,
     ready: Vec<Ready<J>>,
     steps: &[Step],
-    journal: Option<&[Noted]>,
-    journal_of_other: Option<&[Noted]>,
+    journals: [Option<&[Noted]>; 2],
 ) -> Result<(), Fail> {
     let config = config_of(alloc, stage.entries)?;
     let mut farm = Farm::new(alloc, &config)?;
-    play_all(rt, &mut farm, ready, stage.manner, steps);
-    if let Some(entries) = journal {
-        compare_journal(rt, &farm, 0, entries);
+    play_all(rt, &mut farm, ready, stage, steps);
+    if let Some(entries) = journals[0] {
+        compare_journal(rt, &farm, 0, entries, stage.name);
     }
-    if let Some(entries) = journal_of_other {
-        compare_journal(rt, &farm, 1, entries);
+    if let Some(entries) = journals[1] {
+        compare_journal(rt, &farm, 1, entries, stage.name);
     }
     Ok(())
 }
 
-/// Plays a script on a farm of its own. The entries of the journal are compared where a's and b's are told. Tells the words of
-/// a's till and of b's once the farm is gone.
+/// Plays a script on a farm of its own. The entries of the journal are compared where a's and b's are told, and then the words of
+/// a's till and of b's, once the farm is gone.
 pub(crate) fn play(
     rt: &impl Abort,
     alloc: Global,
     stage: Stage,
     steps: &[Step],
-    journal: Option<&[Noted]>,
-    journal_of_other: Option<&[Noted]>,
-) -> Result<[[u64; 3]; 2], Fail> {
+    journals: [Option<&[Noted]>; 2],
+    words: [[u64; 3]; 2],
+) -> Result<(), Fail> {
     let mut purses = Purses::new(alloc)?;
-    let mut ready: Vec<Ready<Box<dyn Strategy>>> = Vec::new(alloc);
-    for wanted in submits_of(alloc, stage.manner, steps)?.iter() {
-        let lease = purses.lease_of(wanted.tenant)?;
-        let plan = plan_of(alloc, wanted.text, wanted.kind)?;
-        match wanted.kind {
-            Kind::Tree => {
-                let search = tree_of(alloc, wanted.text, lease)?;
-                let search: Box<dyn Strategy> = Box::new(alloc, search)?;
-                ready.push(Ready { plan, search })?;
-            }
-            Kind::Sample(seed) => {
-                let search = sample_of(alloc, wanted.text, seed, lease)?;
-                let search: Box<dyn Strategy> = Box::new(alloc, search)?;
-                ready.push(Ready { plan, search })?;
-            }
-            Kind::RuleLft | Kind::RuleMts | Kind::RuleSpt => {
-                let search = rule_of(alloc, wanted.text, wanted.kind, lease)?;
-                let search: Box<dyn Strategy> = Box::new(alloc, search)?;
-                ready.push(Ready { plan, search })?;
-            }
-        }
-    }
-    play_with(rt, alloc, stage, ready, steps, journal, journal_of_other)?;
-    Ok(purses.words())
+    let submits = submits_of(alloc, stage.manner, steps)?;
+    let ready = all_ready(alloc, &mut purses, &submits)?;
+    play_with(rt, alloc, stage, ready, steps, journals)?;
+    let name = stage.name;
+    assert!(rt; purses.words() == words, "{name}, the words of the tills");
+    Ok(())
 }

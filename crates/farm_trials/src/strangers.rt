@@ -36,7 +36,7 @@ fn refuse<J: Strategy>(
 {
     let before = seen_of(farm, 0);
     let told = give(farm, turn);
-    assert_eq!(rt; seen_of(farm, 0), before);
+    assert!(rt; seen_of(farm, 0) == before);
     match told {
         Ok(answer) => Err(answer),
         Err(turn) => Ok(turn),
@@ -53,18 +53,18 @@ pub(crate) fn stray<J: Strategy>(
     other: Ready<J>,
     slice: u64,
 ) {
-    assert_eq!(rt; submit(home, 0, 6, Some(own)), Answer::Job(1));
+    assert!(rt; submit(home, 0, 6, Some(own)) == Answer::Job(1));
     let turn = sent(rt, home, 0, 2);
     let Ok(turn) = refuse(rt, farm, turn) else {
         panic!(rt; "taken by a farm without jobs");
     };
-    assert_eq!(rt; submit(farm, 0, 6, Some(other)), Answer::Job(1));
+    assert!(rt; submit(farm, 0, 6, Some(other)) == Answer::Job(1));
     let there = sent(rt, farm, 0, slice);
     let Ok(turn) = refuse(rt, farm, turn) else {
         panic!(rt; "taken for another job");
     };
-    assert_eq!(rt; put_back(home, turn), Answer::Ran(0, WAITING));
-    assert_eq!(rt; put_back(farm, there), Answer::Ran(0, WAITING));
+    assert!(rt; put_back(home, turn) == Answer::Ran(0, WAITING));
+    assert!(rt; put_back(farm, there) == Answer::Ran(0, WAITING));
 }
 
 /// Turns of two jobs that agree in all that is compared serve each for the other. One of them runs, and runs no more when it is
@@ -76,14 +76,14 @@ pub(crate) fn exchange<J: Strategy>(
     own: Ready<J>,
     other: Ready<J>,
 ) {
-    assert_eq!(rt; submit(home, 0, 6, Some(own)), Answer::Job(1));
-    assert_eq!(rt; submit(farm, 0, 6, Some(other)), Answer::Job(1));
+    assert!(rt; submit(home, 0, 6, Some(own)) == Answer::Job(1));
+    assert!(rt; submit(farm, 0, 6, Some(other)) == Answer::Job(1));
     let mut here = sent(rt, home, 0, 2);
     let there = sent(rt, farm, 0, 2);
     assert_eq!(rt; here.run(), 2);
     assert_eq!(rt; here.run(), 0);
-    assert_eq!(rt; put_back(farm, here), Answer::Ran(2, BEGUN));
-    assert_eq!(rt; put_back(home, there), Answer::Ran(0, WAITING));
+    assert!(rt; put_back(farm, here) == Answer::Ran(2, BEGUN));
+    assert!(rt; put_back(home, there) == Answer::Ran(0, WAITING));
 }
 
 /// Takes a turn of some waiting job, gives it back as it is, and tells whose it was.
@@ -107,15 +107,15 @@ pub(crate) fn take_any<J: Strategy>(
     other: Ready<J>,
 ) {
     const NONE: Result<(u32, u64), NoTurn> = Err(NoTurn::None);
-    assert_eq!(rt; next_of(farm, 2), NONE);
-    assert_eq!(rt; submit(farm, 0, 6, Some(ready)), Answer::Job(1));
-    assert_eq!(rt; next_of(farm, 2), NONE);
-    assert_eq!(rt; submit(farm, 1, 6, Some(other)), Answer::Job(1));
-    assert_eq!(rt; next_of(farm, 0), NONE);
-    assert_eq!(rt; next_of(farm, 1_000_001), NONE);
-    assert_eq!(rt; next_of(farm, 1_000_000), Ok((1, 1)));
-    assert_eq!(rt; next_of(farm, 1), Ok((1, 1)));
+    assert!(rt; next_of(farm, 2) == NONE);
+    assert!(rt; submit(farm, 0, 6, Some(ready)) == Answer::Job(1));
+    assert!(rt; next_of(farm, 2) == NONE);
+    assert!(rt; submit(farm, 1, 6, Some(other)) == Answer::Job(1));
+    assert!(rt; next_of(farm, 0) == NONE);
+    assert!(rt; next_of(farm, 1_000_001) == NONE);
+    assert!(rt; next_of(farm, 1_000_000) == Ok((1, 1)));
+    assert!(rt; next_of(farm, 1) == Ok((1, 1)));
     let held = sent(rt, farm, 1, 2);
-    assert_eq!(rt; next_of(farm, 2), NONE);
-    assert_eq!(rt; put_back(farm, held), Answer::Ran(0, WAITING));
+    assert!(rt; next_of(farm, 2) == NONE);
+    assert!(rt; put_back(farm, held) == Answer::Ran(0, WAITING));
 }

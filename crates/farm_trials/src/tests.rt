@@ -1,9 +1,10 @@
 //! The trials.
 use crate::calls::Ready;
 use crate::cancels;
-use crate::made::{Purse, Text, config_of, plan_of, tree_of};
+use crate::made::{Purses, Text, config_of};
 use crate::mixed::{Coin, in_turn, mixed};
 use crate::play::{Manner, Noted, Stage, Step, play};
+use crate::ready::{Wanted, ready_of};
 use crate::scripts::{
     ABANDONED, CANCEL_WHILE_OUT, CHAIN_RULE, DRY_RULE, FEW_ENTRIES, LONE_TREE, OTHER, REFUSALS,
     RULE_IN_TURNS, SAMPLE, SAMPLE_OF_SHARED, STARVED_RULE, STARVED_TREE, THREE_COMMANDS,
@@ -16,114 +17,82 @@ use std::process::Abort;
 use std::test::Fail;
 use strategy::{Kind, Strategy};
 
-/// Plays a script, and compares the words of a's till.
-fn end_with(
-    rt: &impl Abort,
-    alloc: Global,
-    entries: u64,
-    steps: &[Step],
-    words: [u64; 3],
-) -> Result<(), Fail> {
-    let stage = Stage {
-        entries,
-        manner: Manner::Ample,
-    };
-    let [first, _] = play(rt, alloc, stage, steps, None, None)?;
-    assert_eq!(rt; first, words);
-    Ok(())
-}
+/// A script of a's, how many entries of the journal a has, and the words of a's till in the end.
+type Ending<'a> = (&'static str, u64, &'a [Step], [u64; 3]);
 
-#[test]
-fn a_tree_runs_dry_is_funded_and_closes(rt: HostRuntime) -> Result<(), Fail> {
-    end_with(&rt, rt.alloc(), 100, &TREE, [91, 9, 100])?;
-    end_with(&rt, rt.alloc(), 100, &WHOLE_TREES, [83, 17, 100])
-}
-
-#[test]
-fn the_three_rules(rt: HostRuntime) -> Result<(), Fail> {
-    for kind in [Kind::RuleSpt, Kind::RuleLft, Kind::RuleMts] {
-        end_with(&rt, rt.alloc(), 100, &rule(kind), [96, 4, 100])?;
+/// Plays each script, and compares the words of a's till; that of b is whole.
+fn end_with(rt: &impl Abort, alloc: Global, rows: &[Ending<'_>]) -> Result<(), Fail> {
+    for (name, entries, steps, words) in rows {
+        let stage = Stage {
+            name,
+            entries: *entries,
+            manner: Manner::Ample,
+        };
+        play(rt, alloc, stage, steps, [None, None], [*words, [10, 0, 10]])?;
     }
     Ok(())
 }
 
 #[test]
-fn a_rule_in_turns(rt: HostRuntime) -> Result<(), Fail> {
-    end_with(&rt, rt.alloc(), 100, &RULE_IN_TURNS, [96, 4, 100])?;
-    end_with(&rt, rt.alloc(), 100, &DRY_RULE, [98, 2, 100])?;
-    end_with(&rt, rt.alloc(), 100, &CHAIN_RULE, [97, 3, 100])
+fn worked_scripts(rt: HostRuntime) -> Result<(), Fail> {
+    let rows: [Ending<'_>; 16] = [
+        ("a tree", 100, &TREE, [91, 9, 100]),
+        ("whole trees", 100, &WHOLE_TREES, [83, 17, 100]),
+        ("rule spt", 100, &rule(Kind::RuleSpt), [96, 4, 100]),
+        ("rule lft", 100, &rule(Kind::RuleLft), [96, 4, 100]),
+        ("rule mts", 100, &rule(Kind::RuleMts), [96, 4, 100]),
+        ("a rule in turns", 100, &RULE_IN_TURNS, [96, 4, 100]),
+        ("a dry rule", 100, &DRY_RULE, [98, 2, 100]),
+        ("a chain", 100, &CHAIN_RULE, [97, 3, 100]),
+        ("a sample", 100, &SAMPLE, [96, 4, 100]),
+        (
+            "a sample of another project",
+            100,
+            &SAMPLE_OF_SHARED,
+            [96, 4, 100],
+        ),
+        ("three entries", 3, &FEW_ENTRIES, [98, 2, 100]),
+        ("three commands", 3, &THREE_COMMANDS, [100, 0, 100]),
+        ("three refusals", 3, &THREE_REFUSALS, [100, 0, 100]),
+        (
+            "a tree of nothing feasible",
+            100,
+            &STARVED_TREE,
+            [99, 1, 100],
+        ),
+        (
+            "a rule of nothing feasible",
+            100,
+            &STARVED_RULE,
+            [96, 4, 100],
+        ),
+        ("one activity", 100, &LONE_TREE, [99, 1, 100]),
+    ];
+    end_with(&rt, rt.alloc(), &rows)
 }
 
 #[test]
-fn samples(rt: HostRuntime) -> Result<(), Fail> {
-    end_with(&rt, rt.alloc(), 100, &SAMPLE, [96, 4, 100])?;
-    end_with(&rt, rt.alloc(), 100, &SAMPLE_OF_SHARED, [96, 4, 100])
-}
-
-#[test]
-fn three_entries(rt: HostRuntime) -> Result<(), Fail> {
-    end_with(&rt, rt.alloc(), 3, &FEW_ENTRIES, [98, 2, 100])?;
-    end_with(&rt, rt.alloc(), 3, &THREE_COMMANDS, [100, 0, 100])?;
-    end_with(&rt, rt.alloc(), 3, &THREE_REFUSALS, [100, 0, 100])
-}
-
-#[test]
-fn a_cancel_while_out(rt: HostRuntime) -> Result<(), Fail> {
-    end_with(&rt, rt.alloc(), 100, &CANCEL_WHILE_OUT, [98, 2, 100])
-}
-
-#[test]
-fn nothing_is_feasible(rt: HostRuntime) -> Result<(), Fail> {
-    end_with(&rt, rt.alloc(), 100, &STARVED_TREE, [99, 1, 100])?;
-    end_with(&rt, rt.alloc(), 100, &STARVED_RULE, [96, 4, 100])
-}
-
-#[test]
-fn each_refusal_with_its_number(rt: HostRuntime) -> Result<(), Fail> {
-    end_with(&rt, rt.alloc(), 100, &REFUSALS, [96, 4, 100])
-}
-
-#[test]
-fn one_activity(rt: HostRuntime) -> Result<(), Fail> {
-    end_with(&rt, rt.alloc(), 100, &LONE_TREE, [99, 1, 100])
-}
-
-#[test]
-fn while_a_job_is_out(rt: HostRuntime) -> Result<(), Fail> {
-    end_with(&rt, rt.alloc(), 100, &WHILE_OUT, [100, 0, 100])
-}
-
-#[test]
-fn a_turn_is_abandoned(rt: HostRuntime) -> Result<(), Fail> {
-    end_with(&rt, rt.alloc(), 100, &ABANDONED, [98, 2, 100])
-}
-
-#[test]
-fn cancels_at_every_phase(rt: HostRuntime) -> Result<(), Fail> {
-    end_with(&rt, rt.alloc(), 100, &cancels::FRESH, [100, 0, 100])?;
-    end_with(&rt, rt.alloc(), 100, &cancels::BEGUN, [98, 2, 100])?;
-    end_with(&rt, rt.alloc(), 100, &cancels::OUT, [98, 2, 100])?;
-    end_with(&rt, rt.alloc(), 100, &cancels::OUT_UNRUN, [100, 0, 100])?;
-    end_with(&rt, rt.alloc(), 100, &cancels::DRY, [94, 6, 100])?;
-    end_with(&rt, rt.alloc(), 100, &cancels::CLOSED, [91, 9, 100])?;
-    end_with(&rt, rt.alloc(), 100, &cancels::LEAVING, [98, 2, 100])?;
-    end_with(&rt, rt.alloc(), 100, &cancels::GIVEN_UP, [100, 0, 100])
-}
-
-/// Plays a script with 100 entries for a, and compares the journal.
-fn note_down(
-    rt: &impl Abort,
-    alloc: Global,
-    manner: Manner,
-    steps: &[Step],
-    journal: &[Noted],
-) -> Result<(), Fail> {
-    let stage = Stage {
-        entries: 100,
-        manner,
-    };
-    play(rt, alloc, stage, steps, Some(journal), Some(&[]))?;
-    Ok(())
+fn refusals_cancels_and_turns_that_are_out(rt: HostRuntime) -> Result<(), Fail> {
+    let rows: [Ending<'_>; 12] = [
+        ("each refusal", 100, &REFUSALS, [96, 4, 100]),
+        ("a cancel while out", 100, &CANCEL_WHILE_OUT, [98, 2, 100]),
+        ("while out", 100, &WHILE_OUT, [100, 0, 100]),
+        ("an abandoned turn", 100, &ABANDONED, [98, 2, 100]),
+        ("a fresh job", 100, &cancels::FRESH, [100, 0, 100]),
+        ("a job after a turn", 100, &cancels::BEGUN, [98, 2, 100]),
+        ("a job that is out", 100, &cancels::OUT, [98, 2, 100]),
+        (
+            "a turn given back unrun",
+            100,
+            &cancels::OUT_UNRUN,
+            [100, 0, 100],
+        ),
+        ("a dry job", 100, &cancels::DRY, [94, 6, 100]),
+        ("a closed job", 100, &cancels::CLOSED, [91, 9, 100]),
+        ("a leaving job", 100, &cancels::LEAVING, [98, 2, 100]),
+        ("a cancelled job", 100, &cancels::GIVEN_UP, [100, 0, 100]),
+    ];
+    end_with(&rt, rt.alloc(), &rows)
 }
 
 const NOTED_OF_TREE: [Noted; 8] = [
@@ -167,74 +136,44 @@ const NOTED_OF_REFUSALS: [Noted; 16] = [
     Noted::Ledger,
 ];
 
-#[test]
-fn the_journal(rt: HostRuntime) -> Result<(), Fail> {
-    note_down(&rt, rt.alloc(), Manner::Ample, &TREE, &NOTED_OF_TREE)?;
-    note_down(
-        &rt,
-        rt.alloc(),
-        Manner::Ample,
-        &CANCEL_WHILE_OUT,
-        &NOTED_OF_CANCEL,
-    )?;
-    note_down(
-        &rt,
-        rt.alloc(),
-        Manner::Ample,
-        &REFUSALS,
-        &NOTED_OF_REFUSALS,
-    )
-}
-
-#[test]
-fn scarce_memory_for_a_tree(rt: HostRuntime) -> Result<(), Fail> {
-    note_down(&rt, rt.alloc(), Manner::Scarce, &TREE, &NOTED_OF_TREE)
-}
-
-#[test]
-fn scarce_memory_for_a_cancel(rt: HostRuntime) -> Result<(), Fail> {
-    note_down(
-        &rt,
-        rt.alloc(),
-        Manner::Scarce,
-        &CANCEL_WHILE_OUT,
-        &NOTED_OF_CANCEL,
-    )
-}
-
-#[test]
-fn scarce_memory_for_refusals(rt: HostRuntime) -> Result<(), Fail> {
-    note_down(
-        &rt,
-        rt.alloc(),
-        Manner::Scarce,
-        &REFUSALS,
-        &NOTED_OF_REFUSALS,
-    )
-}
-
-/// Plays the scripts of two tenants, mixed in twenty ways, and compares the journal of each and the words of both tills.
-fn mix(
-    rt: &impl Abort,
-    alloc: Global,
-    one: &[Step],
-    noted: &[Noted],
-    other: &[Step],
-    noted_of_other: &[Noted],
-    words: [[u64; 3]; 2],
-) -> Result<(), Fail> {
-    let mut coin = Coin::new(42);
-    let stage = Stage {
-        entries: 100,
-        manner: Manner::Ample,
-    };
-    for _ in 0..20 {
-        let steps = mixed(alloc, &mut coin, one, other)?;
-        assert_eq!(rt; steps.len(), one.len().saturating_add(other.len()));
-        let told = play(rt, alloc, stage, &steps, Some(noted), Some(noted_of_other))?;
-        assert_eq!(rt; told, words);
+/// Plays the scripts of the journals with 100 entries for a, and compares the journals and the words of the tills.
+fn note_down(rt: &impl Abort, alloc: Global, manner: Manner) -> Result<(), Fail> {
+    let rows: [(&'static str, &[Step], &[Noted], [u64; 3]); 3] = [
+        ("a tree", &TREE, &NOTED_OF_TREE, [91, 9, 100]),
+        (
+            "a cancel while out",
+            &CANCEL_WHILE_OUT,
+            &NOTED_OF_CANCEL,
+            [98, 2, 100],
+        ),
+        ("each refusal", &REFUSALS, &NOTED_OF_REFUSALS, [96, 4, 100]),
+    ];
+    for (name, steps, noted, words) in rows {
+        let stage = Stage {
+            name,
+            entries: 100,
+            manner,
+        };
+        play(
+            rt,
+            alloc,
+            stage,
+            steps,
+            [Some(noted), Some(&[])],
+            [words, [10, 0, 10]],
+        )?;
     }
     Ok(())
+}
+
+#[test]
+fn the_journal(rt: HostRuntime) -> Result<(), Fail> {
+    note_down(&rt, rt.alloc(), Manner::Ample)
+}
+
+#[test]
+fn scarce_memory(rt: HostRuntime) -> Result<(), Fail> {
+    note_down(&rt, rt.alloc(), Manner::Scarce)
 }
 
 /// The turn that is held in the end is given back as it is.
@@ -249,84 +188,121 @@ const NOTED_OF_OTHER: [Noted; 8] = [
     Noted::Give(2, 0),
 ];
 
+/// The scripts of a and of b, the journal of each, and the words of a's till in the end.
+#[derive(Drop)]
+struct Mix<'a> {
+    name: &'static str,
+    steps: &'a [Step],
+    noted: &'a [Noted],
+    other: &'a [Step],
+    noted_of_other: &'a [Noted],
+    words: [u64; 3],
+}
+
+/// Plays the scripts of two tenants, mixed by the next tosses, and compares the journal of each and the words of both tills.
+fn play_mixed(rt: &impl Abort, alloc: Global, coin: &mut Coin, row: &Mix<'_>) -> Result<(), Fail> {
+    let stage = Stage {
+        name: row.name,
+        entries: 100,
+        manner: Manner::Ample,
+    };
+    let steps = mixed(alloc, coin, row.steps, row.other)?;
+    assert!(rt; steps.len() == row.steps.len().saturating_add(row.other.len()));
+    let journals = [Some(row.noted), Some(row.noted_of_other)];
+    play(rt, alloc, stage, &steps, journals, [row.words, [6, 4, 10]])
+}
+
+/// Plays them mixed in twenty ways.
+fn play_twenty(rt: &impl Abort, alloc: Global, row: &Mix<'_>) -> Result<(), Fail> {
+    let mut coin = Coin::new(42);
+    for _ in 0..20 {
+        play_mixed(rt, alloc, &mut coin, row)?;
+    }
+    Ok(())
+}
+
+#[test]
+fn beside_another_tenant(rt: HostRuntime) -> Result<(), Fail> {
+    let rows = [
+        Mix {
+            name: "a tree beside b",
+            steps: &TREE,
+            noted: &NOTED_OF_TREE,
+            other: &OTHER,
+            noted_of_other: &NOTED_OF_OTHER,
+            words: [91, 9, 100],
+        },
+        Mix {
+            name: "a cancel beside b",
+            steps: &CANCEL_WHILE_OUT,
+            noted: &NOTED_OF_CANCEL,
+            other: &OTHER[..5],
+            noted_of_other: &NOTED_OF_OTHER[..6],
+            words: [98, 2, 100],
+        },
+        Mix {
+            name: "refusals beside b",
+            steps: &REFUSALS,
+            noted: &NOTED_OF_REFUSALS,
+            other: &OTHER,
+            noted_of_other: &NOTED_OF_OTHER,
+            words: [96, 4, 100],
+        },
+    ];
+    for row in &rows {
+        play_twenty(&rt, rt.alloc(), row)?;
+    }
+    Ok(())
+}
+
 #[test]
 fn two_tenants_in_turn(rt: HostRuntime) -> Result<(), Fail> {
     let stage = Stage {
+        name: "two tenants in turn",
         entries: 100,
         manner: Manner::Ample,
     };
     let steps = in_turn(rt.alloc(), &TREE, &OTHER)?;
     assert_eq!(rt; steps.len(), 12);
-    let words = play(
+    let journals: [Option<&[Noted]>; 2] = [Some(&NOTED_OF_TREE), Some(&NOTED_OF_OTHER)];
+    play(
         &rt,
         rt.alloc(),
         stage,
         &steps,
-        Some(&NOTED_OF_TREE),
-        Some(&NOTED_OF_OTHER),
-    )?;
-    assert_eq!(rt; words, [[91, 9, 100], [6, 4, 10]]);
-    Ok(())
-}
-
-#[test]
-fn a_funded_tree_beside_another_tenant(rt: HostRuntime) -> Result<(), Fail> {
-    let words = [[91, 9, 100], [6, 4, 10]];
-    mix(
-        &rt,
-        rt.alloc(),
-        &TREE,
-        &NOTED_OF_TREE,
-        &OTHER,
-        &NOTED_OF_OTHER,
-        words,
+        journals,
+        [[91, 9, 100], [6, 4, 10]],
     )
 }
 
-#[test]
-fn a_cancelled_tree_beside_another_tenant(rt: HostRuntime) -> Result<(), Fail> {
-    let words = [[98, 2, 100], [6, 4, 10]];
-    mix(
-        &rt,
-        rt.alloc(),
-        &CANCEL_WHILE_OUT,
-        &NOTED_OF_CANCEL,
-        &OTHER[..5],
-        &NOTED_OF_OTHER[..6],
-        words,
-    )
+/// The plans and searches of two trees, the first of them that of the diamond.
+type Pair = (Ready<Box<dyn Strategy>>, Ready<Box<dyn Strategy>>);
+
+/// Trees of two tenants, or of one.
+fn pair_of(alloc: Global, text: Text, tenant: u32) -> Result<Pair, Fail> {
+    let mut purses = Purses::new(alloc)?;
+    let kind = Kind::Tree;
+    let first = Wanted {
+        tenant: 0,
+        kind,
+        text: Text::Diamond,
+    };
+    let own = ready_of(alloc, &mut purses, first)?;
+    let other = ready_of(alloc, &mut purses, Wanted { tenant, kind, text })?;
+    Ok((own, other))
 }
 
-#[test]
-fn refusals_beside_another_tenant(rt: HostRuntime) -> Result<(), Fail> {
-    let words = [[96, 4, 100], [6, 4, 10]];
-    mix(
-        &rt,
-        rt.alloc(),
-        &REFUSALS,
-        &NOTED_OF_REFUSALS,
-        &OTHER,
-        &NOTED_OF_OTHER,
-        words,
-    )
+/// A farm whose tenant a has so many entries of the journal.
+fn farm_of(alloc: Global, entries: u64) -> Result<Farm<Box<dyn Strategy>>, Fail> {
+    let config = config_of(alloc, entries)?;
+    Ok(Farm::new(alloc, &config)?)
 }
 
 #[test]
 fn strangers_are_handed_back(rt: HostRuntime) -> Result<(), Fail> {
-    let alloc = rt.alloc();
-    let config = config_of(alloc, 100)?;
-    let mut purse = Purse::new(alloc, 0, 100)?;
     for (text, slice) in [(Text::Chain, 2), (Text::Starved, 2), (Text::Diamond, 3)] {
-        let search: Box<dyn Strategy> = Box::new(
-            alloc,
-            tree_of(alloc, Text::Diamond, purse.lease()?)?,
-        )?;
-        let plan = plan_of(alloc, Text::Diamond, Kind::Tree)?;
-        let own = Ready { plan, search };
-        let search: Box<dyn Strategy> = Box::new(alloc, tree_of(alloc, text, purse.lease()?)?)?;
-        let plan = plan_of(alloc, text, Kind::Tree)?;
-        let other = Ready { plan, search };
-        let (mut home, mut farm) = (Farm::new(alloc, &config)?, Farm::new(alloc, &config)?);
+        let (own, other) = pair_of(rt.alloc(), text, 0)?;
+        let (mut home, mut farm) = (farm_of(rt.alloc(), 100)?, farm_of(rt.alloc(), 100)?);
         stray(&rt, &mut home, &mut farm, own, other, slice);
     }
     Ok(())
@@ -334,45 +310,16 @@ fn strangers_are_handed_back(rt: HostRuntime) -> Result<(), Fail> {
 
 #[test]
 fn turns_that_agree_in_all(rt: HostRuntime) -> Result<(), Fail> {
-    let alloc = rt.alloc();
-    let config = config_of(alloc, 100)?;
-    let mut purse = Purse::new(alloc, 0, 100)?;
-    let search: Box<dyn Strategy> = Box::new(
-        alloc,
-        tree_of(alloc, Text::Diamond, purse.lease()?)?,
-    )?;
-    let plan = plan_of(alloc, Text::Diamond, Kind::Tree)?;
-    let own = Ready { plan, search };
-    let search: Box<dyn Strategy> = Box::new(
-        alloc,
-        tree_of(alloc, Text::Diamond, purse.lease()?)?,
-    )?;
-    let plan = plan_of(alloc, Text::Diamond, Kind::Tree)?;
-    let other = Ready { plan, search };
-    let (mut home, mut farm) = (Farm::new(alloc, &config)?, Farm::new(alloc, &config)?);
+    let (own, other) = pair_of(rt.alloc(), Text::Diamond, 0)?;
+    let (mut home, mut farm) = (farm_of(rt.alloc(), 100)?, farm_of(rt.alloc(), 100)?);
     exchange(&rt, &mut home, &mut farm, own, other);
     Ok(())
 }
 
 #[test]
 fn the_next_turn_of_any_tenant(rt: HostRuntime) -> Result<(), Fail> {
-    let alloc = rt.alloc();
-    let config = config_of(alloc, 1)?;
-    let mut purse = Purse::new(alloc, 0, 100)?;
-    let mut purse_of_other = Purse::new(alloc, 1, 10)?;
-    let search: Box<dyn Strategy> = Box::new(
-        alloc,
-        tree_of(alloc, Text::Diamond, purse.lease()?)?,
-    )?;
-    let plan = plan_of(alloc, Text::Diamond, Kind::Tree)?;
-    let ready = Ready { plan, search };
-    let search: Box<dyn Strategy> = Box::new(
-        alloc,
-        tree_of(alloc, Text::Diamond, purse_of_other.lease()?)?,
-    )?;
-    let plan = plan_of(alloc, Text::Diamond, Kind::Tree)?;
-    let other = Ready { plan, search };
-    let mut farm = Farm::new(alloc, &config)?;
-    take_any(&rt, &mut farm, ready, other);
+    let (own, other) = pair_of(rt.alloc(), Text::Diamond, 1)?;
+    let mut farm = farm_of(rt.alloc(), 1)?;
+    take_any(&rt, &mut farm, own, other);
     Ok(())
 }

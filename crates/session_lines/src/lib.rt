@@ -21,8 +21,6 @@ mod put;
 mod reading;
 mod request;
 mod said;
-#[cfg(test)]
-mod tests;
 mod text;
 mod words;
 mod writer;

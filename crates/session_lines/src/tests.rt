@@ -1,5 +1,0 @@
-//! Lines byte for byte.
-mod limits;
-mod replies;
-mod requests;
-mod scripts;
