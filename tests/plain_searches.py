@@ -5,12 +5,19 @@
     plain_searches.py groups SEED GROUPS N      of each group of N small random projects, what each kind of search shows:
                                             how many nodes there were, and a sum over all that was shown after each
     plain_searches.py largest                   the same of a project at the limits, whose activities follow one another
+    plain_searches.py values SEED N             a sum over the values of each activity of N small random projects
+    plain_searches.py boards SEED N             of partial schedules that grow and shrink, of N of them: how many earliest starts
+                                            were asked for, and a sum over all that was told
+    plain_searches.py schedules SEED N          of ten random schedules of each of N of them: how many are feasible, and a sum over
+                                            what each is, or breaks first
+    plain_searches.py least SEED N              of N random projects of at most three activities: how many have a feasible schedule,
+                                            and a sum over their least makespans, by going over all schedules
 
 KIND is tree, rule:lft, rule:mts, rule:spt or sample:SEED. Nothing here is shared with the service: no code, no
 tables. Activities and modes are counted from 0 inside, and from 1 in what is printed.
 """
 import sys
-from itertools import islice
+from itertools import islice, product
 
 
 class Project:
@@ -212,14 +219,14 @@ class Drawn:
         return (self.x >> 16) % n
 
 
-def random_project(drawn):
-    """1 to 8 activities, 1 to 3 modes, 0 to 2 resources of each sort."""
-    n, r, k = 1 + drawn.below(8), drawn.below(3), drawn.below(3)
+def random_project(drawn, activities=8, most_modes=3, durations=5):
+    """1 to 8 activities, 1 to 3 modes of 0 to 4 periods, 0 to 2 resources of each sort, or smaller ones."""
+    n, r, k = 1 + drawn.below(activities), drawn.below(3), drawn.below(3)
     modes, successors = [], []
     for j in range(n):
         modes.append([])
-        for _ in range(1 + drawn.below(3)):
-            d = drawn.below(5)
+        for _ in range(1 + drawn.below(most_modes)):
+            d = drawn.below(durations)
             requests = [drawn.below(4) for _ in range(r)]
             modes[-1].append((d, requests, [drawn.below(3) for _ in range(k)]))
         successors.append([s for s in range(j + 1, n) if drawn.below(4) == 0])
@@ -260,7 +267,108 @@ def largest():
     return Project(modes, [[j + 1] if j < 201 else [] for j in range(202)], [1] * 8, [202] * 8)
 
 
+def summed(h, *values):
+    for value in values:
+        h = (h * 31 + value) % 2 ** 32
+    return h
+
+
+def values(drawn, n):
+    h = 0
+    for _ in range(n):
+        p = random_project(drawn)
+        for j in range(p.n):
+            h = summed(h, p.tail[j], p.lft[j], p.mts[j], p.shortest[j], *(p.least(j, k) for k in range(len(p.stocks))))
+    return h
+
+
+def board_steps(p, drawn, asked, h):
+    """Twelve random questions about a partial schedule. What may come next is placed where it starts earliest."""
+    placed = []
+    for _ in range(12):
+        j, m, start = drawn.below(p.n), drawn.below(3), drawn.below(10)
+        m %= len(p.modes[j])
+        can, may = p.executable(j, m), j in p.eligible(placed)
+        h = summed(h, can, p.affordable(placed, j, m), may)
+        if can and j not in [place[0] for place in placed]:
+            asked += 1
+            place = (j, m, p.earliest(placed, j, m, start))
+            h = summed(h, place[2])
+            if may:
+                placed.append(place)
+                h = summed(h, p.finish(place))
+        h = summed(h, p.makespan(placed))
+        if placed and drawn.below(6) == 0:
+            placed.pop()
+    return asked, h
+
+
+def boards(drawn, n):
+    asked, h = 0, 0
+    for _ in range(n):
+        asked, h = board_steps(random_project(drawn), drawn, asked, h)
+    return asked, h
+
+
+def breach(p, schedule):
+    """0 and the makespan, or what is broken first: 2 mode, 3 precedence, 4 renewable, 5 nonrenewable, with its numbers."""
+    modes, starts = schedule
+    for j in range(p.n):
+        if not 1 <= modes[j] <= len(p.modes[j]):
+            return 2, j + 1
+    chosen = [p.modes[j][modes[j] - 1] for j in range(p.n)]
+    ends = [start + mode[0] for start, mode in zip(starts, chosen)]
+    for i, j in product(range(p.n), range(p.n)):
+        if j in p.successors[i] and starts[j] < ends[i]:
+            return 3, i + 1, j + 1
+    for r, t in product(range(len(p.capacities)), range(max(ends))):
+        if sum(mode[1][r] for j, mode in enumerate(chosen) if starts[j] <= t < ends[j]) > p.capacities[r]:
+            return 4, r + 1, t
+    for k, stock in enumerate(p.stocks):
+        if sum(mode[2][k] for mode in chosen) > stock:
+            return 5, k + 1
+    return 0, max(ends)
+
+
+def random_schedule(p, drawn):
+    """Starts rise, so that precedence is often kept, and a mode is sometimes one that is not there."""
+    modes, starts, start = [], [], 0
+    for _ in range(p.n):
+        odd, mode, step = drawn.below(40), drawn.below(2), drawn.below(5)
+        modes.append(4 if odd == 0 else 1 + mode)
+        start += step
+        starts.append(start)
+    return modes, starts
+
+
+def schedules(drawn, n):
+    feasible, h = 0, 0
+    for _ in range(n):
+        p = random_project(drawn)
+        for _ in range(10):
+            told = breach(p, random_schedule(p, drawn))
+            feasible += told[0] == 0
+            h = summed(h, *told)
+    return feasible, h
+
+
+def least(drawn, n):
+    feasible, h = 0, 0
+    for _ in range(n):
+        p = random_project(drawn, 3, 2, 3)
+        modes = product(*(range(1, 1 + len(ms)) for ms in p.modes))
+        every = product(modes, product(range(p.horizon + 1), repeat=p.n))
+        found = [told[1] for told in (breach(p, schedule) for schedule in every) if told[0] == 0]
+        feasible += bool(found)
+        h = summed(h, 1 + min(found) if found else 0)
+    return feasible, h
+
+
 def main():
+    sums = {"values": values, "boards": boards, "schedules": schedules, "least": least}
+    if sys.argv[1] in sums:
+        print(sums[sys.argv[1]](Drawn(int(sys.argv[2])), int(sys.argv[3])))
+        return
     if sys.argv[1] == "largest":
         kinds = ["tree", "rule:lft", "rule:mts", "rule:spt", "sample:0"]
         print([digest(largest(), kind, 205, 0) for kind in kinds])

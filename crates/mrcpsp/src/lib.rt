@@ -23,8 +23,6 @@ mod mode;
 mod project;
 mod schedule;
 mod sequence;
-#[cfg(test)]
-mod tests;
 
 pub use activity::Activity;
 pub use breach::Breach;

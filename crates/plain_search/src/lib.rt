@@ -7,7 +7,5 @@
 #![tactic(auto)]
 
 mod search;
-#[cfg(test)]
-mod tests;
 
 pub use search::{PlainSearch, Refused};

@@ -20,6 +20,3 @@ mod visit;
 
 pub use tree::visits;
 pub use visit::Visit;
-
-#[cfg(test)]
-mod tests;

@@ -15,8 +15,6 @@ mod account;
 mod lease;
 mod purse;
 mod rule;
-#[cfg(test)]
-mod tests;
 mod till;
 
 pub use lease::Lease;

@@ -13,7 +13,5 @@
 
 mod choice;
 mod search;
-#[cfg(test)]
-mod tests;
 
 pub use search::{Refused, RuleSearch};

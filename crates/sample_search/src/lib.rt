@@ -16,8 +16,6 @@ mod best;
 mod draw;
 mod node;
 mod search;
-#[cfg(test)]
-mod tests;
 mod words;
 
 pub use search::{Refused, SampleSearch};

@@ -2,6 +2,29 @@
 use mrcpsp::{Activity, Mode, Project, Sequence};
 use std::alloc::{AllocError, Global};
 
+/// The numbers below which a project is drawn: how many more activities it has than one, how many more modes an activity has, and
+/// durations.
+#[derive(Clone, Copy, Debug)]
+pub(crate) struct Bounds {
+    activities: u32,
+    modes: u32,
+    durations: u32,
+}
+
+/// Up to 8 activities of up to 3 modes of up to 4 periods.
+pub(crate) const SMALL: Bounds = Bounds {
+    activities: 8,
+    modes: 3,
+    durations: 5,
+};
+
+/// Up to 3 activities of up to 2 modes of up to 2 periods.
+pub(crate) const SMALLEST: Bounds = Bounds {
+    activities: 3,
+    modes: 2,
+    durations: 3,
+};
+
 /// Numbers for the random projects: x becomes x * 1103515245 + 12345 modulo 2^31, and gives x div 2^16.
 #[derive(Drop)]
 pub(crate) struct Drawn {
@@ -15,7 +38,7 @@ impl Drawn {
     }
 
     /// A number below n, or 0 where n is 0.
-    fn below(&mut self, n: u32) -> u32 {
+    pub(crate) fn below(&mut self, n: u32) -> u32 {
         let next = self.x.wrapping_mul(1_103_515_245).wrapping_add(12_345);
         self.x = next & 0x7fff_ffff;
         (self.x >> 16).checked_rem(n).unwrap_or(0)
@@ -36,12 +59,17 @@ impl Drawn {
         Ok(Sequence::from(numbers))
     }
 
-    /// One to three modes for so many resources of each sort.
-    fn modes(&mut self, alloc: Global, kinds: (u32, u32)) -> Result<Sequence<Mode>, AllocError> {
+    /// Some modes for so many resources of each sort.
+    fn modes(
+        &mut self,
+        alloc: Global,
+        bounds: Bounds,
+        kinds: (u32, u32),
+    ) -> Result<Sequence<Mode>, AllocError> {
         let mut modes = Vec::new(alloc);
-        let count = self.below(3);
+        let count = self.below(bounds.modes);
         for _ in 0..=count {
-            let duration = self.below(5);
+            let duration = self.below(bounds.durations);
             let renewable = self.list(alloc, kinds.0, 0, 4)?;
             let nonrenewable = self.list(alloc, kinds.1, 0, 3)?;
             modes.push(Mode {
@@ -69,13 +97,17 @@ impl Drawn {
         Ok(Sequence::from(numbers))
     }
 
-    /// A project of 1 to 8 activities, of 1 to 3 modes each, and 0 to 2 resources of each sort.
-    pub(crate) fn project(&mut self, alloc: Global) -> Result<Option<Project>, AllocError> {
-        let size = self.below(8).saturating_add(1);
+    /// A project within these bounds, of 0 to 2 resources of each sort.
+    pub(crate) fn project(
+        &mut self,
+        alloc: Global,
+        bounds: Bounds,
+    ) -> Result<Option<Project>, AllocError> {
+        let size = self.below(bounds.activities).saturating_add(1);
         let kinds = (self.below(3), self.below(3));
         let mut activities = Vec::new(alloc);
         for number in 1..=size {
-            let modes = self.modes(alloc, kinds)?;
+            let modes = self.modes(alloc, bounds, kinds)?;
             let successors = self.successors(alloc, number, size)?;
             activities.push(Activity { modes, successors })?;
         }

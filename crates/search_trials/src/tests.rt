@@ -1,5 +1,5 @@
 //! The table: 120 random projects in twelve groups; and a project at the limits.
-use crate::drawn::Drawn;
+use crate::drawn::{Drawn, SMALL};
 use crate::largest::largest;
 use crate::shown::Shown;
 use std::alloc::Global;
@@ -109,7 +109,7 @@ const LARGEST: [(u64, u32); 5] = [
 fn group(alloc: Global, drawn: &mut Drawn) -> Result<[Shown; 5], Fail> {
     let mut shown = [Shown { nodes: 0, sum: 0 }; 5];
     for seed in 0..10u32 {
-        let project = drawn.project(alloc)?.ok_or("within the limits")?;
+        let project = drawn.project(alloc, SMALL)?.ok_or("within the limits")?;
         let passes = (project.size() as u32).saturating_mul(4);
         let kinds = [
             (Kind::Tree, 400),

@@ -17,6 +17,3 @@ mod sums;
 
 pub use board::Board;
 pub use place::Place;
-
-#[cfg(test)]
-mod tests;

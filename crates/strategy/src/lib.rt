@@ -15,8 +15,6 @@ mod kind;
 pub mod laws;
 mod plan;
 mod search;
-#[cfg(test)]
-mod tests;
 mod verdict;
 
 pub use kind::Kind;

@@ -5,7 +5,5 @@
 #![tactic(auto)]
 
 mod book;
-#[cfg(test)]
-mod tests;
 
 pub use book::{Book, Short};

@@ -1,5 +1,5 @@
 use Rattle.std.proofs.Common.{◌≡◌, ℕ, ◌≤◌, slice_get}
-use Rattle.quanta_till.proofs.tests.accounted.Given as goal
+use Rattle.till_trials.proofs.leases.accounted.Given as goal
 
 -- the desks from i on are as they were
 abbrev pub invariant-loop-i : goal.invariant-loop-i

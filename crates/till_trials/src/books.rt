@@ -1,7 +1,7 @@
 //! A book through a tenant's day.
-use crate::{Book, Short};
 use std::process::Abort;
 use std::test::Fail;
+use tenant_book::{Book, Short};
 
 // What is free, held and spent of 100.
 fn tells(rt: &impl Abort, book: &Book, free: u64, held: u64, spent: u64) {
