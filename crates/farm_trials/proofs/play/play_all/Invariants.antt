@@ -2,5 +2,5 @@ use Rattle.std.proofs.Common.{IfSome}
 use Rattle.farm_core.specs.Turn.{IsTurn}
 use Rattle.farm_trials.proofs.play.play_all.Given as goal
 
-abbrev pub invariant-loop-step : goal.invariant-loop-step
-invariant-loop-step g l = IfSome l.hand (λ turn. IsTurn turn.slice turn.ran (g.J.Strategy.meaning turn.search))
+abbrev pub invariant-loop-at : goal.invariant-loop-at
+invariant-loop-at g l = IfSome l.hand (λ turn. IsTurn turn.slice turn.ran (g.J.Strategy.meaning turn.search))
