@@ -2,6 +2,8 @@
 use crate::projects::{DIAMOND, FORK, LONE, STARVED, project};
 use mrcpsp::{Project, check};
 use plain_tree::{Visit, visits};
+use std::alloc::{AllocError, Global};
+use std::process::Abort;
 use std::test::Fail;
 
 /// A node: activity and mode, counted from 1, start, finish, whether it was pruned, and the makespan of the incumbent.
@@ -55,31 +57,44 @@ fn duration_of(project: &Project, node: &Visit) -> u32 {
     }
 }
 
-fn line_of(project: &Project, node: &Visit) -> Line {
-    let place = node.place;
-    let makespan = match &node.best {
+/// The makespan of the incumbent after a node, none where there is none.
+fn makespan_of(project: &Project, node: &Visit) -> Option<u32> {
+    match &node.best {
         Some(best) => check(project, best).ok(),
         None => None,
-    };
-    (
-        place.activity.saturating_add(1),
-        place.mode.saturating_add(1),
-        place.start,
-        place.start.saturating_add(duration_of(project, node)),
-        node.pruned,
-        makespan,
-    )
+    }
+}
+
+fn compare(rt: &impl Abort, project: &Project, node: &Visit, line: &Line) {
+    let (activity, mode, start, finish, pruned, makespan) = *line;
+    let place = node.place;
+    assert!(rt; place.activity.saturating_add(1) == activity);
+    assert!(rt; place.mode.saturating_add(1) == mode);
+    assert!(rt; place.start == start);
+    assert!(rt; start.saturating_add(duration_of(project, node)) == finish);
+    assert!(rt; node.pruned == pruned && makespan_of(project, node) == makespan);
+}
+
+/// Compares the nodes of a project's tree with these.
+fn compare_tree(
+    rt: &impl Abort,
+    alloc: Global,
+    project: &Project,
+    lines: &[Line],
+) -> Result<(), AllocError> {
+    let nodes = visits(alloc, project)?;
+    assert!(rt; nodes.len() == lines.len());
+    for (node, line) in nodes.iter().zip(lines) {
+        compare(rt, project, node, line);
+    }
+    Ok(())
 }
 
 #[test]
 fn trees_node_by_node(rt: HostRuntime) -> Result<(), Fail> {
     for (text, capacities, lines) in TREES.iter() {
         let project = project(rt.alloc(), text, capacities)?;
-        let nodes = visits(rt.alloc(), &project)?;
-        assert!(rt; nodes.len() == lines.len());
-        for (node, line) in nodes.iter().zip(*lines) {
-            assert!(rt; line_of(&project, node) == *line);
-        }
+        compare_tree(&rt, rt.alloc(), &project, lines)?;
     }
     Ok(())
 }

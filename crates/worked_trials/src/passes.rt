@@ -1,15 +1,13 @@
 //! Passes by hand: what may come next, where it is placed, void passes and new ones.
-ghost use Rattle.std.specs.Prelude.{◌≡◌};
+ghost use Rattle.std.specs.Prelude.{◌≡◌, IfOk};
+ghost use Rattle.mrcpsp.specs.Project.{size};
+ghost use Rattle.serial_pass.specs.Pass.{HasRoom};
 
 use crate::projects::{BLOCKED, DIAMOND, project};
 use mrcpsp::Schedule;
 use serial_pass::{Candidate, Pass};
 use std::process::Abort;
 use std::test::Fail;
-
-/// The activity and the mode that a node places, and what may come next and the latest finish after it, none where the pass is
-/// void.
-type Node = (usize, usize, &'static [usize], Option<u32>);
 
 /// Runs a node that places this, if it is listed, and gives up otherwise.
 fn step(pass: &mut Pass, activity: usize, mode: usize)
@@ -32,62 +30,103 @@ fn shows(rt: &impl Abort, pass: &Pass, eligible: &[usize], makespan: Option<u32>
     assert!(rt; pass.is_void() == makespan.is_none());
 }
 
-/// Runs these nodes, and compares what the pass shows after each.
-fn run(rt: &impl Abort, pass: &mut Pass, nodes: &[Node])
+/// Runs a node that places this, and compares what the pass then shows.
+fn node(
+    rt: &impl Abort,
+    pass: &mut Pass,
+    candidate: (usize, usize),
+    eligible: &[usize],
+    makespan: Option<u32>,
+)
     ensures { pass.new.project ≡ pass.old.project }
 {
-    for (activity, mode, eligible, makespan) in nodes {
-        step(pass, *activity, *mode);
-        shows(rt, pass, eligible, *makespan);
-    }
+    step(pass, candidate.0, candidate.1);
+    shows(rt, pass, eligible, makespan);
 }
 
-/// Compares a schedule with these modes and starts.
-fn compare(rt: &impl Abort, schedule: &Schedule, modes: &[u32], starts: &[u32]) {
-    assert!(rt; schedule.modes.as_slice() == modes && schedule.starts.as_slice() == starts);
+/// The diamond with its third activity first, in the second mode.
+fn third_first(rt: &impl Abort, pass: &mut Pass)
+    ensures { pass.new.project ≡ pass.old.project }
+{
+    node(rt, pass, (0, 0), &[1, 2], Some(0));
+    node(rt, pass, (2, 1), &[1], Some(4));
+    node(rt, pass, (1, 0), &[3], Some(4));
+    node(rt, pass, (3, 0), &[], Some(4));
 }
 
-const DIAMOND_NODES: [Node; 4] = [
-    (0, 0, &[1, 2], Some(0)),
-    (2, 1, &[1], Some(4)),
-    (1, 0, &[3], Some(4)),
-    (3, 0, &[], Some(4)),
-];
+/// The first half of the diamond with its second activity first.
+fn second_first(rt: &impl Abort, pass: &mut Pass)
+    ensures { pass.new.project ≡ pass.old.project }
+{
+    node(rt, pass, (0, 0), &[1, 2], Some(0));
+    node(rt, pass, (1, 0), &[2], Some(3));
+}
 
-/// The same activities in another order and other modes.
-const OTHER_NODES: [Node; 4] = [
-    (0, 0, &[1, 2], Some(0)),
-    (1, 0, &[2], Some(3)),
-    (2, 0, &[3], Some(5)),
-    (3, 0, &[], Some(5)),
-];
+/// The other half.
+fn then_third(rt: &impl Abort, pass: &mut Pass)
+    ensures { pass.new.project ≡ pass.old.project }
+{
+    node(rt, pass, (2, 0), &[3], Some(5));
+    node(rt, pass, (3, 0), &[], Some(5));
+}
 
-const BLOCKED_NODES: [Node; 4] = [
-    (0, 0, &[1, 2], Some(0)),
-    (1, 0, &[2], Some(1)),
-    (2, 0, &[], None),
-    (1, 0, &[], None),
-];
+/// The third activity cannot be placed, and nothing is placed from then on.
+fn blocked(rt: &impl Abort, pass: &mut Pass)
+    ensures { pass.new.project ≡ pass.old.project }
+{
+    node(rt, pass, (0, 0), &[1, 2], Some(0));
+    node(rt, pass, (1, 0), &[2], Some(1));
+    node(rt, pass, (2, 0), &[], None);
+    node(rt, pass, (1, 0), &[], None);
+}
 
-/// Each starts as early as it may, and a new pass begins in the memory of the last.
+/// The schedule that a pass is, in this memory, with these modes and starts.
+fn made(
+    rt: &impl Abort,
+    pass: &Pass,
+    room: Schedule,
+    modes: &[u32],
+    starts: &[u32],
+) -> Result<Schedule, Fail>
+    requires { HasRoom (size pass.now.project) room }
+    ensures { IfOk result (λ made. HasRoom (size pass.now.project) made) }
+{
+    let Some(made) = pass.schedule(room) else {
+        return Err(Fail::from("no schedule"));
+    };
+    assert!(rt; made.modes.as_slice() == modes && made.starts.as_slice() == starts);
+    Ok(made)
+}
+
 #[test]
-fn passes_of_the_diamond(rt: HostRuntime) -> Result<(), Fail> {
+fn each_starts_as_early_as_it_may(rt: HostRuntime) -> Result<(), Fail> {
     let project = project(rt.alloc(), DIAMOND, "3 1")?;
     let mut pass = Pass::new(rt.alloc(), &project)?;
     let room = pass.blank(rt.alloc())?;
-    assert!(rt; pass.eligible() == [0].as_slice() && pass.makespan() == Some(0));
-    run(&rt, &mut pass, &DIAMOND_NODES);
-    let whole = pass.schedule(room).ok_or("no schedule")?;
-    compare(&rt, &whole, &[1, 1, 2, 1], &[0, 0, 0, 4]);
-    pass.restart();
-    assert!(rt; pass.eligible() == [0].as_slice() && pass.makespan() == Some(0));
-    run(&rt, &mut pass, &OTHER_NODES[..2]);
-    let part = pass.schedule(whole).ok_or("no schedule")?;
-    compare(&rt, &part, &[1, 1, 1, 1], &[0, 0, 0, 0]);
-    run(&rt, &mut pass, &OTHER_NODES[2..]);
-    let whole = pass.schedule(part).ok_or("no schedule")?;
-    compare(&rt, &whole, &[1, 1, 1, 1], &[0, 0, 3, 5]);
+    shows(&rt, &pass, &[0], Some(0));
+    third_first(&rt, &mut pass);
+    made(&rt, &pass, room, &[1, 1, 2, 1], &[0, 0, 0, 4])?;
     Ok(())
+}
+
+#[test]
+fn a_new_pass_in_the_memory_of_the_last(rt: HostRuntime) -> Result<(), Fail> {
+    let project = project(rt.alloc(), DIAMOND, "3 1")?;
+    let mut pass = Pass::new(rt.alloc(), &project)?;
+    let room = pass.blank(rt.alloc())?;
+    second_first(&rt, &mut pass);
+    let part = made(&rt, &pass, room, &[1, 1, 1, 1], &[0, 0, 0, 0])?;
+    pass.restart();
+    shows(&rt, &pass, &[0], Some(0));
+    second_first(&rt, &mut pass);
+    then_third(&rt, &mut pass);
+    made(&rt, &pass, part, &[1, 1, 1, 1], &[0, 0, 3, 5])?;
+    Ok(())
+}
+
+fn allows(rt: &impl Abort, pass: &Pass, activity: usize, modes: &[usize]) {
+    assert!(rt; activity < pass.project().size());
+    assert!(rt; pass.allowed_modes(activity).as_slice() == modes);
 }
 
 #[test]
@@ -95,8 +134,7 @@ fn modes_within_the_stock(rt: HostRuntime) -> Result<(), Fail> {
     let table: [(&str, &[usize]); 2] = [("3 1", &[0, 1]), ("3 0", &[1])];
     for (capacities, modes) in table {
         let pass = Pass::new(rt.alloc(), &project(rt.alloc(), DIAMOND, capacities)?)?;
-        assert!(rt; pass.project().size() == 4);
-        assert!(rt; pass.allowed_modes(2).as_slice() == modes);
+        allows(&rt, &pass, 2, modes);
     }
     Ok(())
 }
@@ -106,9 +144,10 @@ fn a_void_pass_stays_void(rt: HostRuntime) -> Result<(), Fail> {
     let project = project(rt.alloc(), BLOCKED, "3 1")?;
     let mut pass = Pass::new(rt.alloc(), &project)?;
     let room = pass.blank(rt.alloc())?;
-    run(&rt, &mut pass, &BLOCKED_NODES);
-    assert!(rt; pass.schedule(room).is_none());
+    blocked(&rt, &mut pass);
+    let none = pass.schedule(room).is_none();
+    assert!(rt; none);
     pass.restart();
-    assert!(rt; pass.eligible() == [0].as_slice() && pass.makespan() == Some(0));
+    shows(&rt, &pass, &[0], Some(0));
     Ok(())
 }
