@@ -188,80 +188,83 @@ const NOTED_OF_OTHER: [Noted; 8] = [
     Noted::Give(2, 0),
 ];
 
-/// The scripts of a and of b, the journal of each, and the words of a's till in the end.
-#[derive(Drop)]
-struct Mix<'a> {
-    name: &'static str,
-    steps: &'a [Step],
-    noted: &'a [Noted],
-    other: &'a [Step],
-    noted_of_other: &'a [Noted],
+/// Plays the scripts of two tenants, mixed in twenty ways, and compares the journal of each and the words of both tills.
+fn play_mixed(
+    rt: &impl Abort,
+    alloc: Global,
+    stage: Stage,
+    one: &[Step],
+    other: &[Step],
+    journals: [Option<&[Noted]>; 2],
     words: [u64; 3],
-}
-
-/// Plays the scripts of two tenants, mixed by the next tosses, and compares the journal of each and the words of both tills.
-fn play_mixed(rt: &impl Abort, alloc: Global, coin: &mut Coin, row: &Mix<'_>) -> Result<(), Fail> {
-    let stage = Stage {
-        name: row.name,
-        entries: 100,
-        manner: Manner::Ample,
-    };
-    let steps = mixed(alloc, coin, row.steps, row.other)?;
-    assert!(rt; steps.len() == row.steps.len().saturating_add(row.other.len()));
-    let journals = [Some(row.noted), Some(row.noted_of_other)];
-    play(rt, alloc, stage, &steps, journals, [row.words, [6, 4, 10]])
-}
-
-/// Plays them mixed in twenty ways.
-fn play_twenty(rt: &impl Abort, alloc: Global, row: &Mix<'_>) -> Result<(), Fail> {
+) -> Result<(), Fail> {
     let mut coin = Coin::new(42);
     for _ in 0..20 {
-        play_mixed(rt, alloc, &mut coin, row)?;
+        let steps = mixed(alloc, &mut coin, one, other)?;
+        assert_eq!(rt; steps.len(), one.len().saturating_add(other.len()));
+        play(rt, alloc, stage, &steps, journals, [words, [6, 4, 10]])?;
     }
     Ok(())
+}
+
+/// A stage with memory and entries enough.
+fn ample(name: &'static str) -> Stage {
+    Stage {
+        name,
+        entries: 100,
+        manner: Manner::Ample,
+    }
 }
 
 #[test]
-fn beside_another_tenant(rt: HostRuntime) -> Result<(), Fail> {
-    let rows = [
-        Mix {
-            name: "a tree beside b",
-            steps: &TREE,
-            noted: &NOTED_OF_TREE,
-            other: &OTHER,
-            noted_of_other: &NOTED_OF_OTHER,
-            words: [91, 9, 100],
-        },
-        Mix {
-            name: "a cancel beside b",
-            steps: &CANCEL_WHILE_OUT,
-            noted: &NOTED_OF_CANCEL,
-            other: &OTHER[..5],
-            noted_of_other: &NOTED_OF_OTHER[..6],
-            words: [98, 2, 100],
-        },
-        Mix {
-            name: "refusals beside b",
-            steps: &REFUSALS,
-            noted: &NOTED_OF_REFUSALS,
-            other: &OTHER,
-            noted_of_other: &NOTED_OF_OTHER,
-            words: [96, 4, 100],
-        },
-    ];
-    for row in &rows {
-        play_twenty(&rt, rt.alloc(), row)?;
-    }
-    Ok(())
+fn a_funded_tree_beside_another_tenant(rt: HostRuntime) -> Result<(), Fail> {
+    let journals: [Option<&[Noted]>; 2] = [Some(&NOTED_OF_TREE), Some(&NOTED_OF_OTHER)];
+    let stage = ample("a tree beside b");
+    play_mixed(
+        &rt,
+        rt.alloc(),
+        stage,
+        &TREE,
+        &OTHER,
+        journals,
+        [91, 9, 100],
+    )
+}
+
+#[test]
+fn a_cancelled_tree_beside_another_tenant(rt: HostRuntime) -> Result<(), Fail> {
+    let journals: [Option<&[Noted]>; 2] = [Some(&NOTED_OF_CANCEL), Some(&NOTED_OF_OTHER[..6])];
+    let stage = ample("a cancel beside b");
+    let other = &OTHER[..5];
+    play_mixed(
+        &rt,
+        rt.alloc(),
+        stage,
+        &CANCEL_WHILE_OUT,
+        other,
+        journals,
+        [98, 2, 100],
+    )
+}
+
+#[test]
+fn refusals_beside_another_tenant(rt: HostRuntime) -> Result<(), Fail> {
+    let journals: [Option<&[Noted]>; 2] = [Some(&NOTED_OF_REFUSALS), Some(&NOTED_OF_OTHER)];
+    let stage = ample("refusals beside b");
+    play_mixed(
+        &rt,
+        rt.alloc(),
+        stage,
+        &REFUSALS,
+        &OTHER,
+        journals,
+        [96, 4, 100],
+    )
 }
 
 #[test]
 fn two_tenants_in_turn(rt: HostRuntime) -> Result<(), Fail> {
-    let stage = Stage {
-        name: "two tenants in turn",
-        entries: 100,
-        manner: Manner::Ample,
-    };
+    let stage = ample("two tenants in turn");
     let steps = in_turn(rt.alloc(), &TREE, &OTHER)?;
     assert_eq!(rt; steps.len(), 12);
     let journals: [Option<&[Noted]>; 2] = [Some(&NOTED_OF_TREE), Some(&NOTED_OF_OTHER)];
