@@ -24,7 +24,9 @@ fn write_sections<W: Write>(writer: &mut W, formula: &Formula) -> io::Result<()>
         let last = before.saturating_add(section.count);
         let first = before.saturating_add(1);
         let said = said_by(section.kind);
-        writeln!(writer, "c clauses {first} to {last}: {said}")?;
+        if section.count > 0 {
+            writeln!(writer, "c clauses {first} to {last}: {said}")?;
+        }
         before = last;
     }
     Ok(())
