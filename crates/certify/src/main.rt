@@ -1,0 +1,94 @@
+//! The program `certify`: `certify clauses FILE BOUND`, `certify check FILE SCHEDULE PROOF` and `certify infeasible FILE PROOF`.
+//! A path `-` is standard input.
+#![tactic(auto)]
+
+use clap::{Arg, ArgMatches, Command};
+use std::alloc::{AllocError, Global};
+use std::process::ExitCode;
+use std::rt::Runtime;
+use std::{env, io};
+
+/// An argument that has to be there.
+fn needed<'a>(alloc: Global, name: &'a str, help: &'a str) -> Arg<'a> {
+    Arg::new(alloc, name).help(help).required(true)
+}
+
+/// The command with its subcommands, or an error where there is no memory for it.
+fn command<'a>(alloc: Global) -> Result<Command<'a>, AllocError> {
+    let clauses = Command::new(alloc, "clauses")
+        .about("Writes the clauses of a project and a bound in DIMACS form")
+        .arg(needed(alloc, "FILE", "A PSPLIB multi-mode file"))?
+        .arg(needed(alloc, "BOUND", "Periods, or none: modes and stocks alone"))?;
+    let check = Command::new(alloc, "check")
+        .about("Checks a schedule and a proof that none is shorter")
+        .arg(needed(alloc, "FILE", "A PSPLIB multi-mode file"))?
+        .arg(needed(
+            alloc,
+            "SCHEDULE",
+            "A result line, or its words J:MODE:START",
+        ))?
+        .arg(needed(
+            alloc,
+            "PROOF",
+            "A DRAT proof of the clauses of one period less",
+        ))?;
+    let infeasible = Command::new(alloc, "infeasible")
+        .about("Checks a proof that no schedule is feasible")
+        .arg(needed(alloc, "FILE", "A PSPLIB multi-mode file"))?
+        .arg(needed(
+            alloc,
+            "PROOF",
+            "A DRAT proof of the clauses without a bound",
+        ))?;
+    Command::new(alloc, "certify")
+        .about("Certificates of schedules that anyone found")
+        .subcommand_required(true)
+        .subcommand(clauses)?
+        .subcommand(check)?
+        .subcommand(infeasible)
+}
+
+/// Runs the subcommand that was chosen.
+fn run_chosen<R: Runtime + AllocGlobal>(rt: &R, matches: &ArgMatches<'_>) -> ExitCode {
+    match matches.subcommand() {
+        Some(("clauses", chosen)) => certify_cli::run_clauses(
+            rt,
+            chosen.get_str("FILE").unwrap_or("-"),
+            chosen.get_str("BOUND").unwrap_or("none"),
+        ),
+        Some(("check", chosen)) => certify_cli::run_certify(
+            rt,
+            chosen.get_str("FILE").unwrap_or("-"),
+            chosen.get_str("SCHEDULE").unwrap_or("-"),
+            chosen.get_str("PROOF").unwrap_or("-"),
+        ),
+        Some(("infeasible", chosen)) => certify_cli::run_infeasible(
+            rt,
+            chosen.get_str("FILE").unwrap_or("-"),
+            chosen.get_str("PROOF").unwrap_or("-"),
+        ),
+        _ => ExitCode::FAILURE,
+    }
+}
+
+/// The words of the process, or an error where one is not UTF-8 or there is no memory for them.
+fn words_of<R: Runtime + AllocGlobal>(rt: &R) -> io::Result<Vec<String>> {
+    Ok(env::args(rt)?.collect::<Vec<String>>(rt.alloc())?)
+}
+
+fn main(rt: HostRuntime) -> ExitCode {
+    let Ok(words) = words_of(&rt) else {
+        let _ = eprintln!(rt; "farm: cannot read the command line");
+        return ExitCode::FAILURE;
+    };
+    let Ok(command) = command(rt.alloc()) else {
+        return ExitCode::FAILURE;
+    };
+    match command.try_get_matches_from(words.as_slice()) {
+        Ok(matches) => run_chosen(&rt, &matches),
+        Err(error) => match error.print(&rt) {
+            Ok(()) => ExitCode::from(2),
+            Err(_) => ExitCode::FAILURE,
+        },
+    }
+}

@@ -1,0 +1,26 @@
+-- What a line of a certificate says.
+use Rattle.std.specs.Prelude.{◌≡◌, ℕ, List, ◌∷◌, ◌++◌, [], Option, Ok, codes, decimal}
+use Rattle.std.specs.Io.KnownBytes.{Appends}
+use Rattle.mrcpsp.specs.Project.{ProjectData}
+use Rattle.mrcpsp.specs.Schedule.{ScheduleData, IsOptimal, IsInfeasible, makespan}
+use Rattle.psplib_mm.specs.Reading.{reading}
+use Rattle.certify_cli.specs.ScheduleText.{Tells}
+
+abbrev pub optimal_line : ℕ → List ℕ
+optimal_line makespan = codes "optimal " ++ decimal makespan ++ 10 ∷ []
+
+-- the file is of a project, the text tells an optimal schedule of it, and its makespan was written
+pub record CertifiesOptimal (file text : List ℕ) (before after : Option (List ℕ)) : Type 0 where
+  pub project : ProjectData
+  pub schedule : ScheduleData
+  pub read : reading file ≡ Ok project
+  pub told : Tells text schedule
+  pub optimal : IsOptimal project schedule
+  pub wrote : Appends before after (optimal_line (makespan project schedule))
+
+-- the file is of a project without a feasible schedule, and `infeasible` was written
+pub record CertifiesInfeasible (file : List ℕ) (before after : Option (List ℕ)) : Type 0 where
+  pub project : ProjectData
+  pub read : reading file ≡ Ok project
+  pub infeasible : IsInfeasible project
+  pub wrote : Appends before after (codes "infeasible" ++ 10 ∷ [])

@@ -1,0 +1,23 @@
+-- The text of a schedule: for each activity a word of its number, its mode and its start, with colons between them.
+use Rattle.std.specs.Prelude.{◌⊎◌, ℕ, ◌+◌, ◌==◌, IsTrue, List, [], ◌∷◌, ◌++◌, codes, decimal}
+use Rattle.std.specs.List.{ends_with}
+use Rattle.mrcpsp.specs.Schedule.{ScheduleData}
+
+-- the word of activity j behind a blank
+abbrev pub place_text : ℕ → ℕ → ℕ → List ℕ
+place_text j mode start = codes " " ++ decimal j ++ codes ":" ++ decimal mode ++ codes ":" ++ decimal start
+
+-- the words of activities, from number j on
+abbrev pub places_text : ℕ → List ℕ → List ℕ → List ℕ
+places_text j [] starts = []
+places_text j (mode ∷ modes) [] = []
+places_text j (mode ∷ modes) (start ∷ starts) = place_text j mode start ++ places_text (j + 1) modes starts
+
+abbrev pub schedule_text : ScheduleData → List ℕ
+schedule_text s = places_text 1 s.modes s.starts
+
+-- the text ends with the words of the schedule, the first one behind a blank or at the beginning; a line feed may follow
+abbrev pub Tells : List ℕ → ScheduleData → Type 0
+Tells text s =
+    IsTrue (ends_with ◌==◌ (32 ∷ text) (schedule_text s))
+    ⊎ IsTrue (ends_with ◌==◌ (32 ∷ text) (schedule_text s ++ 10 ∷ []))

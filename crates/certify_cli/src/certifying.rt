@@ -1,0 +1,93 @@
+//! Certificates of texts, and the clauses of a text.
+ghost use Rattle.std.specs.Prelude.{◌≡◌, ◌⊎◌, IfOk, IfErr};
+ghost use Rattle.psplib_mm.specs.Gives.{Gives};
+ghost use Rattle.psplib_mm.specs.Reading.{reading};
+ghost use Rattle.mrcpsp.specs.Schedule.{IsInfeasible};
+ghost use Rattle.certify_cli.specs.Certified.{CertifiesOptimal, CertifiesInfeasible};
+
+use crate::dimacs::write_formula;
+use crate::fault::CertifyFault;
+use crate::schedule_text::read_schedule;
+use mrcpsp::Project;
+use psplib_mm::read;
+use schedule_clauses::{clauses, stock_clauses};
+use std::alloc::Global;
+use std::io::Write;
+
+/// Checks a schedule of a file's project, and a proof that no schedule is shorter, and writes `optimal M` with its makespan
+/// and a line feed. An error is the first fault, in the order of the file, the text, the schedule and the proof; but for a
+/// fault of the writer nothing was written then.
+pub fn certify<W: Write>(
+    alloc: Global,
+    file: &[u8],
+    text: &[u8],
+    proof: &[u8],
+    writer: &mut W,
+) -> Result<(), CertifyFault>
+    ensures ok { IfOk result (λ _. CertifiesOptimal file.now text.now (W.contents writer.old) (W.contents writer.new)) }
+    ensures fault { IfErr result (λ fault. (W.contents writer.new ≡ W.contents writer.old) ⊎ (fault ≡ CertifyFault.Write)) }
+{
+    let project = match read(alloc, file) {
+        Ok(project) => project,
+        Err(fault) => return Err(CertifyFault::File(fault)),
+    };
+    let Some(schedule) = read_schedule(alloc, text)? else {
+        return Err(CertifyFault::Words);
+    };
+    match schedule_clauses::certify(alloc, &project, &schedule, proof) {
+        Ok(makespan) => match writeln!(writer, "optimal {makespan}") {
+            Ok(()) => Ok(()),
+            Err(_) => Err(CertifyFault::Write),
+        },
+        Err(fault) => Err(CertifyFault::Certificate(fault)),
+    }
+}
+
+/// Checks a proof that no modes fit the stocks of a file's project, so that no schedule is feasible, and writes `infeasible`
+/// and a line feed. An error is the first fault; but for a fault of the writer nothing was written then.
+pub fn certify_infeasible<W: Write>(
+    alloc: Global,
+    file: &[u8],
+    proof: &[u8],
+    writer: &mut W,
+) -> Result<(), CertifyFault>
+    ensures ok { IfOk result (λ _. CertifiesInfeasible file.now (W.contents writer.old) (W.contents writer.new)) }
+    ensures fault { IfErr result (λ fault. (W.contents writer.new ≡ W.contents writer.old) ⊎ (fault ≡ CertifyFault.Write)) }
+{
+    let project = match read(alloc, file) {
+        Ok(project) => project,
+        Err(fault) => return Err(CertifyFault::File(fault)),
+    };
+    match schedule_clauses::certify_infeasible(alloc, &project, proof) {
+        Ok(()) => match writeln!(writer, "infeasible") {
+            Ok(()) => Ok(()),
+            Err(_) => Err(CertifyFault::Write),
+        },
+        Err(fault) => Err(CertifyFault::Certificate(fault)),
+    }
+}
+
+/// Writes the clauses that a file's project and a bound on the makespan make, in DIMACS form; without a bound those on modes
+/// and stocks alone.
+pub fn write_clauses<W: Write>(
+    alloc: Global,
+    file: &[u8],
+    bound: Option<u32>,
+    writer: &mut W,
+) -> Result<(), CertifyFault> {
+    let project = match read(alloc, file) {
+        Ok(project) => project,
+        Err(fault) => return Err(CertifyFault::File(fault)),
+    };
+    let made = match bound {
+        Some(bound) => clauses(alloc, &project, bound),
+        None => stock_clauses(alloc, &project),
+    };
+    match made {
+        Ok(formula) => match write_formula(writer, &formula) {
+            Ok(()) => Ok(()),
+            Err(_) => Err(CertifyFault::Write),
+        },
+        Err(fault) => Err(CertifyFault::Certificate(fault)),
+    }
+}

@@ -1,0 +1,103 @@
+//! Clauses in DIMACS form: a line `p cnf VARIABLES CLAUSES`, and each clause as numbers ended by 0, a negative number for a
+//! negated variable. Lines that begin with `c` tell what the clauses say, and which variable says `starts J T`, that activity
+//! J starts at T or before, or `mode J M`, that it has the mode M.
+use schedule_clauses::{Formula, Kind, Meaning, Row};
+use std::io::{self, Write};
+
+/// What the clauses of a kind say.
+fn said_by(kind: Kind) -> &'static str {
+    match kind {
+        Kind::Modes => "each activity has exactly one mode",
+        Kind::Starts => "what starts by a time starts by each later one",
+        Kind::Ends => "what comes behind each activity ends within the bound",
+        Kind::Precedence => "each successor starts where the activity has ended",
+        Kind::Runs => "when each activity runs",
+        Kind::Renewable => "what runs fits the renewable capacities in each period",
+        Kind::Nonrenewable => "the modes fit the stocks of the nonrenewable resources",
+    }
+}
+
+/// Tells which clauses say what, by their numbers from 1.
+fn write_sections<W: Write>(writer: &mut W, formula: &Formula) -> io::Result<()> {
+    let mut before = 0usize;
+    for section in &formula.sections {
+        let last = before.saturating_add(section.count);
+        let first = before.saturating_add(1);
+        let said = said_by(section.kind);
+        if section.count > 0 {
+            writeln!(writer, "c clauses {first} to {last}: {said}")?;
+        }
+        before = last;
+    }
+    Ok(())
+}
+
+/// Tells which rows are left out. Resources are numbered from 1.
+fn write_left_out<W: Write>(writer: &mut W, formula: &Formula) -> io::Result<()> {
+    for row in &formula.left_out {
+        match row {
+            Row::Use { resource, time } => {
+                let number = resource.saturating_add(1);
+                writeln!(
+                    writer,
+                    "c left out, as too large: renewable resource {number} in period {time}"
+                )?;
+            }
+            Row::Stock { resource } => {
+                let number = resource.saturating_add(1);
+                writeln!(
+                    writer,
+                    "c left out, as too large: nonrenewable resource {number}"
+                )?;
+            }
+        }
+    }
+    Ok(())
+}
+
+/// Tells what a variable says, where a schedule can be read off it. Activities and modes are numbered from 1.
+fn write_meaning<W: Write>(writer: &mut W, variable: usize, meaning: Meaning) -> io::Result<()> {
+    match meaning {
+        Meaning::StartsBy { activity, time } => {
+            let number = activity.saturating_add(1);
+            writeln!(writer, "c {variable} starts {number} {time}")
+        }
+        Meaning::InMode { activity, mode } => {
+            let number = activity.saturating_add(1);
+            let mode = mode.saturating_add(1);
+            writeln!(writer, "c {variable} mode {number} {mode}")
+        }
+        _ => Ok(()),
+    }
+}
+
+/// Tells which variables say a mode or a start.
+fn write_meanings<W: Write>(writer: &mut W, formula: &Formula) -> io::Result<()> {
+    for variable in 1..formula.meanings.len() {
+        write_meaning(writer, variable, formula.meanings[variable])?;
+    }
+    Ok(())
+}
+
+fn write_clause<W: Write>(writer: &mut W, clause: &[u32]) -> io::Result<()> {
+    for literal in clause {
+        let sign = if *literal % 2 == 0 { "" } else { "-" };
+        let variable = *literal / 2;
+        write!(writer, "{sign}{variable} ")?;
+    }
+    writeln!(writer, "0")
+}
+
+/// Writes clauses, with what they say ahead of them.
+pub(crate) fn write_formula<W: Write>(writer: &mut W, formula: &Formula) -> io::Result<()> {
+    write_sections(writer, formula)?;
+    write_left_out(writer, formula)?;
+    write_meanings(writer, formula)?;
+    let variables = formula.meanings.len().saturating_sub(1);
+    let clauses = formula.clauses.len();
+    writeln!(writer, "p cnf {variables} {clauses}")?;
+    for clause in &formula.clauses {
+        write_clause(writer, clause.as_slice())?;
+    }
+    Ok(())
+}

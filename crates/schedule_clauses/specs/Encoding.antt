@@ -1,0 +1,36 @@
+-- The values that a schedule gives the variables, and clauses that each schedule within the limit satisfies.
+use Rattle.std.specs.Prelude.{◌≡◌, ℕ, ◌/◌, ◌%◌, ◌<◌, ◌==◌, Bool, false, List, All, Vec, Option, Some, None, slice_get, slice_index, length}
+use Rattle.std.specs.declared.alloc.Global.{Global}
+use Rattle.mrcpsp.specs.Project.{ProjectData}
+use Rattle.mrcpsp.specs.Schedule.{ScheduleData}
+use Rattle.schedule_clauses.specs.Meaning.{IsWithin, holds}
+use Rattle.schedule_clauses.specs.declared.meaning.Meaning.{Meaning}
+
+-- what a variable says holds; one without a meaning says nothing
+abbrev pub told : ProjectData → ScheduleData → Option Meaning → Bool
+told p s None = false
+told p s (Some x) = holds p s x
+
+-- the values of the variables at a schedule
+unfoldable pub intended : ProjectData → ScheduleData → List Meaning → ℕ → Bool
+intended p s meanings x = told p s (slice_get meanings x)
+
+-- the literal is that of a variable with a meaning, and true
+pub record IsTold (p : ProjectData) (s : ScheduleData) (meanings : List Meaning) (l : ℕ) : Type 0 where
+  pub meaning : Meaning
+  pub stands : slice_get meanings (l / 2) ≡ Some meaning
+  pub holds : holds p s meaning ≡ (l % 2 == 0)
+
+-- one of the clause's literals is
+pub record IsGood (p : ProjectData) (s : ScheduleData) (meanings : List Meaning) (clause : List ℕ) : Type 0 where
+  pub place : ℕ
+  pub inside : place < length clause
+  pub told : IsTold p s meanings (slice_index clause place)
+
+-- each clause is, for each schedule within the limit
+pub record AreGood (p : ProjectData) (limit : Option ℕ) (meanings : List Meaning) (clauses : List (Vec ℕ Global)) : Type 0 where
+  pub each : (s : ScheduleData) → IsWithin p limit s → All (λ c. IsGood p s meanings c.items) clauses
+
+-- what had a meaning still has it
+pub record Extends (before after : List Meaning) : Type 0 where
+  pub each : (x : ℕ) (m : Meaning) → slice_get before x ≡ Some m → slice_get after x ≡ Some m

@@ -1,0 +1,45 @@
+-- What each variable says of a schedule, and the schedules that a limit asks for. Starts are told by the order encoding
+-- (Crawford and Baker 1994): a variable for each activity and time says that it starts at that time or before.
+use Rattle.std.specs.Prelude.{◌≡◌, ℕ, ◌+◌, ◌≤◌, ◌==◌, Bool, true, not, cond, ◌&&◌, nat_le, nat_lt, List, Option, Some}
+use Rattle.std.specs.List.{list_any}
+use Rattle.mrcpsp.specs.Numbers.{sum_below}
+use Rattle.mrcpsp.specs.Project.{ProjectData, duration, consumption}
+use Rattle.mrcpsp.specs.Schedule.{ScheduleData, IsFeasible, makespan, mode_of, start_of, load}
+use Rattle.schedule_clauses.specs.declared.meaning.Meaning.{Meaning}
+use Rattle.schedule_clauses.specs.declared.meaning.Meaning.TheVariants.{StartsBy, InMode, Runs, UseWithin, ConsumptionWithin}
+use Rattle.schedule_clauses.specs.declared.meaning.Term.{Term}
+
+-- a feasible schedule, and where there is a limit, one of at most this makespan
+pub record IsWithin (p : ProjectData) (limit : Option ℕ) (s : ScheduleData) : Type 0 where
+  pub feasible : IsFeasible p s
+  pub short : (bound : ℕ) → limit ≡ Some bound → makespan p s ≤ bound
+
+-- what the first activities use of a renewable resource in a period, and consume of a nonrenewable one
+unfoldable pub use_below : ProjectData → ScheduleData → ℕ → ℕ → ℕ → ℕ
+use_below p s r t count = sum_below (λ j. load p r t j (mode_of s j) (start_of s j)) count
+
+unfoldable pub consumed_below : ProjectData → ScheduleData → ℕ → ℕ → ℕ
+consumed_below p s r count = sum_below (λ j. consumption p j (mode_of s j) r) count
+
+-- activity j runs in mode m in period t
+unfoldable pub runs : ProjectData → ScheduleData → ℕ → ℕ → ℕ → Bool
+runs p s j m t = (mode_of s j == m) && (nat_le (start_of s j) t && nat_lt t (start_of s j + duration p j m))
+
+-- what a variable says holds of the schedule
+abbrev pub holds : ProjectData → ScheduleData → Meaning → Bool
+holds p s (StartsBy j t) = nat_le (start_of s j) t
+holds p s (InMode j m) = mode_of s j == m
+holds p s (Runs j m t) = runs p s j m t
+holds p s (UseWithin r t count most) = nat_le (use_below p s r t count) most
+holds p s (ConsumptionWithin r count most) = nat_le (consumed_below p s r count) most
+
+-- a variable or its negation is true
+abbrev pub term_true : ProjectData → ScheduleData → Term → Bool
+term_true p s a = cond a.positive (holds p s a.meaning) (not (holds p s a.meaning))
+
+abbrev pub some_true : ProjectData → ScheduleData → List Term → Bool
+some_true p s terms = list_any (term_true p s) terms
+
+-- each schedule that the limit asks for makes one of the terms true
+pub record IsValid (p : ProjectData) (limit : Option ℕ) (terms : List Term) : Type 0 where
+  pub sure : (s : ScheduleData) → IsWithin p limit s → some_true p s terms ≡ true

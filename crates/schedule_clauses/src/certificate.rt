@@ -1,0 +1,135 @@
+//! Certificates: a proof that the clauses of a shorter makespan cannot all be true makes a schedule optimal.
+ghost use Rattle.std.specs.Prelude.{◌≡◌, IfOk};
+ghost use Rattle.mrcpsp.specs.Schedule.{IsOptimal, IsInfeasible, makespan};
+ghost use Rattle.schedule_clauses.specs.Satisfied.{SatisfiedByShort, SatisfiedByFeasible, EachExceeds};
+
+use crate::builder::{encode, encode_stocks};
+use crate::encoding::Encoding;
+use crate::formula::Formula;
+use clause_proof::{ProofFault, refute};
+use mrcpsp::{Breach, Project, Schedule, check};
+use std::alloc::{AllocError, Global};
+use thiserror::Error;
+
+/// Why something is not certified. Each is printed by what is wrong and its own fault, as `no proof Word(17)`.
+#[derive(Clone, Copy, Debug, PartialEq, Eq, Error)]
+pub enum CertificateFault {
+    /// There is no memory for the clauses.
+    #[error("no memory")]
+    NoMemory,
+    /// The bound is above the horizon, the sum of the longest durations, which is this.
+    #[error("no bound Horizon({0})")]
+    Horizon(u32),
+    /// The schedule is not feasible.
+    #[error("no schedule {0}")]
+    Schedule(Breach),
+    /// The bytes are no proof.
+    #[error("no proof {0}")]
+    Proof(ProofFault),
+}
+
+impl From<AllocError> for CertificateFault {
+    fn from(_: AllocError) -> CertificateFault {
+        CertificateFault::NoMemory
+    }
+}
+
+/// What is told of an encoding's clauses.
+fn formula_of(encoding: Encoding) -> Formula
+    ensures { result.clauses ≡ encoding.clauses }
+{
+    let Encoding {
+        alloc: _,
+        meanings,
+        clauses,
+        heads: _,
+        nexts: _,
+        sections,
+        left_out,
+    } = encoding;
+    Formula {
+        clauses,
+        meanings,
+        sections,
+        left_out,
+    }
+}
+
+/// Clauses that each feasible schedule of at most this makespan satisfies, under values of their variables. An error is a
+/// bound above the horizon, or want of memory, for which more than 999,999,999 variables count too.
+#[tactic(auto, using(crate::proofs::EncodingLemmas::short_rules))]
+pub fn clauses(alloc: Global, project: &Project, bound: u32) -> Result<Formula, CertificateFault>
+    ensures { IfOk result (λ formula. SatisfiedByShort project.now bound formula.clauses.items) }
+{
+    let horizon = project.horizon();
+    if horizon < bound {
+        return Err(CertificateFault::Horizon(horizon));
+    }
+    let encoding = encode(alloc, project, bound)?;
+    Ok(formula_of(encoding))
+}
+
+/// Clauses on modes and stocks alone, which each feasible schedule satisfies, whatever its makespan.
+#[tactic(auto, using(crate::proofs::EncodingLemmas::feasible_rules))]
+pub fn stock_clauses(alloc: Global, project: &Project) -> Result<Formula, CertificateFault>
+    ensures { IfOk result (λ formula. SatisfiedByFeasible project.now formula.clauses.items) }
+{
+    let encoding = encode_stocks(alloc, project)?;
+    Ok(formula_of(encoding))
+}
+
+/// Checks a proof that each feasible schedule takes more periods than the bound.
+#[tactic(auto, using(crate::proofs::EncodingLemmas::exceed_rules))]
+pub fn certify_bound(
+    alloc: Global,
+    project: &Project,
+    bound: u32,
+    proof: &[u8],
+) -> Result<(), CertificateFault>
+    ensures { IfOk result (λ _. EachExceeds project.now bound) }
+{
+    let formula = clauses(alloc, project, bound)?;
+    match refute(alloc, formula.clauses, proof) {
+        Ok(()) => Ok(()),
+        Err(fault) => Err(CertificateFault::Proof(fault)),
+    }
+}
+
+/// Checks a proof that no modes fit the stocks of the nonrenewable resources, so that no schedule is feasible.
+#[tactic(auto, using(crate::proofs::EncodingLemmas::infeasible_rules))]
+pub fn certify_infeasible(
+    alloc: Global,
+    project: &Project,
+    proof: &[u8],
+) -> Result<(), CertificateFault>
+    ensures { IfOk result (λ _. IsInfeasible project.now) }
+{
+    let formula = stock_clauses(alloc, project)?;
+    match refute(alloc, formula.clauses, proof) {
+        Ok(()) => Ok(()),
+        Err(fault) => Err(CertificateFault::Proof(fault)),
+    }
+}
+
+/// Checks a schedule, and a proof that no schedule is shorter. Answers its makespan, which is the optimum. Where it is 0,
+/// or where heads and tails alone exceed a shorter one, the proof is not read.
+#[tactic(auto, using(crate::proofs::EncodingLemmas::optimal_rules))]
+pub fn certify(
+    alloc: Global,
+    project: &Project,
+    schedule: &Schedule,
+    proof: &[u8],
+) -> Result<u32, CertificateFault>
+    ensures optimal { IfOk result (λ _. IsOptimal project.now schedule.now) }
+    ensures makespan { IfOk result (λ m. m ≡ makespan project.now schedule.now) }
+{
+    let makespan = match check(project, schedule) {
+        Ok(makespan) => makespan,
+        Err(breach) => return Err(CertificateFault::Schedule(breach)),
+    };
+    if makespan == 0 {
+        return Ok(0);
+    }
+    certify_bound(alloc, project, makespan - 1, proof)?;
+    Ok(makespan)
+}

@@ -1,0 +1,102 @@
+//! The times at which an activity can start. They are hints alone: they decide which clauses there are.
+ghost use Rattle.std.specs.Prelude.{◌≡◌, ◌<◌};
+ghost use Rattle.mrcpsp.specs.Project.{size};
+ghost use Rattle.mrcpsp.specs.Values.{tail, shortest};
+ghost use Rattle.measures.specs.Measures.{measures_of};
+
+use measures::Measures;
+use mrcpsp::Project;
+use std::alloc::{AllocError, Global};
+
+/// The first and the last start of each activity.
+#[derive(Drop)]
+pub(crate) struct Windows {
+    first: Vec<u32>,
+    last: Vec<u32>,
+}
+
+/// The first and the last start of one activity.
+#[derive(Clone, Copy)]
+pub(crate) struct Window {
+    pub(crate) first: u32,
+    pub(crate) last: u32,
+}
+
+fn number_at(numbers: &[u32], at: usize) -> u32 {
+    match numbers.get(at) {
+        Some(number) => *number,
+        None => 0,
+    }
+}
+
+fn raise(numbers: &mut [u32], at: usize, least: u32) {
+    if at < numbers.len() && numbers[at] < least {
+        numbers[at] = least;
+    }
+}
+
+/// The periods that its successors take at least.
+pub(crate) fn rest_of(project: &Project, measures: &Measures, activity: usize) -> u32
+    requires activity { activity < size project.now }
+    requires measures { measures.now ≡ measures_of project.now }
+    ensures { result ≡ tail project.now activity }
+{
+    measures.tail(activity)
+}
+
+/// Its shortest duration.
+pub(crate) fn least_of(project: &Project, measures: &Measures, activity: usize) -> u32
+    requires activity { activity < size project.now }
+    requires measures { measures.now ≡ measures_of project.now }
+    ensures { result ≡ shortest project.now activity }
+{
+    measures.shortest(activity)
+}
+
+/// The latest start that an end by `time` leaves, no lower than is known to be impossible.
+pub(crate) fn start_for(time: u32, duration: u32, first: u32) -> Option<u32> {
+    if time < duration {
+        if first == 0 { None } else { Some(first - 1) }
+    } else {
+        Some((time - duration).max(first.saturating_sub(1)))
+    }
+}
+
+impl Windows {
+    /// The windows that chains of shortest durations leave within the bound.
+    pub(crate) fn new(
+        alloc: Global,
+        project: &Project,
+        measures: &Measures,
+        bound: u32,
+    ) -> Result<Windows, AllocError>
+        requires { measures.now ≡ measures_of project.now }
+    {
+        let size = project.size();
+        let mut first = Vec::new(alloc);
+        first.resize(size, 0)?;
+        let mut last = Vec::new(alloc);
+        for activity in 0..size {
+            let least = least_of(project, measures, activity);
+            let rest = rest_of(project, measures, activity);
+            last.push(bound.saturating_sub(least).saturating_sub(rest))?;
+            let ready = number_at(&first, activity).saturating_add(least);
+            for successor in project.successors(activity) {
+                raise(
+                    first.as_mut_slice(),
+                    (*successor as usize).saturating_sub(1),
+                    ready,
+                );
+            }
+        }
+        Ok(Windows { first, last })
+    }
+
+    /// The window of an activity.
+    pub(crate) fn of(&self, activity: usize) -> Window {
+        Window {
+            first: number_at(&self.first, activity),
+            last: number_at(&self.last, activity),
+        }
+    }
+}
