@@ -204,7 +204,7 @@ const RULES: [Walk; 19] = [
 ];
 
 /// Drawn passes, of which some or all are void. A later schedule that is as long as the first changes nothing.
-const SAMPLES: [Walk; 7] = [
+const SAMPLES: [Walk; 8] = [
     (
         DIAMOND,
         "3 1",
@@ -224,6 +224,17 @@ const SAMPLES: [Walk; 7] = [
             (3, NONE),
             (15, (&[1, 1, 1, 1], &[0, 2, 0, 5])),
             (20, (&[1, 1, 2, 1], &[0, 0, 0, 4])),
+        ],
+        Verdict::Going,
+    ),
+    (
+        DIAMOND,
+        "3 1",
+        Kind::Sample(u64::MAX),
+        &[
+            (3, NONE),
+            (7, (&[1, 1, 1, 1], &[0, 0, 3, 5])),
+            (24, (&[1, 1, 2, 1], &[0, 0, 0, 4])),
         ],
         Verdict::Going,
     ),
