@@ -11,9 +11,12 @@
 #![tactic(auto)]
 
 mod board;
+mod order;
 mod place;
+mod profile;
 mod stock;
 mod sums;
+mod walk;
 
 pub use board::Board;
 pub use place::Place;
