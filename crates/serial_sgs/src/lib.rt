@@ -4,9 +4,12 @@
 //! given one on, at which the activity in that mode breaks neither precedence nor a renewable capacity. `place` and
 //! `unplace_last` change the end of the list alone and take no memory: `new` took it all.
 //!
-//! - `place`: one placed activity: its finish, and what it uses in a period.
-//! - `sums`: what the placed ones use and when they finish, computed from the list.
-//! - `stock`: what is consumed of the nonrenewable resources, and what the others need at least.
+//! - `place`: one placed activity, and its finish.
+//! - `sums`: when the placed ones finish, computed from the list, and what could run alone.
+//! - `stock`: what is consumed of the nonrenewable resources, and what the others need at least, as running sums.
+//! - `order`: the direct predecessors of each activity, and when those that are placed have finished.
+//! - `profile`: the use of the renewable resources, as the points in time at which it changes.
+//! - `walk`: the earliest start, by a walk over these points.
 //! - `board`: `Board`.
 #![tactic(auto)]
 
