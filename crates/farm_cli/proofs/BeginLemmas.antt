@@ -19,7 +19,7 @@ use Rattle.session_lines.specs.declared.request.LineFault.TheVariants.{TooLong, 
 use Rattle.session_lines.specs.declared.said.Said.{Said}
 use Rattle.session_lines.specs.ReplyText.{who_text, said_text}
 use Rattle.session_lines.specs.RequestLine.{name_in, tenant_in, what_in, turn_in, submit_in, opens, asks, own_line, turn_for, turn_line, line_for, meaning_in, meaning_of}
-use Rattle.session_lines.specs.Script.{shown, is_long, is_wordless, judged, TextData, opened, with_line, Item, submitted, whole_text, cut_text, heads, requests, lines_of}
+use Rattle.session_lines.specs.Script.{shown, is_long, is_wordless, judged, TextData, opened, with_line, Item, submitted, whole_text, cut_text, heads, requests, lines_of, requests_of}
 use Rattle.farm_cli.specs.Output.{Parts, Saying, Refused, Nowhere, Reading, Answering, unread, Marked, next, items_of, opening, lines_for, line_text}
 use Rattle.farm_cli.specs.Isolation.{who_in, who_first, is_of}
 use Rattle.farm_cli.specs.Begins.{begins_with, LinesTellWhose}
@@ -52,15 +52,15 @@ begin_none : (name rest : List ℕ) → begins_well name ≡ true → begins_wit
 begin_none [] rest h = absurd (cc)
 begin_none (x ∷ name) rest h = ap (λ b. b && begins_with (name ++ 32 ∷ []) (32 ∷ rest)) (letter_is_no_mark x h)
 
-name_parts : (name : List ℕ) → is_name name ≡ true → (begins_well name ≡ true) × (list_all is_mark name ≡ true)
+pub name_parts : (name : List ℕ) → is_name name ≡ true → (begins_well name ≡ true) × (list_all is_mark name ≡ true)
 unfolding is_name
 name_parts name h = let p = and_parts (nat_le (length name) 32) (begins_well name && list_all is_mark name) h in and_parts (begins_well name) (list_all is_mark name) p.1
 
-abbrev IsNamed : Option (List ℕ) → Type 0
+abbrev pub IsNamed : Option (List ℕ) → Type 0
 IsNamed None = ⊤
 IsNamed (Some who) = is_name who ≡ true
 
-line_begins : (name : List ℕ) → is_name name ≡ true → (who : Option (List ℕ)) (words : Said) → IsNamed who → begins_with (who_text (Some name)) (line_text (record { who = who; said = words })) ≡ is_of name who
+pub line_begins : (name : List ℕ) → is_name name ≡ true → (who : Option (List ℕ)) (words : Said) → IsNamed who → begins_with (who_text (Some name)) (line_text (record { who = who; said = words })) ≡ is_of name who
 line_begins name ok None words h = begin_none name (said_text words ++ 10 ∷ []) (name_parts name ok).0
 line_begins name ok (Some other) words h =
     ap (begins_with (name ++ 32 ∷ [])) (append_assoc (other ++ 32 ∷ []) (said_text words) (10 ∷ []) ∙ append_assoc other (32 ∷ []) (said_text words ++ 10 ∷ []))
@@ -68,7 +68,7 @@ line_begins name ok (Some other) words h =
 
 -- ---- the requests of a script have well-formed names
 
-abbrev IsNamedItem : Item → Type 0
+abbrev pub IsNamedItem : Item → Type 0
 IsNamedItem item = IsNamed item.submits × IsNamed (who_in item.answer)
 
 name_named : (word : List ℕ) → IsNamed (name_in word)
@@ -141,7 +141,7 @@ whole_named text h = (
 cut_named : (text : TextData) → is_name text.head.who ≡ true → IsNamedItem (cut_text text)
 cut_named text h = (h, elim text.is_long as (λ b. IsNamed (who_in (if b then Err (TooLong (Some text.head.who)) else Err (Syntax (Some text.head.who))))) [ true ↦ h | false ↦ h ])
 
-abbrev AreNamed : List Item → Type 0
+abbrev pub AreNamed : List Item → Type 0
 AreNamed [] = ⊤
 AreNamed (item ∷ items) = IsNamedItem item × AreNamed items
 
@@ -179,6 +179,13 @@ unread_named : (refused : Refused) (submits : Option (List ℕ)) → IsNamed sub
 unread_named Nowhere submits h = tt
 unread_named Reading submits h = h
 unread_named Answering submits h = tt
+
+pub next_named : (config : ConfigData) (parts : Parts) (m : Marked) → IsNamedItem m.item → IsNamed (next config parts m).line.who
+next_named config parts m h =
+    subst IsNamed (sym (next_who config parts m)) (first_named (unread m.refused m.item.submits) (who_in m.item.answer) (unread_named m.refused m.item.submits h.0) h.1)
+
+pub script_named : (script : List ℕ) → AreNamed (requests_of script)
+script_named script = lines_named None (lines_of script) tt
 
 line_at : (config : ConfigData) (parts : Parts) (ms : List Marked) → AreNamed (items_of ms) → (before behind : List Saying) (line : Saying) → lines_for config parts ms ≡ before ++ line ∷ behind → IsNamed line.who
 line_at config parts [] h [] behind line is = absurd (cc)

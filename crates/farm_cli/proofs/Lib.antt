@@ -7,6 +7,7 @@ pub mod TruthLemmas
 pub mod PlannedLemmas
 pub mod Examples
 pub mod BeginLemmas
+pub mod ByteLemmas
 pub mod CounterLemmas
 pub mod CommandLineLemmas
 pub mod CommandLineExamples

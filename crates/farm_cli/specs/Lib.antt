@@ -7,5 +7,6 @@ pub mod Floor
 pub mod Isolation
 pub mod Truth
 pub mod Begins
+pub mod Bytes
 pub mod Counter
 pub mod CommandLine

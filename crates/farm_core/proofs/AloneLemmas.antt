@@ -5,7 +5,7 @@ use Rattle.farm_core.specs.declared.config.TenantLine.{TenantLine}
 use Rattle.farm_core.specs.Config.{ConfigData}
 use Rattle.farm_core.specs.Tenant.{Tenant, newcomer, book}
 use Rattle.farm_core.specs.Step.{Answer, step}
-use Rattle.farm_core.specs.World.{World, Call, account_of, no_terms, terms_in, opened, view, Follows, Leads, own_events, own_answers, answers_alone, after_alone}
+use Rattle.farm_core.specs.World.{World, Call, account_of, no_terms, terms_in, opened, view, Steps, Leads, own_events, own_answers, answers_alone, after_alone}
 use Rattle.farm_core.specs.Laws.{EachIsAlone, EachIsIsolated}
 
 account_there : (lines : List TenantLine) (t : ℕ) → get_or (map account_of lines) t (account_of no_terms) ≡ account_of (get_or lines t no_terms)
@@ -22,13 +22,13 @@ abbrev IsAlone : ℕ → Tenant → List Call → Tenant → Type 0
 IsAlone t old calls new = (own_answers t calls ≡ answers_alone old (own_events t calls)) × (new ≡ after_alone old (own_events t calls))
 
 -- one call more at the front
-more : (t : ℕ) (old mid new : World) (c : Call) (calls : List Call) (b : Bool) → eqb c.tenant t ≡ b → Follows old c.tenant c.event c.answer mid
+more : (t : ℕ) (old mid new : World) (c : Call) (calls : List Call) (b : Bool) → eqb c.tenant t ≡ b → Steps old c.tenant c.event c.answer mid
     → IsAlone t (view t mid) calls (view t new)
     → let own = cond b (c ∷ filter (λ (d : Call). eqb d.tenant t) calls) (filter (λ (d : Call). eqb d.tenant t) calls) in
     (map (λ (d : Call). d.answer) own ≡ answers_alone (view t old) (map (λ (d : Call). d.event) own)) × (view t new ≡ after_alone (view t old) (map (λ (d : Call). d.event) own))
 more t old mid new c calls true same h rest =
     let eq : c.tenant ≡ t = grind (arith, nat_tests) in
-    let f : Follows old t c.event c.answer mid = subst (λ (n : ℕ). Follows old n c.event c.answer mid) eq h in
+    let f : Steps old t c.event c.answer mid = subst (λ (n : ℕ). Steps old n c.event c.answer mid) eq h in
     let here = f.answer_is in
     let then = f.own in (
       ap (λ (a : Answer). a ∷ own_answers t calls) here ∙ ap (λ (answers : List Answer). (step (view t old) c.event).answer ∷ answers) (rest.0 ∙ ap (λ (s : Tenant). answers_alone s (own_events t calls)) then),

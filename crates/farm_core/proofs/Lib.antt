@@ -3,6 +3,7 @@ pub mod AloneLemmas
 pub mod ReplayLemmas
 pub mod TruthLemmas
 pub mod RunLemmas
+pub mod MadeLemmas
 pub mod NeedLemmas
 pub mod RunningLemmas
 pub mod AlikeLemmas

@@ -8,7 +8,7 @@ use Rattle.farm_core.specs.declared.reply.Reply.TheVariants as reply
 use Rattle.farm_core.specs.Config.{ConfigData}
 use Rattle.farm_core.specs.Tenant.{Tenant, newcomer}
 use Rattle.farm_core.specs.Step.{Answer, Replied, step}
-use Rattle.farm_core.specs.World.{World, Call, opened, view, Follows, Leads}
+use Rattle.farm_core.specs.World.{World, Call, opened, view, Steps, Leads}
 use Rattle.farm_core.specs.Truth.{IsTrueAnswer, IsAmong, WasMade, IsPlanned, EachAnswerIsTrue}
 use Rattle.farm_core.proofs.AloneLemmas.{view_opened}
 use Rattle.farm_core.proofs.TruthLemmas.{AreKnown, IsGood, Makes, step_good}
@@ -25,12 +25,12 @@ makes all t c among same plan quanta s event answer =
     ∙ ap (λ (a : Answer). let d : Call = record { tenant = c.tenant; event = Submit plan quanta; answer = a } in d) (same ∙ answer) in
     (quanta, (among.0, among.1 ∙ ap Some whole))
 
-good_of : (all : List Call) (old mid : World) (c : Call) → IsAmong all c → IsPlanned c.event → Knows all old → Follows old c.tenant c.event c.answer mid
+good_of : (all : List Call) (old mid : World) (c : Call) → IsAmong all c → IsPlanned c.event → Knows all old → Steps old c.tenant c.event c.answer mid
     → IsGood (WasMade all c.tenant) (step (view c.tenant old) c.event)
 good_of all old mid c among ok knows h =
     step_good (WasMade all c.tenant) (view c.tenant old) c.event (knows c.tenant) ok (makes all (view c.tenant old) c among h.answer_is)
 
-stays_known : (all : List Call) (old mid : World) (c : Call) → Knows all old → Follows old c.tenant c.event c.answer mid
+stays_known : (all : List Call) (old mid : World) (c : Call) → Knows all old → Steps old c.tenant c.event c.answer mid
     → IsGood (WasMade all c.tenant) (step (view c.tenant old) c.event) → Knows all mid
 stays_known all old mid c knows h good t =
     ⊎_elim

@@ -3,6 +3,7 @@ pub mod Config
 pub mod Tenant
 pub mod Step
 pub mod World
+pub mod Runs
 pub mod Laws
 pub mod Truth
 pub mod Need

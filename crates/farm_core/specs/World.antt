@@ -80,7 +80,15 @@ pub record IsWithout (t : ℕ) (old new : List (ℕ × ℕ)) : Type 0 where
 abbrev pub KeepsOrder : ℕ → List (ℕ × ℕ) → List (ℕ × ℕ) → Type 0
 KeepsOrder t old new = (new ≡ old) ⊎ ((seq : ℕ) × (new ≡ old ++ (t, seq) ∷ [])) ⊎ IsWithout t old new
 
--- a call of tenant t makes its own step, no other tenant's part changes, and no job passes another
+-- a call of tenant t makes its own step, and no other tenant's part changes
+pub record Steps (old : World) (t : ℕ) (event : Event) (answer : Answer) (new : World) : Type 0 where
+  pub answer_is : answer ≡ (step (view t old) event).answer
+  pub own : view t new ≡ (step (view t old) event).after
+  pub others : (u : ℕ) → u ≢ t → view u new ≡ view u old
+  pub journal : new.journal ≡ old.journal ++ entry_of t event answer
+  pub config : new.config ≡ old.config
+
+-- the same where no job passes another in the table
 pub record Follows (old : World) (t : ℕ) (event : Event) (answer : Answer) (new : World) : Type 0 where
   pub answer_is : answer ≡ (step (view t old) event).answer
   pub own : view t new ≡ (step (view t old) event).after
@@ -95,10 +103,10 @@ pub record Call : Type 0 where
   pub event : Event
   pub answer : Answer
 
--- calls of all tenants, one after another
+-- calls of all tenants, one after another, in whatever order the jobs then stand
 abbrev pub Leads : World → List Call → World → Type 0
 Leads old [] new = new ≡ old
-Leads old (c ∷ calls) new = (mid : World) × Follows old c.tenant c.event c.answer mid × Leads mid calls new
+Leads old (c ∷ calls) new = (mid : World) × Steps old c.tenant c.event c.answer mid × Leads mid calls new
 
 -- a run: from the farm in which nothing has happened
 abbrev pub Run : ConfigData → List Call → World → Type 0

@@ -1,5 +1,6 @@
 //! Laws of the farm: each is the proved contract of a function that does nothing.
 ghost use Rattle.farm_core.specs.Laws.{EachIsAlone, EachIsIsolated};
+ghost use Rattle.farm_core.specs.Runs.{EachCallCanBeMade, EachSequenceIsARun, JournalsAreTheCalls};
 ghost use Rattle.farm_core.specs.Truth.{EachAnswerIsTrue};
 ghost use Rattle.farm_core.specs.Need.{NodesAreTheLesser, EachEndsAlike};
 ghost use Rattle.farm_core.specs.Held.{TakenTurnsAreHeld, TurnsStayHeld, HeldTurnsAreNoStrangers, HeldTurnsRunTheirNodes, FarmsAreReplayed, TakenJobsWereNotOut, OnlyTakenJobsAreOut, GivenJobsAreNotOut};
@@ -74,4 +75,20 @@ pub fn only_taken_jobs_are_out()
 /// A job whose turn came back is out no more.
 pub fn given_jobs_are_not_out()
     ensures { GivenJobsAreNotOut }
+{}
+
+/// Each tenant can make each call at any time: there is a farm in which it was made, and each other tenant has what it had.
+pub fn each_call_can_be_made()
+    ensures { EachCallCanBeMade }
+{}
+
+/// Whatever the tenants of a configuration ask for, one call after another, there is a run of just these calls. So what is
+/// proved of each run is never said of nothing.
+pub fn each_sequence_is_a_run()
+    ensures { EachSequenceIsARun }
+{}
+
+/// The journal at the end of a run has the entries of its calls in their order, and nothing else.
+pub fn journals_are_the_calls()
+    ensures { JournalsAreTheCalls }
 {}

@@ -4,7 +4,8 @@ ghost use Rattle.std.specs.Option.{option_copied};
 ghost use Rattle.mrcpsp.specs.Project.{size};
 ghost use Rattle.mrcpsp.specs.Schedule.{makespan};
 ghost use Rattle.strategy.specs.Outcome.{best_after, is_closed, verdict_after};
-ghost use Rattle.strategy.specs.Search.{Meaning};
+ghost use Rattle.quanta_till.specs.Lease.{after_draw};
+ghost use Rattle.strategy.specs.Search.{Meaning, funded};
 ghost use Rattle.job_table.specs.Table.{JobData};
 ghost use Rattle.job_table.specs.Job.{meaning_of, given_up, back, is_turn, is_here, phase_after, IsOwn};
 
@@ -50,6 +51,29 @@ fn agrees<S: Strategy>(search: &S, tenant: u32, plan: &Plan, nodes: u64, left: u
         && search.nodes() == nodes
         && search.left() == left
         && same_plan(search.plan(), plan)
+}
+
+/// Draws so many quanta for a search that is at this point. False where it is at another; then nothing is drawn.
+fn fund_own<S: Strategy>(
+    search: &mut S,
+    tenant: u32,
+    plan: &Plan,
+    nodes: u64,
+    left: u64,
+    quanta: u64,
+) -> bool
+    requires { nodes + left + quanta ≤ 1000000000000 }
+    ensures own { IsTrue result → S.meaning search.old ≡ record { tenant = tenant; plan = plan.now; nodes = nodes; left = left; taken = false } }
+    ensures going { IsTrue result → is_closed plan.now nodes ≡ false }
+    ensures funded { IsTrue result → S.meaning search.new ≡ funded quanta (S.meaning search.old) }
+    ensures drawn { IsTrue result → S.lease search.new ≡ after_draw (S.lease search.old) quanta }
+    ensures kept { IsFalse result → search.new ≡ search.old }
+{
+    let own = agrees(search, tenant, plan, nodes, left);
+    if own {
+        search.fund(quanta);
+    }
+    own
 }
 
 /// Whether a turn for at most so many nodes is out.
@@ -103,13 +127,12 @@ impl<J: Strategy> Job<J> {
         ensures made { IfSome result (λ job. job ≡ record { seq = seq; plan = plan; phase = Phase.Waiting; nodes = 0; left = quanta }) }
         ensures own { OnSome result (J.meaning search ≡ record { tenant = tenant; plan = plan; nodes = 0; left = 0; taken = false }) }
     {
-        if !agrees(&search, tenant, &plan, 0, 0) {
-            return None;
-        }
         let Ok(best) = Best::new(alloc, plan.project.activities().len()) else {
             return None;
         };
-        search.fund(quanta);
+        if !fund_own(&mut search, tenant, &plan, 0, 0, quanta) {
+            return None;
+        }
         Some(Job {
             seq,
             plan,
@@ -248,14 +271,20 @@ impl<J: Strategy> Job<J> {
         let Some(mut search) = self.search.take() else {
             return false;
         };
-        let agreed = agrees(&search, tenant, &self.plan, self.nodes, self.left);
-        if agreed {
-            search.fund(quanta);
+        let own = fund_own(
+            &mut search,
+            tenant,
+            &self.plan,
+            self.nodes,
+            self.left,
+            quanta,
+        );
+        if own {
             self.left += quanta;
             self.phase = Phase::Waiting;
         }
         self.search = Some(search);
-        agreed
+        own
     }
 
     /// Gives its search up, where the job is not at its end: while a turn is out it is leaving, and else it is cancelled and

@@ -9,17 +9,16 @@ ghost use Rattle.plain_search.specs.Search.{fresh};
 
 use mrcpsp::Schedule;
 use plain_tree::{Visit, visits};
-use quanta_till::Lease;
+use quanta_till::{Lease, Owned};
 use std::alloc::Global;
 use std::marker::Model;
 use strategy::{Plan, Strategy, Verdict};
 
 /// A search of the precedence tree that has all its nodes from the start. It takes as much memory as the tree has nodes,
 /// so it serves tests alone.
-#[derive(Drop)]
 pub struct PlainSearch {
     plan: Plan,
-    lease: Lease,
+    lease: Owned,
     visits: Vec<Visit>,
     nodes: usize,
     shown: Verdict,
@@ -45,6 +44,20 @@ pub struct Refused {
     pub lease: Lease,
 }
 
+impl Drop for PlainSearch {
+    fn drop(self) {
+        let PlainSearch {
+            plan: _,
+            lease,
+            visits: _,
+            nodes: _,
+            shown: _,
+            taken: _,
+        } = self;
+        lease.end();
+    }
+}
+
 impl PlainSearch {
     /// A search of the plan that has run no node, or the lease back where there is no memory for it; the plan is then
     /// dropped.
@@ -60,7 +73,7 @@ impl PlainSearch {
         let shown = verdict_at(&visits, 0);
         Ok(PlainSearch {
             plan,
-            lease,
+            lease: Owned::of(lease),
             visits,
             nodes: 0,
             shown,
@@ -70,7 +83,7 @@ impl PlainSearch {
 }
 
 /// Pays one node with a quantum of the lease.
-fn pay(lease: &mut Lease)
+fn pay(lease: &mut Owned)
     requires { 0 < lease.old.left }
     ensures { lease.new ≡ after_use lease.old }
 {
@@ -128,6 +141,8 @@ fn best_out_of(visits: &mut Vec<Visit>, nodes: usize) -> Option<Schedule>
 
 impl Strategy for PlainSearch {
     ghost meaning = { λ s. s.0 };
+
+    ghost lease = { λ s. s.1 };
 
     fn tenant(&self) -> u32 {
         self.lease.tenant()

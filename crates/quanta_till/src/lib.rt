@@ -2,21 +2,25 @@
 //!
 //! A [`Till`] is opened with its quanta. Whoever draws on it may rest on this, whatever other threads do between two steps:
 //! what is in the pool, what leases hold and what was used are together what was granted. A [`Lease`] uses only what it
-//! drew, and hands the rest back when it is dropped. A [`Desk`] loads the three words one after the other.
+//! drew, and hands the rest back when it is dropped. An [`Owned`] lease cannot be let go: what holds it has to end it. A
+//! [`Desk`] loads the three words one after the other.
 //!
 //! - `rule`: the words, what each seat at them knows, and what every atomic step keeps.
 //! - `account`: what a till shares with its leases.
 //! - `purse`: the inner part of a lease, linear: it ends only where it holds nothing.
 //! - `lease`: `Lease`, and its drop.
+//! - `owned`: `Owned`, a lease that its holder has to end.
 //! - `till`: `Till`, `Desk`, and the words that a desk reads.
 #![tactic(auto)]
 
 mod account;
 mod lease;
+mod owned;
 mod purse;
 mod rule;
 mod till;
 
 pub use lease::Lease;
+pub use owned::Owned;
 pub use purse::LEASE_LIMIT;
 pub use till::{Desk, Till, TillWords};

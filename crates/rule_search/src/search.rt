@@ -11,7 +11,7 @@ ghost use Rattle.rule_search.specs.Search.{fresh};
 use crate::choice::run_node;
 use measures::Measures;
 use mrcpsp::Schedule;
-use quanta_till::Lease;
+use quanta_till::{Lease, Owned};
 use serial_pass::Pass;
 use std::alloc::{AllocError, Global};
 use std::marker::Model;
@@ -19,10 +19,9 @@ use strategy::{Plan, Strategy, Verdict};
 
 /// A search of one pass by a priority rule: the smallest latest finish time, the most total successors or the smallest
 /// shortest duration. It is over after as many nodes as there are activities, with or without a schedule.
-#[derive(Drop)]
 pub struct RuleSearch {
     plan: Plan,
-    lease: Lease,
+    lease: Owned,
     measures: Measures,
     pass: Pass,
     room: Option<Schedule>,
@@ -80,6 +79,23 @@ impl Workspace {
     }
 }
 
+impl Drop for RuleSearch {
+    fn drop(self) {
+        let RuleSearch {
+            plan: _,
+            lease,
+            measures: _,
+            pass: _,
+            room: _,
+            best: _,
+            size: _,
+            nodes: _,
+            taken: _,
+        } = self;
+        lease.end();
+    }
+}
+
 impl RuleSearch {
     /// A search of the plan that has run no node, or the lease back where there is no memory for it; the plan is then
     /// dropped. It has all the memory that it will need: no other call takes any.
@@ -100,7 +116,7 @@ impl RuleSearch {
         let size = plan.project.size();
         Ok(RuleSearch {
             plan,
-            lease,
+            lease: Owned::of(lease),
             measures,
             pass,
             room: Some(room),
@@ -113,7 +129,7 @@ impl RuleSearch {
 }
 
 /// Pays one node with a quantum of the lease.
-fn pay(lease: &mut Lease)
+fn pay(lease: &mut Owned)
     requires { 0 < lease.old.left }
     ensures { lease.new ≡ after_use lease.old }
 {
@@ -150,6 +166,8 @@ fn write_best(best: &mut Option<Schedule>, pass: &Pass, room: Option<Schedule>)
 
 impl Strategy for RuleSearch {
     ghost meaning = { λ s. s.0 };
+
+    ghost lease = { λ s. s.1 };
 
     fn tenant(&self) -> u32 {
         self.lease.tenant()

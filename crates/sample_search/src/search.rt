@@ -15,7 +15,7 @@ use crate::node::run_node;
 use crate::words::Words;
 use measures::Measures;
 use mrcpsp::{Project, Schedule};
-use quanta_till::Lease;
+use quanta_till::{Lease, Owned};
 use serial_pass::Pass;
 use std::alloc::{AllocError, Global};
 use std::marker::Model;
@@ -25,10 +25,9 @@ use strategy::{Kind, Plan, Strategy, Verdict};
 /// A search whose passes are drawn from the words of a seed. Node `i`, counted through all passes, draws the words `2i` and
 /// `2i + 1`. A pass has as many nodes as the project has activities. The best schedule is the shortest of the whole passes,
 /// the earliest of these. The search never ends by itself.
-#[derive(Drop)]
 pub struct SampleSearch {
     plan: Plan,
-    lease: Lease,
+    lease: Owned,
     measures: Measures,
     words: Words,
     pass: Pass,
@@ -64,6 +63,21 @@ struct Tools {
     room: Schedule,
 }
 
+impl Drop for SampleSearch {
+    fn drop(self) {
+        let SampleSearch {
+            plan: _,
+            lease,
+            measures: _,
+            words: _,
+            pass: _,
+            nodes: _,
+            best: _,
+        } = self;
+        lease.end();
+    }
+}
+
 impl SampleSearch {
     /// A search of the plan that has run no node, or the lease back where there is no memory for it; the plan is then
     /// dropped. No other call takes memory.
@@ -84,7 +98,7 @@ impl SampleSearch {
         let words = Words::new(seed(plan.kind));
         Ok(SampleSearch {
             plan,
-            lease,
+            lease: Owned::of(lease),
             measures,
             words,
             pass,
@@ -122,7 +136,7 @@ fn seed(kind: Kind) -> u64
 }
 
 /// Pays one node with a quantum of the lease.
-fn pay(lease: &mut Lease)
+fn pay(lease: &mut Owned)
     requires { 0 < lease.old.left }
     ensures { lease.new ≡ after_use lease.old }
 {
@@ -153,6 +167,8 @@ fn end_pass(pass: &mut Pass, best: &mut Best)
 
 impl Strategy for SampleSearch {
     ghost meaning = { λ s. s.0 };
+
+    ghost lease = { λ s. s.1 };
 
     fn tenant(&self) -> u32 {
         self.lease.tenant()

@@ -1,6 +1,7 @@
 //! The trait of searches, and its implementation for a box.
 ghost use Rattle.std.specs.Prelude.{◌≡◌, ◌+◌, ◌≤◌, ◌<◌, IsFalse};
 ghost use Rattle.std.specs.Option.{option_copied};
+ghost use Rattle.quanta_till.specs.Lease.{LeaseValue, after_draw, after_use, after_settle};
 ghost use Rattle.strategy.specs.Search.{Meaning, shown_best, shown_closed, shown_verdict, funded, advanced, settled, emptied};
 
 use crate::{Plan, Verdict};
@@ -11,6 +12,9 @@ use mrcpsp::Schedule;
 pub trait Strategy: Send + Drop {
     /// What it is to those who use it: all that it shows follows from this.
     ghost meaning: { Self → Meaning };
+
+    /// The lease that it owns.
+    ghost lease: { Self → LeaseValue };
 
     /// The number of the tenant whose search it is.
     fn tenant(&self) -> u32
@@ -44,27 +48,33 @@ pub trait Strategy: Send + Drop {
     fn fund(&mut self, quanta: u64)
         requires going { IsFalse (shown_closed (meaning self.old)) }
         requires limited { (meaning self.old).nodes + (meaning self.old).left + quanta ≤ 1000000000000 }
-        ensures { meaning self.new ≡ funded quanta (meaning self.old) };
+        ensures shown { meaning self.new ≡ funded quanta (meaning self.old) }
+        ensures drawn { lease self.new ≡ after_draw (lease self.old) quanta };
 
     /// Runs one node, and pays one quantum for it.
     fn advance(&mut self)
         requires going { IsFalse (shown_closed (meaning self.old)) }
         requires paid { 0 < (meaning self.old).left }
-        ensures { meaning self.new ≡ advanced (meaning self.old) };
+        ensures shown { meaning self.new ≡ advanced (meaning self.old) }
+        ensures used { lease self.new ≡ after_use (lease self.old) };
 
     /// Hands back all quanta that it holds.
     fn settle(&mut self)
-        ensures { meaning self.new ≡ settled (meaning self.old) };
+        ensures shown { meaning self.new ≡ settled (meaning self.old) }
+        ensures back { lease self.new ≡ after_settle (lease self.old) };
 
     /// Hands out the best schedule that it knows. From then on it has none and is closed; the rest stays.
     fn take_best(&mut self) -> Option<Schedule>
         ensures best { result ≡ shown_best (meaning self.old) }
-        ensures taken { meaning self.new ≡ emptied (meaning self.old) };
+        ensures taken { meaning self.new ≡ emptied (meaning self.old) }
+        ensures kept { lease self.new ≡ lease self.old };
 }
 
 /// A boxed search is the search in the box.
 impl Strategy for Box<dyn Strategy> {
     ghost meaning = { λ b. (Strategy-box b).meaning b.value };
+
+    ghost lease = { λ b. (Strategy-box b).lease b.value };
 
     fn tenant(&self) -> u32 {
         (**self).tenant()

@@ -10,4 +10,4 @@ invariant_of-result g c =
     let best = c.in-Ok.best in
     let count : length c.activities.result.now ≡ size c.args.plan.project = ap length c.activities.ensures.all in
     let sized : HasSize (size c.args.plan.project) best.schedule = subst (λ (n : ℕ). HasSize n best.schedule) count c.in-Ok.ensures.sized in
-    sound_fresh c.args.plan best c.activities.ensures.project (c.if-not-agrees.ensures.0 refl).1 c.in-Ok.ensures.none sized
+    sound_fresh c.args.plan best c.activities.ensures.project (c.if-not-fund_own.ensures.going refl) c.in-Ok.ensures.none sized

@@ -1,5 +1,6 @@
-use Rattle.std.proofs.Common.{zero-le, false, arith, sym, ap}
+use Rattle.std.proofs.Common.{zero-le, false, arith, sym, ap, ◌∙◌}
 use Rattle.serial_pass.specs.Pass.{PassData}
+use Rattle.quanta_till.specs.Lease.{LeaseValue}
 use Rattle.rule_search.proofs.SearchLemmas.{best_before}
 use Rattle.rule_search.proofs.search.RuleSearch.new.Goals as goal
 
@@ -8,7 +9,7 @@ invariant_of-result c =
     let space = c.in-Ok.ensures in
     record {
       rule = c.requires.kind;
-      paid = c.requires.empty.used;
+      paid = ap (λ (l : LeaseValue). l.used) c.of.ensures ∙ c.requires.empty.used;
       all = c.size-size.ensures.exact;
       few = c.size-size.ensures.few;
       within = zero-le;

@@ -1,0 +1,29 @@
+-- That there are runs, and what their journals have.
+use Rattle.std.specs.Prelude.{◌≡◌, ℕ, ◌<◌, List, length, map, All, flat_map}
+use Rattle.farm_core.specs.declared.entry.Event.{Event}
+use Rattle.farm_core.specs.Config.{ConfigData}
+use Rattle.farm_core.specs.Step.{step}
+use Rattle.farm_core.specs.World.{World, Call, view, Steps, Run, entry_of}
+
+-- there is an account for each tenant
+abbrev pub HasAccounts : World → Type 0
+HasAccounts w = length w.accounts ≡ length w.config.tenants
+
+-- each tenant can ask for anything at any time: there is a farm in which the call was made, answered as its step says
+abbrev pub EachCallCanBeMade : Type 0
+EachCallCanBeMade = (w : World) → HasAccounts w → (t : ℕ) → t < length w.config.tenants → (event : Event) →
+    (new : World) × Steps w t event (step (view t w) event).answer new × HasAccounts new
+
+-- whose a call is, and what it asks for
+abbrev pub asked : Call → ℕ × Event
+asked c = (c.tenant, c.event)
+
+-- whatever the tenants of a configuration ask for, one call after another, there is a run of just these calls
+abbrev pub EachSequenceIsARun : Type 0
+EachSequenceIsARun = (config : ConfigData) (wanted : List (ℕ × Event)) → All (λ (a : ℕ × Event). a.0 < length config.tenants) wanted →
+    (calls : List Call) × (w : World) × Run config calls w × (map asked calls ≡ wanted)
+
+-- the journal at the end of a run has the entries of its calls, in their order, and nothing else
+abbrev pub JournalsAreTheCalls : Type 0
+JournalsAreTheCalls = (config : ConfigData) (calls : List Call) (w : World) → Run config calls w →
+    w.journal ≡ flat_map (λ (c : Call). entry_of c.tenant c.event c.answer) calls
