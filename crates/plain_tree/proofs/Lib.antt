@@ -1,3 +1,4 @@
+pub mod ModeLemmas
 pub mod ValueLemmas
 pub mod PlaceLemmas
 pub mod KnownLemmas

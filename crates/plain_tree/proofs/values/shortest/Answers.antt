@@ -1,7 +1,7 @@
 use Rattle.std.proofs.Common.{arith, ◌≡◌, ◌∙◌}
 use Rattle.mrcpsp.specs.Project.{ModeData, duration}
 use Rattle.mrcpsp.specs.Values.{shortest}
-use Rattle.serial_sgs.proofs.StockLemmas.{lowest_first, lowest_more, lowest_all}
+use Rattle.plain_tree.proofs.ModeLemmas.{lowest_first, lowest_more, lowest_all}
 use Rattle.plain_tree.proofs.values.shortest.Goals as goal
 
 pub loop-mode-init : goal.loop-mode-init

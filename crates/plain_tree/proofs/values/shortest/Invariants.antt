@@ -1,6 +1,6 @@
 use Rattle.std.proofs.Common.{◌≡◌, ◌≤◌}
 use Rattle.mrcpsp.specs.Project.{ModeData}
-use Rattle.serial_sgs.proofs.StockLemmas.{lowest_of}
+use Rattle.plain_tree.proofs.ModeLemmas.{lowest_of}
 use Rattle.plain_tree.proofs.values.shortest.Given as goal
 
 abbrev pub invariant-loop-mode : goal.invariant-loop-mode
