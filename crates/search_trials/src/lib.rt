@@ -8,6 +8,7 @@
 //! - `sum`: a sum over numbers.
 //! - `values`: the values of activities, as `plain_searches.py values 7 1000` adds them up.
 //! - `boards`: partial schedules that grow and shrink, by `plain_searches.py boards 7 1000`.
+//! - `sums`: the earliest start by its definition, with sums, which boards are compared with too.
 //! - `schedules`: what schedules break first, by `plain_searches.py schedules 7 1000`.
 //! - `trees`: the last incumbent of the precedence tree against the least makespan of all schedules, by
 //!   `plain_searches.py least 7 60`.
@@ -25,6 +26,8 @@ mod schedules;
 mod shown;
 #[cfg(test)]
 mod sum;
+#[cfg(test)]
+mod sums;
 #[cfg(test)]
 mod tests;
 #[cfg(test)]
