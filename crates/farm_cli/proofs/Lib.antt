@@ -10,3 +10,4 @@ pub mod BeginLemmas
 pub mod CounterLemmas
 pub mod CommandLineLemmas
 pub mod CommandLineExamples
+pub mod SeatLemmas
