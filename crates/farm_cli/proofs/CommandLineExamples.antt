@@ -1,5 +1,5 @@
 -- What worked command lines ask for, computed.
-use Rattle.std.proofs.Common.{◌≡◌, List, [], ◌∷◌, Option, Some, refl, codes, option_map}
+use Rattle.std.proofs.Common.{◌≡◌, ℕ, List, [], ◌∷◌, Option, Some, refl, codes, option_map}
 use Rattle.clap.specs.Words.{Row, Text, fault_of, subcommand_of}
 use Rattle.clap.specs.Kinds.{Kinds}
 use Rattle.clap.specs.declared.error.kind.ErrorKind.TheVariants as kind
@@ -16,6 +16,9 @@ asked ids words = option_map (paths ids) (subcommand_of farm_app words)
 
 abbrev file : List Text
 file = codes "FILE" ∷ []
+
+abbrev service : List Text
+service = codes "config" ∷ codes "port" ∷ codes "sessions" ∷ []
 
 abbrev both : List Text
 both = codes "config" ∷ codes "SCRIPT" ∷ []
@@ -35,6 +38,12 @@ a_replay = refl
 a_replay_turned : asked both (codes "farm" ∷ codes "replay" ∷ codes "s" ∷ codes "--config=k.json" ∷ []) ≡ Some (codes "replay", codes "k.json" ∷ codes "s" ∷ [])
 unfolding clap_on_literals
 a_replay_turned = refl
+
+a_service :
+    asked service (codes "farm" ∷ codes "serve" ∷ codes "--config" ∷ codes "k.json" ∷ codes "--port" ∷ codes "0" ∷ codes "--sessions" ∷ codes "2" ∷ [])
+    ≡ Some (codes "serve", codes "k.json" ∷ codes "0" ∷ codes "2" ∷ [])
+unfolding clap_on_literals
+a_service = refl
 
 abbrev fault : List Text → Kinds
 fault words = fault_of farm_app words
@@ -66,9 +75,26 @@ two_files : fault (codes "farm" ∷ codes "check" ∷ codes "x" ∷ codes "y" �
 unfolding clap_on_literals
 two_files = refl
 
-another_word : fault (codes "farm" ∷ codes "serve" ∷ []) ≡ kind.UnknownArgument ∷ kind.InvalidSubcommand ∷ []
+another_word : fault (codes "farm" ∷ codes "dance" ∷ []) ≡ kind.UnknownArgument ∷ kind.InvalidSubcommand ∷ []
 unfolding clap_on_literals
 another_word = refl
+
+-- the words of a service of so many connections at that port
+abbrev serving : List ℕ → List ℕ → List Text
+serving port sessions =
+    codes "farm" ∷ codes "serve" ∷ codes "--config" ∷ codes "k.json" ∷ codes "--port" ∷ port ∷ codes "--sessions" ∷ sessions ∷ []
+
+serve_taken : fault (serving (codes "65535") (codes "64")) ≡ []
+unfolding clap_on_literals
+serve_taken = refl
+
+port_too_great : fault (serving (codes "65536") (codes "64")) ≡ kind.ValueValidation ∷ []
+unfolding clap_on_literals
+port_too_great = refl
+
+no_sessions : fault (serving (codes "0") (codes "0")) ≡ kind.ValueValidation ∷ []
+unfolding clap_on_literals
+no_sessions = refl
 
 another_option : fault (codes "farm" ∷ codes "replay" ∷ codes "--conf" ∷ codes "k.json" ∷ codes "s" ∷ []) ≡ kind.UnknownArgument ∷ []
 unfolding clap_on_literals

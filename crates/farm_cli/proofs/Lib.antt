@@ -11,3 +11,4 @@ pub mod ByteLemmas
 pub mod CounterLemmas
 pub mod CommandLineLemmas
 pub mod CommandLineExamples
+pub mod SeatLemmas

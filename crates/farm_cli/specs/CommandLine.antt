@@ -1,6 +1,7 @@
 -- What the words of a command line ask for, as the kit's `clap` reads them.
-use Rattle.std.specs.Prelude.{◌≡◌, true, List, Option, Some, codes, unwrap_or}
+use Rattle.std.specs.Prelude.{◌≡◌, ℕ, true, List, Option, Some, codes, unwrap_or}
 use Rattle.clap.specs.Words.{App, Row, Rule, Text, new_app, new_rule, with_rule, with_subcommand, first_of}
+use Rattle.clap.specs.declared.builder.value_parser.ValueParser.TheVariants as value_parser
 use Rattle.farm_cli.specs.declared.arguments.Task.{Task}
 use Rattle.farm_cli.specs.declared.arguments.Task.TheVariants as task
 
@@ -12,32 +13,51 @@ needed id = record (new_rule id) { required = true }
 abbrev pub check_app : App
 check_app = with_rule (new_app (codes "check")) (needed (codes "FILE"))
 
+-- an option of this name with a value, which has to be there; and one whose value is a number within these bounds
+abbrev pub option_rule : Text → Rule
+option_rule id = record (needed id) { long = Some id; value_names = 1 }
+
+abbrev pub number_rule : Text → ℕ → ℕ → Rule
+number_rule id least most = record (option_rule id) { parser = Some (value_parser.Unsigned least most) }
+
 -- the option --config F
 abbrev pub config_rule : Rule
-config_rule = record (needed (codes "config")) { long = Some (codes "config"); value_names = 1 }
+config_rule = option_rule (codes "config")
 
 -- replay --config F SCRIPT
 abbrev pub replay_app : App
 replay_app = with_rule (with_rule (new_app (codes "replay")) config_rule) (needed (codes "SCRIPT"))
 
+-- serve --config F --port P --sessions K
+abbrev pub serve_app : App
+serve_app =
+    with_rule (with_rule (with_rule (new_app (codes "serve")) config_rule) (number_rule (codes "port") 0 65535)) (number_rule (codes "sessions") 1 64)
+
 -- one of the subcommands has to be named
 abbrev pub asking : App → App
 asking a = record a { top = record a.top { subcommand_required = true } }
 
--- farm, with one of the two
+-- farm, with one of the three
 abbrev pub farm_app : App
-farm_app = with_subcommand (with_subcommand (asking (new_app (codes "farm"))) check_app.top) replay_app.top
+farm_app = with_subcommand (with_subcommand (with_subcommand (asking (new_app (codes "farm"))) check_app.top) replay_app.top) serve_app.top
 
--- the task is a check of this file, or a replay of this script under this configuration
+-- the task is a check of this file, a replay of this script under this configuration, or a service of it at this port for so many connections
 abbrev pub Checks : Text → Task → Type 0
 Checks file (task.Check path) = path.now ≡ file
 Checks file (task.Replay config script) = ⊥
+Checks file (task.Serve config port sessions) = ⊥
 
 abbrev pub Replays : Text → Text → Task → Type 0
 Replays config script (task.Check path) = ⊥
 Replays config script (task.Replay f path) = (f.now ≡ config) × (path.now ≡ script)
+Replays config script (task.Serve f p k) = ⊥
 
--- the path at an argument
+abbrev pub Serves : Text → Text → Text → Task → Type 0
+Serves config port sessions (task.Check path) = ⊥
+Serves config port sessions (task.Replay f path) = ⊥
+Serves config port sessions (task.Serve f p k) = (f.now ≡ config) × (p.now ≡ port) × (k.now ≡ sessions)
+
+-- the text at an argument
 abbrev pub path_at : Text → List Row → Text
 path_at id rows = unwrap_or (first_of id rows) (codes "-")
 
@@ -45,3 +65,5 @@ path_at id rows = unwrap_or (first_of id rows) (codes "-")
 pub record Asks (found : Option (Text × List Row)) (t : Task) : Type 0 where
   pub check : (rows : List Row) → found ≡ Some (codes "check", rows) → Checks (path_at (codes "FILE") rows) t
   pub replay : (rows : List Row) → found ≡ Some (codes "replay", rows) → Replays (path_at (codes "config") rows) (path_at (codes "SCRIPT") rows) t
+  pub serve : (rows : List Row) → found ≡ Some (codes "serve", rows)
+      → Serves (path_at (codes "config") rows) (path_at (codes "port") rows) (path_at (codes "sessions") rows) t

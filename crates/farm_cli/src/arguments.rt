@@ -1,8 +1,9 @@
 //! The words of a command line.
-ghost use Rattle.std.specs.Prelude.{◌≡◌, ◌<◌, ◌≤◌, IfOk, IsOkAnd, length, map, codes, string_bytes};
-ghost use Rattle.clap.specs.Words.{app_of, fault_of, subcommand_of, subcommand_rows_of, FailsBy};
-ghost use Rattle.farm_cli.specs.CommandLine.{farm_app, Checks, Asks};
+ghost use Rattle.std.specs.Prelude.{◌≡◌, ◌<◌, ◌≤◌, false, IfOk, IsOkAnd, length, map, codes, string_bytes};
+ghost use Rattle.clap.specs.Words.{app_of, fault_of, rule_of, subcommand_of, subcommand_rows_of, with_subcommand, FailsBy};
+ghost use Rattle.farm_cli.specs.CommandLine.{option_rule, number_rule, serve_app, farm_app, Checks, Asks};
 
+use clap::builder::ValueParser;
 use clap::{Arg, ArgMatches, Command, Error};
 use std::alloc::{AllocError, Global};
 
@@ -21,6 +22,77 @@ pub enum Task<'a> {
         /// A path, or `-` for standard input.
         script: &'a str,
     },
+    /// Serve a farm over connections.
+    Serve {
+        /// The path of the configuration; `-` is a file of that name.
+        config: &'a str,
+        /// The digits of a port, 0 to 65,535.
+        port: &'a str,
+        /// The digits of a number of connections, 1 to 64.
+        sessions: &'a str,
+    },
+}
+
+/// An option of this name with one value, which has to be there.
+fn needed_option<'a>(alloc: Global, name: &'a str, value: &'a str, help: &'a str) -> Arg<'a>
+    ensures rule { rule_of result ≡ option_rule name.entry.now }
+    ensures own { result.global ≡ false }
+{
+    Arg::new(alloc, name)
+        .long(name)
+        .value_name(value)
+        .help(help)
+        .required(true)
+}
+
+/// An option of this name whose value, a number within these bounds, has to be there.
+fn needed_number<'a>(
+    alloc: Global,
+    name: &'a str,
+    value: &'a str,
+    help: &'a str,
+    least: u64,
+    most: u64,
+) -> Arg<'a>
+    ensures rule { rule_of result ≡ number_rule name.entry.now least most }
+    ensures own { result.global ≡ false }
+{
+    let within = ValueParser::unsigned(least, most);
+    needed_option(alloc, name, value, help).value_parser(within)
+}
+
+/// The command with the subcommand that serves, or an error where there is no memory for it.
+fn with_serve<'a>(alloc: Global, command: Command<'a>) -> Result<Command<'a>, AllocError>
+    ensures { IfOk result (λ whole. app_of whole ≡ with_subcommand (app_of command.entry) serve_app.top) }
+{
+    let config = needed_option(
+        alloc,
+        "config",
+        "F",
+        "The farm's configuration, a JSON file",
+    );
+    let port = needed_number(
+        alloc,
+        "port",
+        "P",
+        "The port, or 0 for a free one",
+        0,
+        65_535,
+    );
+    let sessions = needed_number(
+        alloc,
+        "sessions",
+        "K",
+        "How many connections are answered",
+        1,
+        64,
+    );
+    let serve = Command::new(alloc, "serve")
+        .about("Answers the requests of so many connections and settles the farm")
+        .arg(config)?
+        .arg(port)?
+        .arg(sessions)?;
+    command.subcommand(serve)
 }
 
 /// The command `farm` with its subcommands, or an error where there is no memory for it.
@@ -45,11 +117,12 @@ pub fn farm_command<'a>(alloc: Global) -> Result<Command<'a>, AllocError>
         .about("Replays a script of requests and prints the replies")
         .arg(config)?
         .arg(script)?;
-    Command::new(alloc, "farm")
+    let farm = Command::new(alloc, "farm")
         .about("Schedules multi-mode projects for several tenants")
         .subcommand_required(true)
         .subcommand(check)?
-        .subcommand(replay)
+        .subcommand(replay)?;
+    with_serve(alloc, farm)
 }
 
 /// What the words ask for; the first one is the program's name. With no other word that is `check -`. An error is what
@@ -80,6 +153,11 @@ fn task_of<'a>(matches: &ArgMatches<'a>) -> Task<'a>
         Some(("replay", chosen)) => Task::Replay {
             config: chosen.get_str("config").unwrap_or("-"),
             script: chosen.get_str("SCRIPT").unwrap_or("-"),
+        },
+        Some(("serve", chosen)) => Task::Serve {
+            config: chosen.get_str("config").unwrap_or("-"),
+            port: chosen.get_str("port").unwrap_or("-"),
+            sessions: chosen.get_str("sessions").unwrap_or("-"),
         },
         _ => Task::Check { file: "-" },
     }

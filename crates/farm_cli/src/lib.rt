@@ -10,6 +10,7 @@
 //! - `input`: reading at most so many bytes of a file or of standard input.
 //! - `config`: `read_config`; in it the shape, the faults and their texts.
 //! - `script`: `replay`; in it what is heard, the farm with held turns, the searches made, and the tenants' tills.
+//! - `service`: `serve`; in it the tills of its tenants, where workers rest, and one connection.
 //! - `summary`: what a project holds, in one line.
 //! - `program`: what each task does, and the status that it ends with.
 //! - `laws`: laws of configurations and of outputs.
@@ -21,6 +22,7 @@ mod input;
 pub mod laws;
 mod program;
 mod script;
+mod service;
 mod summary;
 
 pub use arguments::{Task, farm_command, parse_words};
@@ -28,4 +30,5 @@ pub use config::{ConfigFault, Key, read_config};
 pub use input::{MOST_BYTES, read_front, read_whole};
 pub use program::{run, run_words};
 pub use script::{ReplayFault, replay};
+pub use service::{ServeFault, serve};
 pub use summary::{Summary, summarize};

@@ -6,17 +6,29 @@ use crate::arguments::{Task, parse_words};
 use crate::config::read_config;
 use crate::input::{read_path, read_whole};
 use crate::script::{ReplayFault, replay};
+use crate::service::{ServeFault, serve};
 use crate::summary::summarize;
 use farm_core::Config;
+use farm_pool::Settled;
 use psplib_mm::read;
-use std::io::{BufWriter, Eprint, Read, Write};
+use std::io::{BufWriter, Eprint, Print, Read, Write};
+use std::net::{Ipv4Addr, Net, SocketAddr, TcpListener, TcpStream};
 use std::process::ExitCode;
 use std::rt::{Files, Runtime};
+use std::sync::Wait;
+use std::thread::Threads;
 use std::{env, fs, io};
 
 /// Runs the program on the words of the process. The status is 0, 1 for a fault, and 2 for a command line that is refused
 /// and for a request for help; where the text that tells so cannot be printed, it is 1.
-pub fn run<R: Runtime + AllocGlobal>(rt: &R) -> ExitCode
+pub fn run<
+    R: Runtime
+        + AllocGlobal
+        + Threads
+        + Wait
+        + Net<Listener = TcpListener, Stream = TcpStream>
+        + Sync,
+>(rt: &R) -> ExitCode
     ensures { exit_status result ≤ 2 }
 {
     let Ok(words) = words_of(rt) else {
@@ -32,12 +44,26 @@ fn words_of<R: Runtime + AllocGlobal>(rt: &R) -> io::Result<Vec<String>> {
 }
 
 /// Runs the program on these words, the first of which is its name.
-pub fn run_words<R: Runtime + AllocGlobal>(rt: &R, words: &[String]) -> ExitCode
+pub fn run_words<
+    R: Runtime
+        + AllocGlobal
+        + Threads
+        + Wait
+        + Net<Listener = TcpListener, Stream = TcpStream>
+        + Sync,
+>(rt: &R, words: &[String]) -> ExitCode
     ensures { exit_status result ≤ 2 }
 {
     match parse_words(rt.alloc(), words) {
         Ok(Task::Check { file }) => run_check(rt, file),
         Ok(Task::Replay { config, script }) => run_replay(rt, config, script),
+        Ok(
+            Task::Serve {
+                config,
+                port,
+                sessions,
+            },
+        ) => run_serve(rt, config, port, sessions),
         Err(error) => match error.print(rt) {
             Ok(()) => ExitCode::from(2),
             Err(_) => ExitCode::FAILURE,
@@ -131,6 +157,60 @@ fn end_replay<R: Eprint>(rt: &R, ended: Result<(), ReplayFault>) -> ExitCode
         Ok(()) => ExitCode::SUCCESS,
         Err(fault) => {
             let _ = eprintln!(rt; "farm: replay {fault}");
+            ExitCode::FAILURE
+        }
+    }
+}
+
+/// Serves a farm of the configuration at a port of this machine, which is printed first, until so many connections have ended.
+fn run_serve<
+    R: Runtime
+        + AllocGlobal
+        + Threads
+        + Wait
+        + Net<Listener = TcpListener, Stream = TcpStream>
+        + Sync,
+>(rt: &R, config: &str, port: &str, sessions: &str) -> ExitCode
+    ensures { exit_status result ≤ 2 }
+{
+    let Ok(port) = port.parse::<u16>() else {
+        return ExitCode::from(2);
+    };
+    let Ok(sessions) = sessions.parse::<u64>() else {
+        return ExitCode::from(2);
+    };
+    let Some(config) = config_at(rt, config) else {
+        return ExitCode::FAILURE;
+    };
+    let Ok(listener) = TcpListener::bind(rt, SocketAddr::from((Ipv4Addr::LOCALHOST, port))) else {
+        return end_serve(rt, Err(ServeFault::Listen));
+    };
+    let Ok(address) = listener.local_addr() else {
+        return end_serve(rt, Err(ServeFault::Listen));
+    };
+    let port = address.port();
+    if println!(rt; "port {port}").is_err() {
+        return ExitCode::FAILURE;
+    }
+    end_serve(rt, serve(rt, rt.alloc(), &config, listener, sessions))
+}
+
+/// The status of a service, with how it ended on standard output or its fault on standard error.
+fn end_serve<R: Print + Eprint>(rt: &R, ended: Result<Settled, ServeFault>) -> ExitCode
+    ensures ok { exit_status result ≤ 1 }
+    ensures fault { OnErr ended (exit_status result ≡ 1) }
+{
+    match ended {
+        Ok(_) => match println!(rt; "settled") {
+            Ok(()) => ExitCode::SUCCESS,
+            Err(_) => ExitCode::FAILURE,
+        },
+        Err(ServeFault::Unsettled) => {
+            let _ = eprintln!(rt; "unsettled");
+            ExitCode::FAILURE
+        }
+        Err(fault) => {
+            let _ = eprintln!(rt; "farm: serve {fault}");
             ExitCode::FAILURE
         }
     }

@@ -11,8 +11,8 @@ ghost use Rattle.farm_cli.specs.Replay.{end_of, GoesOn};
 
 mod counter;
 mod floor;
-mod hear;
-mod made;
+pub(crate) mod hear;
+pub(crate) mod made;
 
 use counter::{Counter, open_counters};
 use farm_core::laws::farms_are_replayed;
@@ -47,7 +47,11 @@ pub enum ReplayFault {
 }
 
 /// Writes a reply line.
-fn tell<W: Write>(writer: &mut W, who: Option<Name>, said: Said) -> Result<(), ReplayFault>
+pub(crate) fn tell<W: Write>(
+    writer: &mut W,
+    who: Option<Name>,
+    said: Said,
+) -> Result<(), ReplayFault>
     ensures writes { Writes result (W.contents writer.old) (W.contents writer.new) (reply_line who said) }
     ensures fault { IfErr result (λ fault. fault ≡ ReplayFault.Write) }
 {

@@ -118,7 +118,8 @@ impl<J> Farm<J> {
 
     /// How many tenants there are.
     pub fn tenants(&self) -> u32
-        ensures { result ≡ length self.now.config.tenants }
+        ensures exact { result ≡ length self.now.config.tenants }
+        ensures few { result ≤ 64 }
     {
         self.config.tenants().len() as u32
     }

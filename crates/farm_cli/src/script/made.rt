@@ -1,7 +1,7 @@
 //! The searches of submitted jobs.
 ghost use Rattle.std.specs.Prelude.{◌≡◌, IfSome};
 ghost use Rattle.strategy.specs.declared.kind.Kind.TheVariants as kind;
-ghost use Rattle.quanta_till.specs.Lease.{empty_lease};
+ghost use Rattle.quanta_till.specs.Lease.{empty_lease, IsEmpty};
 ghost use Rattle.tree_search.specs.Search as tree_search;
 ghost use Rattle.rule_search.specs.Rule.{IsRule};
 ghost use Rattle.rule_search.specs.Search as rule_search;
@@ -41,8 +41,16 @@ impl Ready {
         ensures counter { counter.new ≡ counter.old }
         ensures made { IfSome result (λ ready. ready ≡ record { plan = plan.now; lease = empty_lease counter.old }) }
     {
-        let plan = plan.clone_in(alloc).ok()?;
         let lease = counter.lease().ok()?;
+        Ready::of(alloc, lease, plan)
+    }
+
+    /// A copy of the plan, with a lease of which nothing was drawn. There is nothing where there is no memory for it.
+    pub(crate) fn of(alloc: Global, lease: Lease, plan: &Plan) -> Option<Ready>
+        requires { IsEmpty lease }
+        ensures { IfSome result (λ ready. ready ≡ record { plan = plan.now; lease = lease }) }
+    {
+        let plan = plan.clone_in(alloc).ok()?;
         Some(Ready { plan, lease })
     }
 

@@ -2,7 +2,7 @@ use Rattle.std.proofs.Common.{ap, ap₂, codes, ◌≡◌, ◌∙◌, ◌||◌, 
 use Rattle.std.proofs.lemmas.Result.{IfOk-weaker}
 use Rattle.clap.specs.Words.{App, Rule, app_of, rule_of, new_app, with_rule, with_subcommand}
 use Rattle.clap.specs.Simple.{app_of_fields}
-use Rattle.farm_cli.specs.CommandLine.{needed, config_rule, check_app, replay_app, asking}
+use Rattle.farm_cli.specs.CommandLine.{needed, config_rule, check_app, replay_app, serve_app, asking}
 use Rattle.farm_cli.proofs.arguments.farm_command.Goals as goal
 
 abbrev owed : Rule → Rule
@@ -37,8 +37,7 @@ returns c =
     let first_is : app_of c.in_ok-subcommand.field-0 ≡ with_subcommand (asking (new_app (codes "farm"))) check_app.top =
     c.in_ok-subcommand.ensures.shape (c.in_ok-check.ensures.globals ∙ ap₂ either (ap (λ f. f.has_globals) c.about.ensures ∙ c.new-2.ensures.local) file_own)
     ∙ ap₂ with_subcommand asking_is (ap (λ (a : App). a.top) check_is) in
-    IfOk-weaker c.subcommand-2.result _ _
-    (λ command h.
-    h.shape (c.in_ok-replay.ensures.globals ∙ ap₂ either (c.in_ok-arg.ensures.globals ∙ ap₂ either (ap (λ f. f.has_globals) c.about-2.ensures ∙ c.new-5.ensures.local) config_own) script_own)
-    ∙ ap₂ with_subcommand first_is (ap (λ (a : App). a.top) replay_is))
-    c.subcommand-2.ensures
+    let second_is : app_of c.in_ok-farm.farm ≡ with_subcommand (with_subcommand (asking (new_app (codes "farm"))) check_app.top) replay_app.top =
+    c.in_ok-farm.ensures.shape (c.in_ok-replay.ensures.globals ∙ ap₂ either (c.in_ok-arg.ensures.globals ∙ ap₂ either (ap (λ f. f.has_globals) c.about-2.ensures ∙ c.new-5.ensures.local) config_own) script_own)
+    ∙ ap₂ with_subcommand first_is (ap (λ (a : App). a.top) replay_is) in
+    IfOk-weaker c.with_serve.result _ _ (λ command h. h ∙ ap (λ a. with_subcommand a serve_app.top) second_is) c.with_serve.ensures

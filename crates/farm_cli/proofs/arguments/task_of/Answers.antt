@@ -13,6 +13,7 @@ returns-in-Some-check-default c =
           let same : rows_of m ≡ rows = cc in
           ap (λ b. b.now) c.unwrap_or.ensures ∙ text_or c.get_str.result (first_of (codes "FILE") rows) _ (c.get_str.ensures ∙ first_value-rows m (codes "FILE") ∙ ap (first_of (codes "FILE")) same);
       replay = λ rows found. search rules;
+      serve = λ rows found. search rules;
     }
 
 pub returns-in-Some-replay-default : goal.returns-in-Some-replay-default
@@ -27,5 +28,24 @@ returns-in-Some-replay-default c =
                 ∙ text_or c.get_str-in-Some-replay-default.result (first_of (codes "config") rows) _ (c.get_str-in-Some-replay-default.ensures ∙ first_value-rows m (codes "config") ∙ ap (first_of (codes "config")) same),
             ap (λ b. b.now) c.unwrap_or-in-Some-replay-default-2.ensures
                 ∙ text_or c.get_str-in-Some-replay-default-2.result (first_of (codes "SCRIPT") rows) _ (c.get_str-in-Some-replay-default-2.ensures ∙ first_value-rows m (codes "SCRIPT") ∙ ap (first_of (codes "SCRIPT")) same),
+          );
+      serve = λ rows found. search rules;
+    }
+
+pub returns-in-Some-serve-default : goal.returns-in-Some-serve-default
+returns-in-Some-serve-default c =
+    let m = found_of c.in-Some-serve-default.chosen.now in
+    record {
+      check = λ rows found. search rules;
+      replay = λ rows found. search rules;
+      serve = λ rows found.
+          let e : Some (rows_of m) ≡ Some rows = c.in-Some-serve-default.ensures.rows ∙ ap (option_map (λ p. p.1)) found in
+          let same : rows_of m ≡ rows = cc in (
+            ap (λ b. b.now) c.unwrap_or-in-Some-serve-default.ensures
+                ∙ text_or c.get_str-in-Some-serve-default.result (first_of (codes "config") rows) _ (c.get_str-in-Some-serve-default.ensures ∙ first_value-rows m (codes "config") ∙ ap (first_of (codes "config")) same),
+            ap (λ b. b.now) c.unwrap_or-in-Some-serve-default-2.ensures
+                ∙ text_or c.get_str-in-Some-serve-default-2.result (first_of (codes "port") rows) _ (c.get_str-in-Some-serve-default-2.ensures ∙ first_value-rows m (codes "port") ∙ ap (first_of (codes "port")) same),
+            ap (λ b. b.now) c.unwrap_or-in-Some-serve-default-3.ensures
+                ∙ text_or c.get_str-in-Some-serve-default-3.result (first_of (codes "sessions") rows) _ (c.get_str-in-Some-serve-default-3.ensures ∙ first_value-rows m (codes "sessions") ∙ ap (first_of (codes "sessions")) same),
           );
     }
