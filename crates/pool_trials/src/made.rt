@@ -1,0 +1,123 @@
+//! A configuration, tills, and a project's search.
+ghost use Rattle.std.specs.Prelude.{◌≡◌, ◌∷◌, [], length, IfOk};
+ghost use Rattle.quanta_till.specs.Lease.{IsEmpty};
+ghost use Rattle.strategy.specs.declared.kind.Kind.TheVariants.{Tree};
+
+use farm_core::{Config, Farm, Name, TenantLine};
+use farm_pool::{Command, Settled, Unsettled, finish};
+use mrcpsp::Sequence;
+use psplib_mm::read;
+use quanta_till::{Desk, Lease, Till};
+use std::alloc::{AllocError, Global};
+use std::test::Fail;
+use strategy::{Kind, Plan};
+use tree_search::TreeSearch;
+
+/// A source, an activity of one mode, one of two modes, and a sink, with a resource of each sort.
+const DIAMOND: &str = "jobs (incl. supersource/sink ): 4
+- renewable : 1 R
+- nonrenewable : 1 N
+PRECEDENCE RELATIONS:
+h
+1 1 2 2 3
+2 1 1 4
+3 2 1 4
+4 1 0
+REQUESTS/DURATIONS:
+h
+1 1 0 0 0
+2 1 3 2 0
+3 1 2 2 1
+2 4 1 0
+4 1 0 0 0
+RESOURCEAVAILABILITIES:
+h
+3 1
+";
+
+/// A till and its desk.
+#[derive(Drop)]
+pub(crate) struct Purse {
+    till: Till,
+    desk: Desk,
+    ghost same: { desk.id ≡ till.id },
+}
+
+impl Purse {
+    /// A tenant's till with so many quanta, and its first desk.
+    pub(crate) fn new(alloc: Global, tenant: u32, granted: u64) -> Result<Purse, AllocError> {
+        let (till, desk) = Till::new(alloc, tenant, granted)?;
+        Ok(Purse { till, desk })
+    }
+
+    /// An empty lease.
+    fn lease(&mut self) -> Result<Lease, AllocError>
+        ensures { IfOk result IsEmpty }
+    {
+        self.till.lease(&mut self.desk)
+    }
+}
+
+/// A tenant's line, with 2 jobs.
+fn line_of(name: &str, quanta: u64, entries: u64) -> Result<TenantLine, Fail> {
+    let name = Name::new(name.as_bytes()).ok_or("a name")?;
+    Ok(TenantLine {
+        name,
+        quanta,
+        jobs: 2,
+        entries,
+    })
+}
+
+/// Tenants a, of 100 quanta and so many entries, and b, of 10 quanta and 100 entries; 2 workers and a slice of 2.
+pub(crate) fn config_of(alloc: Global, entries: u64) -> Result<Config, Fail> {
+    let mut lines = Vec::new(alloc);
+    lines.push(line_of("a", 100, entries)?)?;
+    lines.push(line_of("b", 10, 100)?)?;
+    Ok(Config::new(Sequence::from(lines), 2, 2).ok_or("within the limits")?)
+}
+
+/// The plan of the diamond's tree.
+fn plan_of(alloc: Global) -> Result<Plan, Fail>
+    ensures { IfOk result (λ plan. plan.kind ≡ Tree) }
+{
+    let project = read(alloc, DIAMOND.as_bytes())?;
+    Ok(Plan {
+        project,
+        kind: Kind::Tree,
+    })
+}
+
+/// The submit of the diamond's tree, with so many quanta of a purse.
+pub(crate) fn submit_of(
+    alloc: Global,
+    purse: &mut Purse,
+    quanta: u64,
+) -> Result<Command<TreeSearch>, Fail> {
+    let lease = purse.lease()?;
+    let searched = plan_of(alloc)?;
+    let Ok(search) = TreeSearch::new(alloc, searched, lease) else {
+        return Err(Fail::from("no memory"));
+    };
+    let plan = plan_of(alloc)?;
+    Ok(Command::Submit {
+        plan,
+        quanta,
+        search,
+    })
+}
+
+/// How a farm of two tenants is settled with their purses.
+#[tactic(auto, using(crate::proofs::SeatLemmas::two_seated))]
+pub(crate) fn settle(
+    farm: Farm<TreeSearch>,
+    first: Purse,
+    second: Purse,
+) -> Option<Result<Settled, Unsettled>> {
+    if farm.tenants() != 2 {
+        return None;
+    }
+    let tills = [first.till, second.till];
+    let mut desks = [first.desk, second.desk];
+    Some(finish(farm, &tills, &mut desks))
+}
