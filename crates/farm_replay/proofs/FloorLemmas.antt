@@ -1,15 +1,14 @@
 -- The turns that a script holds, over the calls of its farm.
-use Rattle.std.proofs.Common.{◌≡◌, ℕ, suc, ◌<◌, ◌+◌, ◌-◌, get_or, take, drop, position, ◌||◌, ◌&&◌, ◌==◌, Bool, true, false, cond, List, [], ◌∷◌, ◌++◌, length, Option, Some, None, refl, sym, ap, ◌∙◌, subst, arith, ◌⊎◌, inl, inr, ⊎_elim, append-nil}
+use Rattle.std.proofs.Common.{◌≡◌, ℕ, suc, ◌<◌, ◌+◌, ◌-◌, get_or, take, drop, position, ◌||◌, ◌&&◌, ◌==◌, ◌≤◌, nat_lt, Bool, true, false, cond, List, [], ◌∷◌, ◌++◌, length, Option, Some, None, refl, sym, ap, ◌∙◌, subst, arith, ◌⊎◌, inl, inr, ⊎_elim, append-nil}
 use Rattle.std.specs.Prelude.{not, option_map}
-use Rattle.std.specs.List.{list_any, find}
-use Rattle.std.proofs.lemmas.Bool.{cond_both, cases_eq, eqb-true, and_parts, or_parts, both_ways}
+use Rattle.std.specs.List.{list_any, position_or_len}
+use Rattle.std.proofs.lemmas.Bool.{cond_both, cases_eq, cases_lt, eqb-true, and_parts, or_parts, both_ways}
 use Rattle.std.proofs.lemmas.Bool.Decides.{nat_tests}
 use Rattle.std.proofs.Math.Numerals.{add-one}
 use Rattle.std.proofs.Math.Seq.{drop-cons}
 use Rattle.std.proofs.lemmas.List.{take-append-drop}
 use Rattle.std.proofs.lemmas.List.Folds.{list_any-append}
 use Rattle.std.proofs.lemmas.List.Quantifiers.{position-Some}
-use Rattle.clap.proofs.RemoveLemmas.{find-none}
 use Rattle.strategy.specs.Search.{Meaning}
 use Rattle.job_table.specs.Table.{JobData, is_waiting, is_out}
 use Rattle.job_table.specs.Job.{is_turn, back, IsStrange}
@@ -480,13 +479,24 @@ never_strange meaning known old t s turns rest x tenant seq slice ran result m i
     (subst (λ k. IsStrange old.rows x.tenant x.seq k ran m) run.slice_is (subst (λ k. IsStrange old.rows x.tenant k slice ran m) run.seq_is
     (subst (λ k. IsStrange old.rows k seq slice ran m) run.tenant_is strange))))
 
-find_lacks : {X : Type 0} (p : X → Bool) (xs : List X) → find p xs ≡ None → list_any p xs ≡ false
-find_lacks p [] h = refl
-find_lacks p (x ∷ xs) h =
-    elim (p x) as (λ b. cond b (Some x) (find p xs) ≡ None → (b || list_any p xs) ≡ false) [ true ↦ λ e. absurd (cc) | false ↦ λ e. find_lacks p xs e ] h
+-- what has no place passes nowhere
+no_place : (n m : ℕ) → cond (nat_lt n m) (Some n) None ≡ None → m ≤ n
+no_place n m h = elim (cases_lt n m) [
+  | inl under ↦
+      let t : nat_lt n m ≡ true = grind (arith, nat_tests) in
+      let bad : Some n ≡ None = sym (rw t refl) ∙ h in
+      cc
+  | inr over ↦ omega (arith, over)
+]
+
+none_passes : {X : Type 0} (p : X → Bool) (xs : List X) → length xs ≤ position_or_len p xs → list_any p xs ≡ false
+none_passes p [] h = refl
+none_passes p (x ∷ xs) h =
+    elim (p x) as (λ b. suc (length xs) ≤ cond (not b) (1 + position_or_len p xs) 0 → (b || list_any p xs) ≡ false)
+    [ true ↦ λ e. absurd (omega (arith, e)) | false ↦ λ e. none_passes p xs (omega (arith, e)) ] h
 
 pub lacks_turn : {J : Type 0} (t s : ℕ) (turns : List (Turn J)) → position (is_turn_of t s) turns ≡ None → has_turn t s turns ≡ false
-lacks_turn t s turns h = find_lacks (is_turn_of t s) turns (find-none (is_turn_of t s) turns h)
+lacks_turn t s turns h = none_passes (is_turn_of t s) turns (no_place (position_or_len (is_turn_of t s) turns) (length turns) h)
 
 -- ---- the first and the last floor
 

@@ -24,7 +24,7 @@ use Rattle.session_lines.specs.ReplyText.{reply_line}
 use Rattle.session_lines.specs.Script.{Item, lines_of, first, first_of, requests_of, Answers, Cuts, Ends, Takes}
 use Rattle.farm_replay.specs.declared.script.ReplayFault.{ReplayFault}
 use Rattle.farm_replay.specs.declared.script.ReplayFault.TheVariants as fault
-use Rattle.farm_session.specs.declared.hear.Heard.TheVariants as heard
+use Rattle.farm_session.specs.declared.heard.Heard.TheVariants as heard
 use Rattle.farm_replay.specs.Output.{Told, told_under, Parts, opening, with_part, Saying, Next, asked, Refused, Nowhere, Reading, Answering, Marked, next, lines_for, parts_after, line_text, output_of, items_of, IsWritten, IsCutBy, IsCutOff}
 use Rattle.farm_session.specs.Heard.{number_of, heard_for, heard_of}
 use Rattle.farm_replay.specs.Replay.{GoesOn}

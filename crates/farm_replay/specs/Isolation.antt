@@ -5,7 +5,8 @@ use Rattle.farm_core.specs.Config.{ConfigData, same_bytes}
 use Rattle.farm_core.specs.World.{terms_in}
 use Rattle.session_lines.specs.declared.request.Request.{Request}
 use Rattle.session_lines.specs.declared.request.LineFault.{LineFault}
-use Rattle.farm_replay.specs.Output.{Saying, Marked, said_to, unread, number_of, opening, lines_for}
+use Rattle.farm_session.specs.Heard.{number_of}
+use Rattle.farm_replay.specs.Output.{Saying, Marked, said_to, unread, opening, lines_for}
 
 -- whose a request is, where that is known
 abbrev pub who_in : Result Request LineFault → Option (List ℕ)

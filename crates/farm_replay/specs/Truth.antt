@@ -9,7 +9,8 @@ use Rattle.session_lines.specs.declared.request.What.TheVariants.{Submit}
 use Rattle.session_lines.specs.declared.said.Said.{Said}
 use Rattle.session_lines.specs.declared.said.Said.TheVariants as said
 use Rattle.session_lines.specs.Script.{requests_of}
-use Rattle.farm_replay.specs.Output.{Marked, items_of, number_of, opening, next, parts_after}
+use Rattle.farm_session.specs.Heard.{number_of}
+use Rattle.farm_replay.specs.Output.{Marked, items_of, opening, next, parts_after}
 
 -- what is said of a job is true of a plan that was made under its number
 abbrev pub IsTrueSaid : (ℕ → Plan → Type 0) → Said → Type 0

@@ -41,11 +41,7 @@ pub enum ReplayFault {
 }
 
 /// Writes a reply line.
-fn tell<W: Write>(
-    writer: &mut W,
-    who: Option<Name>,
-    said: Said,
-) -> Result<(), ReplayFault>
+fn tell<W: Write>(writer: &mut W, who: Option<Name>, said: Said) -> Result<(), ReplayFault>
     ensures writes { Writes result (W.contents writer.old) (W.contents writer.new) (reply_line who said) }
     ensures fault { IfErr result (λ fault. fault ≡ ReplayFault.Write) }
 {

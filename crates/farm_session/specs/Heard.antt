@@ -8,8 +8,8 @@ use Rattle.session_lines.specs.declared.request.What.{What}
 use Rattle.session_lines.specs.declared.request.LineFault.{LineFault}
 use Rattle.session_lines.specs.declared.request.LineFault.TheVariants.{Eof, Read, TooLong, Syntax, File, NoMemory}
 use Rattle.session_lines.specs.declared.said.Said.TheVariants as said
-use Rattle.farm_session.specs.declared.hear.Heard.{Heard}
-use Rattle.farm_session.specs.declared.hear.Heard.TheVariants.{Over, Broken, Told, Asked}
+use Rattle.farm_session.specs.declared.heard.Heard.{Heard}
+use Rattle.farm_session.specs.declared.heard.Heard.TheVariants.{Over, Broken, Told, Asked}
 
 -- the number of the tenant of that name
 abbrev pub is_named : List ℕ → TenantLine → Bool

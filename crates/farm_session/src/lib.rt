@@ -1,11 +1,11 @@
 //! What scripts and connections share: what a request comes to before the farm is asked, and the search of a submitted job.
 //!
-//! - `hear`: whose a request is, or what is said where it is nobody's or cannot be read.
+//! - `heard`: whose a request is, or what is said where it is nobody's or cannot be read.
 //! - `ready`: a plan with an empty lease, and the searches that are made of it.
 #![tactic(auto)]
 
-mod hear;
+mod heard;
 mod ready;
 
-pub use hear::{Heard, hear};
+pub use heard::{Heard, hear};
 pub use ready::Ready;
