@@ -1,9 +1,9 @@
 -- What a search of kind Tree shows, by the list of its nodes.
-use Rattle.std.proofs.Common.{◌≡◌, ℕ, ◌+◌, ◌≤◌, arith, false, nat_le, List, length, take, Option, Some, None, option_map, sym, ap, ◌∙◌, subst}
+use Rattle.std.proofs.Common.{◌≡◌, ℕ, ◌+◌, ◌≤◌, arith, false, nat_le, List, length, take, Option, Some, None, sym, ap, ◌∙◌, subst}
 use Rattle.std.specs.Prelude.{IsTrue, IfSome}
 use Rattle.std.proofs.lemmas.Bool.{leb-false}
-use Rattle.mrcpsp.specs.Project.{ProjectData, is_project}
-use Rattle.mrcpsp.specs.Schedule.{ScheduleData, IsFeasible, makespan}
+use Rattle.mrcpsp.specs.Project.{is_project}
+use Rattle.mrcpsp.specs.Schedule.{ScheduleData, IsFeasible}
 use Rattle.mrcpsp.specs.Breach.{HasShape}
 use Rattle.strategy.specs.Tree as tree
 use Rattle.strategy.specs.Tree.{Node, all_visits, after}

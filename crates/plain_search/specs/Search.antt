@@ -1,6 +1,5 @@
 -- A search that has all nodes of the precedence tree beforehand.
-use Rattle.std.specs.Prelude.{◌≡◌, ℕ, ◌≤◌, IsTrue, length}
-use Rattle.mrcpsp.specs.Project.{is_project}
+use Rattle.std.specs.Prelude.{◌≡◌, ℕ, ◌≤◌, length}
 use Rattle.mrcpsp.specs.Values.{bound}
 use Rattle.strategy.specs.Tree.{all_visits}
 use Rattle.strategy.specs.declared.plan.Plan.{Plan}
@@ -8,6 +7,7 @@ use Rattle.strategy.specs.declared.kind.Kind.{Kind}
 use Rattle.strategy.specs.declared.kind.Kind.TheVariants.{Tree}
 use Rattle.plain_search.specs.declared.search.NodeList.{NodeList}
 
+-- the one kind that it searches
 abbrev pub IsTreeKind : Kind → Type 0
 IsTreeKind kind = kind ≡ Tree
 

@@ -2,7 +2,7 @@
 use Rattle.std.proofs.Common.{◌≡◌, ℕ, ◌+◌, ◌*◌, ◌<◌, true, false, nat_le, nat_lt, List, [], length, Option, Some, None, IfSome, option_map, arith, refl, sym, ap, subst, ◌∙◌}
 use Rattle.std.proofs.lemmas.Bool.{leb-true, leb-false, cond-true, cond-false, lt-ltb, le-ltb}
 use Rattle.mrcpsp.specs.Project.{ProjectData, size}
-use Rattle.mrcpsp.specs.Schedule.{ScheduleData, makespan}
+use Rattle.mrcpsp.specs.Schedule.{makespan}
 use Rattle.mrcpsp.specs.Placed.{Placed, latest, schedule_of}
 use Rattle.strategy.specs.Pass.{placed_after, pass}
 use Rattle.strategy.specs.Outcome.{rule_best, best_of, all_run, best_after}

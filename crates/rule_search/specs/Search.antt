@@ -8,6 +8,8 @@ use Rattle.strategy.specs.declared.plan.Plan.{Plan}
 use Rattle.serial_pass.specs.Pass.{HasRoom}
 use Rattle.rule_search.specs.Rule.{IsRule}
 use Rattle.rule_search.specs.declared.search.RulePass.{RulePass}
+-- a search that has run no node, with its lease
+pub use Rattle.paid_search.specs.Paid.{fresh}
 
 -- the pass stands after the first k nodes of the plan's one pass, at most 202 of them: there is memory for its schedule until
 -- it is whole, and the best schedule is the one after them

@@ -9,6 +9,8 @@ use Rattle.strategy.specs.declared.kind.Kind.{Kind}
 use Rattle.strategy.specs.declared.kind.Kind.TheVariants.{Tree, RuleLft, RuleMts, RuleSpt, Sample}
 use Rattle.sample_search.specs.Best.{best_in, is_taken, IsKept}
 use Rattle.sample_search.specs.declared.search.SamplePasses.{SamplePasses}
+-- a search that has run no node, with its lease
+pub use Rattle.paid_search.specs.Paid.{fresh}
 
 -- passes are drawn from a seed
 abbrev pub IsSample : Kind → Type 0

@@ -1,5 +1,5 @@
 -- A best schedule gives way only to a shorter one, so that one that is as short as the bound stays.
-use Rattle.std.proofs.Common.{◌≡◌, ℕ, zero, suc, ◌+◌, ◌/◌, ◌<◌, ◌≤◌, ◌⊎◌, inl, inr, cond, nat_lt, List, [], ◌∷◌, ◌++◌, length, map, take, fold, Option, Some, None, arith, refl, sym, ap, subst, ◌∙◌, ⊎_elim, le_trans}
+use Rattle.std.proofs.Common.{◌≡◌, ℕ, zero, suc, ◌+◌, ◌/◌, ◌<◌, ◌≤◌, ◌⊎◌, inl, inr, nat_lt, List, [], ◌∷◌, ◌++◌, length, map, take, fold, Option, Some, None, arith, refl, sym, ap, subst, ◌∙◌, ⊎_elim, le_trans}
 use Rattle.std.specs.Prelude.{⊤}
 use Rattle.std.specs.List.{range_with_len}
 use Rattle.std.proofs.lemmas.Bool.{cond_both, cond-true, cond-false, cases_lt, le-ltb, lt-ltb, ltb-true}
@@ -18,7 +18,7 @@ use Rattle.strategy.specs.Pass.{pass}
 use Rattle.strategy.specs.Outcome.{better, best_pass, rule_best, best_of}
 use Rattle.strategy.specs.declared.kind.Kind.{Kind}
 use Rattle.strategy.specs.declared.kind.Kind.TheVariants.{Tree, RuleLft, RuleMts, RuleSpt, Sample}
-use Rattle.strategy.proofs.TreeLemmas.{pruned_node, placed_node, after-append}
+use Rattle.strategy.proofs.TreeLemmas.{pruned_node, placed_node}
 
 -- shorter than the best schedule, where there is one
 abbrev pub IsShorter : ProjectData → ScheduleData → Option ScheduleData → Type 0

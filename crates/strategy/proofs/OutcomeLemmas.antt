@@ -1,7 +1,7 @@
 -- What each kind of search shows is true.
 use Rattle.std.proofs.Common.{◌≡◌, ℕ, ◌/◌, ◌<◌, ◌≤◌, ◌||◌, Bool, true, false, cond, nat_lt, length, Option, Some, None, IfSome, MatchOption, refl, sym, ap, subst, ◌∙◌, arith, le_trans, le_of_eq, inl, inr, ⊎_elim}
 use Rattle.std.specs.Prelude.{IsSomeAnd, is_some}
-use Rattle.std.proofs.lemmas.Bool.{cond_both, cond-true, cond-false, leb-true, le-leb, or_left, or_right, or_cases, or_parts, false≢true}
+use Rattle.std.proofs.lemmas.Bool.{cond_both, cond-true, cond-false, leb-true, le-leb, lt-leb, cases_lt, or_left, or_right, or_cases, or_parts, false≢true}
 use Rattle.mrcpsp.specs.Project.{ProjectData, size}
 use Rattle.mrcpsp.specs.Schedule.{ScheduleData, IsFeasible, IsOptimal, IsInfeasible, makespan}
 use Rattle.mrcpsp.specs.Values.{bound}
@@ -12,7 +12,7 @@ use Rattle.mrcpsp.proofs.LimitLemmas.{kept}
 use Rattle.strategy.specs.Tree as tree
 use Rattle.strategy.specs.Pass.{pass}
 use Rattle.strategy.specs.Outcome.{rule_best, best_of, all_run, is_at_bound, final_verdict, best_after, is_closed, verdict_after}
-use Rattle.strategy.specs.Laws.{ClosedTreeDecides, BestIsFeasible, BestHasShape, OptimalIsTrue, InfeasibleIsTrue, OnlyTreesShowInfeasible, StopsAtBound, ClosedStays}
+use Rattle.strategy.specs.Laws.{ClosedTreeDecides, BestIsFeasible, BestHasShape, OptimalIsTrue, InfeasibleIsTrue, OnlyTreesShowInfeasible, StopsAtBound, EndsWithItsNodes, ClosedStays}
 use Rattle.strategy.specs.declared.kind.Kind.{Kind}
 use Rattle.strategy.specs.declared.kind.Kind.TheVariants.{Tree, RuleLft, RuleMts, RuleSpt, Sample}
 use Rattle.strategy.specs.declared.verdict.Verdict.{Verdict}
@@ -156,6 +156,28 @@ stops_at_bound plan ok stop s found short k after =
     let same : best_of p plan.kind k ≡ best_of p plan.kind stop = bound-kept p project (best_of p plan.kind stop) (best_of p plan.kind k) (good-of p project plan.kind k) (best-later p project plan.kind stop k after) was in
     let is : is_at_bound p (best_of p plan.kind k) ≡ true = ap (is_at_bound p) same ∙ was in
     (same ∙ found, or_left (is_at_bound p (best_of p plan.kind k)) (all_run p plan.kind k) is, cond-true (is_at_bound p (best_of p plan.kind k)) Optimal _ is)
+
+-- a best schedule that has not the bound is longer
+not-at-bound : (p : ProjectData) → IsProject p → (best : Option ScheduleData) → Good p best → ((s : ScheduleData) → best ≡ Some s → makespan p s ≡ bound p → ⊥) → is_at_bound p best ≡ false
+not-at-bound p ok None good longer = refl
+not-at-bound p ok (Some s) good longer =
+    let low : bound p ≤ makespan p s = bound-le p s ok good.0 in
+    ⊎_elim
+    (λ (above : bound p < makespan p s). lt-leb (makespan p s) (bound p) above)
+    (λ (within : makespan p s ≤ bound p). absurd (longer s refl (omega (arith, low, within))))
+    (cases_lt (bound p) (makespan p s))
+
+pub ends_with_its_nodes : EndsWithItsNodes
+unfolding best_after is_closed verdict_after
+ends_with_its_nodes plan ok k longer =
+    let p = plan.project in
+    let project = kept p ok in
+    let best = best_of p plan.kind k in
+    let not : is_at_bound p best ≡ false = not-at-bound p project best (good-of p project plan.kind k) longer in
+    (
+      ap (λ b. b || all_run p plan.kind k) not,
+      cond-false (is_at_bound p best) Optimal (cond (all_run p plan.kind k) (final_verdict plan.kind best) Going) not,
+    )
 
 run-stays : (p : ProjectData) (kind : Kind) (k l : ℕ) → k ≤ l → all_run p kind k ≡ true → all_run p kind l ≡ true
 unfolding tree.is_closed

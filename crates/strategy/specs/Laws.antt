@@ -1,13 +1,13 @@
 -- Why what a search shows is true.
-use Rattle.std.specs.Prelude.{◌≡◌, ℕ, ◌≤◌, true, IsTrue, MatchOption, IfSome, IsSomeAnd, Some}
-use Rattle.mrcpsp.specs.Project.{ProjectData, is_project}
+use Rattle.std.specs.Prelude.{◌≡◌, ℕ, ◌≤◌, true, cond, IsTrue, MatchOption, IfSome, IsSomeAnd, Some}
+use Rattle.mrcpsp.specs.Project.{is_project}
 use Rattle.mrcpsp.specs.Schedule.{ScheduleData, IsFeasible, IsOptimal, IsInfeasible, makespan}
 use Rattle.mrcpsp.specs.Values.{bound}
 use Rattle.mrcpsp.specs.Breach.{HasShape}
-use Rattle.strategy.specs.Outcome.{best_after, is_closed, verdict_after}
+use Rattle.strategy.specs.Outcome.{all_run, final_verdict, best_after, is_closed, verdict_after}
 use Rattle.strategy.specs.declared.plan.Plan.{Plan}
 use Rattle.strategy.specs.declared.kind.Kind.TheVariants.{Tree}
-use Rattle.strategy.specs.declared.verdict.Verdict.TheVariants.{Optimal, Infeasible}
+use Rattle.strategy.specs.declared.verdict.Verdict.TheVariants.{Going, Optimal, Infeasible}
 
 -- a tree that is over has an optimal schedule and shows 'optimal', or it has none, no schedule is feasible, and it shows
 -- 'infeasible'
@@ -43,6 +43,11 @@ OnlyTreesShowInfeasible = (plan : Plan) (k : ℕ) → verdict_after plan k ≡ I
 abbrev pub StopsAtBound : Type 0
 StopsAtBound = (plan : Plan) → IsTrue (is_project plan.project) → (stop : ℕ) (s : ScheduleData) → best_after plan stop ≡ Some s → makespan plan.project s ≡ bound plan.project →
     (k : ℕ) → stop ≤ k → (best_after plan k ≡ Some s) × (is_closed plan k ≡ true) × (verdict_after plan k ≡ Optimal)
+
+-- and where its best schedule has not the bound, it is over once all its nodes have run, and shows what follows from these
+abbrev pub EndsWithItsNodes : Type 0
+EndsWithItsNodes = (plan : Plan) → IsTrue (is_project plan.project) → (k : ℕ) → ((s : ScheduleData) → best_after plan k ≡ Some s → makespan plan.project s ≡ bound plan.project → ⊥) →
+    (is_closed plan k ≡ all_run plan.project plan.kind k) × (verdict_after plan k ≡ cond (all_run plan.project plan.kind k) (final_verdict plan.kind (best_after plan k)) Going)
 
 -- a search that is over stays over
 abbrev pub ClosedStays : Type 0

@@ -1,8 +1,7 @@
-use Rattle.std.proofs.Common.{◌≡◌, ℕ, refl, ap, ◌∙◌, Option}
+use Rattle.std.proofs.Common.{ℕ, refl, ap, ◌∙◌, Option}
 use Rattle.std.specs.Prelude.{is_some}
 use Rattle.strategy.specs.Outcome.{best_after, final_verdict}
 use Rattle.strategy.specs.declared.kind.Kind.{Kind}
-use Rattle.strategy.specs.declared.verdict.Verdict.{Verdict}
 use Rattle.strategy.specs.declared.verdict.Verdict.TheVariants.{Going, Optimal}
 use Rattle.paid_search.proofs.PaidLemmas.{verdict_from, some_mapped}
 use Rattle.paid_search.proofs.shown.verdict_by.Goals as goal

@@ -1,4 +1,4 @@
-use Rattle.std.proofs.Common.{◌≡◌, ◌+◌, ◌<◌, arith, refl, ap, ◌∙◌}
+use Rattle.std.proofs.Common.{◌+◌, ◌<◌, arith, refl, ap}
 use Rattle.quanta_till.specs.Lease.{LeaseValue}
 use Rattle.paid_search.proofs.PaidLemmas.{IsGoing, going_from}
 use Rattle.paid_search.proofs.paid.PaidStrategy.advance.Goals as goal

@@ -1,4 +1,4 @@
-use Rattle.std.proofs.Common.{◌≡◌, nat_le, length, ap, ◌∙◌}
+use Rattle.std.proofs.Common.{nat_le, length, ap, ◌∙◌}
 use Rattle.plain_search.proofs.SearchLemmas.{all-tree}
 use Rattle.plain_search.proofs.search.NodeListNodes.all_run.Goals as goal
 

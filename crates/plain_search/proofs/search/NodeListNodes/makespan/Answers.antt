@@ -1,4 +1,4 @@
-use Rattle.std.proofs.Common.{◌≡◌, Option, Some, None, option_map, take, sym, ap, ◌∙◌}
+use Rattle.std.proofs.Common.{◌≡◌, Option, Some, None, option_map, ap, ◌∙◌}
 use Rattle.mrcpsp.specs.Schedule.{ScheduleData, makespan}
 use Rattle.strategy.specs.Outcome.{best_after}
 use Rattle.plain_search.proofs.SearchLemmas.{best-here}
