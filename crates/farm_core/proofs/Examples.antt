@@ -3,7 +3,7 @@ use Rattle.std.proofs.Common.{◌≡◌, ℕ, zero, suc, ◌+◌, ◌<◌, true,
 use Rattle.std.specs.Prelude.{slice_get}
 use Rattle.mrcpsp.specs.Project.{ProjectData, ModeData, size, renewables, nonrenewables, modes, mode_count, successors, duration, request, consumption, capacity, stock, precedes}
 use Rattle.mrcpsp.specs.Schedule.{mode_of, start_of, finish, load, makespan}
-use Rattle.mrcpsp.specs.Values.{shortest, least, tail, lft}
+use Rattle.mrcpsp.specs.Values.{shortest, least, tail, lft, bound}
 use Rattle.mrcpsp.specs.Placed.{placed_use, placed_consumption, last_start, are_ready, fits, is_allowed, earliest, is_eligible, is_executable, reserve, is_affordable, schedule_of}
 use Rattle.strategy.specs.Candidate.{placed_from, eligible_ones, is_allowed_mode, allowed_modes}
 use Rattle.strategy.specs.Tree as tree
@@ -97,7 +97,7 @@ cancelled_while_out : answers_alone (newcomer (terms 100 1 14)) cancelling ≡
     ∷ Replied reply.NoAmount
     ∷ Replied reply.NoRoom
     ∷ []
-unfolding newcomer submitted funded fetched cancelled forgotten held free book kept line_of nodes_of_turn best_after is_closed verdict_after pass chosen_at eligible_ones allowed_modes is_allowed_mode placed_from lft duration size modes renewables nonrenewables mode_count successors request consumption capacity stock precedes load shortest least placed_use placed_consumption are_ready fits is_allowed earliest is_eligible is_executable reserve is_affordable schedule_of makespan finish start_of mode_of
+unfolding newcomer submitted funded fetched cancelled forgotten held free book kept line_of nodes_of_turn best_after is_closed verdict_after pass chosen_at eligible_ones allowed_modes is_allowed_mode placed_from lft duration size modes renewables nonrenewables mode_count successors request consumption capacity stock precedes load shortest least placed_use placed_consumption are_ready fits is_allowed earliest is_eligible is_executable reserve is_affordable schedule_of makespan finish start_of mode_of tail bound
 cancelled_while_out = refl
 
 -- ---- a search to its end, by turns of which one is given back unrun: 10 quanta, 1 job, 20 entries
@@ -133,7 +133,7 @@ searched_to_the_end : answers_alone (newcomer (terms 10 1 20)) finishing ≡
     ∷ Replied (reply.Forgotten 1)
     ∷ Replied (reply.Job 2)
     ∷ []
-unfolding newcomer submitted funded fetched cancelled forgotten held free book kept line_of nodes_of_turn best_after is_closed verdict_after tree.best_after tree.is_closed tree.all_visits tree.candidates tree.is_pruned tree.updated tree.visit_one pass chosen_at eligible_ones allowed_modes is_allowed_mode placed_from lft duration size modes renewables nonrenewables mode_count successors request consumption capacity stock precedes load shortest least placed_use placed_consumption last_start are_ready fits is_allowed earliest is_eligible is_executable reserve is_affordable tail schedule_of makespan finish start_of mode_of
+unfolding newcomer submitted funded fetched cancelled forgotten held free book kept line_of nodes_of_turn best_after is_closed verdict_after tree.best_after tree.is_closed tree.all_visits tree.candidates tree.is_pruned tree.updated tree.visit_one pass chosen_at eligible_ones allowed_modes is_allowed_mode placed_from lft duration size modes renewables nonrenewables mode_count successors request consumption capacity stock precedes load shortest least placed_use placed_consumption last_start are_ready fits is_allowed earliest is_eligible is_executable reserve is_affordable tail schedule_of makespan finish start_of mode_of bound
 searched_to_the_end = refl
 
 -- ---- a job that runs dry and is funded, and the entry that is kept for a give: 3 quanta, 2 jobs, 8 entries
@@ -164,10 +164,10 @@ dry_and_funded : answers_alone (newcomer (terms 3 2 8)) running_dry ≡
     ∷ Replied (reply.Line (line 1 Waiting 2 1 None Going))
     ∷ Sent (line 1 (Out 1) 2 1 None Going)
     ∷ Replied reply.NoRoom
-    ∷ Replied (reply.Ran 1 (line 1 Closed 3 0 (Some 5) Ended))
+    ∷ Replied (reply.Ran 1 (line 1 Closed 3 0 (Some 5) Optimal))
     ∷ Replied reply.NoRoom
     ∷ []
-unfolding newcomer submitted funded fetched cancelled forgotten held free book kept line_of nodes_of_turn best_after is_closed verdict_after pass chosen_at eligible_ones allowed_modes is_allowed_mode placed_from lft duration size modes renewables nonrenewables mode_count successors request consumption capacity stock precedes load shortest least placed_use placed_consumption are_ready fits is_allowed earliest is_eligible is_executable reserve is_affordable schedule_of makespan finish start_of mode_of
+unfolding newcomer submitted funded fetched cancelled forgotten held free book kept line_of nodes_of_turn best_after is_closed verdict_after pass chosen_at eligible_ones allowed_modes is_allowed_mode placed_from lft duration size modes renewables nonrenewables mode_count successors request consumption capacity stock precedes load shortest least placed_use placed_consumption are_ready fits is_allowed earliest is_eligible is_executable reserve is_affordable schedule_of makespan finish start_of mode_of tail bound
 dry_and_funded = refl
 
 -- ---- whose turn is next: tenant 0's job came first, but it has one entry left; of tenant 1's three jobs the first is out

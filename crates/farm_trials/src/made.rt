@@ -15,7 +15,7 @@ use std::test::Fail;
 use strategy::{Kind, Plan};
 use tree_search::TreeSearch;
 
-/// Five projects.
+/// Six projects.
 #[derive(Clone, Copy)]
 pub(crate) enum Text {
     /// A source, an activity of one mode, one of two modes, and a sink, with a resource of each sort.
@@ -28,6 +28,8 @@ pub(crate) enum Text {
     Lone,
     /// A source, and three activities that share a renewable resource of 1; the first of them comes before the last.
     Shared,
+    /// The same with 2 of the resource.
+    Roomy,
 }
 
 const DIAMOND: &str = "jobs (incl. supersource/sink ): 4
@@ -114,6 +116,25 @@ h
 1
 ";
 
+const ROOMY: &str = "jobs (incl. supersource/sink ): 4
+- renewable : 1 R
+PRECEDENCE RELATIONS:
+h
+1 1 2 2 3
+2 1 1 4
+3 1 0
+4 1 0
+REQUESTS/DURATIONS:
+h
+1 1 0 0
+2 1 2 1
+3 1 2 1
+4 1 3 1
+RESOURCEAVAILABILITIES:
+h
+2
+";
+
 /// The project of a text.
 pub(crate) fn plan_of(alloc: Global, text: Text, kind: Kind) -> Result<Plan, Fail>
     ensures { IfOk result (λ plan. plan.kind ≡ kind) }
@@ -124,6 +145,7 @@ pub(crate) fn plan_of(alloc: Global, text: Text, kind: Kind) -> Result<Plan, Fai
         Text::Chain => CHAIN,
         Text::Lone => LONE,
         Text::Shared => SHARED,
+        Text::Roomy => ROOMY,
     };
     let project = read(alloc, lines.as_bytes())?;
     Ok(Plan { project, kind })

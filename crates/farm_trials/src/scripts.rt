@@ -7,7 +7,7 @@ use crate::calls::Call::{
     Abandon, Cancel, Fetch, Forget, Fund, Give, Ledger, Status, Submit, Take, Turn,
 };
 use crate::calls::{Answer, Placed, Shown};
-use crate::made::Text::{Chain, Diamond, Lone, Shared, Starved};
+use crate::made::Text::{Chain, Diamond, Lone, Roomy, Shared, Starved};
 use crate::play::Step;
 use job_table::Phase::{Cancelled, Closed, Dry, Leaving, Out, Waiting};
 use strategy::Kind::{self, RuleSpt, Sample, Tree};
@@ -226,14 +226,36 @@ pub(crate) const ABANDONED: [Step; 5] = [
     Step(0, Ledger, Books([100, 94, 6, 0])),
 ];
 
-/// A pass by a rule over a chain.
+/// A pass by a rule over a chain, which is as short as the bound.
 pub(crate) const CHAIN_RULE: [Step; 2] = [
     Step(0, Submit(RuleSpt, 5, Chain), Job(1)),
     Step(
         0,
         Turn(1, 10),
-        Ran(3, Shown(1, Closed, 3, 0, Some(5), Ended)),
+        Ran(3, Shown(1, Closed, 3, 0, Some(5), Optimal)),
     ),
+];
+
+/// So is the first pass of sampling, which ends the search.
+pub(crate) const CHAIN_SAMPLE: [Step; 3] = [
+    Step(0, Submit(Sample(42), 10, Chain), Job(1)),
+    Step(
+        0,
+        Turn(1, 10),
+        Ran(3, Shown(1, Closed, 3, 0, Some(5), Optimal)),
+    ),
+    Step(0, Ledger, Books([100, 97, 0, 3])),
+];
+
+/// A tree that ends at the bound, before its last node.
+pub(crate) const BOUNDED_TREE: [Step; 3] = [
+    Step(0, Submit(Tree, 20, Roomy), Job(1)),
+    Step(
+        0,
+        Turn(1, 20),
+        Ran(4, Shown(1, Closed, 4, 0, Some(5), Optimal)),
+    ),
+    Step(0, Ledger, Books([100, 96, 0, 4])),
 ];
 
 /// Trees that close in one turn.

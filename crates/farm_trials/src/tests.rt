@@ -6,9 +6,9 @@ use crate::mixed::{Coin, in_turn, mixed};
 use crate::play::{Manner, Noted, Stage, Step, play};
 use crate::ready::{Wanted, ready_of};
 use crate::scripts::{
-    ABANDONED, CANCEL_WHILE_OUT, CHAIN_RULE, DRY_RULE, FEW_ENTRIES, LONE_TREE, OTHER, REFUSALS,
-    RULE_IN_TURNS, SAMPLE, SAMPLE_OF_SHARED, STARVED_RULE, STARVED_TREE, THREE_COMMANDS,
-    THREE_REFUSALS, TREE, WHILE_OUT, WHOLE_TREES, rule,
+    ABANDONED, BOUNDED_TREE, CANCEL_WHILE_OUT, CHAIN_RULE, CHAIN_SAMPLE, DRY_RULE, FEW_ENTRIES,
+    LONE_TREE, OTHER, REFUSALS, RULE_IN_TURNS, SAMPLE, SAMPLE_OF_SHARED, STARVED_RULE,
+    STARVED_TREE, THREE_COMMANDS, THREE_REFUSALS, TREE, WHILE_OUT, WHOLE_TREES, rule,
 };
 use crate::strangers::{exchange, stray, take_any};
 use farm_core::Farm;
@@ -35,7 +35,7 @@ fn end_with(rt: &impl Abort, alloc: Global, rows: &[Ending<'_>]) -> Result<(), F
 
 #[test]
 fn worked_scripts(rt: HostRuntime) -> Result<(), Fail> {
-    let rows: [Ending<'_>; 16] = [
+    let rows: [Ending<'_>; 18] = [
         ("a tree", 100, &TREE, [91, 9, 100]),
         ("whole trees", 100, &WHOLE_TREES, [83, 17, 100]),
         ("rule spt", 100, &rule(Kind::RuleSpt), [96, 4, 100]),
@@ -44,6 +44,8 @@ fn worked_scripts(rt: HostRuntime) -> Result<(), Fail> {
         ("a rule in turns", 100, &RULE_IN_TURNS, [96, 4, 100]),
         ("a dry rule", 100, &DRY_RULE, [98, 2, 100]),
         ("a chain", 100, &CHAIN_RULE, [97, 3, 100]),
+        ("a sample of a chain", 100, &CHAIN_SAMPLE, [97, 3, 100]),
+        ("a tree to the bound", 100, &BOUNDED_TREE, [96, 4, 100]),
         ("a sample", 100, &SAMPLE, [96, 4, 100]),
         (
             "a sample of another project",

@@ -13,7 +13,7 @@ use Rattle.strategy.specs.declared.kind.Kind.{Kind}
 use Rattle.strategy.specs.declared.kind.Kind.TheVariants.{Tree, RuleLft, RuleMts, RuleSpt, Sample}
 use Rattle.strategy.specs.declared.verdict.Verdict.TheVariants.{Going}
 use Rattle.strategy.specs.Tree as tree
-use Rattle.strategy.proofs.OutcomeLemmas.{each_best, each_shaped}
+use Rattle.strategy.proofs.OutcomeLemmas.{each_best, each_shaped, going_verdict}
 use Rattle.job_table.specs.declared.phase.Phase.TheVariants.{Waiting}
 use Rattle.job_table.specs.declared.best.Best.{Best}
 use Rattle.job_table.specs.Job.{HasSize, IsSound}
@@ -41,12 +41,11 @@ best_at_start plan ok = none_at_start plan.project plan.kind (kept plan.project 
 
 pub sound_fresh : (plan : Plan) (best : Best) → IsTrue (is_project plan.project) → is_closed plan 0 ≡ false → best.found ≡ false → HasSize (size plan.project) best.schedule
     → IsSound plan Waiting 0 best Going true
-unfolding verdict_after
 sound_fresh plan best ok going none sized = record {
   planned = ok;
   shows = rw none (sym (best_at_start plan ok));
   sized = sized;
-  judges = rw going refl;
+  judges = sym (going_verdict plan 0 going);
   holds = refl;
 }
 

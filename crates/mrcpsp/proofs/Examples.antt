@@ -2,7 +2,7 @@
 use Rattle.std.proofs.Common.{◌≡◌, ℕ, true, false, List, [], ◌∷◌, map, refl}
 use Rattle.mrcpsp.specs.Project.{ProjectData, ModeData, ActivityData, is_project, horizon, size, renewables, nonrenewables, modes, successors, duration, request, consumption, capacity, stock, precedes}
 use Rattle.mrcpsp.specs.Schedule.{ScheduleData, mode_of, start_of, finish, load, use_of, consumed, makespan}
-use Rattle.mrcpsp.specs.Values.{shortest, least, tail, lft, mts}
+use Rattle.mrcpsp.specs.Values.{shortest, least, tail, bound, lft, mts}
 use Rattle.mrcpsp.specs.Placed.{Placed, placed_use, placed_consumption, are_ready, fits, is_allowed, earliest, is_eligible, reserve, is_affordable}
 
 abbrev activity : List ModeData → List ℕ → ActivityData
@@ -36,6 +36,10 @@ each a b c d = a ∷ b ∷ c ∷ d ∷ []
 tails : map (tail diamond) (each 0 1 2 3) ≡ each 3 0 0 0
 unfolding tail shortest modes successors size
 tails = refl
+
+bound_of_diamond : bound diamond ≡ 3
+unfolding bound tail shortest modes successors size
+bound_of_diamond = refl
 
 latest_finishes : map (lft diamond) (each 0 1 2 3) ≡ each 4 7 7 7
 unfolding lft shortest modes successors size

@@ -9,8 +9,8 @@ use Rattle.mrcpsp.specs.Project.{ProjectData, no_activity, size, modes, mode_cou
 use Rattle.mrcpsp.specs.Schedule.{ScheduleData, IsFeasible, mode_of, start_of, finish, load, makespan}
 use Rattle.mrcpsp.specs.Limits.{IsProject}
 use Rattle.mrcpsp.specs.Values.{shortest, least}
-use Rattle.mrcpsp.specs.Values.{chain, tail}
-use Rattle.mrcpsp.proofs.NumbersLemmas.{smallest-le, largest-le, at-le-max_below}
+use Rattle.mrcpsp.specs.Values.{chain, tail, bound}
+use Rattle.mrcpsp.proofs.NumbersLemmas.{smallest-le, largest-le, at-le-max_below, max_below-le}
 
 -- what holds of each element holds of one that a test finds
 pub All-at_any : (P : ℕ → Type 0) (xs : List ℕ) (j : ℕ) → All P xs → list_any (λ s. s == j) xs ≡ true → P j
@@ -90,3 +90,13 @@ chain-le p s ok feasible (suc k) j l =
 pub tail-le : (p : ProjectData) (s : ScheduleData) → IsProject p → IsFeasible p s → (j : ℕ) → j < size p → finish p s j + tail p j ≤ makespan p s
 unfolding tail
 tail-le p s ok feasible j l = chain-le p s ok feasible (size p) j l
+
+-- no activity finishes before its shortest duration has passed
+pub shortest-le-finish : (p : ProjectData) (s : ScheduleData) → IsFeasible p s → (j : ℕ) → j < size p → shortest p j ≤ finish p s j
+unfolding finish
+shortest-le-finish p s feasible j l = omega (arith, shortest-le p j (mode_of s j) (feasible.modes_exist j l).1)
+
+pub bound-le : (p : ProjectData) (s : ScheduleData) → IsProject p → IsFeasible p s → bound p ≤ makespan p s
+unfolding bound
+bound-le p s ok feasible =
+    max_below-le (λ j. shortest p j + tail p j) (size p) (makespan p s) (λ j l. omega (arith, shortest-le-finish p s feasible j l, tail-le p s ok feasible j l))

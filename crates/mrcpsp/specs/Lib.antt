@@ -5,5 +5,6 @@ pub mod Schedule
 pub mod Values
 pub mod Placed
 pub mod Earliest
+pub mod Bound
 pub mod Breach
 pub mod BreachText

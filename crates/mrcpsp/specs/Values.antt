@@ -2,7 +2,7 @@
 -- their predecessors, so as many steps as there are activities reach the end of every chain.
 use Rattle.std.specs.Prelude.{ℕ, zero, suc, ◌+◌, ◌-◌, Bool, false, ◌||◌, ◌==◌, map, get_or, cond, length}
 use Rattle.std.specs.List.{list_any}
-use Rattle.mrcpsp.specs.Numbers.{smallest, largest, count_below}
+use Rattle.mrcpsp.specs.Numbers.{smallest, largest, count_below, max_below}
 use Rattle.mrcpsp.specs.Project.{ProjectData, size, modes, successors, horizon}
 
 -- the shortest duration of activity j, and its least consumption of nonrenewable resource r
@@ -20,6 +20,10 @@ chain p (suc k) j = largest (map (λ s. shortest p (s - 1) + chain p k (s - 1)) 
 
 unfoldable pub tail : ProjectData → ℕ → ℕ
 tail p j = chain p (size p) j
+
+-- the bound: the longest chain of the project by shortest durations, the activity that it begins with included
+unfoldable pub bound : ProjectData → ℕ
+bound p = max_below (λ j. shortest p j + tail p j) (size p)
 
 -- the latest finish time along chains of at most k successors: the horizon without successors, else the least, over the
 -- successors s, of the latest finish time of s without its shortest duration

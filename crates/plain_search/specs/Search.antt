@@ -1,22 +1,21 @@
 -- A search that has all nodes of the precedence tree beforehand.
-use Rattle.std.specs.Prelude.{◌≡◌, ℕ, ◌≤◌, Bool, false, List, length}
-use Rattle.quanta_till.specs.Lease.{LeaseValue}
-use Rattle.strategy.specs.Tree.{Node, all_visits}
-use Rattle.strategy.specs.Outcome.{verdict_after}
-use Rattle.strategy.specs.Search.{Meaning}
+use Rattle.std.specs.Prelude.{◌≡◌, ℕ, ◌≤◌, length}
+use Rattle.mrcpsp.specs.Values.{bound}
+use Rattle.strategy.specs.Tree.{all_visits}
 use Rattle.strategy.specs.declared.plan.Plan.{Plan}
+use Rattle.strategy.specs.declared.kind.Kind.{Kind}
 use Rattle.strategy.specs.declared.kind.Kind.TheVariants.{Tree}
-use Rattle.strategy.specs.declared.verdict.Verdict.{Verdict}
+use Rattle.plain_search.specs.declared.search.NodeList.{NodeList}
 
--- a search that has run no node, with its lease
-abbrev pub fresh : Plan → LeaseValue → Meaning × LeaseValue
-fresh plan lease = (record { tenant = lease.tenant; plan = plan; nodes = 0; left = lease.left; taken = false }, lease)
+-- the one kind that it searches
+abbrev pub IsTreeKind : Kind → Type 0
+IsTreeKind kind = kind ≡ Tree
 
--- what the search's fields keep: each node was paid, the verdict is the one after them, and until the best was taken the
--- list has all nodes of the tree
-pub record IsSearch (plan : Plan) (nodes used : ℕ) (taken : Bool) (verdict : Verdict) (visits : List Node) : Type 0 where
+-- the list has all nodes of the plan's tree, and stands after the first k
+pub record StandsAt (l : NodeList) (plan : Plan) (k : ℕ) : Type 0 where
   pub kind : plan.kind ≡ Tree
-  pub paid : used ≡ nodes
-  pub shown : verdict ≡ verdict_after plan nodes
-  pub listed : taken ≡ false → visits ≡ all_visits plan.project
-  pub within : taken ≡ false → nodes ≤ length visits
+  pub project : l.project ≡ plan.project
+  pub bounded : l.bound ≡ bound plan.project
+  pub count : l.nodes ≡ k
+  pub listed : l.visits.items ≡ all_visits plan.project
+  pub within : k ≤ length l.visits.items

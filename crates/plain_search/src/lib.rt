@@ -8,4 +8,5 @@
 
 mod search;
 
-pub use search::{PlainSearch, Refused};
+pub use paid_search::Refused;
+pub use search::PlainSearch;

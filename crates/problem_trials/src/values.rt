@@ -17,7 +17,7 @@ fn compare(rt: &impl Abort, measures: &Measures, activity: usize, values: &[u32;
 fn values_of_the_diamond(rt: HostRuntime) -> Result<(), Fail> {
     let project = project(rt.alloc(), DIAMOND, "3 1")?;
     let measures = Measures::of(rt.alloc(), &project)?;
-    assert!(rt; measures.count() == 4);
+    assert!(rt; measures.count() == 4 && measures.bound() == 3);
     let table = [[3, 4, 3, 0], [0, 7, 1, 3], [0, 7, 1, 2], [0, 7, 0, 0]];
     for (activity, values) in table.iter().enumerate() {
         compare(&rt, &measures, activity, values);

@@ -1,53 +1,33 @@
 //! One pass by a rule, node by node.
-ghost use Rattle.std.specs.Prelude.{◌≡◌, ◌<◌, IfOk, IfErr, IsSomeAnd, nat_le, option_map, if◌then◌else◌};
+ghost use Rattle.std.specs.Prelude.{◌≡◌, IfOk, IsSomeAnd, nat_le, option_map};
 ghost use Rattle.mrcpsp.specs.Project.{size};
 ghost use Rattle.mrcpsp.specs.Placed.{schedule_of};
 ghost use Rattle.serial_pass.specs.Pass.{HasRoom};
-ghost use Rattle.quanta_till.specs.Lease.{IsEmpty, after_use};
-ghost use Rattle.strategy.specs.declared.verdict.Verdict.TheVariants.{Going, Ended};
 ghost use Rattle.rule_search.specs.Rule.{IsRule};
-ghost use Rattle.rule_search.specs.Search.{fresh};
+ghost use Rattle.rule_search.specs.Search.{StandsAt};
 
 use crate::choice::run_node;
 use measures::Measures;
 use mrcpsp::Schedule;
-use quanta_till::{Lease, Owned};
+use paid_search::{Nodes, Paid};
 use serial_pass::Pass;
 use std::alloc::{AllocError, Global};
-use std::marker::Model;
-use strategy::{Plan, Strategy, Verdict};
+use strategy::{Kind, Plan};
 
 /// A search of one pass by a priority rule: the smallest latest finish time, the most total successors or the smallest
 /// shortest duration. It is over after as many nodes as there are activities, with or without a schedule.
-pub struct RuleSearch {
-    plan: Plan,
-    lease: Owned,
+pub type RuleSearch = Paid<RulePass>;
+
+/// The pass of a rule, and its schedule once it is whole.
+#[derive(Drop)]
+pub struct RulePass {
+    kind: Kind,
     measures: Measures,
     pass: Pass,
     room: Option<Schedule>,
     best: Option<Schedule>,
     size: usize,
     nodes: usize,
-    taken: bool,
-}
-
-impl Model for RuleSearch {
-    ghost use Rattle.quanta_till.specs.Lease.{LeaseValue};
-    ghost use Rattle.strategy.specs.Search.{Meaning};
-    ghost use Rattle.rule_search.specs.Search.{IsSearch};
-
-    ghost Value = { Meaning × LeaseValue };
-
-    ghost view = { λ s. (record { tenant = s.lease.tenant; plan = s.plan; nodes = s.nodes; left = s.lease.left; taken = s.taken }, s.lease) };
-
-    ghost invariant = { λ s. IsSearch (record { tenant = s.lease.tenant; plan = s.plan; nodes = s.nodes; left = s.lease.left; taken = s.taken }) s.lease.used s.size s.pass s.measures s.room s.best };
-}
-
-/// Want of memory for a search, with the lease that was handed in.
-#[derive(Drop)]
-pub struct Refused {
-    /// The lease, as it was.
-    pub lease: Lease,
 }
 
 /// What a search takes memory for.
@@ -79,79 +59,11 @@ impl Workspace {
     }
 }
 
-impl Drop for RuleSearch {
-    fn drop(self) {
-        let RuleSearch {
-            plan: _,
-            lease,
-            measures: _,
-            pass: _,
-            room: _,
-            best: _,
-            size: _,
-            nodes: _,
-            taken: _,
-        } = self;
-        lease.end();
-    }
-}
-
-impl RuleSearch {
-    /// A search of the plan that has run no node, or the lease back where there is no memory for it; the plan is then
-    /// dropped. It has all the memory that it will need: no other call takes any.
-    pub fn new(alloc: Global, plan: Plan, lease: Lease) -> Result<RuleSearch, Refused>
-        requires kind { IsRule plan.kind }
-        requires empty { IsEmpty lease }
-        ensures made { IfOk result (λ search. search ≡ fresh plan lease) }
-        ensures back { IfErr result (λ refused. refused.lease ≡ lease) }
-    {
-        let Ok(space) = Workspace::new(alloc, &plan) else {
-            return Err(Refused { lease });
-        };
-        let Workspace {
-            measures,
-            pass,
-            room,
-        } = space;
-        let size = plan.project.size();
-        Ok(RuleSearch {
-            plan,
-            lease: Owned::of(lease),
-            measures,
-            pass,
-            room: Some(room),
-            best: None,
-            size,
-            nodes: 0,
-            taken: false,
-        })
-    }
-}
-
-/// Pays one node with a quantum of the lease.
-fn pay(lease: &mut Owned)
-    requires { 0 < lease.old.left }
-    ensures { lease.new ≡ after_use lease.old }
-{
-    lease.use_one();
-}
-
 /// Whether so many nodes are the whole pass of so many activities.
 fn is_whole(size: usize, nodes: usize) -> bool
     ensures { result ≡ nat_le size nodes }
 {
     size <= nodes
-}
-
-/// What a search by a rule shows: nothing, also when it is over.
-fn verdict_of(whole: bool) -> Verdict
-    ensures { result ≡ (if whole then Ended else Going) }
-{
-    if whole {
-        Verdict::Ended
-    } else {
-        Verdict::Going
-    }
 }
 
 /// Makes the schedule of a whole pass the best one, in the memory that was kept for it; none where the pass is void.
@@ -164,58 +76,57 @@ fn write_best(best: &mut Option<Schedule>, pass: &Pass, room: Option<Schedule>)
     }
 }
 
-impl Strategy for RuleSearch {
-    ghost meaning = { λ s. s.0 };
+impl Nodes for RulePass {
+    ghost serves = { IsRule };
 
-    ghost lease = { λ s. s.1 };
+    ghost stands = { StandsAt };
 
-    fn tenant(&self) -> u32 {
-        self.lease.tenant()
+    fn of(alloc: Global, plan: &Plan) -> Result<RulePass, AllocError> {
+        let Workspace {
+            measures,
+            pass,
+            room,
+        } = Workspace::new(alloc, plan)?;
+        Ok(RulePass {
+            kind: plan.kind,
+            measures,
+            pass,
+            room: Some(room),
+            best: None,
+            size: plan.project.size(),
+            nodes: 0,
+        })
     }
 
-    fn plan(&self) -> &Plan {
-        &self.plan
+    fn bound(&self) -> u32 {
+        self.measures.bound()
     }
 
-    fn nodes(&self) -> u64 {
-        self.nodes as u64
+    fn all_run(&self) -> bool {
+        is_whole(self.size, self.nodes)
     }
 
-    fn left(&self) -> u64 {
-        self.lease.left()
-    }
-
-    fn closed(&self) -> bool {
-        self.taken || is_whole(self.size, self.nodes)
-    }
-
-    fn verdict(&self) -> Verdict {
-        verdict_of(is_whole(self.size, self.nodes))
+    fn makespan(&self) -> Option<u32> {
+        if is_whole(self.size, self.nodes) {
+            self.pass.makespan()
+        } else {
+            None
+        }
     }
 
     fn best(&self) -> Option<&Schedule> {
         self.best.as_ref()
     }
 
-    fn fund(&mut self, quanta: u64) {
-        self.lease.draw(quanta);
-    }
-
     fn advance(&mut self) {
-        pay(&mut self.lease);
-        run_node(&mut self.pass, &self.measures, self.plan.kind);
+        run_node(&mut self.pass, &self.measures, self.kind);
         self.nodes += 1;
         if is_whole(self.size, self.nodes) {
             write_best(&mut self.best, &self.pass, self.room.take());
         }
     }
 
-    fn settle(&mut self) {
-        self.lease.settle();
-    }
-
     fn take_best(&mut self) -> Option<Schedule> {
-        self.taken = true;
         self.best.take()
     }
 }

@@ -1,28 +1,25 @@
 -- What a search of kind Sample shows, by its pass and the best of its whole passes.
-use Rattle.std.proofs.Common.{◌≡◌, ℕ, ◌+◌, ◌*◌, ◌/◌, ◌%◌, ◌<◌, ◌≤◌, ◌||◌, false, cond, List, [], length, map, fold, Option, Some, None, IfSome, option_map, arith, refl, sym, ap, ◌∙◌, subst, ⊎_elim}
+use Rattle.std.proofs.Common.{◌≡◌, ℕ, ◌+◌, ◌*◌, ◌/◌, ◌%◌, ◌<◌, ◌≤◌, ◌↔◌, Bool, true, false, IsTrue, List, [], length, map, fold, Option, Some, None, IfSome, option_map, arith, refl, sym, ap, ◌∙◌, subst, ⊎_elim}
 use Rattle.std.specs.List.{range_with_len}
-use Rattle.std.proofs.lemmas.Bool.{cases_lt}
+use Rattle.std.proofs.lemmas.Bool.{cases_lt, false≢true}
 use Rattle.std.proofs.lemmas.Nat.{div-add-mod', div-mul-add, mod-mul-add, mod_below}
 use Rattle.std.proofs.Math.Nat.{zero-mod, zero-div}
 use Rattle.std.proofs.lemmas.List.FromFn.{map-range_with_len_more}
 use Rattle.std.proofs.lemmas.List.Sums.{fold_push}
-use Rattle.mrcpsp.specs.Project.{ProjectData, size}
+use Rattle.mrcpsp.specs.Project.{ProjectData, ActivityData, is_project, size}
+use Rattle.mrcpsp.proofs.LimitLemmas.{kept}
 use Rattle.mrcpsp.specs.Schedule.{ScheduleData}
 use Rattle.mrcpsp.specs.Placed.{Placed, schedule_of}
 use Rattle.strategy.specs.Words.{word_at}
 use Rattle.strategy.specs.Pass.{chosen_at, placed_after, pass}
-use Rattle.strategy.specs.Outcome.{better, best_pass, closed_of, final_verdict, best_after, is_closed, verdict_after}
+use Rattle.strategy.specs.Outcome.{better, best_pass, all_run, best_after}
 use Rattle.strategy.specs.declared.plan.Plan.{Plan}
 use Rattle.strategy.specs.declared.kind.Kind.{Kind}
 use Rattle.strategy.specs.declared.kind.Kind.TheVariants.{Sample}
-use Rattle.strategy.specs.declared.verdict.Verdict.TheVariants.{Going}
 use Rattle.serial_pass.specs.Pass.{PassData, after_node}
 use Rattle.serial_pass.proofs.PassLemmas.{after-node_more, after-length}
 use Rattle.sample_search.specs.Words.{WordsData}
 use Rattle.sample_search.specs.Draw.{after_words}
-use Rattle.sample_search.specs.Best.{best_in, is_taken}
-use Rattle.sample_search.specs.declared.best.Best.{Best}
-use Rattle.sample_search.specs.declared.best.Best.TheVariants.{Unknown, Known, Taken}
 
 -- ---- passes one after another: k nodes are k / n whole passes and k % n nodes of the next
 
@@ -67,6 +64,27 @@ node-goes-on k n some going =
     (λ (inner : k % n + 1 < n). inner-node k n inner)
     (λ (past : n ≤ k % n + 1). absurd (going (last-node k n some (omega (arith, mod_below k n some))).place))
     (cases_lt (k % n + 1) n)
+
+-- the same as the code tests it: by its own count of the nodes, and by the number of activities on a list
+count-all : (p q : ProjectData) (activities : List ActivityData) → activities ≡ q.activities → q ≡ p → length activities ≡ size p
+unfolding size
+count-all p q activities all same = ap length all ∙ ap (λ (r : ProjectData). length r.activities) same
+
+some-all : (p q : ProjectData) → IsTrue (is_project q) → q ≡ p → 0 < size p
+some-all p q ok same = (kept p (subst (λ (r : ProjectData). IsTrue (is_project r)) same ok)).some
+
+pub ends-there : (p q : ProjectData) (activities : List ActivityData) (nodes k : ℕ) (test : Bool) → (activities ≡ q.activities) × IsTrue (is_project q) → q ≡ p → nodes ≡ k → IsTrue test ↔ ((nodes + 1) % length activities ≡ 0) → test ≡ true
+    → IsLastNode k (size p)
+ends-there p q activities nodes k test known same is told passes =
+    let n : length activities ≡ size p = count-all p q activities known.0 same in
+    node-ends k (size p) (some-all p q known.1 same) (rw (is, n) at (told.0 passes))
+
+pub goes-on-there : (p q : ProjectData) (activities : List ActivityData) (nodes k : ℕ) (test : Bool) → (activities ≡ q.activities) × IsTrue (is_project q) → q ≡ p → nodes ≡ k → IsTrue test ↔ ((nodes + 1) % length activities ≡ 0) → test ≡ false
+    → IsInnerNode k (size p)
+goes-on-there p q activities nodes k test known same is told fails =
+    let n : length activities ≡ size p = count-all p q activities known.0 same in
+    let whole : (nodes + 1) % length activities ≡ 0 → ⊥ = λ at. false≢true (sym fails ∙ told.1 at) in
+    node-goes-on k (size p) (some-all p q known.1 same) (rw (is, n) at whole)
 
 -- ---- what is placed
 
@@ -154,27 +172,9 @@ placed-goes-on p kind k inner =
 
 -- ---- what is shown
 
-pub closed-sample : (plan : Plan) (seed k : ℕ) → plan.kind ≡ Sample seed → is_closed plan k ≡ false
-unfolding is_closed
-closed-sample plan seed k kind = ap (λ (kind : Kind). closed_of plan.project kind k) kind
+pub all-sample : (plan : Plan) (seed k : ℕ) → plan.kind ≡ Sample seed → false ≡ all_run plan.project plan.kind k
+all-sample plan seed k kind = sym (ap (λ (kind : Kind). all_run plan.project kind k) kind)
 
-pub verdict-sample : (plan : Plan) (seed k : ℕ) → plan.kind ≡ Sample seed → verdict_after plan k ≡ Going
-unfolding verdict_after
-verdict-sample plan seed k kind = ap (λ b. cond b (final_verdict plan.kind (best_after plan k)) Going) (closed-sample plan seed k kind)
-
-pub best-sample : (plan : Plan) (seed k : ℕ) → plan.kind ≡ Sample seed → best_after plan k ≡ best_pass plan.project plan.kind (k / size plan.project)
+pub best-sample : (plan : Plan) (seed k : ℕ) → plan.kind ≡ Sample seed → best_pass plan.project plan.kind (k / size plan.project) ≡ best_after plan k
 unfolding best_after
 best-sample plan seed k kind = rw kind refl
-
-pub closed-shown : (plan : Plan) (seed k : ℕ) (best : Best) → plan.kind ≡ Sample seed → is_taken best ≡ (is_taken best || is_closed plan k)
-closed-shown plan seed k best kind = rw (closed-sample plan seed k kind) (or-none best)
-  where
-    or-none : (best : Best) → is_taken best ≡ (is_taken best || false)
-    or-none (Unknown room) = refl
-    or-none (Known schedule makespan) = refl
-    or-none Taken = refl
-
-pub best-shown : (plan : Plan) (seed k : ℕ) (best : Best) → plan.kind ≡ Sample seed → (is_taken best ≡ false → best_in best ≡ best_pass plan.project plan.kind (k / size plan.project)) → best_in best ≡ cond (is_taken best) None (best_after plan k)
-best-shown plan seed k (Unknown room) kind known = known refl ∙ sym (best-sample plan seed k kind)
-best-shown plan seed k (Known schedule makespan) kind known = known refl ∙ sym (best-sample plan seed k kind)
-best-shown plan seed k Taken kind known = refl

@@ -1,7 +1,8 @@
 //! The best schedule of a search, in memory that is taken once.
 ghost use Rattle.std.specs.Prelude.{◌≡◌, false, length, IfSome, IsSome, IsTrue, Some, option_map};
 ghost use Rattle.std.specs.Option.{option_copied};
-ghost use Rattle.mrcpsp.specs.Project.{size};
+ghost use Rattle.mrcpsp.specs.Project.{ProjectData, size};
+ghost use Rattle.mrcpsp.specs.Schedule.{makespan as greatest_finish};
 ghost use Rattle.mrcpsp.specs.Placed.{schedule_of};
 ghost use Rattle.strategy.specs.Outcome.{better};
 ghost use Rattle.serial_pass.specs.Pass.{HasRoom};
@@ -23,19 +24,22 @@ pub(crate) enum Best {
 }
 
 impl Best {
-    /// Whether it was handed out.
-    pub(crate) fn is_taken(&self) -> bool
-        ensures { result ≡ is_taken self.now }
-    {
-        matches!(self, Best::Taken)
-    }
-
     /// The schedule, until it is handed out.
     pub(crate) fn schedule(&self) -> Option<&Schedule>
         ensures { option_copied result ≡ best_in self.now }
     {
         match self {
             Best::Known(schedule, _) => Some(schedule),
+            _ => None,
+        }
+    }
+
+    /// The makespan of the schedule, until that is handed out.
+    pub(crate) fn makespan(&self) -> Option<u32>
+        ensures { (p : ProjectData) → IsKept p self.now → result ≡ option_map (greatest_finish p) (best_in self.now) }
+    {
+        match self {
+            Best::Known(_, makespan) => Some(*makespan),
             _ => None,
         }
     }

@@ -1,58 +1,38 @@
 //! Passes drawn from the words of a seed, one node at a time and without end.
-ghost use Rattle.std.specs.Prelude.{◌≡◌, ◌↔◌, ◌+◌, ◌%◌, ◌<◌, ◌≤◌, false, length, IsTrue, IfOk, IfErr, IfSome, option_map};
+ghost use Rattle.std.specs.Prelude.{◌≡◌, ◌↔◌, ◌%◌, ◌<◌, false, length, IsTrue, IfOk, IfSome, option_map};
 ghost use Rattle.mrcpsp.specs.Project.{size};
 ghost use Rattle.mrcpsp.specs.Placed.{schedule_of};
-ghost use Rattle.quanta_till.specs.Lease.{IsEmpty, after_use};
 ghost use Rattle.measures.specs.Measures.{measures_of};
 ghost use Rattle.strategy.specs.Outcome.{better};
 ghost use Rattle.strategy.specs.declared.kind.Kind.TheVariants.{Sample};
 ghost use Rattle.serial_pass.specs.Pass as passes;
 ghost use Rattle.sample_search.specs.Best.{best_in, is_taken, IsKept};
-ghost use Rattle.sample_search.specs.Search.{IsSample, fresh};
+ghost use Rattle.sample_search.specs.Search.{IsSample, StandsAt};
 
 use crate::best::{Best, better};
 use crate::node::run_node;
 use crate::words::Words;
 use measures::Measures;
 use mrcpsp::{Project, Schedule};
-use quanta_till::{Lease, Owned};
+use paid_search::{Nodes, Paid};
 use serial_pass::Pass;
 use std::alloc::{AllocError, Global};
-use std::marker::Model;
 use std::mem;
-use strategy::{Kind, Plan, Strategy, Verdict};
+use strategy::{Kind, Plan};
 
 /// A search whose passes are drawn from the words of a seed. Node `i`, counted through all passes, draws the words `2i` and
 /// `2i + 1`. A pass has as many nodes as the project has activities. The best schedule is the shortest of the whole passes,
-/// the earliest of these. The search never ends by itself.
-pub struct SampleSearch {
-    plan: Plan,
-    lease: Owned,
+/// the earliest of these. The search ends only with a schedule as short as the project's bound.
+pub type SampleSearch = Paid<SamplePasses>;
+
+/// The passes that are drawn from a seed, and the best schedule of the whole ones.
+#[derive(Drop)]
+pub struct SamplePasses {
     measures: Measures,
     words: Words,
     pass: Pass,
     nodes: u64,
     best: Best,
-}
-
-impl Model for SampleSearch {
-    ghost use Rattle.quanta_till.specs.Lease.{LeaseValue};
-    ghost use Rattle.strategy.specs.Search.{Meaning};
-    ghost use Rattle.sample_search.specs.Best.{is_taken};
-    ghost use Rattle.sample_search.specs.Search.{IsSearch};
-
-    ghost Value = { Meaning × LeaseValue };
-
-    ghost view = { λ s. (record { tenant = s.lease.tenant; plan = s.plan; nodes = s.nodes; left = s.lease.left; taken = is_taken s.best }, s.lease) };
-
-    ghost invariant = { λ s. IsSearch s.plan s.lease s.measures s.words s.pass s.nodes s.best };
-}
-
-/// Want of memory for a search, with the lease that was handed in.
-#[derive(Drop)]
-pub struct Refused {
-    /// The lease, as it was.
-    pub lease: Lease,
 }
 
 /// What takes the memory of a search.
@@ -61,51 +41,6 @@ struct Tools {
     measures: Measures,
     pass: Pass,
     room: Schedule,
-}
-
-impl Drop for SampleSearch {
-    fn drop(self) {
-        let SampleSearch {
-            plan: _,
-            lease,
-            measures: _,
-            words: _,
-            pass: _,
-            nodes: _,
-            best: _,
-        } = self;
-        lease.end();
-    }
-}
-
-impl SampleSearch {
-    /// A search of the plan that has run no node, or the lease back where there is no memory for it; the plan is then
-    /// dropped. No other call takes memory.
-    pub fn new(alloc: Global, plan: Plan, lease: Lease) -> Result<SampleSearch, Refused>
-        requires kind { IsSample plan.kind }
-        requires empty { IsEmpty lease }
-        ensures made { IfOk result (λ search. search ≡ fresh plan lease) }
-        ensures back { IfErr result (λ refused. refused.lease ≡ lease) }
-    {
-        let Ok(tools) = make_tools(alloc, &plan.project) else {
-            return Err(Refused { lease });
-        };
-        let Tools {
-            measures,
-            pass,
-            room,
-        } = tools;
-        let words = Words::new(seed(plan.kind));
-        Ok(SampleSearch {
-            plan,
-            lease: Owned::of(lease),
-            measures,
-            words,
-            pass,
-            nodes: 0,
-            best: Best::Unknown(room),
-        })
-    }
 }
 
 /// What takes the memory of a search, or an error where there is none.
@@ -135,14 +70,6 @@ fn seed(kind: Kind) -> u64
     }
 }
 
-/// Pays one node with a quantum of the lease.
-fn pay(lease: &mut Owned)
-    requires { 0 < lease.old.left }
-    ensures { lease.new ≡ after_use lease.old }
-{
-    lease.use_one();
-}
-
 /// Whether passes of so many activities are all whole after so many nodes.
 fn are_whole_passes(nodes: u64, activities: usize) -> bool
     requires { 0 < activities }
@@ -165,57 +92,50 @@ fn end_pass(pass: &mut Pass, best: &mut Best)
     pass.restart();
 }
 
-impl Strategy for SampleSearch {
-    ghost meaning = { λ s. s.0 };
+impl Nodes for SamplePasses {
+    ghost serves = { IsSample };
 
-    ghost lease = { λ s. s.1 };
+    ghost stands = { StandsAt };
 
-    fn tenant(&self) -> u32 {
-        self.lease.tenant()
+    fn of(alloc: Global, plan: &Plan) -> Result<SamplePasses, AllocError> {
+        let Tools {
+            measures,
+            pass,
+            room,
+        } = make_tools(alloc, &plan.project)?;
+        let words = Words::new(seed(plan.kind));
+        Ok(SamplePasses {
+            measures,
+            words,
+            pass,
+            nodes: 0,
+            best: Best::Unknown(room),
+        })
     }
 
-    fn plan(&self) -> &Plan {
-        &self.plan
+    fn bound(&self) -> u32 {
+        self.measures.bound()
     }
 
-    fn nodes(&self) -> u64 {
-        self.nodes
+    fn all_run(&self) -> bool {
+        false
     }
 
-    fn left(&self) -> u64 {
-        self.lease.left()
-    }
-
-    fn closed(&self) -> bool {
-        self.best.is_taken()
-    }
-
-    fn verdict(&self) -> Verdict {
-        // The proof reads from the fields that the plan is one of sampling.
-        let _ = &self.plan;
-        Verdict::Going
+    fn makespan(&self) -> Option<u32> {
+        self.best.makespan()
     }
 
     fn best(&self) -> Option<&Schedule> {
         self.best.schedule()
     }
 
-    fn fund(&mut self, quanta: u64) {
-        self.lease.draw(quanta);
-    }
-
     fn advance(&mut self) {
-        let activities = self.plan.project.activities().len();
-        pay(&mut self.lease);
+        let activities = self.pass.project().activities().len();
         run_node(&mut self.pass, &self.measures, &mut self.words);
         self.nodes += 1;
         if are_whole_passes(self.nodes, activities) {
             end_pass(&mut self.pass, &mut self.best);
         }
-    }
-
-    fn settle(&mut self) {
-        self.lease.settle();
     }
 
     fn take_best(&mut self) -> Option<Schedule> {

@@ -10,7 +10,7 @@ use Rattle.mrcpsp.specs.Numbers.{sum_below}
 use Rattle.mrcpsp.specs.Project.{ProjectData, size, renewables, nonrenewables, mode_count, duration, request, consumption, capacity, stock, precedes}
 use Rattle.mrcpsp.specs.Limits.{IsProject}
 use Rattle.mrcpsp.specs.Schedule.{IsFeasible, mode_of, start_of, finish, load, use_of, consumed}
-use Rattle.mrcpsp.specs.Placed.{IsDistinct, Placed, is_placed, finish_of, placed_use, placed_consumption, are_ready, fits, is_allowed, is_eligible, is_executable, is_affordable, reserve, mode_in, start_in, schedule_of, latest, last_start, earliest}
+use Rattle.mrcpsp.specs.Placed.{IsDistinct, Placed, is_placed, finish_of, placed_use, placed_consumption, are_ready, fits, is_allowed, is_eligible, is_executable, is_affordable, reserve, mode_in, start_in, schedule_of, latest, last_start}
 use Rattle.strategy.specs.Candidate.{Candidate, placed_from}
 use Rattle.mrcpsp.proofs.NumbersLemmas.{sum_below-same, sum_by-same-all, all_below-at}
 use Rattle.mrcpsp.proofs.ProjectLemmas.{precedes-rising, load-running, load-before, load-over}

@@ -1,8 +1,9 @@
 -- What a search for a plan has found after k nodes: its best schedule, whether it is over, and what that shows.
-use Rattle.std.specs.Prelude.{ℕ, ◌/◌, Bool, false, cond, is_some, nat_lt, nat_le, map, fold, Option, Some, None}
+use Rattle.std.specs.Prelude.{ℕ, ◌/◌, Bool, false, cond, ◌||◌, is_some, nat_lt, nat_le, map, fold, Option, Some, None}
 use Rattle.std.specs.List.{range_with_len}
 use Rattle.mrcpsp.specs.Project.{ProjectData, size}
-use Rattle.mrcpsp.specs.Schedule.{ScheduleData}
+use Rattle.mrcpsp.specs.Schedule.{ScheduleData, makespan}
+use Rattle.mrcpsp.specs.Values.{bound}
 use Rattle.strategy.specs.Tree as tree
 use Rattle.strategy.specs.Pass.{pass}
 use Rattle.strategy.specs.declared.plan.Plan.{Plan}
@@ -31,14 +32,15 @@ best_of p RuleMts k = rule_best p RuleMts k
 best_of p RuleSpt k = rule_best p RuleSpt k
 best_of p (Sample seed) k = best_pass p (Sample seed) (k / size p)
 
-abbrev pub closed_of : ProjectData → Kind → ℕ → Bool
-closed_of p Tree k = tree.is_closed p k
-closed_of p RuleLft k = nat_le (size p) k
-closed_of p RuleMts k = nat_le (size p) k
-closed_of p RuleSpt k = nat_le (size p) k
-closed_of p (Sample seed) k = false
+-- whether all its nodes have run
+abbrev pub all_run : ProjectData → Kind → ℕ → Bool
+all_run p Tree k = tree.is_closed p k
+all_run p RuleLft k = nat_le (size p) k
+all_run p RuleMts k = nat_le (size p) k
+all_run p RuleSpt k = nat_le (size p) k
+all_run p (Sample seed) k = false
 
--- what a search that is over shows
+-- what a search shows that has run all its nodes
 abbrev pub final_verdict : Kind → Option ScheduleData → Verdict
 final_verdict Tree best = cond (is_some best) Optimal Infeasible
 final_verdict RuleLft best = Ended
@@ -46,12 +48,20 @@ final_verdict RuleMts best = Ended
 final_verdict RuleSpt best = Ended
 final_verdict (Sample seed) best = Ended
 
--- of a plan after k nodes: its best schedule, whether its search is over, and its verdict
+-- whether there is a best schedule, and it is no longer than the bound, below which no feasible schedule is
+abbrev pub is_at_bound : ProjectData → Option ScheduleData → Bool
+is_at_bound p None = false
+is_at_bound p (Some s) = nat_le (makespan p s) (bound p)
+
+-- of a plan after k nodes: its best schedule,
 unfoldable pub best_after : Plan → ℕ → Option ScheduleData
 best_after plan k = best_of plan.project plan.kind k
 
+-- whether its search is over: the best schedule is as short as the bound, or all nodes have run,
 unfoldable pub is_closed : Plan → ℕ → Bool
-is_closed plan k = closed_of plan.project plan.kind k
+is_closed plan k = is_at_bound plan.project (best_after plan k) || all_run plan.project plan.kind k
 
+-- and its verdict
 unfoldable pub verdict_after : Plan → ℕ → Verdict
-verdict_after plan k = cond (is_closed plan k) (final_verdict plan.kind (best_after plan k)) Going
+verdict_after plan k =
+    cond (is_at_bound plan.project (best_after plan k)) Optimal (cond (all_run plan.project plan.kind k) (final_verdict plan.kind (best_after plan k)) Going)

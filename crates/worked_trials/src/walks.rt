@@ -31,8 +31,9 @@ type Walk = (
 
 const NONE: Best = (&[], &[]);
 
-/// The precedence tree to its end, and for some of its nodes. What takes no time takes nothing, however much it asks for.
-const TREES: [Walk; 7] = [
+/// The precedence tree to its end, and for some of its nodes. It ends too where its best schedule is as short as the bound: in the
+/// fork that is so where two may run at once. What takes no time takes nothing, however much it asks for.
+const TREES: [Walk; 8] = [
     (
         DIAMOND,
         "3 1",
@@ -69,6 +70,13 @@ const TREES: [Walk; 7] = [
         &[(3, NONE), (8, (&[1, 1, 1, 1], &[0, 0, 2, 4]))],
         Verdict::Optimal,
     ),
+    (
+        FORK,
+        "2",
+        Kind::Tree,
+        &[(3, NONE), (4, (&[1, 1, 1, 1], &[0, 0, 0, 2]))],
+        Verdict::Optimal,
+    ),
     (LONE, "", Kind::Tree, &[(1, (&[1], &[0]))], Verdict::Optimal),
     (
         STARVED,
@@ -90,7 +98,8 @@ const TREES: [Walk; 7] = [
     ),
 ];
 
-/// A pass by each rule: a longer mode where the stock is gone, void passes, and one that is given up.
+/// A pass by each rule: a longer mode where the stock is gone, void passes, and one that is given up. That of the chain is as
+/// short as the bound.
 const RULES: [Walk; 19] = [
     (
         DIAMOND,
@@ -104,7 +113,7 @@ const RULES: [Walk; 19] = [
         "3 1",
         Kind::RuleLft,
         &[(2, NONE), (3, (&[1, 1, 1], &[0, 0, 5]))],
-        Verdict::Ended,
+        Verdict::Optimal,
     ),
     (
         SEVEN,
@@ -140,7 +149,7 @@ const RULES: [Walk; 19] = [
         "3 1",
         Kind::RuleMts,
         &[(2, NONE), (3, (&[1, 1, 1], &[0, 0, 5]))],
-        Verdict::Ended,
+        Verdict::Optimal,
     ),
     (
         SEVEN,
@@ -176,7 +185,7 @@ const RULES: [Walk; 19] = [
         "3 1",
         Kind::RuleSpt,
         &[(2, NONE), (3, (&[1, 1, 1], &[0, 0, 5]))],
-        Verdict::Ended,
+        Verdict::Optimal,
     ),
     (
         SEVEN,
@@ -203,8 +212,23 @@ const RULES: [Walk; 19] = [
     (DIAMOND, "3 1", Kind::RuleLft, &[(1, NONE)], Verdict::Going),
 ];
 
-/// Drawn passes, of which some or all are void. A later schedule that is as long as the first changes nothing.
-const SAMPLES: [Walk; 8] = [
+/// Drawn passes, of which some or all are void. A later schedule that is as long as the first changes nothing, and one that is
+/// as short as the bound ends the search.
+const SAMPLES: [Walk; 10] = [
+    (
+        CHAIN,
+        "3 1",
+        Kind::Sample(42),
+        &[(2, NONE), (3, (&[1, 1, 1], &[0, 0, 5]))],
+        Verdict::Optimal,
+    ),
+    (
+        FORK,
+        "2",
+        Kind::Sample(42),
+        &[(3, NONE), (4, (&[1, 1, 1, 1], &[0, 0, 0, 2]))],
+        Verdict::Optimal,
+    ),
     (
         DIAMOND,
         "3 1",
@@ -274,8 +298,8 @@ const SAMPLES: [Walk; 8] = [
         PAIR,
         "1",
         Kind::Sample(7),
-        &[(2, (&[1], &[0])), (6, (&[2], &[0]))],
-        Verdict::Going,
+        &[(2, (&[1], &[0])), (3, (&[2], &[0]))],
+        Verdict::Optimal,
     ),
 ];
 

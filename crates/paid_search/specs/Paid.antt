@@ -1,0 +1,36 @@
+-- A search whose nodes are paid by a lease.
+use Rattle.std.specs.Prelude.{◌≡◌, ℕ, ◌+◌, ◌<◌, ◌≤◌, Bool, true, false}
+use Rattle.mrcpsp.specs.Values.{bound}
+use Rattle.quanta_till.specs.Lease.{LeaseValue}
+use Rattle.strategy.specs.Outcome.{all_run, verdict_after}
+use Rattle.strategy.specs.Search.{Meaning}
+use Rattle.strategy.specs.declared.plan.Plan.{Plan}
+use Rattle.strategy.specs.declared.verdict.Verdict.{Verdict}
+use Rattle.strategy.specs.declared.verdict.Verdict.TheVariants.{Going, Optimal, Infeasible, Ended}
+
+-- a search that has run no node, with its lease
+abbrev pub fresh : Plan → LeaseValue → Meaning × LeaseValue
+fresh plan lease = (record { tenant = lease.tenant; plan = plan; nodes = 0; left = lease.left; taken = false }, lease)
+
+-- one more node may run: it stands after k nodes of a plan, and not all of its nodes have run then
+pub record GoesOn {N : Type 0} (stands : N → Plan → ℕ → Type 0) (n : N) : Type 0 where
+  pub plan : Plan
+  pub nodes : ℕ
+  pub here : stands n plan nodes
+  pub going : all_run plan.project plan.kind nodes ≡ false
+  pub few : nodes < 1000000000000
+
+-- each node was paid, the verdict is the one after them, and until the best was taken the nodes stand after them
+pub record IsPaid {N : Type 0} (stands : N → Plan → ℕ → Type 0) (plan : Plan) (lease : LeaseValue) (nodes bound_is : ℕ) (taken : Bool) (verdict : Verdict) (n : N) : Type 0 where
+  pub paid : nodes ≡ lease.used
+  pub limited : nodes + lease.left ≤ 1000000000000
+  pub bounded : bound_is ≡ bound plan.project
+  pub shown : verdict ≡ verdict_after plan nodes
+  pub here : taken ≡ false → stands n plan nodes
+
+-- a search is over where it shows anything but 'going'
+abbrev pub is_over : Verdict → Bool
+is_over Going = false
+is_over Optimal = true
+is_over Infeasible = true
+is_over Ended = true

@@ -1,0 +1,57 @@
+//! What a search shows, and when it stops.
+ghost use Rattle.std.specs.Prelude.{◌≡◌, ℕ, Option, is_some, option_map};
+ghost use Rattle.mrcpsp.specs.Project.{ProjectData};
+ghost use Rattle.mrcpsp.specs.Schedule.{ScheduleData, makespan as greatest_finish};
+ghost use Rattle.mrcpsp.specs.Values.{bound as bound_of};
+ghost use Rattle.strategy.specs.Outcome.{all_run as all_nodes_run, best_after, final_verdict, is_at_bound, verdict_after};
+ghost use Rattle.strategy.specs.declared.plan.Plan.{Plan};
+ghost use Rattle.paid_search.specs.Paid.{is_over};
+
+use strategy::{Kind, Verdict};
+
+/// What a search shows that has run all its nodes, and has found a schedule or none.
+fn final_verdict(kind: Kind, is_found: bool) -> Verdict
+    ensures { (best : Option ScheduleData) → is_found ≡ is_some best → result ≡ final_verdict kind best }
+{
+    match kind {
+        Kind::Tree => {
+            if is_found {
+                Verdict::Optimal
+            } else {
+                Verdict::Infeasible
+            }
+        }
+        _ => Verdict::Ended,
+    }
+}
+
+/// Whether there is a best schedule, of this makespan, and it is as short as the bound.
+fn is_at_bound(makespan: Option<u32>, bound: u32) -> bool
+    ensures { (p : ProjectData) (best : Option ScheduleData) → makespan ≡ option_map (greatest_finish p) best → bound ≡ bound_of p → result ≡ is_at_bound p best }
+{
+    match makespan {
+        Some(shortest) => shortest <= bound,
+        None => false,
+    }
+}
+
+/// What a search shows, by the makespan of its best schedule and whether all its nodes have run. When a search stops is
+/// decided here and nowhere else.
+pub(crate) fn verdict_by(kind: Kind, makespan: Option<u32>, bound: u32, all_run: bool) -> Verdict
+    ensures { (plan : Plan) (k : ℕ) → kind ≡ plan.kind → makespan ≡ option_map (greatest_finish plan.project) (best_after plan k) → bound ≡ bound_of plan.project → all_run ≡ all_nodes_run plan.project plan.kind k → result ≡ verdict_after plan k }
+{
+    if is_at_bound(makespan, bound) {
+        Verdict::Optimal
+    } else if all_run {
+        final_verdict(kind, makespan.is_some())
+    } else {
+        Verdict::Going
+    }
+}
+
+/// Whether a search that shows this is over.
+pub(crate) fn is_over(shown: Verdict) -> bool
+    ensures { result ≡ is_over shown }
+{
+    !matches!(shown, Verdict::Going)
+}
