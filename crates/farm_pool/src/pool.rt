@@ -138,7 +138,8 @@ impl Pool {
     /// pass was lost in the midst of a call.
     pub fn close(self, pass: PoolPass) -> Option<Farm<Box<dyn Strategy>>>
         requires { IsPassOf self.lock pass }
-        ensures { IfSome result (λ farm. IsClosed pass.view farm) }
+        ensures closed { IfSome result (λ farm. IsClosed pass.view farm) }
+        ensures config { IfSome result (λ farm. farm.config ≡ self.lock.opening) }
     {
         let Pool { lock, slice: _ } = self;
         match lock.close(pass) {
