@@ -48,6 +48,7 @@ farm_opened config capacity terms = record {
       rw (same, view_opened t config) (account_newcomer (terms_in config t));
   room = omega arith;
   replayed = λ t. view_opened t config;
+  reached = record { calls = []; run = refl };
   whose = tt;
   terms = terms;
 }

@@ -10,8 +10,8 @@ use Rattle.farm_core.specs.Config.{ConfigData}
 use Rattle.farm_core.specs.declared.reply.Reply.TheVariants as reply
 use Rattle.farm_core.specs.Tenant.{Tenant, book, held, free}
 use Rattle.farm_core.specs.Step.{Answer, Replied, Step, step, noted, unnoted, has_room}
-use Rattle.farm_core.specs.World.{World, terms_in, view, entries_of, is_noted, entry_of, keys, KeepsOrder, Follows, IsOnlyNoted}
-use Rattle.farm_core.specs.Farm.{IsAccount, IsFarm, AreOf, owed, IsReply}
+use Rattle.farm_core.specs.World.{World, Call, Leads, Run, Steps, opened, terms_in, view, entries_of, is_noted, entry_of, keys, KeepsOrder, Follows, IsOnlyNoted}
+use Rattle.farm_core.specs.Farm.{IsAccount, IsFarm, IsReached, AreOf, owed, IsReply}
 use Rattle.farm_core.proofs.ViewLemmas.{moved, set_own, set_other, follows_from}
 use Rattle.farm_core.proofs.ReplayLemmas.{no_more, replayed_on}
 
@@ -51,6 +51,23 @@ set_length [] t x = refl
 set_length (y ∷ xs) zero x = refl
 set_length (y ∷ xs) (suc t) x = omega (arith, set_length xs t x)
 
+-- one call more at the end of a run
+leads_more : (old mid new : World) (calls : List Call) (c : Call) → Leads old calls mid → Steps mid c.tenant c.event c.answer new → Leads old (calls ++ c ∷ []) new
+leads_more old mid new [] c run h = (new, subst (λ (w : World). Steps w c.tenant c.event c.answer new) run h, refl)
+leads_more old mid new (d ∷ calls) c run h = (run.0, run.1, leads_more run.0 mid new calls c run.2 h)
+
+steps_of : (old new : World) (t : ℕ) (event : Event) (answer : Answer) → Follows old t event answer new → Steps old t event answer new
+steps_of old new t event answer h = record { answer_is = h.answer_is; own = h.own; others = h.others; journal = h.journal; config = h.config }
+
+reached_on : (w new : World) (t : ℕ) (event : Event) (answer : Answer) → IsReached w → Follows w t event answer new → IsReached new
+reached_on w new t event answer it h =
+    let c : Call = record { tenant = t; event = event; answer = answer } in
+    record {
+      calls = it.calls ++ c ∷ [];
+      run = subst (λ (config : ConfigData). Run config (it.calls ++ c ∷ []) new) (sym h.config)
+          (leads_more (opened w.config) w new it.calls c it.run (steps_of w new t event answer h));
+    }
+
 pub move_farm : (w : World) (t : ℕ) (rows : List Row) (account : Account) (event : Event) (answer : Answer) (old new : ℕ) → IsFarm w old → IsMove w t rows account event answer
     → length w.journal + 1 + owed rows ≤ new → IsFarm (moved w t rows account (one_entry t event)) new
 move_farm w t rows account event answer old new farm move room =
@@ -67,6 +84,7 @@ move_farm w t rows account event answer old new farm move room =
           (cases_eq u t);
       room = omega (arith, room, length-append w.journal (one_entry t event));
       replayed = replayed_on w (moved w t rows account (one_entry t event)) t event answer farm.replayed follows;
+      reached = reached_on w (moved w t rows account (one_entry t event)) t event answer farm.reached follows;
       whose = subst (λ n. AreOf n rows) (sym (set_length w.accounts t account)) move.whose;
       terms = farm.terms;
     }

@@ -13,7 +13,7 @@ use Rattle.farm_core.specs.declared.reply.Reply.TheVariants as reply
 use Rattle.farm_core.specs.Config.{are_terms}
 use Rattle.farm_core.specs.Tenant.{Tenant, book, find_job, line_of}
 use Rattle.farm_core.specs.Step.{Replied, funded, has_room, noted}
-use Rattle.farm_core.specs.World.{World, view, is_noted, Follows, IsReplayed}
+use Rattle.farm_core.specs.World.{World, Call, Run, view, is_noted, Follows, IsReplayed}
 
 -- how many entries may still come of a job without asking for memory: one for its cancel, one for its give
 abbrev pub owed_in : Phase → ℕ
@@ -39,12 +39,18 @@ abbrev pub AreOf : ℕ → List Row → Type 0
 AreOf count [] = ⊤
 AreOf count (row ∷ rows) = (row.tenant < count) × AreOf count rows
 
--- each tenant has its account and is where its entries lead, and the journal has room for all entries that are owed
+-- some calls lead to it from the farm in which nothing has happened
+pub record IsReached (w : World) : Type 0 where
+  pub calls : List Call
+  pub run : Run w.config calls w
+
+-- each tenant has its account and is where its entries lead, a run leads to the whole, and the journal has room for all entries that are owed
 pub record IsFarm (w : World) (capacity : ℕ) : Type 0 where
   pub count : length w.accounts ≡ length w.config.tenants
   pub each : (t : ℕ) (d : Account) → t < length w.accounts → IsAccount (view t w) (get_or w.accounts t d)
   pub room : length w.journal + owed w.rows ≤ capacity
   pub replayed : IsReplayed w
+  pub reached : IsReached w
   pub whose : AreOf (length w.accounts) w.rows
   pub terms : IsTrue (list_all are_terms w.config.tenants)
 

@@ -5,7 +5,7 @@ ghost use Rattle.std.specs.List.{list_all};
 ghost use Rattle.farm_core.specs.Tenant.{book, find_job, line_of};
 ghost use Rattle.farm_core.specs.Step.{has_room};
 ghost use Rattle.farm_core.specs.World.{World, view, account_of, opened, IsReplayed, IsOnlyNoted};
-ghost use Rattle.farm_core.specs.Farm.{IsReply};
+ghost use Rattle.farm_core.specs.Farm.{IsReached, IsReply};
 ghost use Rattle.farm_core.specs.Config.{are_terms};
 
 use crate::{Account, Config, Entry, Event, Line, Reply, TenantLine};
@@ -124,10 +124,11 @@ impl<J> Farm<J> {
         self.config.tenants().len() as u32
     }
 
-    /// The entries of all tenants, in the order in which they came. The farm is where they lead.
+    /// The entries of all tenants, in the order in which they came. The farm is where they lead, and a run leads to it.
     pub fn journal(&self) -> &[Entry]
         ensures exact { result.now ≡ self.now.journal }
         ensures replayed { IsReplayed self.now }
+        ensures reached { IsReached self.now }
     {
         self.journal.as_slice()
     }

@@ -1,19 +1,23 @@
 //! One connection.
-ghost use Rattle.std.specs.Prelude.{◌≡◌};
+ghost use Rattle.std.specs.Prelude.{◌≡◌, ◌<◌, length};
+ghost use Rattle.farm_service.specs.Known.{IsKnown};
 
 use crate::lobby::Lobby;
+use crate::shared::{Asked, Shared};
 use crate::tills::Branch;
 use farm_core::{Config, Reply};
-use farm_pool::{Command, Pool};
 use farm_session::{Heard, Ready, hear};
 use session_lines::{LineFault, Request, Said, What, read_request, write_reply};
 use std::alloc::Global;
 use std::io::{Read, Write};
 use std::sync::Wait;
-use strategy::{Plan, Strategy};
+use strategy::Plan;
 
 /// What a request of a connection comes to: a line that only a script may have is no request.
-fn heard(config: &Config, read: Result<Request, LineFault>) -> Heard {
+#[tactic(auto, using(crate::proofs::KnownLemmas::heard_known))]
+fn heard(config: &Config, read: Result<Request, LineFault>) -> Heard
+    ensures { IsKnown config.now result }
+{
     match read {
         Ok(
             Request {
@@ -26,7 +30,7 @@ fn heard(config: &Config, read: Result<Request, LineFault>) -> Heard {
 }
 
 /// A job's search, made for a plan with a lease of the tenant's till. There is nothing where there is no memory for it.
-fn search_of<J: Strategy, M: Fn(Ready) -> Option<J>>(
+fn search_of<J, M: Fn(Ready) -> Option<J>>(
     alloc: Global,
     branch: &mut Branch<'_>,
     plan: &Plan,
@@ -38,79 +42,103 @@ fn search_of<J: Strategy, M: Fn(Ready) -> Option<J>>(
     make(Ready::of(alloc, lease, plan)?)
 }
 
-/// The call of a pool that a request makes, or the answer where there is no memory for it.
-fn command_of<J: Strategy, M: Fn(Ready) -> Option<J>>(
+/// Submits a tenant's job, and rings the lobby's bell, since the job may wait. There is no memory for it where its search is not made.
+fn submit<D: Shared, R: Wait, M: Fn(Ready) -> Option<D::Search>>(
+    rt: &R,
     alloc: Global,
+    shared: &D,
+    token: &mut D::Token,
+    lobby: &Lobby,
     branch: &mut Branch<'_>,
-    asked: What,
+    tenant: u32,
+    plan: Plan,
+    quanta: u64,
     make: &M,
-) -> Result<Command<J>, Said>
-    requires { M.IsAlwaysCallable make.now }
+) -> Reply
+    requires own { D.owns shared.now token.old }
+    requires known { tenant < length (D.config shared.now).tenants }
+    requires make { M.IsAlwaysCallable make.now }
+    ensures { D.owns shared.now token.new }
 {
-    match asked {
-        What::Submit {
-            kind,
-            quanta,
-            project,
-        } => {
-            let plan = Plan { project, kind };
-            match search_of(alloc, branch, &plan, make) {
-                Some(search) => Ok(Command::Submit {
-                    plan,
-                    quanta,
-                    search,
-                }),
-                None => Err(Said::Reply(Reply::NoMemory)),
-            }
+    match search_of(alloc, branch, &plan, make) {
+        Some(search) => {
+            let reply = shared.submit(rt, token, tenant, plan, quanta, search);
+            lobby.ring(rt);
+            reply
         }
-        What::Fund { seq, quanta } => Ok(Command::Fund { seq, quanta }),
-        What::Status(seq) => Ok(Command::Status(seq)),
-        What::Fetch(seq) => Ok(Command::Fetch(seq)),
-        What::Cancel(seq) => Ok(Command::Cancel(seq)),
-        What::Forget(seq) => Ok(Command::Forget(seq)),
-        What::Ledger => Ok(Command::Ledger),
-        What::Take { .. } | What::Give(_) | What::Turn { .. } => Err(Said::Syntax),
+        None => Reply::NoMemory,
     }
 }
 
-/// Makes the call of a pool that a tenant's request asks for. Where a job may wait then, the lobby's bell is rung.
-fn answer<J: Strategy, R: Wait, M: Fn(Ready) -> Option<J>>(
+/// What a request asks for, other than that a job be submitted. A request that only a script may have is none.
+fn asked_by(asked: What) -> Option<Asked> {
+    match asked {
+        What::Fund { seq, quanta } => Some(Asked::Fund { seq, quanta }),
+        What::Status(seq) => Some(Asked::Status(seq)),
+        What::Fetch(seq) => Some(Asked::Fetch(seq)),
+        What::Cancel(seq) => Some(Asked::Cancel(seq)),
+        What::Forget(seq) => Some(Asked::Forget(seq)),
+        What::Ledger => Some(Asked::Ledger),
+        _ => None,
+    }
+}
+
+/// Makes the call that a tenant's request asks for. Where a job may wait then, the lobby's bell is rung.
+fn answer<D: Shared, R: Wait, M: Fn(Ready) -> Option<D::Search>>(
     rt: &R,
     alloc: Global,
-    pool: &Pool<J>,
+    shared: &D,
+    token: &mut D::Token,
     lobby: &Lobby,
     branch: &mut Branch<'_>,
     tenant: u32,
     asked: What,
     make: &M,
 ) -> Said
-    requires { M.IsAlwaysCallable make.now }
+    requires own { D.owns shared.now token.old }
+    requires known { tenant < length (D.config shared.now).tenants }
+    requires make { M.IsAlwaysCallable make.now }
+    ensures { D.owns shared.now token.new }
 {
-    let may_wait = matches!(&asked, What::Submit { .. } | What::Fund { .. });
-    match command_of(alloc, branch, asked, make) {
-        Ok(command) => {
-            let reply = pool.call(rt, tenant, command);
-            if may_wait {
-                lobby.ring(rt);
-            }
-            Said::Reply(reply)
-        }
-        Err(said) => said,
+    if let What::Submit {
+        kind,
+        quanta,
+        project,
+    } = asked
+    {
+        let plan = Plan { project, kind };
+        let reply = submit(
+            rt, alloc, shared, token, lobby, branch, tenant, plan, quanta, make,
+        );
+        return Said::Reply(reply);
     }
+    let Some(asked) = asked_by(asked) else {
+        return Said::Syntax;
+    };
+    let may_wait = matches!(&asked, Asked::Fund { .. });
+    let reply = shared.ask(rt, token, tenant, asked);
+    if may_wait {
+        lobby.ring(rt);
+    }
+    Said::Reply(reply)
 }
 
 /// Answers the requests of a connection, one line each, until it ends, cannot be read, or a reply cannot be written.
-pub(crate) fn session<J: Strategy, R: Wait, S: Read + Write, M: Fn(Ready) -> Option<J>>(
+pub(crate) fn session<D: Shared, R: Wait, S: Read + Write, M: Fn(Ready) -> Option<D::Search>>(
     rt: &R,
     alloc: Global,
     config: &Config,
-    pool: &Pool<J>,
+    shared: &D,
+    token: &mut D::Token,
     lobby: &Lobby,
     branches: &mut [Branch<'_>],
     wire: &mut S,
     make: &M,
 )
-    requires { M.IsAlwaysCallable make.now }
+    requires own { D.owns shared.now token.old }
+    requires config { D.config shared.now ≡ config.now }
+    requires make { M.IsAlwaysCallable make.now }
+    ensures { D.owns shared.now token.new }
 {
     for _ in 0..u64::MAX {
         let told = match heard(config, read_request(alloc, wire)) {
@@ -120,7 +148,7 @@ pub(crate) fn session<J: Strategy, R: Wait, S: Read + Write, M: Fn(Ready) -> Opt
                 let Some(branch) = branches.get_mut(tenant as usize) else {
                     break;
                 };
-                let said = answer(rt, alloc, pool, lobby, branch, tenant, asked, make);
+                let said = answer(rt, alloc, shared, token, lobby, branch, tenant, asked, make);
                 write_reply(wire, Some(who), &said)
             }
         };

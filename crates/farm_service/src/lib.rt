@@ -7,12 +7,14 @@
 //! - `connection`: the requests of one connection.
 //! - `tills`: the tenants' tills, and a connection's desks at them.
 //! - `lobby`: when workers rest, and when they go home.
+//! - `shared`: the pool, as the threads see it.
 //! - `wire`: a connection whose replies leave before it waits.
 #![tactic(auto)]
 
 mod connection;
 mod lobby;
 mod service;
+mod shared;
 mod tills;
 mod wire;
 

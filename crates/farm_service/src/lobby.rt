@@ -44,10 +44,10 @@ impl Lobby {
         self.rung.notify_one();
     }
 
-    /// One connection has ended, or will not come.
-    pub(crate) fn leave<R: Wait>(&self, rt: &R) {
+    /// So many connections have ended, or will not come.
+    pub(crate) fn leave<R: Wait>(&self, rt: &R, connections: u64) {
         let mut bell = self.bell.lock(rt);
-        bell.left = bell.left.saturating_sub(1);
+        bell.left = bell.left.saturating_sub(connections);
         drop(bell);
         self.rung.notify_all();
     }

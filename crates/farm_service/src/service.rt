@@ -1,9 +1,10 @@
 //! A farm that answers requests over connections.
-ghost use Rattle.std.specs.Prelude.{◌≡◌, true, length};
+ghost use Rattle.std.specs.Prelude.{◌≡◌, length};
 ghost use Rattle.farm_pool.specs.Settle.{AreSeated};
 
 use crate::connection::session;
 use crate::lobby::{Lobby, Nobody, Seat};
+use crate::shared::{Shared, keep, promise_of, take_in};
 use crate::tills::{Branch, open_tills, places};
 use crate::wire::Wire;
 use farm_core::{Config, Farm};
@@ -33,18 +34,31 @@ pub enum ServeFault {
     NoMemory,
 }
 
+/// What a thread of a service does.
+#[derive(Drop)]
+enum Part<'a> {
+    /// It takes turns of the jobs.
+    Worker,
+    /// It answers a client, at these desks.
+    Client(Vec<Branch<'a>>, TcpStream),
+}
+
 /// Answers the requests of a client.
-fn welcome<J: Strategy, R: Wait, M: Fn(Ready) -> Option<J>>(
+fn welcome<D: Shared, R: Wait, M: Fn(Ready) -> Option<D::Search>>(
     rt: &R,
     alloc: Global,
     config: &Config,
-    pool: &Pool<J>,
+    shared: &D,
+    token: &mut D::Token,
     lobby: &Lobby,
     own: Vec<Branch<'_>>,
     stream: &TcpStream,
     make: &M,
 )
-    requires { M.IsAlwaysCallable make.now }
+    requires own { D.owns shared.now token.old }
+    requires config { D.config shared.now ≡ config.now }
+    requires make { M.IsAlwaysCallable make.now }
+    ensures { D.owns shared.now token.new }
 {
     let mut own = own;
     let _ = stream.set_nodelay(true);
@@ -56,67 +70,121 @@ fn welcome<J: Strategy, R: Wait, M: Fn(Ready) -> Option<J>>(
     };
     let mut wire = Wire { input, output };
     let branches = own.as_mut_slice();
-    session(rt, alloc, config, pool, lobby, branches, &mut wire, make);
+    session(
+        rt, alloc, config, shared, token, lobby, branches, &mut wire, make,
+    );
 }
 
-/// Answers the requests of as many connections as there are places, in a thread each, while workers take turns of the jobs. Tells what went wrong:
-/// then no more connections are accepted.
-fn attend<J: Strategy, R: Threads + Wait + Clock + Sync, M: Fn(Ready) -> Option<J> + Sync>(
+/// Does a thread's part, and brings back its token.
+fn take_part<D: Shared, R: Wait + Clock, M: Fn(Ready) -> Option<D::Search>>(
+    rt: &R,
+    alloc: Global,
+    config: &Config,
+    shared: &D,
+    token: D::Token,
+    lobby: &Lobby,
+    part: Part<'_>,
+    make: &M,
+) -> D::Token
+    requires own { D.owns shared.now token }
+    requires config { D.config shared.now ≡ config.now }
+    requires make { M.IsAlwaysCallable make.now }
+    ensures { D.owns shared.now result }
+{
+    let mut token = token;
+    match part {
+        Part::Worker => shared.work(rt, &mut token, &Seat::new(rt, lobby)),
+        Part::Client(own, stream) => {
+            welcome(
+                rt, alloc, config, shared, &mut token, lobby, own, &stream, make,
+            );
+            lobby.leave(rt, 1);
+        }
+    }
+    token
+}
+
+/// The next part: the workers come first, and then each client once it is accepted.
+fn next_part<'a>(
+    listener: &TcpListener,
+    is_worker: bool,
+    places: &mut Vec<Vec<Branch<'a>>>,
+) -> Result<Part<'a>, ServeFault> {
+    if is_worker {
+        return Ok(Part::Worker);
+    }
+    match (places.pop(), listener.accept()) {
+        (Some(own), Ok((stream, _))) => Ok(Part::Client(own, stream)),
+        _ => Err(ServeFault::Listen),
+    }
+}
+
+/// Answers the requests of as many connections as there are places, in a thread each, while workers take turns of the jobs, and takes in the tokens of
+/// all threads. Tells what went wrong: then no more connections are accepted.
+fn attend<
+    D: Shared<Token: Send + Drop + 'static> + Sync,
+    R: Threads + Wait + Clock + Sync,
+    M: Fn(Ready) -> Option<D::Search> + Sync,
+>(
     rt: &R,
     alloc: Global,
     config: &Config,
     listener: TcpListener,
-    pool: &Pool<J>,
+    shared: &D,
+    token: &mut D::Token,
     places: Vec<Vec<Branch<'_>>>,
     make: &M,
 ) -> Option<ServeFault>
-    requires { M.IsAlwaysCallable make.now }
+    requires own { D.owns shared.now token.old }
+    requires config { D.config shared.now ≡ config.now }
+    requires make { M.IsAlwaysCallable make.now }
+    ensures { D.owns shared.now token.new }
 {
     let lobby = Lobby::new(places.len() as u64);
     let lobby = &lobby;
-    thread::scope(
+    let mine = shared.split(token);
+    let workers = config.workers();
+    let total = workers.saturating_add(places.len() as u64);
+    let (back, fault) = thread::scope(
         thread::scope_env(),
         rt,
-        move |scope| -> Option<ServeFault>
-            requires { M.IsAlwaysCallable make.now }
+        move |scope| -> (D::Token, Option<ServeFault>)
+            requires { D.owns shared.now mine × (D.config shared.now ≡ config.now) × M.IsAlwaysCallable make.now }
+            ensures { D.owns shared.entry.now result.0 }
         {
-            let listener = listener;
+            let (mut mine, mut places) = (mine, places);
+            let mut handles = Vec::new(alloc);
             let mut fault = None;
-            for _ in 0..config.workers() {
-                let worker = scope.spawn(move || {
-                    pool.work(rt, &Seat::new(rt, lobby));
-                });
-                if worker.is_err() {
+            for i in 0..total {
+                let Ok(part) = next_part(&listener, i < workers, &mut places) else {
                     fault = Some(ServeFault::Listen);
                     break;
-                }
-            }
-            for own in places {
-                if fault.is_some() {
-                    lobby.leave(rt);
-                    continue;
-                }
-                let Ok((stream, _)) = listener.accept() else {
-                    fault = Some(ServeFault::Listen);
-                    lobby.leave(rt);
-                    continue;
                 };
-                let spawned = scope.spawn(
-                    move ||
-                        requires { M.IsAlwaysCallable make.now }
-                    {
-                        welcome(rt, alloc, config, pool, lobby, own, &stream, make);
-                        lobby.leave(rt);
-                    },
-                );
-                if spawned.is_err() {
-                    fault = Some(ServeFault::Listen);
-                    lobby.leave(rt);
+                if handles.reserve(1).is_err() {
+                    fault = Some(ServeFault::NoMemory);
+                    break;
                 }
+                let theirs = shared.split(&mut mine);
+                let spawned = scope.spawn_with(
+                    promise_of(shared),
+                    move || -> D::Token
+                        requires { D.owns shared.now theirs × (D.config shared.now ≡ config.now) × M.IsAlwaysCallable make.now }
+                        ensures { D.owns shared.entry.now result }
+                    { take_part(rt, alloc, config, shared, theirs, lobby, part, make) },
+                );
+                let Ok(handle) = spawned else {
+                    fault = Some(ServeFault::Listen);
+                    break;
+                };
+                keep(shared, &mut handles, handle);
             }
-            fault
+            drop(listener);
+            lobby.leave(rt, total.saturating_sub(handles.len() as u64));
+            (take_in(rt, shared, mine, handles), fault)
         },
-    )
+    );
+    shared.join(token, back);
+    fault
 }
 
 /// Answers the requests of so many connections on a new farm of the configuration, each in a thread of its own, while the configured
@@ -129,7 +197,7 @@ pub fn serve<R: Threads + Wait + Clock + Sync>(
     listener: TcpListener,
     sessions: u64,
 ) -> Result<Settled, ServeFault> {
-    let Ok(pool) = Pool::<Box<dyn Strategy>>::new(alloc, config) else {
+    let Ok((pool, mut pass)) = Pool::new(alloc, config) else {
         return Err(ServeFault::NoMemory);
     };
     let Ok((tills, mut desks)) = open_tills(alloc, config) else {
@@ -155,12 +223,12 @@ pub fn serve<R: Threads + Wait + Clock + Sync>(
             }
         }
     };
-    if let Some(fault) = attend(rt, alloc, config, listener, &pool, places, &make) {
+    if let Some(fault) = attend(rt, alloc, config, listener, &pool, &mut pass, places, &make) {
         return Err(fault);
     }
-    pool.work(rt, &Nobody);
-    match pool.close() {
-        Some(farm) => settle(farm, config, tills, desks),
+    pool.work(rt, &mut pass, &Nobody);
+    match pool.close(pass) {
+        Some(farm) => settle(farm, tills, desks),
         None => Err(ServeFault::Unsettled),
     }
 }
@@ -168,34 +236,14 @@ pub fn serve<R: Threads + Wait + Clock + Sync>(
 /// Settles a farm with the tills of its configuration.
 fn settle<J: Strategy>(
     farm: Farm<J>,
-    config: &Config,
     tills: &[Till],
     desks: &mut [Desk],
 ) -> Result<Settled, ServeFault>
-    requires tills { length tills.now ≡ length config.now.tenants }
+    requires tills { length tills.now ≡ length farm.config.tenants }
     requires seated { AreSeated tills.now desks.old }
 {
-    if !is_of(&farm, config) {
-        return Err(ServeFault::Unsettled);
-    }
     match finish(farm, tills, desks) {
         Ok(settled) => Ok(settled),
         Err(_) => Err(ServeFault::Unsettled),
     }
-}
-
-/// Whether a farm is of as many tenants as a configuration, each granted what its line says.
-fn is_of<J>(farm: &Farm<J>, config: &Config) -> bool
-    ensures { result ≡ true → length farm.now.config.tenants ≡ length config.now.tenants }
-{
-    let lines = config.tenants();
-    if farm.tenants() as usize != lines.len() {
-        return false;
-    }
-    for tenant in 0..farm.tenants() {
-        if farm.book(tenant).granted() != lines[tenant as usize].quanta {
-            return false;
-        }
-    }
-    true
 }

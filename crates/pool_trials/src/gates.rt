@@ -18,39 +18,50 @@ impl Gate for Open {
     }
 }
 
-/// A gate that holds the first turn until a second one has begun.
+/// Where the first to come waits for the second.
 #[derive(Drop)]
-pub(crate) struct Pair {
-    /// How many turns have begun.
-    begun: AtomicU64,
-    /// How many turns were let go without another one.
+pub(crate) struct Meeting {
+    /// How many have come.
+    come: AtomicU64,
+    /// How many have gone on without another one.
     alone: AtomicU64,
 }
 
-impl Pair {
-    /// A gate at which no turn has begun.
-    pub(crate) fn new() -> Pair {
-        Pair {
-            begun: AtomicU64::new(0),
+impl Meeting {
+    /// A meeting to which nobody has come.
+    pub(crate) fn new() -> Meeting {
+        Meeting {
+            come: AtomicU64::new(0),
             alone: AtomicU64::new(0),
         }
     }
 
-    /// Whether no turn was let go without another one.
-    pub(crate) fn was_met(&self) -> bool {
-        self.alone.load(Ordering::SeqCst) == 0
-    }
-}
-
-impl Gate for Pair {
-    fn before(&self, _tenant: u32, _seq: u64) {
-        self.begun.fetch_add(1, Ordering::SeqCst);
+    /// Comes, and waits for another one.
+    pub(crate) fn wait(&self) {
+        self.come.fetch_add(1, Ordering::SeqCst);
         for _ in 0..MOST_POLLS {
-            if self.begun.load(Ordering::SeqCst) >= 2 {
+            if self.come.load(Ordering::SeqCst) >= 2 {
                 return;
             }
         }
         self.alone.fetch_add(1, Ordering::SeqCst);
+    }
+
+    /// Whether two have come, and nobody has gone on without another one.
+    pub(crate) fn was_met(&self) -> bool {
+        self.come.load(Ordering::SeqCst) >= 2 && self.alone.load(Ordering::SeqCst) == 0
+    }
+}
+
+/// A gate that holds the first turn until a second one has begun.
+#[derive(Drop)]
+pub(crate) struct Pair {
+    pub(crate) meeting: Meeting,
+}
+
+impl Gate for Pair {
+    fn before(&self, _tenant: u32, _seq: u64) {
+        self.meeting.wait();
     }
 
     fn after(&self, _tenant: u32, _seq: u64) {}

@@ -1,16 +1,21 @@
 //! A configuration, tills, and a project's search.
-ghost use Rattle.std.specs.Prelude.{◌≡◌, ◌∷◌, [], length, IfOk};
+ghost use Rattle.std.specs.Prelude.{◌≡◌, length, IfOk, IfSome};
 ghost use Rattle.quanta_till.specs.Lease.{IsEmpty};
-ghost use Rattle.strategy.specs.declared.kind.Kind.TheVariants.{Tree};
+ghost use Rattle.strategy.specs.declared.kind.Kind.TheVariants.{RuleSpt, Tree};
+ghost use Rattle.turn_lock.specs.Values.{IsPassOf};
 
+use crate::gates::Meeting;
+use crate::patient::Patient;
 use farm_core::{Config, Farm, Name, TenantLine};
-use farm_pool::{Command, Settled, Unsettled, finish};
+use farm_pool::{Pool, PoolPass, Settled, Unsettled, finish};
 use mrcpsp::Sequence;
 use psplib_mm::read;
 use quanta_till::{Desk, Lease, Till};
+use rule_search::RuleSearch;
 use std::alloc::{AllocError, Global};
+use std::sync::Arc;
 use std::test::Fail;
-use strategy::{Kind, Plan};
+use strategy::{Kind, Plan, Strategy};
 use tree_search::TreeSearch;
 
 /// A source, an activity of one mode, one of two modes, and a sink, with a resource of each sort.
@@ -77,40 +82,55 @@ pub(crate) fn config_of(alloc: Global, entries: u64) -> Result<Config, Fail> {
     Ok(Config::new(Sequence::from(lines), 2, 2).ok_or("within the limits")?)
 }
 
-/// The plan of the diamond's tree.
-fn plan_of(alloc: Global) -> Result<Plan, Fail>
-    ensures { IfOk result (λ plan. plan.kind ≡ Tree) }
+/// The pool of a configuration of two tenants, and its first pass.
+pub(crate) fn pool_of(alloc: Global, config: &Config) -> Option<(Pool, PoolPass)>
+    ensures own { IfSome result (λ made. IsPassOf made.0.lock made.1) }
+    ensures two { IfSome result (λ made. length made.0.lock.opening.tenants ≡ 2) }
 {
-    let project = read(alloc, DIAMOND.as_bytes())?;
-    Ok(Plan {
-        project,
-        kind: Kind::Tree,
-    })
+    if config.tenants().len() != 2 {
+        return None;
+    }
+    Pool::new(alloc, config).ok()
 }
 
-/// The submit of the diamond's tree, with so many quanta of a purse.
-pub(crate) fn submit_of(
+/// The plan of a search of the diamond.
+fn plan_of(alloc: Global, kind: Kind) -> Result<Plan, Fail>
+    ensures { IfOk result (λ plan. plan.kind ≡ kind) }
+{
+    let project = read(alloc, DIAMOND.as_bytes())?;
+    Ok(Plan { project, kind })
+}
+
+/// The diamond's tree, and its plan.
+pub(crate) fn tree_of(alloc: Global, purse: &mut Purse) -> Result<(Plan, TreeSearch), Fail> {
+    let lease = purse.lease()?;
+    let searched = plan_of(alloc, Kind::Tree)?;
+    let plan = plan_of(alloc, Kind::Tree)?;
+    match TreeSearch::new(alloc, searched, lease) {
+        Ok(search) => Ok((plan, search)),
+        Err(_) => Err(Fail::from("no memory")),
+    }
+}
+
+/// The diamond's pass by a rule, whose first node waits at a meeting, and its plan.
+pub(crate) fn patient_of(
     alloc: Global,
     purse: &mut Purse,
-    quanta: u64,
-) -> Result<Command<TreeSearch>, Fail> {
+    meeting: Arc<Meeting, Global>,
+) -> Result<(Plan, Patient), Fail> {
     let lease = purse.lease()?;
-    let searched = plan_of(alloc)?;
-    let Ok(search) = TreeSearch::new(alloc, searched, lease) else {
-        return Err(Fail::from("no memory"));
-    };
-    let plan = plan_of(alloc)?;
-    Ok(Command::Submit {
-        plan,
-        quanta,
-        search,
-    })
+    let searched = plan_of(alloc, Kind::RuleSpt)?;
+    let plan = plan_of(alloc, Kind::RuleSpt)?;
+    match RuleSearch::new(alloc, searched, lease) {
+        Ok(search) => Ok((plan, Patient::new(search, meeting))),
+        Err(_) => Err(Fail::from("no memory")),
+    }
 }
 
 /// How a farm of two tenants is settled with their purses.
 #[tactic(auto, using(crate::proofs::SeatLemmas::two_seated))]
 pub(crate) fn settle(
-    farm: Farm<TreeSearch>,
+    farm: Farm<Box<dyn Strategy>>,
     first: Purse,
     second: Purse,
 ) -> Option<Result<Settled, Unsettled>> {

@@ -1,53 +1,101 @@
 //! The trials.
-use crate::gates::{Open, Pair};
-use crate::made::{Purse, config_of, settle, submit_of};
-use farm_core::Reply;
-use farm_pool::{Command, Pool, Settled, Unsettled, WorkEnd};
+use crate::crew::{work_both, work_while_cancelled};
+use crate::gates::{Meeting, Open, Pair};
+use crate::made::{Purse, config_of, patient_of, pool_of, settle, tree_of};
+use farm_core::{Line, Reply};
+use farm_pool::{Command, Settled, Unsettled, WorkEnd};
 use job_table::Phase;
+use std::sync::Arc;
 use std::test::Fail;
-use std::thread;
-use strategy::Verdict;
-use tree_search::TreeSearch;
+use strategy::{Strategy, Verdict};
 
 const A: u32 = 0;
 
 const B: u32 = 1;
 
+// The line in a reply.
+fn line_in(reply: &Reply) -> Option<&Line> {
+    match reply {
+        Reply::Line(line) => Some(line),
+        _ => None,
+    }
+}
+
 // Whether it is the line of a job that has run all nine nodes of the diamond's tree.
 fn is_closed(reply: &Reply) -> bool {
+    line_in(reply).is_some_and(|line| {
+        matches!(line.phase, Phase::Closed)
+            && line.nodes == 9
+            && line.left == 0
+            && line.best == Some(4)
+            && line.verdict == Verdict::Optimal
+    })
+}
+
+// Whether it is the line of a job of six quanta that has not run.
+fn is_waiting(reply: &Reply) -> bool {
+    line_in(reply).is_some_and(|line| {
+        matches!(line.phase, Phase::Waiting)
+            && line.nodes == 0
+            && line.left == 6
+            && line.best == None
+            && line.verdict == Verdict::Going
+    })
+}
+
+// Whether a ledger has these quanta granted, free, held and spent.
+fn is_ledger(reply: &Reply, granted: u64, free: u64, held: u64, spent: u64) -> bool {
     match reply {
-        Reply::Line(line) => {
-            matches!(line.phase, Phase::Closed)
-                && line.nodes == 9
-                && line.left == 0
-                && line.best == Some(4)
-                && line.verdict == Verdict::Optimal
+        Reply::Ledger(book) => {
+            book.granted() == granted
+                && book.free() == free
+                && book.held() == held
+                && book.spent() == spent
         }
         _ => false,
     }
 }
 
+// A worker that did nothing.
+const IDLE: WorkEnd = WorkEnd {
+    turns: 0,
+    strangers: 0,
+};
+
 #[test]
 fn two_workers_of_two_tenants_settle(rt: HostRuntime) -> Result<(), Fail> {
-    let pool = Pool::<TreeSearch>::new(rt.alloc(), &config_of(rt.alloc(), 100)?)?;
+    let config = config_of(rt.alloc(), 100)?;
+    let (pool, mut pass) = pool_of(rt.alloc(), &config).ok_or(\"a pool\")?;
     let mut a = Purse::new(rt.alloc(), A, 100)?;
     let mut b = Purse::new(rt.alloc(), B, 10)?;
-    pool.call(&rt, A, submit_of(rt.alloc(), &mut a, 16)?);
-    pool.call(&rt, B, submit_of(rt.alloc(), &mut b, 6)?);
-    let (one, (two, _)) = thread::join(
+    let (plan, search) = tree_of(rt.alloc(), &mut a)?;
+    let search: Box<dyn Strategy> = Box::new(rt.alloc(), search)?;
+    pool.call(
         &rt,
-        || pool.work(&rt, &Open),
-        || {
-            thread::join(
-                &rt,
-                || pool.work(&rt, &Open),
-                || pool.call(&rt, B, Command::Cancel(1)),
-            )
+        &mut pass,
+        A,
+        Command::Submit {
+            plan,
+            quanta: 16,
+            search,
         },
     );
+    let (plan, search) = tree_of(rt.alloc(), &mut b)?;
+    let search: Box<dyn Strategy> = Box::new(rt.alloc(), search)?;
+    pool.call(
+        &rt,
+        &mut pass,
+        B,
+        Command::Submit {
+            plan,
+            quanta: 6,
+            search,
+        },
+    );
+    let (one, two) = work_while_cancelled(&rt, &pool, &mut pass, &Open);
     assert!(rt; one.strangers == 0 && two.strangers == 0);
-    assert!(rt; is_closed(&pool.call(&rt, A, Command::Status(1))));
-    let farm = pool.close().ok_or("a farm")?;
+    assert!(rt; is_closed(&pool.call(&rt, &mut pass, A, Command::Status(1))));
+    let farm = pool.close(pass).ok_or("a farm")?;
     assert!(rt; settle(farm, a, b) == Some(Ok(Settled)));
     Ok(())
 }
@@ -55,78 +103,191 @@ fn two_workers_of_two_tenants_settle(rt: HostRuntime) -> Result<(), Fail> {
 // The first of the two turns goes on only once the second one has begun.
 #[test]
 fn two_turns_run_at_once(rt: HostRuntime) -> Result<(), Fail> {
-    let pool = Pool::<TreeSearch>::new(rt.alloc(), &config_of(rt.alloc(), 100)?)?;
+    let config = config_of(rt.alloc(), 100)?;
+    let (pool, mut pass) = pool_of(rt.alloc(), &config).ok_or(\"a pool\")?;
     let mut a = Purse::new(rt.alloc(), A, 100)?;
     let mut b = Purse::new(rt.alloc(), B, 10)?;
-    pool.call(&rt, A, submit_of(rt.alloc(), &mut a, 16)?);
-    pool.call(&rt, B, submit_of(rt.alloc(), &mut b, 6)?);
-    let gate = Pair::new();
-    let (one, two) = thread::join(&rt, || pool.work(&rt, &gate), || pool.work(&rt, &gate));
-    assert!(rt; gate.was_met());
-    assert!(rt;
-        one.turns.saturating_add(two.turns) == 8 && one.strangers == 0 && two.strangers == 0
+    let (plan, search) = tree_of(rt.alloc(), &mut a)?;
+    let search: Box<dyn Strategy> = Box::new(rt.alloc(), search)?;
+    pool.call(
+        &rt,
+        &mut pass,
+        A,
+        Command::Submit {
+            plan,
+            quanta: 16,
+            search,
+        },
     );
+    let (plan, search) = tree_of(rt.alloc(), &mut b)?;
+    let search: Box<dyn Strategy> = Box::new(rt.alloc(), search)?;
+    pool.call(
+        &rt,
+        &mut pass,
+        B,
+        Command::Submit {
+            plan,
+            quanta: 6,
+            search,
+        },
+    );
+    let gate = Pair {
+        meeting: Meeting::new(),
+    };
+    let (one, two) = work_both(&rt, &pool, &mut pass, &gate);
+    assert!(rt; gate.meeting.was_met());
+    assert!(rt; one.turns.saturating_add(two.turns) == 8);
+    assert!(rt; one.strangers == 0 && two.strangers == 0);
+    Ok(())
+}
+
+// The first node of the one job goes on only once the other job's has begun: nodes run while nobody has the farm.
+#[test]
+fn two_searches_run_at_once(rt: HostRuntime) -> Result<(), Fail> {
+    let config = config_of(rt.alloc(), 100)?;
+    let (pool, mut pass) = pool_of(rt.alloc(), &config).ok_or(\"a pool\")?;
+    let mut a = Purse::new(rt.alloc(), A, 100)?;
+    let mut b = Purse::new(rt.alloc(), B, 10)?;
+    let meeting = Arc::new(rt.alloc(), Meeting::new())?;
+    let (one, two) = (meeting.clone()?, meeting.clone()?);
+    let (plan, search) = patient_of(rt.alloc(), &mut a, one)?;
+    let search: Box<dyn Strategy> = Box::new(rt.alloc(), search)?;
+    pool.call(
+        &rt,
+        &mut pass,
+        A,
+        Command::Submit {
+            plan,
+            quanta: 4,
+            search,
+        },
+    );
+    let (plan, search) = patient_of(rt.alloc(), &mut b, two)?;
+    let search: Box<dyn Strategy> = Box::new(rt.alloc(), search)?;
+    pool.call(
+        &rt,
+        &mut pass,
+        B,
+        Command::Submit {
+            plan,
+            quanta: 4,
+            search,
+        },
+    );
+    let (one, two) = work_both(&rt, &pool, &mut pass, &Open);
+    assert!(rt; meeting.was_met());
+    assert!(rt; one.turns.saturating_add(two.turns) == 4);
+    assert!(rt; one.strangers == 0 && two.strangers == 0);
+    let farm = pool.close(pass).ok_or("a farm")?;
+    assert!(rt; settle(farm, a, b) == Some(Ok(Settled)));
     Ok(())
 }
 
 // Nine nodes in turns of two: four whole ones and a last one of one node.
 #[test]
 fn each_turn_is_counted_once(rt: HostRuntime) -> Result<(), Fail> {
-    let pool = Pool::<TreeSearch>::new(rt.alloc(), &config_of(rt.alloc(), 100)?)?;
+    let config = config_of(rt.alloc(), 100)?;
+    let (pool, mut pass) = pool_of(rt.alloc(), &config).ok_or(\"a pool\")?;
     let mut a = Purse::new(rt.alloc(), A, 100)?;
-    pool.call(&rt, A, submit_of(rt.alloc(), &mut a, 16)?);
-    let end = pool.work(&rt, &Open);
-    assert!(rt;
-        end == WorkEnd {
-            turns: 5,
-            strangers: 0
-        }
+    let (plan, search) = tree_of(rt.alloc(), &mut a)?;
+    let search: Box<dyn Strategy> = Box::new(rt.alloc(), search)?;
+    pool.call(
+        &rt,
+        &mut pass,
+        A,
+        Command::Submit {
+            plan,
+            quanta: 16,
+            search,
+        },
     );
-    assert!(rt; is_closed(&pool.call(&rt, A, Command::Status(1))));
-    assert!(rt;
-        pool.work(&rt, &Open)
-            == WorkEnd {
-                turns: 0,
-                strangers: 0
-            }
-    );
+    let end = pool.work(&rt, &mut pass, &Open);
+    assert!(rt; end.turns == 5 && end.strangers == 0);
+    assert!(rt; is_closed(&pool.call(&rt, &mut pass, A, Command::Status(1))));
+    assert!(rt; pool.work(&rt, &mut pass, &Open) == IDLE);
     Ok(())
 }
 
 // With its one entry used for the submit, no turn of a's job can be taken.
 #[test]
 fn no_entries_for_a_turn(rt: HostRuntime) -> Result<(), Fail> {
-    let pool = Pool::<TreeSearch>::new(rt.alloc(), &config_of(rt.alloc(), 1)?)?;
+    let config = config_of(rt.alloc(), 1)?;
+    let (pool, mut pass) = pool_of(rt.alloc(), &config).ok_or(\"a pool\")?;
     let mut a = Purse::new(rt.alloc(), A, 100)?;
     let b = Purse::new(rt.alloc(), B, 10)?;
-    pool.call(&rt, A, submit_of(rt.alloc(), &mut a, 6)?);
-    assert!(rt;
-        pool.work(&rt, &Open)
-            == WorkEnd {
-                turns: 0,
-                strangers: 0
-            }
+    let (plan, search) = tree_of(rt.alloc(), &mut a)?;
+    let search: Box<dyn Strategy> = Box::new(rt.alloc(), search)?;
+    pool.call(
+        &rt,
+        &mut pass,
+        A,
+        Command::Submit {
+            plan,
+            quanta: 6,
+            search,
+        },
     );
-    let farm = pool.close().ok_or("a farm")?;
+    assert!(rt; pool.work(&rt, &mut pass, &Open) == IDLE);
+    let farm = pool.close(pass).ok_or("a farm")?;
     assert!(rt; settle(farm, a, b) == Some(Err(Unsettled::Held(0, 6))));
     Ok(())
 }
 
 #[test]
 fn no_worker(rt: HostRuntime) -> Result<(), Fail> {
-    let pool = Pool::<TreeSearch>::new(rt.alloc(), &config_of(rt.alloc(), 100)?)?;
+    let config = config_of(rt.alloc(), 100)?;
+    let (pool, mut pass) = pool_of(rt.alloc(), &config).ok_or(\"a pool\")?;
     let mut a = Purse::new(rt.alloc(), A, 100)?;
     let b = Purse::new(rt.alloc(), B, 10)?;
-    pool.call(&rt, A, submit_of(rt.alloc(), &mut a, 6)?);
-    let farm = pool.close().ok_or("a farm")?;
+    let (plan, search) = tree_of(rt.alloc(), &mut a)?;
+    let search: Box<dyn Strategy> = Box::new(rt.alloc(), search)?;
+    pool.call(
+        &rt,
+        &mut pass,
+        A,
+        Command::Submit {
+            plan,
+            quanta: 6,
+            search,
+        },
+    );
+    let farm = pool.close(pass).ok_or("a farm")?;
     assert!(rt; settle(farm, a, b) == Some(Err(Unsettled::Held(0, 6))));
     Ok(())
 }
 
 #[test]
-fn a_tenant_that_the_farm_has_not(rt: HostRuntime) -> Result<(), Fail> {
-    let pool = Pool::<TreeSearch>::new(rt.alloc(), &config_of(rt.alloc(), 1)?)?;
-    assert!(rt; matches!(&pool.call(&rt, 2, Command::Ledger), Reply::NoUnknown));
-    assert!(rt; matches!(&pool.call(&rt, A, Command::Ledger), Reply::Ledger(_)));
+fn a_second_pass_sees_the_first_ones_job(rt: HostRuntime) -> Result<(), Fail> {
+    let config = config_of(rt.alloc(), 100)?;
+    let (pool, mut first) = pool_of(rt.alloc(), &config).ok_or(\"a pool\")?;
+    let mut second = pool.split_pass(&mut first);
+    let mut a = Purse::new(rt.alloc(), A, 100)?;
+    let b = Purse::new(rt.alloc(), B, 10)?;
+    let (plan, search) = tree_of(rt.alloc(), &mut a)?;
+    let search: Box<dyn Strategy> = Box::new(rt.alloc(), search)?;
+    let job = pool.call(
+        &rt,
+        &mut first,
+        A,
+        Command::Submit {
+            plan,
+            quanta: 6,
+            search,
+        },
+    );
+    assert!(rt; matches!(&job, Reply::Job(1)));
+    assert!(rt; is_waiting(&pool.call(&rt, &mut second, A, Command::Status(1))));
+    pool.join_pass(&mut first, second);
+    assert!(rt;
+        is_ledger(
+            &pool.call(&rt, &mut first, A, Command::Ledger),
+            100,
+            94,
+            6,
+            0
+        )
+    );
+    let farm = pool.close(first).ok_or("a farm")?;
+    assert!(rt; settle(farm, a, b) == Some(Err(Unsettled::Held(0, 6))));
     Ok(())
 }

@@ -1,4 +1,4 @@
-use Rattle.std.proofs.Common.{◌≡◌, arith, ap}
+use Rattle.std.proofs.Common.{arith, ap}
 use Rattle.quanta_till.specs.Desk.{DeskValue}
 use Rattle.farm_service.proofs.SeatLemmas.{seated_set}
 use Rattle.farm_service.proofs.tills.branches.Goals as goal

@@ -1,6 +1,5 @@
-use Rattle.std.proofs.Common.{arith, sym, subst, ap}
+use Rattle.std.proofs.Common.{arith, ap}
 use Rattle.quanta_till.specs.Desk.{DeskValue}
-use Rattle.farm_pool.specs.Settle.{AreSeated}
 use Rattle.farm_service.proofs.SeatLemmas.{seated_push}
 use Rattle.farm_service.proofs.tills.open_tills.Goals as goal
 

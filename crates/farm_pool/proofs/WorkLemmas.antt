@@ -1,0 +1,74 @@
+-- What a worker's calls come to.
+use Rattle.std.proofs.Common.{◌≡◌, ℕ, ◌+◌, ◌-◌, ◌<◌, false, [], ◌∷◌, length, min, Some, refl, sym, ap, ◌∙◌, subst, arith}
+use Rattle.strategy.specs.Search.{Meaning}
+use Rattle.farm_core.specs.declared.turn.Turn.{Turn}
+use Rattle.farm_core.specs.Config.{ConfigData}
+use Rattle.farm_core.specs.Turn.{nodes_of, ran_on, IsTurn}
+use Rattle.farm_core.proofs.TurnLemmas.{turn_fresh}
+use Rattle.turn_lock.specs.Plays.{Called}
+use Rattle.farm_pool.specs.declared.image.TurnImage.{TurnImage}
+use Rattle.farm_pool.specs.declared.image.CallImage.TheVariants as said
+use Rattle.farm_pool.specs.declared.image.AnswerImage.TheVariants as told
+use Rattle.farm_pool.specs.declared.work.Deed.TheVariants.{Turned, Strayed, Waited}
+use Rattle.farm_pool.specs.Served.{Served}
+use Rattle.farm_pool.specs.Calls.{turn_image}
+use Rattle.farm_pool.specs.Worked.{PoolView, run_out, Does, Worked}
+
+-- what is known of a turn that was sent out
+pub record IsFresh (opening : ConfigData) (i : TurnImage) : Type 0 where
+  pub known : i.tenant < length opening.tenants
+  pub unrun : i.ran ≡ 0
+  pub best : i.taken ≡ false
+
+pub sent_fresh : (opening : ConfigData) (slice : ℕ) (v w : PoolView) (i : TurnImage) → v.opening ≡ Some opening → Called Served v (said.Next slice) (told.Sent i) w → IsFresh opening i
+sent_fresh opening slice v w i is called =
+    let both : Some called.opening ≡ Some opening = sym called.opened ∙ is in
+    let same : called.opening ≡ opening = cc in
+    record {
+      known = subst (λ (o : ConfigData). i.tenant < length o.tenants) same called.stands.answers.known;
+      unrun = called.stands.answers.ran;
+      best = ap (λ (m : Meaning). m.taken) called.stands.answers.search;
+    }
+
+pub fresh_turn : (slice ran : ℕ) (m : Meaning) → ran ≡ 0 → m.taken ≡ false → IsTurn slice ran m
+fresh_turn slice ran m unrun best = subst (λ n. IsTurn slice n m) (sym unrun) (turn_fresh slice m best)
+
+nothing : (n : ℕ) → 0 + n ≡ n
+nothing n = omega arith
+
+-- a turn that has run is told so
+pub image_ran : {J : Type 0} (meaning : J → Meaning) (t u : Turn J) (n : ℕ) → u.tenant ≡ t.tenant → u.seq ≡ t.seq → u.slice ≡ t.slice → t.ran ≡ 0 → u.ran ≡ t.ran + n
+    → n ≡ nodes_of t.slice (meaning t.search) → meaning u.search ≡ ran_on n (meaning t.search) → turn_image meaning u ≡ run_out (turn_image meaning t)
+image_ran meaning t u n tenant seq slice unrun ran all is =
+    let m : Meaning = meaning t.search in
+    let k : ℕ = nodes_of t.slice m in
+    let e1 : (meaning u.search).tenant ≡ m.tenant = ap (λ (x : Meaning). x.tenant) is in
+    let e2 : (meaning u.search).plan ≡ m.plan = ap (λ (x : Meaning). x.plan) is in
+    let e3 : (meaning u.search).nodes ≡ m.nodes + k = ap (λ (x : Meaning). x.nodes) is ∙ ap (λ j. m.nodes + j) all in
+    let e4 : (meaning u.search).left ≡ m.left - k = ap (λ (x : Meaning). x.left) is ∙ ap (λ j. m.left - j) all in
+    let e5 : (meaning u.search).taken ≡ m.taken = ap (λ (x : Meaning). x.taken) is in
+    let e6 : u.ran ≡ k = ran ∙ ap (λ j. j + n) unrun ∙ nothing n ∙ all in
+    rw (tenant, seq, slice, e6, e1, e2, e3, e4, e5) refl
+
+-- one deed more
+pub turned_more : (slice : ℕ) (v m w : PoolView) (a b c : ℕ) → Worked slice v a b m → Does slice Turned m w → c ≡ min (a + 1) 18446744073709551615 → Worked slice v c b w
+turned_more slice v m w a b c so did is = record {
+  deeds = Turned ∷ so.deeds;
+  done = (m, so.done, did);
+  turns_are = is ∙ ap (λ n. min (n + 1) 18446744073709551615) so.turns_are;
+  strangers_are = so.strangers_are;
+}
+
+pub strayed_more : (slice : ℕ) (v m w : PoolView) (a b c : ℕ) → Worked slice v a b m → Does slice Strayed m w → c ≡ min (b + 1) 18446744073709551615 → Worked slice v a c w
+strayed_more slice v m w a b c so did is = record {
+  deeds = Strayed ∷ so.deeds;
+  done = (m, so.done, did);
+  turns_are = so.turns_are;
+  strangers_are = is ∙ ap (λ n. min (n + 1) 18446744073709551615) so.strangers_are;
+}
+
+pub waited_more : (slice : ℕ) (v m w : PoolView) (a b : ℕ) → Worked slice v a b m → Does slice Waited m w → Worked slice v a b w
+waited_more slice v m w a b so did = record { deeds = Waited ∷ so.deeds; done = (m, so.done, did); turns_are = so.turns_are; strangers_are = so.strangers_are }
+
+pub begun : (slice : ℕ) (v : PoolView) → Worked slice v 0 0 v
+begun slice v = record { deeds = []; done = refl; turns_are = refl; strangers_are = refl }

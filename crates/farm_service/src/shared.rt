@@ -1,0 +1,190 @@
+//! What the threads of a service share: a pool, as they see it.
+//!
+//! A pool's calls are those of a farm of boxed searches. A contract cannot be stated of a closure that makes such boxes, so what runs in threads is generic in what
+//! makes searches and in what it shares, and only `serve` names the boxes.
+ghost use Rattle.std.specs.Prelude.{◌≡◌, ◌<◌, All, length};
+ghost use Rattle.std.specs.Vec.{vec_len, vec_capacity};
+ghost use Rattle.farm_core.specs.Config.{ConfigData};
+
+use farm_core::Reply;
+use farm_pool::{Command, Gate, Pool, PoolPass};
+use std::snapshot::Snapshot;
+use std::sync::Wait;
+use std::thread::{Promise, PromisedHandle, Threads};
+use strategy::{Plan, Strategy};
+
+/// What a tenant may ask, other than that a job be submitted.
+#[derive(Drop)]
+pub(crate) enum Asked {
+    /// So many quanta more for the job of this number.
+    Fund {
+        /// The job's number.
+        seq: u64,
+        /// How many quanta it is given.
+        quanta: u64,
+    },
+    /// What is known of the job of this number.
+    Status(u64),
+    /// The best schedule of the job of this number.
+    Fetch(u64),
+    /// That the job of this number be searched no more.
+    Cancel(u64),
+    /// That the job of this number be kept no longer.
+    Forget(u64),
+    /// The tenant's ledger.
+    Ledger,
+}
+
+/// A pool, as its threads see it: each has a token of it, and makes its calls with that.
+pub(crate) trait Shared {
+    /// A job's search.
+    type Search;
+    /// What a thread has of the pool.
+    type Token;
+
+    ghost config: { Self → ConfigData };
+
+    ghost owns: { Self → Self.Token → Type 0 };
+
+    /// Submits a tenant's job, with its search.
+    fn submit<R: Wait>(
+        &self,
+        rt: &R,
+        token: &mut Self::Token,
+        tenant: u32,
+        plan: Plan,
+        quanta: u64,
+        search: Self::Search,
+    ) -> Reply
+        requires own { owns self.now token.old }
+        requires known { tenant < length (config self.now).tenants }
+        ensures { owns self.now token.new };
+
+    /// Makes another call of a tenant.
+    fn ask<R: Wait>(&self, rt: &R, token: &mut Self::Token, tenant: u32, asked: Asked) -> Reply
+        requires own { owns self.now token.old }
+        requires known { tenant < length (config self.now).tenants }
+        ensures { owns self.now token.new };
+
+    /// Takes turns of the jobs, as long as the gate lets it.
+    fn work<R: Wait, G: Gate>(&self, rt: &R, token: &mut Self::Token, gate: &G)
+        requires { owns self.now token.old }
+        ensures { owns self.now token.new };
+
+    /// A token for another thread.
+    fn split(&self, token: &mut Self::Token) -> Self::Token
+        requires { owns self.now token.old }
+        ensures kept { owns self.now token.new }
+        ensures new { owns self.now result };
+
+    /// Takes in another thread's token.
+    fn join(&self, token: &mut Self::Token, other: Self::Token)
+        requires own { owns self.now token.old }
+        requires other { owns self.now other }
+        ensures { owns self.now token.new };
+}
+
+impl Shared for Pool {
+    type Search = Box<dyn Strategy>;
+
+    type Token = PoolPass;
+
+    ghost use Rattle.turn_lock.specs.Values.{IsPassOf};
+
+    ghost config = { λ pool. pool.lock.opening };
+
+    ghost owns = { λ pool pass. IsPassOf pool.lock pass };
+
+    fn submit<R: Wait>(
+        &self,
+        rt: &R,
+        token: &mut PoolPass,
+        tenant: u32,
+        plan: Plan,
+        quanta: u64,
+        search: Box<dyn Strategy>,
+    ) -> Reply {
+        let command = Command::Submit {
+            plan,
+            quanta,
+            search,
+        };
+        self.call(rt, token, tenant, command)
+    }
+
+    fn ask<R: Wait>(&self, rt: &R, token: &mut PoolPass, tenant: u32, asked: Asked) -> Reply {
+        let command = match asked {
+            Asked::Fund { seq, quanta } => Command::Fund { seq, quanta },
+            Asked::Status(seq) => Command::Status(seq),
+            Asked::Fetch(seq) => Command::Fetch(seq),
+            Asked::Cancel(seq) => Command::Cancel(seq),
+            Asked::Forget(seq) => Command::Forget(seq),
+            Asked::Ledger => Command::Ledger,
+        };
+        self.call(rt, token, tenant, command)
+    }
+
+    fn work<R: Wait, G: Gate>(&self, rt: &R, token: &mut PoolPass, gate: &G) {
+        Pool::work(self, rt, token, gate);
+    }
+
+    fn split(&self, token: &mut PoolPass) -> PoolPass {
+        self.split_pass(token)
+    }
+
+    fn join(&self, token: &mut PoolPass, other: PoolPass) {
+        self.join_pass(token, other);
+    }
+}
+
+/// That a thread brings back a token of this.
+#[derive(Drop)]
+pub(crate) struct OfShared<D>(Snapshot<D>);
+
+impl<D: Shared> Promise<D::Token> for OfShared<D> {
+    ghost kept_by = { λ p token. D.owns p.0.value token };
+}
+
+/// What a thread promises that is to bring back a token of this.
+pub(crate) fn promise_of<D>(shared: &D) -> OfShared<D>
+    ensures { result.0.value ≡ shared.now }
+{
+    OfShared(Snapshot::of(shared))
+}
+
+/// Keeps one thread's handle more, where there is room.
+pub(crate) fn keep<D: Shared<Token: Send + Drop + 'static>>(
+    shared: &D,
+    handles: &mut Vec<PromisedHandle<D::Token, OfShared<D>>>,
+    handle: PromisedHandle<D::Token, OfShared<D>>,
+)
+    requires room { vec_len handles.old < vec_capacity handles.old }
+    requires all { All (λ h. h.promise.0.value ≡ shared.now) handles.old.items }
+    requires one { handle.promise.0.value ≡ shared.now }
+    ensures { All (λ h. h.promise.0.value ≡ shared.now) handles.new.items }
+{
+    handles.push_reserved(handle);
+}
+
+/// Waits for threads to end, and takes in their tokens.
+pub(crate) fn take_in<D: Shared<Token: Send + Drop + 'static>, R: Threads>(
+    rt: &R,
+    shared: &D,
+    mine: D::Token,
+    handles: Vec<PromisedHandle<D::Token, OfShared<D>>>,
+) -> D::Token
+    requires own { D.owns shared.now mine }
+    requires all { All (λ h. h.promise.0.value ≡ shared.now) handles.items }
+    ensures { D.owns shared.now result }
+{
+    let mut mine = mine;
+    let mut handles = handles;
+    for _ in 0..handles.len() {
+        let Some(handle) = handles.pop() else {
+            break;
+        };
+        let theirs = handle.join(rt);
+        shared.join(&mut mine, theirs);
+    }
+    mine
+}

@@ -1,0 +1,4 @@
+pub mod History
+pub mod Plays
+pub mod Rule
+pub mod Values

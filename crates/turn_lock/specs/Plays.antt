@@ -1,0 +1,110 @@
+-- What each step tells its pass.
+use Rattle.std.specs.Prelude.{◌≡◌, ◌≢◌, ℕ, List, [], ◌∷◌, ◌++◌, Option, Some, None, length, drop}
+use mathlib.Core.List.{IsPrefix}
+use Rattle.atomic_table.specs.Table.{Me, Step}
+use Rattle.turn_lock.specs.History.{listed, tagged, events_of, entries_of, IsLegal}
+use Rattle.turn_lock.specs.declared.view.View.{View}
+use Rattle.turn_lock.specs.declared.view.Stage.{Stage}
+use Rattle.turn_lock.specs.declared.view.Stage.TheVariants.{New, Idle, Turn, Joined}
+
+module _ {O E : Type 0} where
+  -- a pass that is split off has seen as much, and did nothing
+  abbrev pub split_off : View O E → View O E
+  split_off v = record { stage = New; number = v.number; opening = v.opening; seen = v.seen; mine = [] }
+
+  abbrev pub newcomer : View O E → ℕ → View O E
+  newcomer v number = record { stage = Idle; number = number; opening = v.opening; seen = v.seen; mine = [] }
+
+  abbrev pub numbered : View O E → ℕ → View O E
+  numbered v number = record { stage = Idle; number = number; opening = v.opening; seen = v.seen; mine = v.mine }
+
+  abbrev pub taking_in : View O E → View O E → View O E
+  taking_in v w = record { stage = Joined w.number w.seen w.mine; number = v.number; opening = v.opening; seen = v.seen; mine = v.mine }
+
+  abbrev pub having_seen : View O E → Stage E → List (ℕ × E) → View O E
+  having_seen v stage seen = record { stage = stage; number = v.number; opening = v.opening; seen = seen; mine = v.mine }
+
+  -- after these events, which are its own
+  abbrev pub having_made : View O E → List (ℕ × E) → List E → View O E
+  having_made v before es = record { stage = Idle; number = v.number; opening = v.opening; seen = before ++ tagged v.number es; mine = v.mine ++ tagged v.number es }
+
+  abbrev pub told : {S : Type 0} → Step S → Me S (View O E) → ℕ → Me S (View O E) → Type 0
+  told st m r n = (n.0.number ≢ m.0.number) × (n ≡ (numbered m.0 n.0.number, m.1))
+
+module _ {T O E C A : Type 0} (opening_of : T → O) (events : T → List E) (relation : O → List E → C → Option E → A → Type 0) where
+  pub record Took (v : View O E) (n : Me (Option T) (View O E)) : Type 0 where
+    pub value : T
+    pub seen : List (ℕ × E)
+    pub after : n ≡ (having_seen v Turn seen, (0, Some value) ∷ [])
+    pub begins : IsPrefix v.seen seen
+    pub has : events value ≡ events_of seen
+    pub opened : v.opening ≡ Some (opening_of value)
+    pub legal : IsLegal relation (opening_of value) seen
+    pub own : entries_of v.number seen ≡ v.mine
+
+  -- the pass has the turn, and the value is out of the slot
+  pub record Holds (v : View O E) (value : T) (n : Me (Option T) (View O E)) : Type 0 where
+    pub seen : List (ℕ × E)
+    pub after : n ≡ (having_seen v Turn seen, (0, None) ∷ [])
+    pub begins : IsPrefix v.seen seen
+    pub has : events value ≡ events_of seen
+    pub opened : v.opening ≡ Some (opening_of value)
+    pub legal : IsLegal relation (opening_of value) seen
+    pub own : entries_of v.number seen ≡ v.mine
+
+  -- what the value has more than the pass has seen is the event of one call, or nothing
+  pub record MayEnd (v : View O E) (value : T) : Type 0 where
+    pub call : C
+    pub answer : A
+    pub event : Option E
+    pub opened : v.opening ≡ Some (opening_of value)
+    pub has : events value ≡ events_of v.seen ++ listed event
+    pub stands : relation (opening_of value) (events_of v.seen) call event answer
+
+  -- the value's events are those of a legal history, which begins with what the pass has seen
+  pub record Ended (v : View O E) (value : T) : Type 0 where
+    pub log : List (ℕ × E)
+    pub begins : IsPrefix v.seen log
+    pub has : events value ≡ events_of log
+    pub own : entries_of v.number log ≡ v.mine
+    pub opened : v.opening ≡ Some (opening_of value)
+    pub legal : IsLegal relation (opening_of value) log
+
+  abbrev pub took : Step (Option T) → Me (Option T) (View O E) → ℕ → Me (Option T) (View O E) → Type 0
+  took st m r n = (r ≡ 0 → Took m.0 n) × (r ≢ 0 → n ≡ m)
+
+  abbrev pub released : Step (Option T) → Me (Option T) (View O E) → ℕ → Me (Option T) (View O E) → Type 0
+  released st m r n = (t : T) → m.1 ≡ (0, Some t) ∷ [] → n ≡ (having_made m.0 m.0.seen (drop (length m.0.seen) (events t)), [])
+
+module _ {O E C A : Type 0} (relation : O → List E → C → Option E → A → Type 0) where
+  -- one history, which begins with what both had seen, and in which the entries of each are what it had made
+  pub record BothSeen (v : View O E) (other : ℕ) (seen mine : List (ℕ × E)) (w : View O E) : Type 0 where
+    pub after : w ≡ having_seen v Idle w.seen
+    pub this : IsPrefix v.seen w.seen
+    pub that : IsPrefix seen w.seen
+    pub own : entries_of v.number w.seen ≡ v.mine
+    pub other_own : entries_of other w.seen ≡ mine
+    pub apart : other ≢ v.number
+    pub legal : (opening : O) → v.opening ≡ Some opening → IsLegal relation opening w.seen
+
+  abbrev pub learned : {S : Type 0} → Step S → Me S (View O E) → ℕ → Me S (View O E) → Type 0
+  learned st m r n = (n.1 ≡ m.1) × ((other : ℕ) (seen mine : List (ℕ × E)) → m.0.stage ≡ Joined other seen mine → BothSeen m.0 other seen mine n.0)
+
+  -- one call of a pass
+  pub record Called (v : View O E) (call : C) (answer : A) (w : View O E) : Type 0 where
+    pub opening : O
+    pub before : List (ℕ × E)
+    pub event : Option E
+    pub opened : v.opening ≡ Some opening
+    pub begins : IsPrefix v.seen before
+    pub after : w ≡ having_made v before (listed event)
+    pub stands : relation opening (events_of before) call event answer
+    pub legal : IsLegal relation opening w.seen
+    pub own : entries_of v.number w.seen ≡ w.mine
+
+  -- a call of the pass `by` stands in this history: what it answered is right after the events before it
+  pub record StandsIn (opening : O) (history : List (ℕ × E)) (by : ℕ) (call : C) (answer : A) : Type 0 where
+    pub before : List (ℕ × E)
+    pub event : Option E
+    pub begins : IsPrefix (before ++ tagged by (listed event)) history
+    pub stands : relation opening (events_of before) call event answer

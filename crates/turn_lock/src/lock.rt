@@ -1,0 +1,185 @@
+//! The lock, and its passes.
+ghost use Rattle.std.specs.Prelude.{◌≡◌, ◌≢◌, [], ◌∷◌, None, length, drop, IfOk, IfErr, IfSome};
+ghost use Rattle.turn_lock.specs.Rule.{opened};
+ghost use Rattle.turn_lock.specs.Plays.{having_made, newcomer, Holds, MayEnd, BothSeen, Called, Ended};
+ghost use Rattle.turn_lock.specs.Values.{IsPassOf, Keeps};
+ghost use Rattle.turn_lock.specs.declared.view.Stage.TheVariants.{Idle, Turn};
+
+use crate::kept::{Kept, Runs};
+use crate::rule::{InTurns, Learn, Release, SplitOff, Take, TakeIn, Tell};
+use crate::view::View;
+use atomic_table::{Refused, Seat, Table};
+use std::alloc::{AllocFailed, Global};
+use std::marker::Model;
+use std::snapshot::Snapshot;
+use std::sync::Wait;
+use std::thread::yield_now;
+
+/// The word of a lock that nobody holds.
+const FREE: u64 = 0;
+
+/// The word of a lock that is held.
+const HELD: u64 = 1;
+
+/// How often a pass tries to take the turn before it gives its processor away between two tries.
+const TRIES: u32 = 64;
+
+type Words<T> = Table<
+    Option<T>,
+    View<<T as Kept>::Opening, <T as Kept>::Event>,
+    Snapshot<T>,
+    InTurns<T>,
+    Global,
+>;
+
+type Chair<T> = Seat<Option<T>, View<<T as Kept>::Opening, <T as Kept>::Event>>;
+
+/// A value that threads call one at a time, and the history of their calls.
+#[derive(Drop)]
+pub struct TurnLock<T: Kept> {
+    table: Words<T>,
+}
+
+impl<T: Kept> Model for TurnLock<T> {
+    ghost use Rattle.std.specs.Prelude.{◌≡◌};
+    ghost use Rattle.turn_lock.specs.Values.{LockValue};
+
+    ghost Value = { LockValue T.Opening };
+
+    ghost view = { λ l. record { table = l.table.shared.table_id; opening = T.opening l.table.shared.key.value } };
+
+    ghost invariant = { λ l. (l.table.shared.table_id.words ≡ 1) × (l.table.shared.table_id.slots ≡ 1) };
+}
+
+/// The right to call what lies under a lock, and what is known of the lock's history.
+#[derive(Drop)]
+pub struct Pass<T: Kept> {
+    seat: Chair<T>,
+}
+
+impl<T: Kept> Model for Pass<T> {
+    ghost use Rattle.std.specs.Prelude.{◌≡◌, []};
+    ghost use Rattle.turn_lock.specs.declared.view.Stage.TheVariants.{Idle};
+    ghost use Rattle.turn_lock.specs.Values.{PassValue};
+
+    ghost Value = { PassValue T.Opening T.Event };
+
+    ghost view = { λ p. record { table = p.seat.table_id; view = p.seat.me.0 } };
+
+    ghost invariant = { λ p. (p.seat.me.1 ≡ []) × (p.seat.me.0.stage ≡ Idle) };
+}
+
+impl<T: Kept + Drop> TurnLock<T> {
+    /// A lock of a value without events, and its first pass, which has seen nothing. Where there is no memory for it, the value comes back.
+    pub fn new(alloc: Global, value: T) -> Result<(TurnLock<T>, Pass<T>), AllocFailed<T>>
+        requires { T.events value ≡ [] }
+        ensures lock { IfOk result (λ r. (r.0.opening ≡ T.opening value) × IsPassOf r.0 r.1) }
+        ensures pass { IfOk result (λ r. r.1.view ≡ opened (T.opening value)) }
+        ensures err { IfErr result (λ e. e.value ≡ value) }
+    {
+        let Ok(mut slots) = Vec::with_capacity(alloc, 1) else {
+            return Err(AllocFailed { value });
+        };
+        let about = Snapshot::of(&value);
+        slots.push_reserved(Some(value));
+        match Table::new(alloc, &[FREE], slots, &about) {
+            Ok((table, seat)) => Ok((TurnLock { table }, Pass { seat })),
+            Err(Refused { mut slots }) => {
+                let value = slots.pop().unwrap().unwrap();
+                Err(AllocFailed { value })
+            }
+        }
+    }
+
+    /// Waits until the turn is free, takes it, and takes the value out of the slot.
+    fn take<R: Wait>(&self, rt: &R, seat: &mut Chair<T>) -> T
+        requires own { seat.old.table_id ≡ self.now.table }
+        requires idle { (seat.old.me.0.stage ≡ Idle) × (seat.old.me.1 ≡ []) }
+        ensures own { seat.new.table_id ≡ seat.old.table_id }
+        ensures took { Holds T.opening T.events T.relation seat.old.me.0 result seat.new.me }
+    {
+        let shared = &self.table.shared;
+        let mut tries: u32 = 0;
+        for _ in rt.forever() {
+            if shared.compare_exchange::<Take<T>>(seat, 0, FREE, HELD) == FREE {
+                return shared.exchange(seat, 0, None).unwrap();
+            }
+            if tries < TRIES {
+                tries += 1;
+            } else {
+                yield_now();
+            }
+        }
+        unreachable!()
+    }
+
+    /// Puts the value back into the slot, and ends the turn.
+    fn end_turn(&self, seat: &mut Chair<T>, value: T)
+        requires own { seat.old.table_id ≡ self.now.table }
+        requires turn { (seat.old.me.0.stage ≡ Turn) × (seat.old.me.1 ≡ (0, None) ∷ []) }
+        requires value { MayEnd T.opening T.events T.relation seat.old.me.0 value }
+        ensures own { seat.new.table_id ≡ seat.old.table_id }
+        ensures made { seat.new.me ≡ (having_made seat.old.me.0 seat.old.me.0.seen (drop (length seat.old.me.0.seen) (T.events value)), []) }
+    {
+        let shared = &self.table.shared;
+        drop(shared.exchange(seat, 0, Some(value)));
+        shared.store::<Release<T>>(seat, 0, FREE);
+    }
+
+    /// A pass for another thread, which has seen as much as this one and has made no call.
+    pub fn split_pass(&self, pass: &mut Pass<T>) -> Pass<T>
+        requires own { IsPassOf self.now pass.old }
+        ensures same { pass.new ≡ pass.old }
+        ensures own { IsPassOf self.now result }
+        ensures new { result.view ≡ newcomer pass.old.view result.view.number }
+        ensures apart { result.view.number ≢ pass.old.view.number }
+    {
+        let shared = &self.table.shared;
+        let mut seat = shared.split_seat::<SplitOff>(&mut pass.seat);
+        shared.load::<Tell>(&mut seat, 0);
+        Pass { seat }
+    }
+
+    /// Takes in another pass, which ends. What both had seen are beginnings of what this one has seen then.
+    pub fn join_pass(&self, pass: &mut Pass<T>, other: Pass<T>)
+        requires own { IsPassOf self.now pass.old }
+        requires other { IsPassOf self.now other }
+        ensures own { IsPassOf self.now pass.new }
+        ensures both { BothSeen T.relation pass.old.view other.view.number other.view.seen other.view.mine pass.new.view }
+    {
+        let Pass { seat } = other;
+        let shared = &self.table.shared;
+        shared.join_seat::<TakeIn>(&mut pass.seat, seat);
+        shared.load::<Learn<T>>(&mut pass.seat, 0);
+    }
+
+    /// The value, or nothing where a turn was still held: then a pass was lost in the midst of a call.
+    pub fn close(self, pass: Pass<T>) -> Option<T>
+        requires own { IsPassOf self pass }
+        ensures { IfSome result (λ value. Ended T.opening T.events T.relation pass.view value) }
+    {
+        let TurnLock { table } = self;
+        let Pass { seat } = pass;
+        let mut closed = table.close_with(seat);
+        let word = closed.word(0);
+        let value = closed.take(0);
+        closed.free();
+        if word == FREE { value } else { None }
+    }
+}
+
+impl<T: Kept + Runs<Says = <T as Kept>::Said, Tells = <T as Kept>::Told> + Drop> TurnLock<T> {
+    /// Waits for the turn, and makes one call of the value. Its event is the last that the pass has seen then.
+    pub fn with_turn<R: Wait>(&self, rt: &R, pass: &mut Pass<T>, call: T::Call) -> T::Answer
+        requires own { IsPassOf self.now pass.old }
+        requires can { (t : T) → T.opening t ≡ self.now.opening → T.may t call }
+        requires keeps { (t : T) (a : T.Answer) (u : T) → T.does t call a u → Keeps T.opening T.events T.relation t (T.said call) (T.told a) u }
+        ensures own { IsPassOf self.now pass.new }
+        ensures called { Called T.relation pass.old.view (T.said call) (T.told result) pass.new.view }
+    {
+        let mut value = self.take(rt, &mut pass.seat);
+        let answer = value.apply(call);
+        self.end_turn(&mut pass.seat, value);
+        answer
+    }
+}

@@ -1,0 +1,84 @@
+//! The rule of a lock's table, and its kinds of atomic step.
+use crate::kept::Kept;
+use crate::view::View;
+use atomic_table::{Join, Play, Split, TableRule};
+use std::marker::PhantomData;
+use std::snapshot::Snapshot;
+
+/// The rule. Its key is the value that the lock was made with, of which only the opening is read.
+pub struct InTurns<T> {
+    marker: PhantomData<T>,
+}
+
+impl<T: Kept> TableRule<Option<T>, View<T::Opening, T::Event>, Snapshot<T>> for InTurns<T> {
+    ghost use Rattle.turn_lock.specs.Rule.{IsKept, opened};
+
+    ghost holds = { λ key. IsKept T.opening T.events T.relation (T.opening key.value) };
+
+    ghost first = { λ key. opened (T.opening key.value) };
+}
+
+/// A pass is split: it stays as it is, and one more is made.
+pub(crate) struct SplitOff;
+
+impl<O, E> Split<View<O, E>> for SplitOff {
+    ghost use Rattle.turn_lock.specs.Plays.{split_off};
+
+    ghost left = { λ v. v };
+
+    ghost right = { split_off };
+}
+
+/// Two passes are joined: one goes on, and one has ended.
+pub(crate) struct TakeIn;
+
+impl<O, E> Join<View<O, E>> for TakeIn {
+    ghost use Rattle.turn_lock.specs.Plays.{taking_in};
+    ghost use Rattle.turn_lock.specs.Rule.{spent};
+
+    ghost both = { taking_in };
+
+    ghost spent = { spent };
+}
+
+/// A load, by which a new pass learns its number.
+pub(crate) struct Tell;
+
+impl<S, O, E> Play<S, View<O, E>> for Tell {
+    ghost use Rattle.turn_lock.specs.Plays.{told};
+
+    ghost then = { told };
+}
+
+/// A load, by which a pass that took in another learns that both had seen beginnings of one history.
+pub(crate) struct Learn<T> {
+    marker: PhantomData<T>,
+}
+
+impl<T: Kept> Play<Option<T>, View<T::Opening, T::Event>> for Learn<T> {
+    ghost use Rattle.turn_lock.specs.Plays.{learned};
+
+    ghost then = { learned T.relation };
+}
+
+/// A compare and exchange of 0 by 1: the pass takes the turn, or finds that it is held.
+pub(crate) struct Take<T> {
+    marker: PhantomData<T>,
+}
+
+impl<T: Kept> Play<Option<T>, View<T::Opening, T::Event>> for Take<T> {
+    ghost use Rattle.turn_lock.specs.Plays.{took};
+
+    ghost then = { took T.opening T.events T.relation };
+}
+
+/// A store of 0: the pass ends its turn, and the history has what the value has more.
+pub(crate) struct Release<T> {
+    marker: PhantomData<T>,
+}
+
+impl<T: Kept> Play<Option<T>, View<T::Opening, T::Event>> for Release<T> {
+    ghost use Rattle.turn_lock.specs.Plays.{released};
+
+    ghost then = { released T.opening T.events T.relation };
+}
