@@ -32,6 +32,8 @@ struct Project {
     slack: [i64; MOST],
     renewables: usize,
     nonrenewables: usize,
+    /// No feasible schedule is shorter: the longest chain of successors, each in its shortest mode.
+    bound: u32,
 }
 
 /// One step of a search is one node.
@@ -86,7 +88,7 @@ fn read(text: &str) -> Project {
         }
         activities.push(Activity { modes, successors, predecessors: Vec::new(), tail: 0, lft: 0 });
     }
-    finished(Project { activities, capacity, slack: stock.map(i64::from), renewables, nonrenewables })
+    finished(Project { activities, capacity, slack: stock.map(i64::from), renewables, nonrenewables, bound: 0 })
 }
 
 /// The project with predecessors, tails, latest finish times, least consumptions and slacks.
@@ -97,6 +99,7 @@ fn finished(mut project: Project) -> Project {
         let shortest = |at: usize| all[at].modes.iter().map(|mode| mode.duration).min().unwrap_or(0);
         let tail = all[j].successors.iter().map(|&s| shortest(s) + all[s].tail).max().unwrap_or(0);
         let lft = all[j].successors.iter().map(|&s| all[s].lft - shortest(s)).min().unwrap_or(horizon);
+        project.bound = project.bound.max(shortest(j) + tail);
         (all[j].tail, all[j].lft) = (tail, lft);
         for s in all[j].successors.clone() {
             all[s].predecessors.push(j);
@@ -277,6 +280,7 @@ impl Search for Tree {
         if !self.try_candidate() {
             self.step();
         }
+        self.closed |= self.best == Some(self.project.bound);
     }
 
     fn nodes(&self) -> u64 {
@@ -460,7 +464,7 @@ impl Search for Sample {
     }
 
     fn closed(&self) -> bool {
-        false
+        self.best == Some(self.project.bound)
     }
 
     fn best(&self) -> Option<u32> {
@@ -468,7 +472,7 @@ impl Search for Sample {
     }
 
     fn verdict(&self) -> &'static str {
-        "Going"
+        if self.closed() { "Optimal" } else { "Going" }
     }
 }
 

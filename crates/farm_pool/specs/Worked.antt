@@ -1,5 +1,5 @@
 -- What a worker did, and how a pool ends.
-use Rattle.std.specs.Prelude.{◌≡◌, ℕ, ◌+◌, ◌-◌, min, List, [], ◌∷◌, Some}
+use Rattle.std.specs.Prelude.{◌≡◌, ⊤, ℕ, ◌+◌, ◌-◌, min, List, [], ◌∷◌, Some}
 use mathlib.Core.List.{IsPrefix}
 use Rattle.farm_core.specs.declared.entry.Entry.{Entry}
 use Rattle.farm_core.specs.declared.reply.Reply.{Reply}
@@ -44,10 +44,16 @@ pub record IsStrayed (slice : ℕ) (v w : PoolView) : Type 0 where
   pub took : Called Served v (said.Next slice) (told.Sent turn) out
   pub gave : Called Served out (said.Back (run_out turn)) told.Stray w
 
--- there was none to take, or no memory
+-- no turn went out: there was none to take, or no memory for it
+abbrev pub IsNone : AnswerImage → Type 0
+IsNone told.Idle = ⊤
+IsNone told.NoMemory = ⊤
+IsNone answer = ⊥
+
 pub record HasWaited (slice : ℕ) (v w : PoolView) : Type 0 where
   pub answer : AnswerImage
   pub asked : Called Served v (said.Next slice) answer w
+  pub none : IsNone answer
 
 abbrev pub Does : ℕ → Deed → PoolView → PoolView → Type 0
 Does slice Turned v w = IsTurned slice v w
