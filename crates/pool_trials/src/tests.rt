@@ -65,7 +65,7 @@ const IDLE: WorkEnd = WorkEnd {
 #[test]
 fn two_workers_of_two_tenants_settle(rt: HostRuntime) -> Result<(), Fail> {
     let config = config_of(rt.alloc(), 100)?;
-    let (pool, mut pass) = pool_of(rt.alloc(), &config).ok_or(\"a pool\")?;
+    let (pool, mut pass) = pool_of(rt.alloc(), &config).ok_or("a pool")?;
     let mut a = Purse::new(rt.alloc(), A, 100)?;
     let mut b = Purse::new(rt.alloc(), B, 10)?;
     let (plan, search) = tree_of(rt.alloc(), &mut a)?;
@@ -104,7 +104,7 @@ fn two_workers_of_two_tenants_settle(rt: HostRuntime) -> Result<(), Fail> {
 #[test]
 fn two_turns_run_at_once(rt: HostRuntime) -> Result<(), Fail> {
     let config = config_of(rt.alloc(), 100)?;
-    let (pool, mut pass) = pool_of(rt.alloc(), &config).ok_or(\"a pool\")?;
+    let (pool, mut pass) = pool_of(rt.alloc(), &config).ok_or("a pool")?;
     let mut a = Purse::new(rt.alloc(), A, 100)?;
     let mut b = Purse::new(rt.alloc(), B, 10)?;
     let (plan, search) = tree_of(rt.alloc(), &mut a)?;
@@ -145,7 +145,7 @@ fn two_turns_run_at_once(rt: HostRuntime) -> Result<(), Fail> {
 #[test]
 fn two_searches_run_at_once(rt: HostRuntime) -> Result<(), Fail> {
     let config = config_of(rt.alloc(), 100)?;
-    let (pool, mut pass) = pool_of(rt.alloc(), &config).ok_or(\"a pool\")?;
+    let (pool, mut pass) = pool_of(rt.alloc(), &config).ok_or("a pool")?;
     let mut a = Purse::new(rt.alloc(), A, 100)?;
     let mut b = Purse::new(rt.alloc(), B, 10)?;
     let meeting = Arc::new(rt.alloc(), Meeting::new())?;
@@ -187,7 +187,7 @@ fn two_searches_run_at_once(rt: HostRuntime) -> Result<(), Fail> {
 #[test]
 fn each_turn_is_counted_once(rt: HostRuntime) -> Result<(), Fail> {
     let config = config_of(rt.alloc(), 100)?;
-    let (pool, mut pass) = pool_of(rt.alloc(), &config).ok_or(\"a pool\")?;
+    let (pool, mut pass) = pool_of(rt.alloc(), &config).ok_or("a pool")?;
     let mut a = Purse::new(rt.alloc(), A, 100)?;
     let (plan, search) = tree_of(rt.alloc(), &mut a)?;
     let search: Box<dyn Strategy> = Box::new(rt.alloc(), search)?;
@@ -212,7 +212,7 @@ fn each_turn_is_counted_once(rt: HostRuntime) -> Result<(), Fail> {
 #[test]
 fn no_entries_for_a_turn(rt: HostRuntime) -> Result<(), Fail> {
     let config = config_of(rt.alloc(), 1)?;
-    let (pool, mut pass) = pool_of(rt.alloc(), &config).ok_or(\"a pool\")?;
+    let (pool, mut pass) = pool_of(rt.alloc(), &config).ok_or("a pool")?;
     let mut a = Purse::new(rt.alloc(), A, 100)?;
     let b = Purse::new(rt.alloc(), B, 10)?;
     let (plan, search) = tree_of(rt.alloc(), &mut a)?;
@@ -236,7 +236,7 @@ fn no_entries_for_a_turn(rt: HostRuntime) -> Result<(), Fail> {
 #[test]
 fn no_worker(rt: HostRuntime) -> Result<(), Fail> {
     let config = config_of(rt.alloc(), 100)?;
-    let (pool, mut pass) = pool_of(rt.alloc(), &config).ok_or(\"a pool\")?;
+    let (pool, mut pass) = pool_of(rt.alloc(), &config).ok_or("a pool")?;
     let mut a = Purse::new(rt.alloc(), A, 100)?;
     let b = Purse::new(rt.alloc(), B, 10)?;
     let (plan, search) = tree_of(rt.alloc(), &mut a)?;
@@ -259,7 +259,7 @@ fn no_worker(rt: HostRuntime) -> Result<(), Fail> {
 #[test]
 fn a_second_pass_sees_the_first_ones_job(rt: HostRuntime) -> Result<(), Fail> {
     let config = config_of(rt.alloc(), 100)?;
-    let (pool, mut first) = pool_of(rt.alloc(), &config).ok_or(\"a pool\")?;
+    let (pool, mut first) = pool_of(rt.alloc(), &config).ok_or("a pool")?;
     let mut second = pool.split_pass(&mut first);
     let mut a = Purse::new(rt.alloc(), A, 100)?;
     let b = Purse::new(rt.alloc(), B, 10)?;
