@@ -1,5 +1,5 @@
 //! What runs the nodes of a plan's search, and knows nothing of quanta nor of when the search stops.
-ghost use Rattle.std.specs.Prelude.{◌≡◌, ◌+◌, ◌<◌, ℕ, false, IfOk, option_map};
+ghost use Rattle.std.specs.Prelude.{◌≡◌, ◌+◌, ℕ, false, IfOk, option_map};
 ghost use Rattle.std.specs.Option.{option_copied};
 ghost use Rattle.mrcpsp.specs.Schedule.{makespan};
 ghost use Rattle.mrcpsp.specs.Values.{bound};
