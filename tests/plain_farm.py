@@ -133,7 +133,7 @@ class Search:
 
     def __init__(self, project, kind):
         self.project, self.best, self.over, self.verdict = project, None, False, "open"
-        self.steps = tree_steps(project) if kind == "tree" else plain_searches.search(project, kind)
+        self.steps = plain_searches.search(project, kind)
 
     def node(self):
         self.best, self.over, self.verdict = next(self.steps)
@@ -145,16 +145,6 @@ class Search:
         if self.best is None:
             return ""
         return " " + plain_searches.shown(self.project, self.best).split(" ", 1)[1]
-
-
-def tree_steps(project):
-    """As plain_searches.search does for the tree, without a list of all nodes."""
-    nodes = plain_searches.tree(project)
-    best = next(nodes)
-    for later in nodes:
-        yield best, False, "open"
-        best = later
-    yield best, True, "optimal" if best else "infeasible"
 
 
 # The farm

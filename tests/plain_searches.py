@@ -39,6 +39,7 @@ class Project:
             for s in successors[j]:
                 followers[j] |= {s} | followers[s]
         self.mts = [len(f) for f in followers]
+        self.bound = max(self.shortest[j] + self.tail[j] for j in range(self.n))
 
     def least(self, j, k):
         return min(m[2][k] for m in self.modes[j])
@@ -152,12 +153,23 @@ def nothing():
 
 
 def search(p, kind):
-    """Yields (best, closed, verdict) after each node."""
+    """Yields (best, closed, verdict) after each node. A search is over as soon as its best schedule is no longer than the bound."""
+    for best, closed, verdict in all_nodes(p, kind):
+        if best is not None and p.makespan(best) == p.bound:
+            yield best, True, "optimal"
+            return
+        yield best, closed, verdict
+
+
+def all_nodes(p, kind):
+    """The same of a search that runs all its nodes, whatever it finds."""
     if kind == "tree":
-        nodes = list(tree(p))
-        for k, best in enumerate(nodes, 1):
-            closed = k == len(nodes)
-            yield best, closed, ("optimal" if best else "infeasible") if closed else "open"
+        nodes = tree(p)
+        best = next(nodes)
+        for after in nodes:
+            yield best, False, "open"
+            best = after
+        yield best, True, "optimal" if best else "infeasible"
     elif kind.startswith("rule:"):
         key = {"lft": lambda j: p.lft[j], "mts": lambda j: -p.mts[j], "spt": lambda j: p.shortest[j]}[kind[5:]]
         choose = lambda xs, _: min(xs, key=lambda j: (key(j), j))

@@ -1,14 +1,3 @@
-pub mod ConfigLemmas
 pub mod InputLemmas
-pub mod FloorLemmas
-pub mod PlayLemmas
-pub mod IsolationLemmas
-pub mod TruthLemmas
-pub mod PlannedLemmas
-pub mod Examples
-pub mod BeginLemmas
-pub mod ByteLemmas
-pub mod CounterLemmas
 pub mod CommandLineLemmas
 pub mod CommandLineExamples
-pub mod SeatLemmas

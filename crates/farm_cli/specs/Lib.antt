@@ -1,12 +1,2 @@
 pub mod Summary
-pub mod ConfigText
-pub mod Config
-pub mod Replay
-pub mod Output
-pub mod Floor
-pub mod Isolation
-pub mod Truth
-pub mod Begins
-pub mod Bytes
-pub mod Counter
 pub mod CommandLine

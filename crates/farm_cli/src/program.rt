@@ -3,13 +3,13 @@ ghost use Rattle.std.specs.Prelude.{◌≡◌, ◌≤◌, OnOk, OnErr};
 ghost use Rattle.std.specs.Process.{exit_status};
 
 use crate::arguments::{Task, parse_words};
-use crate::config::read_config;
 use crate::input::{read_path, read_whole};
-use crate::script::{ReplayFault, replay};
-use crate::service::{ServeFault, serve};
 use crate::summary::summarize;
+use farm_config::read_config;
 use farm_core::Config;
 use farm_pool::Settled;
+use farm_replay::{ReplayFault, replay};
+use farm_service::{ServeFault, serve};
 use psplib_mm::read;
 use std::io::{BufWriter, Eprint, Print, Read, Write};
 use std::net::{Ipv4Addr, Net, SocketAddr, TcpListener, TcpStream};

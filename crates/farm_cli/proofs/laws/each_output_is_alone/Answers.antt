@@ -1,5 +1,0 @@
-use Rattle.farm_cli.proofs.ByteLemmas.{each_output_is_alone}
-use Rattle.farm_cli.proofs.laws.each_output_is_alone.Goals as goal
-
-pub returns : goal.returns
-returns c = each_output_is_alone

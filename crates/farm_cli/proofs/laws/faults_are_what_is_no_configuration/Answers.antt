@@ -1,5 +1,0 @@
-use Rattle.farm_cli.proofs.ConfigLemmas.{fault_none}
-use Rattle.farm_cli.proofs.laws.faults_are_what_is_no_configuration.Goals as goal
-
-pub returns : goal.returns
-returns c = fault_none

@@ -1,5 +1,0 @@
-use Rattle.farm_cli.proofs.ByteLemmas.{lines_are_replies}
-use Rattle.farm_cli.proofs.laws.lines_are_replies.Goals as goal
-
-pub returns : goal.returns
-returns c = lines_are_replies

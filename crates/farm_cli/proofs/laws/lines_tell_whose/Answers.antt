@@ -1,5 +1,0 @@
-use Rattle.farm_cli.proofs.BeginLemmas.{lines_tell_whose}
-use Rattle.farm_cli.proofs.laws.lines_tell_whose.Goals as goal
-
-pub returns : goal.returns
-returns c = lines_tell_whose

@@ -1,0 +1,154 @@
+-- The configuration that a JSON text is (RFC 8259), and why a text is none.
+use Rattle.std.specs.Prelude.{◌≡◌, ℕ, Bool, not, ◌&&◌, ◌||◌, List, [], ◌∷◌, ◌++◌, length, take, nat_le, is_none, if◌then◌else◌, Option, Some, None, option_map, option_and_then, Result, Ok, Err, codes, IsUtf8}
+use Rattle.std.specs.List.{find, list_all, flat_map, enumerate_from}
+use Rattle.std.specs.Option.{option_or}
+use Rattle.serde_json.specs.Data.{Data, Items, no_items, item}
+use Rattle.serde_json.specs.Read.{read}
+use Rattle.serde_json.specs.Find.{get, as_number, as_u64, as_str, as_array}
+use Rattle.farm_core.specs.Name.{is_name}
+use Rattle.farm_core.specs.Config.{ConfigData, is_within, has_name, is_config}
+use Rattle.farm_core.specs.declared.config.TenantLine.{TenantLine}
+use Rattle.farm_config.specs.declared.fault.Key.{Key}
+use Rattle.farm_config.specs.declared.fault.Key.TheVariants.{Quanta, Jobs, Entries, Workers, Slice}
+use Rattle.farm_config.specs.declared.fault.ConfigFault.{ConfigFault}
+use Rattle.farm_config.specs.declared.fault.ConfigFault.TheVariants.{Json, Shape, Tenants, Name, Range, NoMemory}
+
+-- ---- the shape of a value
+
+infixl 10 ◌>>=◌
+abbrev pub ◌>>=◌ : {A B : Type 0} → Option A → (A → Option B) → Option B
+None >>= f = None
+(Some x) >>= f = f x
+
+-- a natural number below 2^64, written in digits alone
+abbrev pub natural : Data → Option ℕ
+natural value = option_and_then as_u64 (as_number value)
+
+abbrev pub text_at : List ℕ → Data → Option (List ℕ)
+text_at key value = option_and_then as_str (get key value)
+
+abbrev pub natural_at : List ℕ → Data → Option ℕ
+natural_at key value = option_and_then natural (get key value)
+
+-- the same of a key that may be missing and then means this number
+abbrev pub natural_or : ℕ → Option Data → Option ℕ
+natural_or missing None = Some missing
+natural_or missing (Some value) = natural value
+
+-- a tenant's line as it is written
+abbrev pub line_of : Data → Option TenantLine
+line_of value = do
+  name ← text_at (codes "name") value
+  quanta ← natural_at (codes "quanta") value
+  jobs ← natural_at (codes "jobs") value
+  entries ← natural_at (codes "entries") value
+  Some (record { name = name; quanta = quanta; jobs = jobs; entries = entries })
+
+abbrev pub lines_of : Items → Option (List TenantLine)
+lines_of no_items = Some []
+lines_of (item value values) = do
+  line ← line_of value
+  lines ← lines_of values
+  Some (line ∷ lines)
+
+abbrev pub tenants_of : Data → Option (List TenantLine)
+tenants_of value = do
+  tenants ← option_and_then as_array (get (codes "tenants") value)
+  lines_of tenants
+
+-- a configuration as it is written: names may be ill formed, and numbers out of range
+abbrev pub written : Data → Option ConfigData
+written value = do
+  tenants ← tenants_of value
+  workers ← natural_or 2 (get (codes "workers") value)
+  slice ← natural_or 1000 (get (codes "slice") value)
+  Some (record { tenants = tenants; workers = workers; slice = slice })
+
+-- ---- the faults of what is written
+
+-- the first tenant, by its place, whose name is ill formed or is that of one before it
+abbrev pub is_misnamed : List TenantLine → ℕ × TenantLine → Bool
+is_misnamed lines tenant = not (is_name tenant.1.name) || has_name tenant.1.name (take tenant.0 lines)
+
+abbrev pub first_misnamed : List TenantLine → Option ℕ
+first_misnamed lines = option_map (λ tenant. tenant.0) (find (is_misnamed lines) (enumerate_from 0 lines))
+
+-- the numbers that a key may have
+abbrev pub allows : Key → ℕ → Bool
+allows Quanta n = nat_le n 1000000000000
+allows Jobs n = is_within 1 1000 n
+allows Entries n = is_within 1 1000000 n
+allows Workers n = is_within 1 16 n
+allows Slice n = is_within 1 1000000 n
+
+-- each key with its number, in the order in which they are judged
+abbrev pub terms_of : TenantLine → List (Key × ℕ)
+terms_of line = (Quanta, line.quanta) ∷ (Jobs, line.jobs) ∷ (Entries, line.entries) ∷ []
+
+abbrev pub all_terms : ConfigData → List (Key × ℕ)
+all_terms config = flat_map terms_of config.tenants ++ ((Workers, config.workers) ∷ (Slice, config.slice) ∷ [])
+
+abbrev pub is_out : Key × ℕ → Bool
+is_out term = not (allows term.0 term.1)
+
+abbrev pub first_out : List (Key × ℕ) → Option Key
+first_out terms = option_map (λ term. term.0) (find is_out terms)
+
+abbrev pub count_fault : List TenantLine → Option ConfigFault
+count_fault lines = if is_within 1 64 (length lines) then None else Some Tenants
+
+abbrev pub first_fault : ConfigData → Option ConfigFault
+first_fault config =
+    option_or (count_fault config.tenants)
+    (option_or (option_map Name (first_misnamed config.tenants))
+    (option_map Range (first_out (all_terms config))))
+
+-- what is written has no fault exactly where it keeps the farm's limits and each name is well formed
+abbrev pub is_well_named : TenantLine → Bool
+is_well_named line = is_name line.name
+
+abbrev pub FaultsAreWhatIsNoConfiguration : Type 0
+FaultsAreWhatIsNoConfiguration = (config : ConfigData) →
+    is_none (first_fault config) ≡ (list_all is_well_named config.tenants && is_config config)
+
+-- ---- the configuration of a value, and of a text
+
+abbrev pub shaped : {X : Type 0} → Option X → Result X ConfigFault
+shaped None = Err Shape
+shaped (Some x) = Ok x
+
+abbrev pub unless : {X : Type 0} → Option ConfigFault → X → Result X ConfigFault
+unless None x = Ok x
+unless (Some fault) x = Err fault
+
+abbrev pub judged : ConfigData → Result ConfigData ConfigFault
+judged config = unless (first_fault config) config
+
+abbrev pub configuration_of : Option ConfigData → Result ConfigData ConfigFault
+configuration_of None = Err Shape
+configuration_of (Some config) = judged config
+
+abbrev pub configuration : Data → Result ConfigData ConfigFault
+configuration value = configuration_of (written value)
+
+-- what a function answers, seen by view, is what is meant, unless memory ran out
+abbrev pub Fails : {X : Type 0} → ConfigFault → Result X ConfigFault → Type 0
+Fails NoMemory meant = Unit {0}
+Fails fault meant = meant ≡ Err fault
+
+abbrev pub Gives : {X Y : Type 0} → (X → Y) → Result X ConfigFault → Result Y ConfigFault → Type 0
+Gives view (Ok x) meant = meant ≡ Ok (view x)
+Gives view (Err fault) meant = Fails fault meant
+
+-- the bytes are the text of a value that means this
+pub record Means (bytes : List ℕ) (answer : Result ConfigData ConfigFault) : Type 0 where
+  pub utf8 : IsUtf8 bytes
+  pub value : Data
+  pub is_read : read bytes ≡ Some value
+  pub meant : configuration value ≡ answer
+
+-- the bytes have this fault, and none that comes before it
+abbrev pub HasFault : List ℕ → ConfigFault → Type 0
+HasFault bytes NoMemory = Unit {0}
+HasFault bytes Json = IsUtf8 bytes → read bytes ≡ None
+HasFault bytes fault = Means bytes (Err fault)

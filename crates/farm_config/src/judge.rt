@@ -1,0 +1,104 @@
+//! The faults of a configuration as it is written.
+ghost use Rattle.std.specs.Prelude.{◌≡◌, option_map};
+ghost use Rattle.farm_core.specs.Config.{has_name};
+ghost use Rattle.farm_config.specs.declared.fault.ConfigFault.TheVariants.{Name as misnamed};
+ghost use Rattle.farm_config.specs.Config.{first_misnamed, terms_of, all_terms, first_out, first_fault, judged, unless, Gives};
+
+use crate::draft::{Draft, LineDraft};
+use crate::fault::{ConfigFault, Key};
+use farm_core::{Config, Name, TenantLine};
+use mrcpsp::Sequence;
+use std::alloc::Global;
+
+/// Whether one of these lines has the name.
+fn has_name(name: &Name, lines: &[TenantLine]) -> bool
+    ensures { result ≡ has_name name.now lines.now }
+{
+    for line in lines {
+        if name.is_same(&line.name) {
+            return true;
+        }
+    }
+    false
+}
+
+/// The lines of the tenants, or the first whose name is ill formed or is that of one before it.
+fn named(alloc: Global, drafts: &[LineDraft<'_>]) -> Result<Vec<TenantLine>, ConfigFault>
+    ensures { Gives (λ lines. lines.items) result (unless (option_map misnamed (first_misnamed drafts.now)) drafts.now) }
+{
+    let mut lines = Vec::new(alloc);
+    for (index, draft) in drafts.iter().enumerate() {
+        let name = Name::new(draft.name).filter(|name| !has_name(name, &lines));
+        let Some(name) = name else {
+            return Err(ConfigFault::Name(index));
+        };
+        let line = TenantLine {
+            name,
+            quanta: draft.quanta,
+            jobs: draft.jobs,
+            entries: draft.entries,
+        };
+        if lines.push(line).is_err() {
+            return Err(ConfigFault::NoMemory);
+        }
+    }
+    Ok(lines)
+}
+
+/// The first number of a tenant's line that is out of range.
+fn first_out_of_line(line: &LineDraft<'_>) -> Option<Key>
+    ensures { result ≡ first_out (terms_of line.now) }
+{
+    if !Key::Quanta.allows(line.quanta) {
+        Some(Key::Quanta)
+    } else if !Key::Jobs.allows(line.jobs) {
+        Some(Key::Jobs)
+    } else if !Key::Entries.allows(line.entries) {
+        Some(Key::Entries)
+    } else {
+        None
+    }
+}
+
+/// The first number of a configuration that is out of range.
+fn first_out(draft: &Draft<'_>) -> Option<Key>
+    ensures { result ≡ first_out (all_terms draft.now) }
+{
+    for line in &draft.tenants {
+        if let Some(key) = first_out_of_line(line) {
+            return Some(key);
+        }
+    }
+    if !Key::Workers.allows(draft.workers) {
+        Some(Key::Workers)
+    } else if !Key::Slice.allows(draft.slice) {
+        Some(Key::Slice)
+    } else {
+        None
+    }
+}
+
+/// The tenants' lines of a configuration, or its first fault.
+fn judged_lines(alloc: Global, draft: &Draft<'_>) -> Result<Vec<TenantLine>, ConfigFault>
+    ensures { Gives (λ lines. lines.items) result (unless (first_fault draft.now) draft.now.tenants) }
+{
+    if !(1..=64).contains(&draft.tenants.len()) {
+        return Err(ConfigFault::Tenants);
+    }
+    let lines = named(alloc, &draft.tenants)?;
+    match first_out(draft) {
+        Some(key) => Err(ConfigFault::Range(key)),
+        None => Ok(lines),
+    }
+}
+
+/// The configuration that is written, or its first fault.
+pub fn config_of(alloc: Global, draft: &Draft<'_>) -> Result<Config, ConfigFault>
+    ensures { Gives (λ config. config) result (judged draft.now) }
+{
+    let lines = judged_lines(alloc, draft)?;
+    match Config::new(Sequence::from(lines), draft.workers, draft.slice) {
+        Some(config) => Ok(config),
+        None => unreachable!(),
+    }
+}

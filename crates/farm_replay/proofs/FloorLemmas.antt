@@ -1,0 +1,556 @@
+-- The turns that a script holds, over the calls of its farm.
+use Rattle.std.proofs.Common.{◌≡◌, ℕ, suc, ◌<◌, ◌+◌, ◌-◌, get_or, take, drop, position, ◌||◌, ◌&&◌, ◌==◌, ◌≤◌, nat_lt, Bool, true, false, cond, List, [], ◌∷◌, ◌++◌, length, Option, Some, None, refl, sym, ap, ◌∙◌, subst, arith, ◌⊎◌, inl, inr, ⊎_elim, append-nil}
+use Rattle.std.specs.Prelude.{not, option_map}
+use Rattle.std.specs.List.{list_any, position_or_len}
+use Rattle.std.proofs.lemmas.Bool.{cond_both, cases_eq, cases_lt, eqb-true, and_parts, or_parts, both_ways}
+use Rattle.std.proofs.lemmas.Bool.Decides.{nat_tests}
+use Rattle.std.proofs.Math.Numerals.{add-one}
+use Rattle.std.proofs.Math.Seq.{drop-cons}
+use Rattle.std.proofs.lemmas.List.{take-append-drop}
+use Rattle.std.proofs.lemmas.List.Folds.{list_any-append}
+use Rattle.std.proofs.lemmas.List.Quantifiers.{position-Some}
+use Rattle.strategy.specs.Search.{Meaning}
+use Rattle.job_table.specs.Table.{JobData, is_waiting, is_out}
+use Rattle.job_table.specs.Job.{is_turn, back, IsStrange}
+use Rattle.job_table.specs.declared.phase.Phase.{Phase}
+use Rattle.job_table.specs.declared.phase.Phase.TheVariants.{Waiting, Out, Leaving, Dry, Closed, Cancelled}
+use Rattle.farm_core.specs.declared.entry.Event.{Event}
+use Rattle.farm_core.specs.declared.entry.Event.TheVariants.{Cancel, Take, Give}
+use Rattle.farm_core.specs.declared.reply.Line.{Line}
+use Rattle.farm_core.specs.declared.reply.Reply.{Reply}
+use Rattle.farm_core.specs.declared.reply.Reply.TheVariants as reply
+use Rattle.farm_core.specs.declared.reply.NoTurn.{NoTurn}
+use Rattle.farm_core.specs.declared.reply.NoTurn.TheVariants as no_turn
+use Rattle.farm_core.specs.declared.turn.Turn.{Turn}
+use Rattle.farm_core.specs.Tenant.{Tenant, find_job, put_job, line_of, nodes_out_in}
+use Rattle.farm_core.specs.Step as calls
+use Rattle.farm_core.specs.Step.{Answer, Replied, Sent, Step, step, has_room, is_slice, unnoted, changed, taken, may_have_run, gave}
+use Rattle.farm_core.specs.Farm.{IsReply}
+use Rattle.farm_core.specs.Turn.{nodes_of, ran_on, IsTurn, IsTaken, IsNotTaken}
+use Rattle.farm_core.specs.Config.{ConfigData}
+use Rattle.farm_core.specs.World.{World, opened, view, Follows, IsReplayed}
+use Rattle.farm_core.specs.Held.{is_out_of, nodes_out, takes, gives, IsHeld, AreHeld, TakenTurnsAreHeld, TakenJobsWereNotOut, TurnsStayHeld, HeldTurnsAreNoStrangers, HeldTurnsRunTheirNodes, OnlyTakenJobsAreOut, GivenJobsAreNotOut}
+use Rattle.farm_core.proofs.RunningLemmas.{found_seq}
+use Rattle.session_lines.specs.declared.request.What.{What}
+use Rattle.session_lines.specs.declared.request.What.TheVariants as what
+use Rattle.session_lines.specs.declared.said.Said.{Said}
+use Rattle.session_lines.specs.declared.said.Said.TheVariants as said
+use Rattle.farm_replay.specs.Output.{Told, said_for, told_by, told_to, told_under, given_back, turned, is_line, may_need}
+use Rattle.farm_replay.specs.Floor.{is_turn_of, has_turn, AreApart, IsFloor, IsTold, untaken}
+
+-- ---- lists of turns
+
+or_false : (a b : Bool) → a ≡ false → b ≡ false → (a || b) ≡ false
+or_false a b h k = subst (λ x. (x || b) ≡ false) (sym h) k
+
+swapped : (a b c d : ℕ) → ((a == b) && (c == d)) ≡ false → ((b == a) && (d == c)) ≡ false
+swapped a b c d h = grind (arith, nat_tests)
+
+turn_swapped : {J : Type 0} (x z : Turn J) → is_turn_of z.tenant z.seq x ≡ false → is_turn_of x.tenant x.seq z ≡ false
+turn_swapped x z h = swapped x.tenant z.tenant x.seq z.seq h
+
+lacks_without : {J : Type 0} (t s : ℕ) (xs : List (Turn J)) (x : Turn J) (ys : List (Turn J)) → has_turn t s (xs ++ x ∷ ys) ≡ false
+    → (is_turn_of t s x ≡ false) × (has_turn t s (xs ++ ys) ≡ false)
+lacks_without t s [] x ys h = or_parts (is_turn_of t s x) (has_turn t s ys) h
+lacks_without t s (z ∷ xs) x ys h =
+    let p = or_parts (is_turn_of t s z) (has_turn t s (xs ++ x ∷ ys)) h in
+    let q = lacks_without t s xs x ys p.1 in
+    (q.0, or_false (is_turn_of t s z) (has_turn t s (xs ++ ys)) p.0 q.1)
+
+apart_without : {J : Type 0} (xs : List (Turn J)) (x : Turn J) (ys : List (Turn J)) → AreApart (xs ++ x ∷ ys)
+    → (has_turn x.tenant x.seq (xs ++ ys) ≡ false) × AreApart (xs ++ ys)
+apart_without [] x ys h = h
+apart_without (z ∷ xs) x ys h =
+    let p = lacks_without z.tenant z.seq xs x ys h.0 in
+    let q = apart_without xs x ys h.1 in
+    (or_false (is_turn_of x.tenant x.seq z) (has_turn x.tenant x.seq (xs ++ ys)) (turn_swapped x z p.0) q.0, (p.1, q.1))
+
+apart_push : {J : Type 0} (xs : List (Turn J)) (x : Turn J) → AreApart xs → has_turn x.tenant x.seq xs ≡ false → AreApart (xs ++ x ∷ [])
+apart_push [] x h none = (refl, tt)
+apart_push (z ∷ xs) x h none =
+    let p = or_parts (is_turn_of x.tenant x.seq z) (has_turn x.tenant x.seq xs) none in
+    let more : has_turn z.tenant z.seq (xs ++ x ∷ []) ≡ false =
+    list_any-append (is_turn_of z.tenant z.seq) xs (x ∷ [])
+    ∙ or_false (has_turn z.tenant z.seq xs) (is_turn_of z.tenant z.seq x || false) h.0 (or_false (is_turn_of z.tenant z.seq x) false (turn_swapped z x p.0) refl) in
+    (more, apart_push xs x h.1 p.1)
+
+-- a turn that is not x is among the others
+has_others : {J : Type 0} (t s : ℕ) (xs : List (Turn J)) (x : Turn J) (ys : List (Turn J)) → has_turn t s (xs ++ x ∷ ys) ≡ true → is_turn_of t s x ≡ false
+    → has_turn t s (xs ++ ys) ≡ true
+has_others t s xs x ys h other =
+    list_any-append (is_turn_of t s) xs ys
+    ∙ ap (λ b. has_turn t s xs || (b || has_turn t s ys)) (sym other)
+    ∙ sym (list_any-append (is_turn_of t s) xs (x ∷ ys)) ∙ h
+
+has_pushed : {J : Type 0} (t s : ℕ) (xs : List (Turn J)) (x : Turn J) → (has_turn t s xs ≡ true) ⊎ (is_turn_of t s x ≡ true) → has_turn t s (xs ++ x ∷ []) ≡ true
+has_pushed t s [] x h = ⊎_elim (λ e. absurd (cc)) (λ e. ap (λ b. b || false) e) h
+has_pushed t s (z ∷ xs) x h = grind (arith, nat_tests, has_pushed t s xs x)
+
+is_turn_in : {J : Type 0} (t s : ℕ) (x : Turn J) → is_turn_of t s x ≡ true → (x.tenant ≡ t) × (x.seq ≡ s)
+is_turn_in t s x h = let p = and_parts (x.tenant == t) (x.seq == s) h in (eqb-true x.tenant t p.0, eqb-true x.seq s p.1)
+
+turn_is : {J : Type 0} (t s : ℕ) (x : Turn J) → x.tenant ≡ t → x.seq ≡ s → is_turn_of t s x ≡ true
+turn_is t s x h k = grind (arith, nat_tests)
+
+-- ---- held turns
+
+held_append : {J : Type 0} (meaning : J → Meaning) (w : World) (xs ys : List (Turn J)) → AreHeld meaning w xs → AreHeld meaning w ys → AreHeld meaning w (xs ++ ys)
+held_append meaning w [] ys h k = k
+held_append meaning w (x ∷ xs) ys h k = (h.0, h.1, h.2, held_append meaning w xs ys h.3 k)
+
+pub held_parts : {J : Type 0} (meaning : J → Meaning) (w : World) (xs ys : List (Turn J)) → AreHeld meaning w (xs ++ ys) → AreHeld meaning w xs × AreHeld meaning w ys
+held_parts meaning w [] ys h = (tt, h)
+held_parts meaning w (x ∷ xs) ys h = let p = held_parts meaning w xs ys h.3 in ((h.0, h.1, h.2, p.0), p.1)
+
+held_without : {J : Type 0} (meaning : J → Meaning) (w : World) (xs : List (Turn J)) (x : Turn J) (ys : List (Turn J)) → AreHeld meaning w (xs ++ x ∷ ys) → AreHeld meaning w (xs ++ ys)
+held_without meaning w xs x ys h = let p = held_parts meaning w xs (x ∷ ys) h in held_append meaning w xs ys p.0 p.1.3
+
+out_of_turn : (slice : ℕ) (phase : Phase) → is_turn slice phase ≡ true → is_out phase ≡ true
+out_of_turn slice Waiting h = absurd (cc)
+out_of_turn slice (Out s) h = refl
+out_of_turn slice (Leaving s) h = refl
+out_of_turn slice Dry h = absurd (cc)
+out_of_turn slice Closed h = absurd (cc)
+out_of_turn slice Cancelled h = absurd (cc)
+
+held_is_out : (w : World) (t s slice : ℕ) (m : Meaning) → IsHeld w t s slice m → is_out_of (find_job s (view t w).jobs) ≡ true
+held_is_out w t s slice m it = ap is_out_of it.found ∙ out_of_turn slice it.job.phase it.own.turn
+
+all_out : {J : Type 0} (meaning : J → Meaning) (w : World) (turns : List (Turn J)) (t s : ℕ) → AreHeld meaning w turns → has_turn t s turns ≡ true
+    → is_out_of (find_job s (view t w).jobs) ≡ true
+all_out meaning w [] t s h e = absurd (cc)
+all_out meaning w (x ∷ turns) t s h e =
+    cond_both (is_turn_of t s x) true (has_turn t s turns) (λ (b : Bool). b ≡ true → is_out_of (find_job s (view t w).jobs) ≡ true)
+    (λ own _.
+    let p = is_turn_in t s x own in
+    ap (λ k. is_out_of (find_job s (view k w).jobs)) (sym p.0) ∙ ap (λ k. is_out_of (find_job k (view x.tenant w).jobs)) (sym p.1)
+    ∙ held_is_out w x.tenant x.seq x.slice (meaning x.search) h.2)
+    (λ _ more. all_out meaning w turns t s h.3 more)
+    (or_is (is_turn_of t s x) (has_turn t s turns) ∙ e)
+  where
+    or_is : (a b : Bool) → cond a true b ≡ (a || b)
+    or_is true b = refl
+    or_is false b = refl
+
+held_over : {J : Type 0} (meaning : J → Meaning) → TurnsStayHeld → (old new : World) (t : ℕ) (e : Event) (answer : Answer) → Follows old t e answer new
+    → (turns : List (Turn J)) → ((s : ℕ) → gives s e ≡ true → has_turn t s turns ≡ false) → AreHeld meaning old turns → AreHeld meaning new turns
+held_over meaning stay old new t e answer f [] apart h = tt
+held_over meaning stay old new t e answer f (x ∷ turns) apart h =
+    let not_given : t ≡ x.tenant → gives x.seq e ≡ false =
+    λ same. elim (gives x.seq e) as (λ b. gives x.seq e ≡ b → b ≡ false) [
+      | true ↦ λ given. absurd (both_ways (is_turn_of t x.seq x) (or_parts (is_turn_of t x.seq x) (has_turn t x.seq turns) (apart x.seq given)).0 (turn_is t x.seq x (sym same) refl))
+      | false ↦ λ _. refl
+    ] refl in (
+      h.0,
+      subst (λ (n : ℕ). x.tenant < n) (ap (λ c. length c.tenants) (sym f.config)) h.1,
+      stay old new t e answer f x.tenant x.seq x.slice (meaning x.search) h.2 not_given,
+      held_over meaning stay old new t e answer f turns (λ s given. (or_parts (is_turn_of t s x) (has_turn t s turns) (apart s given)).1) h.3,
+    )
+
+-- ---- what the script holds
+
+-- a call that neither takes nor gives a turn leaves all turns as they are
+pub floor_over : {J : Type 0} (meaning : J → Meaning) → TurnsStayHeld → OnlyTakenJobsAreOut → (old new : World) (t : ℕ) (e : Event) (answer : Answer) → IsReplayed old
+    → Follows old t e answer new → ((s : ℕ) → gives s e ≡ false) → ((s : ℕ) → takes s e ≡ false) → (turns : List (Turn J)) → IsFloor meaning old turns → IsFloor meaning new turns
+floor_over meaning stay only old new t e answer replayed f nor_gives nor_takes turns floor = record {
+  held = held_over meaning stay old new t e answer f turns (λ s given. absurd (both_ways (gives s e) (nor_gives s) given)) floor.held;
+  apart = floor.apart;
+  all = λ u s out.
+      ⊎_elim (λ was. floor.all u s was) (λ (now : (t ≡ u) × (takes s e ≡ true)). absurd (both_ways (takes s e) (nor_takes s) now.1))
+      (only old new t e answer replayed f u s out);
+}
+
+-- a turn that is taken is held with the others
+pub floor_taken : {J : Type 0} (meaning : J → Meaning) → TakenTurnsAreHeld → TakenJobsWereNotOut → TurnsStayHeld → OnlyTakenJobsAreOut → (old new : World) (t s slice : ℕ) → IsReplayed old
+    → (x : Turn J) → IsTaken old t s slice (meaning x.search) new → x.tenant ≡ t → x.seq ≡ s → x.slice ≡ slice → x.ran ≡ 0 → t < length old.config.tenants
+    → (turns : List (Turn J)) → IsFloor meaning old turns → IsFloor meaning new (turns ++ x ∷ [])
+floor_taken meaning taken waited stay only old new t s slice replayed x it tenant seq most ran known turns floor =
+    let f = it.follows in
+    let answer : Answer = Sent (line_of (record it.job { phase = Out slice })) in
+    let none : has_turn t s turns ≡ false =
+    elim (has_turn t s turns) as (λ b. has_turn t s turns ≡ b → b ≡ false) [
+      | true ↦ λ has. absurd (both_ways (is_out_of (find_job s (view t old).jobs)) (waited old new t s slice (meaning x.search) it) (all_out meaning old turns t s floor.held has))
+      | false ↦ λ _. refl
+    ] refl in
+    let here : IsHeld new x.tenant x.seq x.slice (meaning x.search) =
+    rw (tenant, seq, most) (taken old new t s slice (meaning x.search) it) in
+    record {
+      held = held_append meaning new turns (x ∷ []) (held_over meaning stay old new t (Take s slice) answer f turns (λ n given. absurd (cc)) floor.held)
+          (ran, rw tenant (subst (λ c. t < length c.tenants) (sym f.config) known), here, tt);
+      apart = apart_push turns x floor.apart (rw (tenant, seq) none);
+      all = λ u n out.
+          has_pushed u n turns x
+          (⊎_elim (λ was. inl (floor.all u n was))
+          (λ (now : (t ≡ u) × (takes n (Take s slice) ≡ true)). inr (turn_is u n x (tenant ∙ now.0) (seq ∙ eqb-true s n now.1)))
+          (only old new t (Take s slice) answer replayed f u n out));
+    }
+
+-- a turn that is given back is held no more
+pub floor_given : {J : Type 0} (meaning : J → Meaning) → TurnsStayHeld → OnlyTakenJobsAreOut → GivenJobsAreNotOut → (old new : World) (t s ran : ℕ) (reply : Reply) → IsReplayed old
+    → Follows old t (Give s ran) (Replied reply) new → (xs : List (Turn J)) (x : Turn J) (ys : List (Turn J)) → x.tenant ≡ t → x.seq ≡ s
+    → IsFloor meaning old (xs ++ x ∷ ys) → IsFloor meaning new (xs ++ ys)
+floor_given meaning stay only given old new t s ran reply replayed f xs x ys tenant seq floor =
+    let apart = apart_without xs x ys floor.apart in
+    let none : has_turn t s (xs ++ ys) ≡ false = rw (← tenant, ← seq) apart.0 in
+    record {
+      held = held_over meaning stay old new t (Give s ran) (Replied reply) f (xs ++ ys)
+          (λ n is. ap (λ k. has_turn t k (xs ++ ys)) (sym (eqb-true s n is)) ∙ none) (held_without meaning old xs x ys floor.held);
+      apart = apart.1;
+      all = λ u n out.
+          let was : has_turn u n (xs ++ x ∷ ys) ≡ true =
+          ⊎_elim (λ w. floor.all u n w) (λ (now : (t ≡ u) × (takes n (Give s ran) ≡ true)). absurd (cc))
+          (only old new t (Give s ran) (Replied reply) replayed f u n out) in
+          has_others u n xs x ys was
+          (elim (is_turn_of u n x) as (λ b. is_turn_of u n x ≡ b → b ≡ false) [
+            | true ↦ λ own.
+                let p = is_turn_in u n x own in
+                absurd (both_ways (is_out_of (find_job n (view u new).jobs))
+                (ap (λ k. is_out_of (find_job n (view k new).jobs)) (sym p.0 ∙ tenant) ∙ ap (λ k. is_out_of (find_job k (view t new).jobs)) (sym p.1 ∙ seq) ∙ given old new t s ran reply f) out)
+            | false ↦ λ _. refl
+          ] refl);
+    }
+
+-- ---- what is said
+
+put_own : (s : ℕ) (old new : JobData) (jobs : List JobData) → find_job s jobs ≡ Some old → new.seq ≡ s → find_job s (put_job s new jobs) ≡ Some new
+put_own s old new [] found named = absurd (cc)
+put_own s old new (job ∷ jobs) found named = grind (arith, nat_tests, put_own s old new jobs)
+
+sent_job : (t : Tenant) (s slice : ℕ) (job : JobData) (line : Line) → find_job s t.jobs ≡ Some job → Sent line ≡ (taken t slice (Some job)).answer
+    → find_job s (taken t slice (Some job)).after.jobs ≡ Some (record job { phase = Out slice })
+sent_job t s slice job line found =
+    let new : JobData = record job { phase = Out slice } in
+    cond_both (is_waiting job.phase && is_slice slice && has_room 2 t) (changed t new (Sent (line_of new))) (unnoted t calls.NoTurn)
+    (λ (it : Step). Sent line ≡ it.answer → find_job s it.after.jobs ≡ Some new)
+    (λ _ _. let seq : job.seq ≡ s = found_seq s t.jobs job found in ap (λ k. find_job s (put_job k new t.jobs)) seq ∙ put_own s job new t.jobs found seq)
+    (λ _ is. absurd (cc))
+
+some_line : (job : JobData) (line : Line) (found : Option JobData) → found ≡ Some job → Some line ≡ option_map line_of found → line_of job ≡ line
+some_line job line found is told = cc (ap (option_map line_of) is)
+
+-- the line that is told of a turn that goes out is that of its job
+pub sent_line : (old new : World) (t s slice : ℕ) (m : Meaning) (line : Line) → IsTaken old t s slice m new → Some line ≡ option_map line_of (find_job s (view t new).jobs)
+    → Follows old t (Take s slice) (Sent line) new
+sent_line old new t s slice m line it told =
+    let out : JobData = record it.job { phase = Out slice } in
+    let steps : step (view t old) (Take s slice) ≡ taken (view t old) slice (Some it.job) = ap (taken (view t old) slice) it.found in
+    let found : find_job s (view t new).jobs ≡ Some out =
+    ap (λ (v : Tenant). find_job s v.jobs) it.follows.own ∙ ap (λ (x : Step). find_job s x.after.jobs) steps
+    ∙ sent_job (view t old) s slice it.job (line_of out) it.found (it.follows.answer_is ∙ ap (λ (x : Step). x.answer) steps) in
+    subst (λ l. Follows old t (Take s slice) (Sent l) new) (some_line out line (find_job s (view t new).jobs) found told) it.follows
+
+by_reply : (old : World) (t : ℕ) (e : Event) (answer : Reply) (new : World) → IsReply old t e answer new
+    → ((answer ≡ reply.NoMemory) × (new ≡ old) × (has_room 1 (view t old) ≡ true)) ⊎ Follows old t e (Replied answer) new
+by_reply old t e (reply.Job s) new h = inr h
+by_reply old t e (reply.Line line) new h = inr h
+by_reply old t e (reply.Ran ran line) new h = inr h
+by_reply old t e (reply.Best s schedule best verdict) new h = inr h
+by_reply old t e (reply.Forgotten s) new h = inr h
+by_reply old t e (reply.Ledger book) new h = inr h
+by_reply old t e reply.NoRoom new h = inr h
+by_reply old t e reply.NoUnknown new h = inr h
+by_reply old t e reply.NoBusy new h = inr h
+by_reply old t e reply.NoOver new h = inr h
+by_reply old t e reply.NoAmount new h = inr h
+by_reply old t e reply.NoJobs new h = inr h
+by_reply old t e (reply.NoShort free) new h = inr h
+by_reply old t e reply.NoMemory new h = inl (refl, h.0, h.1)
+
+unanswered : (old : World) (t : ℕ) (what : What) → may_need (view t old) what ≡ true → IsTold old t what (said.Reply reply.NoMemory) old
+unanswered old t what may = record {
+  refused = true;
+  said = ap (λ b. (cond b (record { said = said.Reply reply.NoMemory; after = view t old }) (told_to (view t old) what)).said) (sym may);
+  own = ap (λ b. (cond b (record { said = said.Reply reply.NoMemory; after = view t old }) (told_to (view t old) what)).after) (sym may);
+  others = λ u other. refl;
+  config = refl;
+}
+
+stepped : (old new : World) (t : ℕ) (what : What) (e : Event) (answer : Answer) → told_to (view t old) what ≡ told_by (step (view t old) e) → Follows old t e answer new
+    → IsTold old t what (said_for answer) new
+stepped old new t what e answer same f = record {
+  refused = false;
+  said = ap said_for f.answer_is ∙ ap (λ (it : Told). it.said) (sym same);
+  own = f.own ∙ ap (λ (it : Told). it.after) (sym same);
+  others = f.others;
+  config = f.config;
+}
+
+-- a command's reply is what is said
+pub replied : (old new : World) (t : ℕ) (what : What) (e : Event) (answer : Reply) → told_to (view t old) what ≡ told_by (step (view t old) e)
+    → (answer ≡ reply.NoMemory → has_room 1 (view t old) ≡ true → may_need (view t old) what ≡ true) → IsReply old t e answer new → IsTold old t what (said.Reply answer) new
+replied old new t what e answer same may h =
+    ⊎_elim
+    (λ (none : (answer ≡ reply.NoMemory) × (new ≡ old) × (has_room 1 (view t old) ≡ true)).
+    subst (λ a. IsTold old t what (said.Reply a) new) (sym none.0) (subst (λ w. IsTold old t what (said.Reply reply.NoMemory) w) (sym none.1) (unanswered old t what (may none.0 none.2))))
+    (λ f. stepped old new t what e (Replied answer) same f)
+    (by_reply old t e answer new h)
+
+-- a command leaves the turns as they are
+pub floor_replied : {J : Type 0} (meaning : J → Meaning) → TurnsStayHeld → OnlyTakenJobsAreOut → (old new : World) (t : ℕ) (e : Event) (answer : Reply) → IsReplayed old
+    → ((s : ℕ) → gives s e ≡ false) → ((s : ℕ) → takes s e ≡ false) → (turns : List (Turn J)) → IsReply old t e answer new → IsFloor meaning old turns → IsFloor meaning new turns
+floor_replied meaning stay only old new t e answer replayed nor_gives nor_takes turns h floor =
+    ⊎_elim
+    (λ (none : (answer ≡ reply.NoMemory) × (new ≡ old) × (has_room 1 (view t old) ≡ true)). subst (λ w. IsFloor meaning w turns) (sym none.1) floor)
+    (λ f. floor_over meaning stay only old new t e (Replied answer) replayed f nor_gives nor_takes turns floor)
+    (by_reply old t e answer new h)
+
+-- a cancel that is accepted is not answered for want of memory
+pub cancel_needs : (t : Tenant) (s : ℕ) (answer : Reply) → ((line : Line) → (step t (Cancel s)).answer ≡ Replied (reply.Line line) → answer ≡ reply.Line line) → answer ≡ reply.NoMemory
+    → has_room 1 t ≡ true → may_need t (what.Cancel s) ≡ true
+cancel_needs t s answer accepted none room =
+    ap (λ b. b && not (is_line (step t (Cancel s)).answer)) room ∙ no_line (step t (Cancel s)).answer (λ line is. absurd (cc (accepted line is)))
+  where
+    no_line : (a : Answer) → ((line : Line) → a ≡ Replied (reply.Line line) → ⊥) → not (is_line a) ≡ true
+    no_line (Replied (reply.Line line)) h = absurd (h line refl)
+    no_line (Replied (reply.Job n)) h = refl
+    no_line (Replied (reply.Ran ran line)) h = refl
+    no_line (Replied (reply.Best n schedule best verdict)) h = refl
+    no_line (Replied (reply.Forgotten n)) h = refl
+    no_line (Replied (reply.Ledger book)) h = refl
+    no_line (Replied reply.NoRoom) h = refl
+    no_line (Replied reply.NoUnknown) h = refl
+    no_line (Replied reply.NoBusy) h = refl
+    no_line (Replied reply.NoOver) h = refl
+    no_line (Replied reply.NoAmount) h = refl
+    no_line (Replied reply.NoJobs) h = refl
+    no_line (Replied (reply.NoShort free)) h = refl
+    no_line (Replied reply.NoMemory) h = refl
+    no_line (Sent line) h = refl
+    no_line calls.NoTurn h = refl
+
+pub told_taken : (old new : World) (t s slice : ℕ) (line : Line) → Follows old t (Take s slice) (Sent line) new → IsTold old t (what.Take s slice) (said.Reply (reply.Line line)) new
+told_taken old new t s slice line f = stepped old new t (what.Take s slice) (Take s slice) (Sent line) refl f
+
+pub told_untaken : (old new : World) (t s slice : ℕ) (why : NoTurn) → IsNotTaken old t s slice why new → IsTold old t (what.Take s slice) (untaken why) new
+told_untaken old new t s slice no_turn.None f = stepped old new t (what.Take s slice) (Take s slice) calls.NoTurn refl f
+told_untaken old new t s slice no_turn.NoMemory same = subst (λ w. IsTold old t (what.Take s slice) (said.Reply reply.NoMemory) w) (sym same) (unanswered old t (what.Take s slice) refl)
+
+-- a whole turn that was not taken
+pub turned_untaken : (old new : World) (t s slice : ℕ) (why : NoTurn) → IsNotTaken old t s slice why new → IsTold old t (what.Turn s slice) (untaken why) new
+turned_untaken old new t s slice no_turn.None f =
+    let answer : (step (view t old) (Take s slice)).answer ≡ calls.NoTurn = sym f.answer_is in
+    record {
+      refused = false;
+      said = ap (λ a. (turned a (step (view t old) (Take s slice)).after s).said) f.answer_is;
+      own = f.own ∙ ap (λ a. (turned a (step (view t old) (Take s slice)).after s).after) f.answer_is;
+      others = f.others;
+      config = f.config;
+    }
+turned_untaken old new t s slice no_turn.NoMemory same = subst (λ w. IsTold old t (what.Turn s slice) (said.Reply reply.NoMemory) w) (sym same) (unanswered old t (what.Turn s slice) refl)
+
+-- a whole turn that was taken and given back
+pub turned_whole : (old mid new : World) (t s slice : ℕ) (line : Line) (answer : Said) → Follows old t (Take s slice) (Sent line) mid → IsTold mid t (what.Give s) answer new
+    → IsTold old t (what.Turn s slice) answer new
+turned_whole old mid new t s slice line answer f it =
+    let back : told_under it.refused (view t mid) (what.Give s) ≡ given_back (view t mid) s = elim it.refused as (λ b. told_under b (view t mid) (what.Give s) ≡ given_back (view t mid) s) [ true ↦ refl | false ↦ refl ] in
+    let whole : given_back (view t mid) s ≡ told_to (view t old) (what.Turn s slice) =
+    ap (λ v. given_back v s) f.own ∙ ap (λ a. turned a (step (view t old) (Take s slice)).after s) f.answer_is in
+    record {
+      refused = false;
+      said = it.said ∙ ap (λ (x : Told). x.said) (back ∙ whole);
+      own = it.own ∙ ap (λ (x : Told). x.after) (back ∙ whole);
+      others = λ u other. it.others u other ∙ f.others u other;
+      config = it.config ∙ f.config;
+    }
+
+pub told_given : (old new : World) (t s ran : ℕ) (answer : Reply) → Follows old t (Give s ran) (Replied answer) new → ran ≡ nodes_out (find_job s (view t old).jobs)
+    → IsTold old t (what.Give s) (said.Reply answer) new
+told_given old new t s ran answer f is =
+    stepped old new t (what.Give s) (Give s ran) (Replied answer) (ap (λ n. told_by (step (view t old) (Give s n))) (sym is)) f
+
+not_out : (t : Tenant) (found : Option JobData) → is_out_of found ≡ false → gave t (nodes_out found) found ≡ unnoted t calls.NoTurn
+not_out t None h = refl
+not_out t (Some job) h = quiet job job.phase h
+  where
+    quiet : (job : JobData) (phase : Phase) → is_out phase ≡ false
+        → cond (may_have_run (nodes_out_in job phase) job phase)
+        (record { answer = Replied (reply.Ran (nodes_out_in job phase) (line_of (back (nodes_out_in job phase) job))); after = record t { spent = t.spent + nodes_out_in job phase; used = t.used + 1; jobs = put_job (back (nodes_out_in job phase) job).seq (back (nodes_out_in job phase) job) t.jobs } })
+        (unnoted t calls.NoTurn) ≡ unnoted t calls.NoTurn
+    quiet job Waiting h = refl
+    quiet job (Out slice) h = absurd (cc)
+    quiet job (Leaving slice) h = absurd (cc)
+    quiet job Dry h = refl
+    quiet job Closed h = refl
+    quiet job Cancelled h = refl
+
+-- no turn of the job is held
+pub told_none : {J : Type 0} (meaning : J → Meaning) (w : World) (t s : ℕ) (turns : List (Turn J)) → IsFloor meaning w turns → has_turn t s turns ≡ false → IsTold w t (what.Give s) said.NoTurn w
+told_none meaning w t s turns floor none =
+    let quiet : is_out_of (find_job s (view t w).jobs) ≡ false =
+    elim (is_out_of (find_job s (view t w).jobs)) as (λ b. is_out_of (find_job s (view t w).jobs) ≡ b → b ≡ false) [
+      | true ↦ λ out. absurd (both_ways (has_turn t s turns) none (floor.all t s out))
+      | false ↦ λ _. refl
+    ] refl in
+    let same : given_back (view t w) s ≡ record { said = said.NoTurn; after = view t w } = ap told_by (not_out (view t w) (find_job s (view t w).jobs) quiet) in
+    record {
+      refused = false;
+      said = ap (λ (x : Told). x.said) (sym same);
+      own = ap (λ (x : Told). x.after) (sym same);
+      others = λ u other. refl;
+      config = refl;
+    }
+
+-- ---- a turn that is found
+
+-- the turn of job s of tenant t among those that are held, and the others
+pub record IsFound {J : Type 0} (meaning : J → Meaning) (w : World) (t s : ℕ) (turns rest : List (Turn J)) (x : Turn J) : Type 0 where
+  pub front : List (Turn J)
+  pub behind : List (Turn J)
+  pub whole : turns ≡ front ++ x ∷ behind
+  pub others : rest ≡ front ++ behind
+  pub tenant : x.tenant ≡ t
+  pub seq : x.seq ≡ s
+  pub ran : x.ran ≡ 0
+  pub known : x.tenant < length w.config.tenants
+  pub held : IsHeld w x.tenant x.seq x.slice (meaning x.search)
+
+split_at : {A : Type 0} (xs : List A) (i : ℕ) (x : A) → i < length xs → x ≡ get_or xs i x → xs ≡ take i xs ++ x ∷ drop (i + 1) xs
+split_at xs i x h is = sym (take-append-drop i xs) ∙ ap (λ ys. take i xs ++ ys) (drop_at xs i x h is)
+  where
+    drop_at : {A : Type 0} (xs : List A) (i : ℕ) (x : A) → i < length xs → x ≡ get_or xs i x → drop i xs ≡ x ∷ drop (i + 1) xs
+    drop_at xs i x h is = rw (add-one) (drop-cons xs i x h ∙ ap (λ y. y ∷ drop (suc i) xs) (sym is))
+
+pub found_turn : {J : Type 0} (meaning : J → Meaning) (w : World) (t s : ℕ) (turns rest : List (Turn J)) (i : ℕ) (x : Turn J) → position (is_turn_of t s) turns ≡ Some i → x ≡ get_or turns i x
+    → rest ≡ take i turns ++ drop (i + 1) turns → IsFloor meaning w turns → IsFound meaning w t s turns rest x
+found_turn meaning w t s turns rest i x at is others floor =
+    let p = position-Some (is_turn_of t s) turns i x at in
+    let own : is_turn_of t s x ≡ true = ap (is_turn_of t s) is ∙ p.1 in
+    let whole = split_at turns i x p.0 is in
+    let held = (held_parts meaning w (take i turns) (x ∷ drop (i + 1) turns) (subst (λ ys. AreHeld meaning w ys) whole floor.held)).1 in
+    record {
+      front = take i turns;
+      behind = drop (i + 1) turns;
+      whole = whole;
+      others = others;
+      tenant = (is_turn_in t s x own).0;
+      seq = (is_turn_in t s x own).1;
+      ran = held.0;
+      known = held.1;
+      held = held.2;
+    }
+
+pub found_floor : {J : Type 0} (meaning : J → Meaning) → TurnsStayHeld → OnlyTakenJobsAreOut → GivenJobsAreNotOut → (old new : World) (t s ran : ℕ) (reply : Reply) (turns rest : List (Turn J)) (x : Turn J)
+    → IsReplayed old → IsFound meaning old t s turns rest x → Follows old t (Give s ran) (Replied reply) new → IsFloor meaning old turns → IsFloor meaning new rest
+found_floor meaning stay only given old new t s ran reply turns rest x replayed it f floor =
+    subst (λ ys. IsFloor meaning new ys) (sym it.others)
+    (floor_given meaning stay only given old new t s ran reply replayed f it.front x it.behind it.tenant it.seq (subst (λ ys. IsFloor meaning old ys) it.whole floor))
+
+ran_none : (m : Meaning) → m ≡ ran_on 0 m
+ran_none m =
+    let nodes : m.nodes ≡ m.nodes + 0 = omega arith in
+    let left : m.left ≡ m.left - 0 = omega arith in
+    ap (λ n. let it : Meaning = record m { nodes = n } in it) nodes ∙ ap (λ n. let it : Meaning = record m { nodes = m.nodes + 0; left = n } in it) left
+
+-- a turn that is held can be run, and given unrun
+pub held_turn : (w : World) (t s slice ran : ℕ) (m : Meaning) → IsHeld w t s slice m → ran ≡ 0 → IsTurn slice ran m
+held_turn w t s slice ran m it none = record { best = it.best; start = m; after = ran_none m ∙ ap (λ n. ran_on n m) (sym none); all = inl none }
+
+-- it was run and given
+pub record IsRun {J : Type 0} (meaning : J → Meaning) (x : Turn J) (tenant seq slice ran result : ℕ) (m : Meaning) : Type 0 where
+  pub tenant_is : tenant ≡ x.tenant
+  pub seq_is : seq ≡ x.seq
+  pub slice_is : slice ≡ x.slice
+  pub first : x.ran ≡ 0 → result ≡ nodes_of x.slice (meaning x.search)
+  pub ran_is : ran ≡ x.ran + result
+  pub search : m ≡ ran_on result (meaning x.search)
+
+ran_all : {J : Type 0} (meaning : J → Meaning) (x : Turn J) (tenant seq slice ran result : ℕ) (m : Meaning) → IsRun meaning x tenant seq slice ran result m → x.ran ≡ 0 → ran ≡ nodes_of x.slice (meaning x.search)
+ran_all meaning x tenant seq slice ran result m it none = omega (arith, it.ran_is, it.first none)
+
+pub found_follows : {J : Type 0} (meaning : J → Meaning) (old new : World) (t s : ℕ) (turns rest : List (Turn J)) (x : Turn J) (tenant seq slice ran result : ℕ) (m : Meaning) (answer : Reply)
+    → IsFound meaning old t s turns rest x → IsRun meaning x tenant seq slice ran result m → Follows old tenant (Give seq ran) (Replied answer) new → Follows old t (Give s ran) (Replied answer) new
+found_follows meaning old new t s turns rest x tenant seq slice ran result m answer it run f =
+    subst (λ k. Follows old t (Give k ran) (Replied answer) new) (run.seq_is ∙ it.seq) (subst (λ k. Follows old k (Give seq ran) (Replied answer) new) (run.tenant_is ∙ it.tenant) f)
+
+pub found_told : {J : Type 0} (meaning : J → Meaning) → HeldTurnsRunTheirNodes → (old new : World) (t s : ℕ) (turns rest : List (Turn J)) (x : Turn J) (tenant seq slice ran result : ℕ) (m : Meaning) (answer : Reply)
+    → IsFound meaning old t s turns rest x → IsRun meaning x tenant seq slice ran result m → Follows old tenant (Give seq ran) (Replied answer) new
+    → IsTold old t (what.Give s) (said.Reply answer) new
+found_told meaning nodes old new t s turns rest x tenant seq slice ran result m answer it run f =
+    told_given old new t s ran answer (found_follows meaning old new t s turns rest x tenant seq slice ran result m answer it run f)
+    (ran_all meaning x tenant seq slice ran result m run it.ran ∙ nodes old x.tenant x.seq x.slice (meaning x.search) it.held
+    ∙ ap (λ k. nodes_out (find_job x.seq (view k old).jobs)) it.tenant ∙ ap (λ k. nodes_out (find_job k (view t old).jobs)) it.seq)
+
+pub never_strange : {J : Type 0} (meaning : J → Meaning) → HeldTurnsAreNoStrangers → (old : World) (t s : ℕ) (turns rest : List (Turn J)) (x : Turn J) (tenant seq slice ran result : ℕ) (m : Meaning)
+    → IsFound meaning old t s turns rest x → IsRun meaning x tenant seq slice ran result m → IsStrange old.rows tenant seq slice ran m → ⊥
+never_strange meaning known old t s turns rest x tenant seq slice ran result m it run strange =
+    let search : m ≡ ran_on (nodes_of x.slice (meaning x.search)) (meaning x.search) = run.search ∙ ap (λ n. ran_on n (meaning x.search)) (run.first it.ran) in
+    (known old x.tenant x.seq x.slice (meaning x.search) m it.held).0 search
+    (subst (λ n. IsStrange old.rows x.tenant x.seq x.slice n m) (ran_all meaning x tenant seq slice ran result m run it.ran)
+    (subst (λ k. IsStrange old.rows x.tenant x.seq k ran m) run.slice_is (subst (λ k. IsStrange old.rows x.tenant k slice ran m) run.seq_is
+    (subst (λ k. IsStrange old.rows k seq slice ran m) run.tenant_is strange))))
+
+-- what has no place passes nowhere
+no_place : (n m : ℕ) → cond (nat_lt n m) (Some n) None ≡ None → m ≤ n
+no_place n m h = elim (cases_lt n m) [
+  | inl under ↦
+      let t : nat_lt n m ≡ true = grind (arith, nat_tests) in
+      let bad : Some n ≡ None = sym (rw t refl) ∙ h in
+      cc
+  | inr over ↦ omega (arith, over)
+]
+
+none_passes : {X : Type 0} (p : X → Bool) (xs : List X) → length xs ≤ position_or_len p xs → list_any p xs ≡ false
+none_passes p [] h = refl
+none_passes p (x ∷ xs) h =
+    elim (p x) as (λ b. suc (length xs) ≤ cond (not b) (1 + position_or_len p xs) 0 → (b || list_any p xs) ≡ false)
+    [ true ↦ λ e. absurd (omega (arith, e)) | false ↦ λ e. none_passes p xs (omega (arith, e)) ] h
+
+pub lacks_turn : {J : Type 0} (t s : ℕ) (turns : List (Turn J)) → position (is_turn_of t s) turns ≡ None → has_turn t s turns ≡ false
+lacks_turn t s turns h = none_passes (is_turn_of t s) turns (no_place (position_or_len (is_turn_of t s) turns) (length turns) h)
+
+-- ---- the first and the last floor
+
+pub floor_opened : {J : Type 0} (meaning : J → Meaning) (config : ConfigData) (w : World) → w ≡ opened config → IsFloor meaning w []
+unfolding opened view
+floor_opened meaning config w is = record { held = tt; apart = tt; all = λ t s out. absurd (cc (ap (λ v. is_out_of (find_job s (view t v).jobs)) is)) }
+
+-- the last turn of those that are held
+pub found_last : {J : Type 0} (meaning : J → Meaning) (w : World) (turns xs : List (Turn J)) (x : Turn J) → turns ≡ xs ++ x ∷ [] → IsFloor meaning w turns
+    → IsFound meaning w x.tenant x.seq turns xs x
+found_last meaning w turns xs x whole floor =
+    let held = (held_parts meaning w xs (x ∷ []) (subst (λ ys. AreHeld meaning w ys) whole floor.held)).1 in
+    record {
+      front = xs;
+      behind = [];
+      whole = whole;
+      others = sym (append-nil xs);
+      tenant = refl;
+      seq = refl;
+      ran = held.0;
+      known = held.1;
+      held = held.2;
+    }
+
+gave_none : (t : Tenant) (found : Option JobData) → (gave t 0 found).after.spent ≡ t.spent
+gave_none t None = refl
+gave_none t (Some job) =
+    let new : JobData = back 0 job in
+    let s1 : Step = record { answer = Replied (reply.Ran 0 (line_of new)); after = record t { spent = t.spent + 0; used = t.used + 1; jobs = put_job new.seq new t.jobs } } in
+    cond_both (may_have_run 0 job job.phase) s1 (unnoted t calls.NoTurn) (λ (it : Step). it.after.spent ≡ t.spent) (λ _. omega arith) (λ _. refl)
+
+-- a turn that is given back unrun spends nothing
+pub given_none : (old new : World) (t s ran : ℕ) (answer : Reply) → ran ≡ 0 → Follows old t (Give s ran) (Replied answer) new → (u : ℕ) → (view u new).spent ≡ (view u old).spent
+given_none old new t s ran answer none f u =
+    ⊎_elim
+    (λ (same : u ≡ t).
+    ap (λ k. (view k new).spent) same ∙ ap (λ (v : Tenant). v.spent) f.own ∙ ap (λ n. (gave (view t old) n (find_job s (view t old).jobs)).after.spent) none
+    ∙ gave_none (view t old) (find_job s (view t old).jobs) ∙ ap (λ k. (view k old).spent) (sym same))
+    (λ (differ : u ≡ t → ⊥). ap (λ (v : Tenant). v.spent) (f.others u differ))
+    (cases_eq u t)
+
+pub unrun_known : {J : Type 0} (meaning : J → Meaning) → HeldTurnsAreNoStrangers → (old : World) (turns rest : List (Turn J)) (x : Turn J) → IsFound meaning old x.tenant x.seq turns rest x
+    → IsStrange old.rows x.tenant x.seq x.slice x.ran (meaning x.search) → ⊥
+unrun_known meaning known old turns rest x it strange =
+    (known old x.tenant x.seq x.slice (meaning x.search) (meaning x.search) it.held).1 (subst (λ n. IsStrange old.rows x.tenant x.seq x.slice n (meaning x.search)) it.ran strange)
+
+-- where no turn is held, no job is out
+pub none_out : {J : Type 0} (meaning : J → Meaning) (w : World) (turns : List (Turn J)) → turns ≡ [] → IsFloor meaning w turns → (t s : ℕ) → is_out_of (find_job s (view t w).jobs) ≡ false
+none_out meaning w turns none floor t s =
+    elim (is_out_of (find_job s (view t w).jobs)) as (λ b. is_out_of (find_job s (view t w).jobs) ≡ b → b ≡ false) [
+      | true ↦ λ out. absurd (both_ways (has_turn t s turns) (ap (has_turn t s) none) (floor.all t s out))
+      | false ↦ λ _. refl
+    ] refl
+
+pub none_left : {A : Type 0} (xs : List A) → length xs ≡ 0 → xs ≡ []
+none_left [] h = refl
+none_left (x ∷ xs) h = absurd (omega arith)

@@ -1,0 +1,9 @@
+pub mod FloorLemmas
+pub mod PlayLemmas
+pub mod IsolationLemmas
+pub mod TruthLemmas
+pub mod PlannedLemmas
+pub mod Examples
+pub mod BeginLemmas
+pub mod ByteLemmas
+pub mod CounterLemmas

@@ -1,0 +1,400 @@
+-- How a replay goes on from request to request.
+use Rattle.std.proofs.Common.{◌≡◌, ◌≢◌, ℕ, ◌+◌, ◌≤◌, ◌==◌, Bool, true, false, cond, List, [], ◌∷◌, ◌++◌, length, Option, Some, None, refl, sym, ap, ◌∙◌, subst, arith, ⊎_elim, eq-eqb, append_assoc, append-nil, length-append}
+use Rattle.std.specs.Prelude.{Result, Ok, Err, IfSome, IfErr, OnOk, ⊤}
+use Rattle.std.specs.List.{flat_map}
+use Rattle.std.specs.Io.KnownBytes.{Appends}
+use Rattle.std.proofs.lemmas.Bool.{cases_eq, eqb-true}
+use Rattle.farm_replay.specs.Output.{answered, unless_unread}
+use Rattle.std.proofs.lemmas.Grind.{flat_map-append}
+use Rattle.psplib_mm.specs.declared.fault.MmFault.{MmFault}
+use Rattle.psplib_mm.specs.declared.fault.MmFault.TheVariants as file
+use Rattle.farm_core.specs.declared.reply.Reply.TheVariants as reply
+use Rattle.farm_core.specs.Config.{ConfigData}
+use Rattle.farm_core.specs.World.{World, opened, view}
+use Rattle.farm_core.specs.Held.{FarmsAreReplayed}
+use Rattle.session_lines.specs.declared.request.Request.{Request}
+use Rattle.session_lines.specs.declared.request.What.{What}
+use Rattle.session_lines.specs.declared.request.LineFault.{LineFault}
+use Rattle.session_lines.specs.declared.request.LineFault.TheVariants.{Eof, Read, TooLong, Syntax, File, NoMemory}
+use Rattle.session_lines.specs.declared.said.Said.{Said}
+use Rattle.session_lines.specs.declared.said.Said.TheVariants as said
+use Rattle.session_lines.specs.Known.{Goes, AppendsPart}
+use Rattle.session_lines.specs.Laws.{EachInTurn, from_first}
+use Rattle.session_lines.specs.ReplyText.{reply_line}
+use Rattle.session_lines.specs.Script.{Item, lines_of, first, first_of, requests_of, Answers, Cuts, Ends, Takes}
+use Rattle.farm_replay.specs.declared.script.ReplayFault.{ReplayFault}
+use Rattle.farm_replay.specs.declared.script.ReplayFault.TheVariants as fault
+use Rattle.farm_session.specs.declared.heard.Heard.TheVariants as heard
+use Rattle.farm_replay.specs.Output.{Told, told_under, Parts, opening, with_part, Saying, Next, asked, Refused, Nowhere, Reading, Answering, Marked, next, lines_for, parts_after, line_text, output_of, items_of, IsWritten, IsCutBy, IsCutOff}
+use Rattle.farm_session.specs.Heard.{number_of, heard_for, heard_of}
+use Rattle.farm_replay.specs.Replay.{GoesOn}
+use Rattle.farm_replay.specs.Floor.{IsTold}
+
+-- ---- known bytes
+
+goes_on : (a b c : Option (List ℕ)) (P Q R : List ℕ → List ℕ → Type 0) → Goes a b P → Goes b c Q → ((xs ys zs : List ℕ) → P xs ys → Q ys zs → R xs zs) → Goes a c R
+goes_on None b c P Q R p q f = tt
+goes_on (Some xs) None c P Q R p q f = absurd p
+goes_on (Some xs) (Some ys) None P Q R p q f = absurd q
+goes_on (Some xs) (Some ys) (Some zs) P Q R p q f = f xs ys zs p q
+
+goes_to : (a b : Option (List ℕ)) (P Q : List ℕ → List ℕ → Type 0) → Goes a b P → ((xs ys : List ℕ) → P xs ys → Q xs ys) → Goes a b Q
+goes_to None b P Q p f = tt
+goes_to (Some xs) None P Q p f = absurd p
+goes_to (Some xs) (Some ys) P Q p f = f xs ys p
+
+goes_same : (a : Option (List ℕ)) (P : List ℕ → List ℕ → Type 0) → ((xs : List ℕ) → P xs xs) → Goes a a P
+goes_same None P f = tt
+goes_same (Some xs) P f = f xs
+
+known_first : (a b : Option (List ℕ)) (P : List ℕ → List ℕ → Type 0) (Q : List ℕ → Type 0) → Goes a b P → ((xs ys : List ℕ) → b ≡ Some ys → P xs ys → Q xs) → IfSome a Q
+known_first None b P Q p f = tt
+known_first (Some xs) None P Q p f = absurd p
+known_first (Some xs) (Some ys) P Q p f = f xs ys refl p
+
+appends_none : (a : Option (List ℕ)) → Appends a a []
+appends_none None = tt
+appends_none (Some xs) = sym (append-nil xs)
+
+appends_on : (a b c : Option (List ℕ)) (xs ys : List ℕ) → Appends a b xs → Appends b c ys → Appends a c (xs ++ ys)
+appends_on None b c xs ys h k = tt
+appends_on (Some us) None c xs ys h k = absurd h
+appends_on (Some us) (Some vs) None xs ys h k = absurd k
+appends_on (Some us) (Some vs) (Some ws) xs ys h k = k ∙ ap (λ l. l ++ ys) h ∙ append_assoc us xs ys
+
+-- ---- one request more
+
+lines_more : (config : ConfigData) (parts : Parts) (ms : List Marked) (m : Marked)
+    → lines_for config parts (ms ++ m ∷ []) ≡ lines_for config parts ms ++ (next config (parts_after config parts ms) m).line ∷ []
+lines_more config parts [] m = refl
+lines_more config parts (n ∷ ms) m = ap (λ l. (next config parts n).line ∷ l) (lines_more config (next config parts n).parts ms m)
+
+pub parts_more : (config : ConfigData) (parts : Parts) (ms : List Marked) (m : Marked) → parts_after config parts (ms ++ m ∷ []) ≡ (next config (parts_after config parts ms) m).parts
+parts_more config parts [] m = refl
+parts_more config parts (n ∷ ms) m = parts_more config (next config parts n).parts ms m
+
+items_more : (ms : List Marked) (m : Marked) (rest : List Item) → items_of ms ++ m.item ∷ rest ≡ items_of (ms ++ m ∷ []) ++ rest
+items_more [] m rest = refl
+items_more (n ∷ ms) m rest = ap (λ l. n.item ∷ l) (items_more ms m rest)
+
+output_more : (config : ConfigData) (ms : List Marked) (m : Marked)
+    → output_of config ms ++ line_text (next config (parts_after config (opening config) ms) m).line ≡ output_of config (ms ++ m ∷ [])
+output_more config ms m =
+    let line : Saying = (next config (parts_after config (opening config) ms) m).line in
+    ap (λ l. output_of config ms ++ l) (sym (append-nil (line_text line)))
+    ∙ sym (flat_map-append line_text (lines_for config (opening config) ms) (line ∷ []))
+    ∙ ap (flat_map line_text) (sym (lines_more config (opening config) ms m))
+
+-- ---- how far a replay has come
+
+-- these were the first requests of the script, ys are left of it, their lines were written, and the farm is where they lead
+pub record IsPlayed (config : ConfigData) (xs ys : List ℕ) (old new : Option (List ℕ)) (count : ℕ) (w : World) : Type 0 where
+  pub requests : List Marked
+  pub number : length requests ≡ count
+  pub parts : (t : ℕ) → view t w ≡ parts_after config (opening config) requests t
+  pub written : Appends old new (output_of config requests)
+  pub reads : requests_of xs ≡ items_of requests ++ requests_of ys
+
+-- the next request is cut from the bytes
+pub record IsNext (m : Marked) (ys zs : List ℕ) : Type 0 where
+  pub cut : first_of ys ≡ Some (record { item = m.item; rest = lines_of zs })
+
+reads_next : EachInTurn → (m : Marked) (ys zs : List ℕ) → IsNext m ys zs → requests_of ys ≡ m.item ∷ requests_of zs
+reads_next turns m ys zs it = turns ys ∙ ap from_first it.cut
+
+-- its line is this, and the farm is where it leads
+pub record IsAnsweredBy (config : ConfigData) (parts : Parts) (m : Marked) (line : Saying) (w : World) : Type 0 where
+  pub says : (next config parts m).line ≡ line
+  pub leads : (t : ℕ) → view t w ≡ (next config parts m).parts t
+
+play_on : EachInTurn → (config : ConfigData) (xs ys zs : List ℕ) (old mid new : Option (List ℕ)) (count : ℕ) (w w' : World) (line : Saying) (it : IsPlayed config xs ys old mid count w) (m : Marked)
+    → IsNext m ys zs → IsAnsweredBy config (parts_after config (opening config) it.requests) m line w' → Appends mid new (line_text line) → IsPlayed config xs zs old new (count + 1) w'
+play_on turns config xs ys zs old mid new count w w' line it m n by written = record {
+  requests = it.requests ++ m ∷ [];
+  number = omega (arith, it.number, length-append it.requests (m ∷ []));
+  parts = λ t. by.leads t ∙ ap (λ (p : Parts). p t) (sym (parts_more config (opening config) it.requests m));
+  written = subst (Appends old new) (ap (λ l. output_of config it.requests ++ line_text l) (sym by.says) ∙ output_more config it.requests m)
+      (appends_on old mid new (output_of config it.requests) (line_text line) it.written written);
+  reads = it.reads ∙ ap (λ l. items_of it.requests ++ l) (reads_next turns m ys zs n) ∙ items_more it.requests m (requests_of zs);
+}
+
+-- a part of its line was written, and no more
+cut_by_write : EachInTurn → (config : ConfigData) (xs ys zs : List ℕ) (old mid new : Option (List ℕ)) (count : ℕ) (w w' : World) (line : Saying) (it : IsPlayed config xs ys old mid count w) (m : Marked)
+    → IsNext m ys zs → IsAnsweredBy config (parts_after config (opening config) it.requests) m line w' → AppendsPart mid new (line_text line) → IsCutOff config fault.Write xs old new
+cut_by_write turns config xs ys zs old mid new count w w' line it m n by part = record {
+  requests = it.requests;
+  rest = m.item ∷ requests_of zs;
+  part = part.part;
+  all = ap (λ l. items_of it.requests ++ l) (sym (reads_next turns m ys zs n)) ∙ sym it.reads;
+  written = appends_on old mid new (output_of config it.requests) part.part it.written part.written;
+  cause = record { refused = m.refused; item = m.item; more = requests_of zs; behind = part.rest; first = refl; line = ap line_text by.says ∙ part.split };
+}
+
+cut_between : (config : ConfigData) (xs ys : List ℕ) (old new : Option (List ℕ)) (count : ℕ) (w : World) (why : ReplayFault) (it : IsPlayed config xs ys old new count w)
+    → IsCutBy why config it.requests (requests_of ys) [] → IsCutOff config why xs old new
+cut_between config xs ys old new count w why it cause = record {
+  requests = it.requests;
+  rest = requests_of ys;
+  part = [];
+  all = sym it.reads;
+  written = subst (Appends old new) (sym (append-nil (output_of config it.requests))) it.written;
+  cause = cause;
+}
+
+played_whole : (config : ConfigData) (xs ys : List ℕ) (old new : Option (List ℕ)) (count : ℕ) (w : World) → count ≤ 1000000 → requests_of ys ≡ [] → IsPlayed config xs ys old new count w → IsWritten config xs old new
+played_whole config xs ys old new count w most none it = record {
+  requests = it.requests;
+  all = sym (it.reads ∙ ap (λ l. items_of it.requests ++ l) none ∙ append-nil (items_of it.requests));
+  few = omega (arith, it.number);
+  written = it.written;
+}
+
+-- ---- what was read
+
+file_answers : (item : Item) (who : List ℕ) (why : MmFault) → Answers item (Err (File who why)) → item.answer ≡ Err (File who why)
+file_answers item who file.TooLong h = h
+file_answers item who file.Header h = h
+file_answers item who file.Projects h = h
+file_answers item who file.Doubly h = h
+file_answers item who (file.Section a) h = h
+file_answers item who (file.Number a) h = h
+file_answers item who (file.Count a) h = h
+file_answers item who (file.Numbering a) h = h
+file_answers item who (file.Successor a) h = h
+file_answers item who (file.Limit a) h = h
+file_answers item who file.NoMemory h = absurd h
+
+-- a request that the farm is not asked for
+pub record IsSettled (config : ConfigData) (line : Saying) (ys zs : List ℕ) : Type 0 where
+  pub request : Marked
+  pub cut : IsNext request ys zs
+  pub next_is : (parts : Parts) → next config parts request ≡ record { line = line; parts = parts }
+
+-- one that it is asked for
+pub record IsAsked (config : ConfigData) (t : ℕ) (who : List ℕ) (what : What) (ys zs : List ℕ) : Type 0 where
+  pub item : Item
+  pub cut : first_of ys ≡ Some (record { item = item; rest = lines_of zs })
+  pub answer_is : item.answer ≡ Ok (record { who = who; what = what })
+  pub number : number_of who config ≡ Some t
+
+settled_by : (config : ConfigData) (most : ℕ) (answer : Result Request LineFault) (line : Saying) (refused : Refused) (ys zs : List ℕ) (it : Cuts most (first None (lines_of ys)) answer ys zs)
+    → ((parts : Parts) → next config parts (record { item = it.item; refused = refused }) ≡ record { line = line; parts = parts }) → IsSettled config line ys zs
+settled_by config most answer line refused ys zs it says = record { request = record { item = it.item; refused = refused }; cut = record { cut = it.cut }; next_is = says }
+
+same_line : (who : Option (List ℕ)) (words : Said) (w : Option (List ℕ)) (s : Said) (parts : Parts) → heard.Told who words ≡ heard.Told w s
+    → (let it : Next = record { line = record { who = w; said = s }; parts = parts } in it) ≡ record { line = record { who = who; said = words }; parts = parts }
+same_line who words w s parts is =
+    let a : w ≡ who = cc in
+    let b : s ≡ words = cc in
+    ap (λ v. let it : Next = record { line = record { who = v; said = s }; parts = parts } in it) a ∙ ap (λ v. let it : Next = record { line = record { who = who; said = v }; parts = parts } in it) b
+
+settled_request : (config : ConfigData) (most : ℕ) (request : Request) (who : Option (List ℕ)) (words : Said) (t : Option ℕ) → number_of request.who config ≡ t
+    → heard.Told who words ≡ heard_for request.who request.what t → (ys zs : List ℕ) → Cuts most (first None (lines_of ys)) (Ok request) ys zs
+    → IsSettled config (record { who = who; said = words }) ys zs
+settled_request config most request who words None at is ys zs it =
+    settled_by config most (Ok request) (record { who = who; said = words }) Nowhere ys zs it
+    (λ parts. ap (answered config false parts) it.answers ∙ ap (asked false parts request) at ∙ same_line who words (Some request.who) said.NoTenant parts is)
+settled_request config most request who words (Some t) at is ys zs it = absurd (cc)
+
+told_takes : (config : ConfigData) (most : ℕ) (old new : Option (List ℕ)) (answer : Result Request LineFault) (who : Option (List ℕ)) (words : Said) → heard.Told who words ≡ heard_of config answer
+    → Takes most None old new answer → Goes old new (IsSettled config (record { who = who; said = words }))
+told_takes config most old new (Ok request) who words is h =
+    goes_to old new (λ ys zs. Cuts most (first None (lines_of ys)) (Ok request) ys zs) (IsSettled config (record { who = who; said = words })) h
+    (settled_request config most request who words (number_of request.who config) refl is)
+told_takes config most old new (Err Eof) who words is h = absurd (cc)
+told_takes config most old new (Err Read) who words is h = absurd (cc)
+told_takes config most old new (Err (TooLong w)) who words is h =
+    goes_to old new (λ ys zs. Cuts most (first None (lines_of ys)) (Err (TooLong w)) ys zs) (IsSettled config (record { who = who; said = words })) h
+    (λ ys zs it. settled_by config most (Err (TooLong w)) (record { who = who; said = words }) Nowhere ys zs it (λ parts. ap (answered config false parts) it.answers ∙ same_line who words w said.LongLine parts is))
+told_takes config most old new (Err (Syntax w)) who words is h =
+    goes_to old new (λ ys zs. Cuts most (first None (lines_of ys)) (Err (Syntax w)) ys zs) (IsSettled config (record { who = who; said = words })) h
+    (λ ys zs it. settled_by config most (Err (Syntax w)) (record { who = who; said = words }) Nowhere ys zs it (λ parts. ap (answered config false parts) it.answers ∙ same_line who words w said.Syntax parts is))
+told_takes config most old new (Err (File w why)) who words is h =
+    goes_to old new (λ ys zs. Cuts most (first None (lines_of ys)) (Err (File w why)) ys zs) (IsSettled config (record { who = who; said = words })) h
+    (λ ys zs it. settled_by config most (Err (File w why)) (record { who = who; said = words }) Nowhere ys zs it (λ parts. ap (answered config false parts) (file_answers it.item w why it.answers) ∙ same_line who words (Some w) (said.File why) parts is))
+told_takes config most old new (Err (NoMemory w)) who words is h =
+    goes_to old new (λ ys zs. Cuts most (first None (lines_of ys)) (Err (NoMemory w)) ys zs) (IsSettled config (record { who = who; said = words })) h
+    (λ ys zs it. settled_by config most (Err (NoMemory w)) (record { who = who; said = words }) Reading ys zs it (λ parts. ap (λ u. unless_unread u parts (answered config false parts it.item.answer)) it.answers ∙ same_line who words (Some w) (said.Reply reply.NoMemory) parts is))
+
+asked_request : (config : ConfigData) (most : ℕ) (request : Request) (t : ℕ) (who : List ℕ) (what : What) (n : Option ℕ) → number_of request.who config ≡ n
+    → heard.Asked t who what ≡ heard_for request.who request.what n → (ys zs : List ℕ) → Cuts most (first None (lines_of ys)) (Ok request) ys zs → IsAsked config t who what ys zs
+asked_request config most request t who what None at is ys zs it = absurd (cc)
+asked_request config most request t who what (Some n) at is ys zs it =
+    let a : request.who ≡ who = cc in
+    let b : request.what ≡ what = cc in
+    let d : n ≡ t = cc in
+    record {
+      item = it.item;
+      cut = it.cut;
+      answer_is = it.answers ∙ ap (λ w. Ok (let r : Request = record { who = w; what = request.what } in r)) a ∙ ap (λ w. Ok (let r : Request = record { who = who; what = w } in r)) b;
+      number = ap (λ w. number_of w config) (sym a) ∙ at ∙ ap (λ k. Some k) d;
+    }
+
+asked_takes : (config : ConfigData) (most : ℕ) (old new : Option (List ℕ)) (answer : Result Request LineFault) (t : ℕ) (who : List ℕ) (what : What) → heard.Asked t who what ≡ heard_of config answer
+    → Takes most None old new answer → Goes old new (IsAsked config t who what)
+asked_takes config most old new (Ok request) t who what is h =
+    goes_to old new (λ ys zs. Cuts most (first None (lines_of ys)) (Ok request) ys zs) (IsAsked config t who what) h (asked_request config most request t who what (number_of request.who config) refl is)
+asked_takes config most old new (Err Eof) t who what is h = absurd (cc)
+asked_takes config most old new (Err Read) t who what is h = absurd (cc)
+asked_takes config most old new (Err (TooLong w)) t who what is h = absurd (cc)
+asked_takes config most old new (Err (Syntax w)) t who what is h = absurd (cc)
+asked_takes config most old new (Err (File w why)) t who what is h = absurd (cc)
+asked_takes config most old new (Err (NoMemory w)) t who what is h = absurd (cc)
+
+pub asked_known : (config : ConfigData) (answer : Result Request LineFault) (t : ℕ) (who : List ℕ) (what : What) → heard.Asked t who what ≡ heard_of config answer → number_of who config ≡ Some t
+asked_known config (Ok request) t who what is = known (number_of request.who config) refl is
+  where
+    known : (n : Option ℕ) → number_of request.who config ≡ n → heard.Asked t who what ≡ heard_for request.who request.what n → number_of who config ≡ Some t
+    known None at h = absurd (cc)
+    known (Some n) at h = let a : request.who ≡ who = cc in let d : n ≡ t = cc in ap (λ w. number_of w config) (sym a) ∙ at ∙ ap (λ k. Some k) d
+asked_known config (Err Eof) t who what is = absurd (cc)
+asked_known config (Err Read) t who what is = absurd (cc)
+asked_known config (Err (TooLong w)) t who what is = absurd (cc)
+asked_known config (Err (Syntax w)) t who what is = absurd (cc)
+asked_known config (Err (File w why)) t who what is = absurd (cc)
+asked_known config (Err (NoMemory w)) t who what is = absurd (cc)
+
+over_takes : EachInTurn → (config : ConfigData) (most : ℕ) (old new : Option (List ℕ)) (answer : Result Request LineFault) → heard.Over ≡ heard_of config answer → Takes most None old new answer
+    → Goes old new (λ ys zs. requests_of ys ≡ [])
+over_takes turns config most old new (Ok request) is h = absurd (nowhere (number_of request.who config) is)
+  where
+    nowhere : (n : Option ℕ) → heard.Over ≡ heard_for request.who request.what n → ⊥
+    nowhere None e = cc
+    nowhere (Some t) e = cc
+over_takes turns config most old new (Err Eof) is h =
+    goes_to old new (λ ys zs. Ends most (first None (lines_of ys)) ys zs) (λ ys zs. requests_of ys ≡ []) h (λ ys zs it. turns ys ∙ ap from_first it.none)
+over_takes turns config most old new (Err Read) is h = absurd (cc)
+over_takes turns config most old new (Err (TooLong w)) is h = absurd (cc)
+over_takes turns config most old new (Err (Syntax w)) is h = absurd (cc)
+over_takes turns config most old new (Err (File w why)) is h = absurd (cc)
+over_takes turns config most old new (Err (NoMemory w)) is h = absurd (cc)
+
+-- ---- a replay, request by request
+
+abbrev pub Played : ConfigData → Option (List ℕ) → Option (List ℕ) → Option (List ℕ) → Option (List ℕ) → ℕ → World → Type 0
+Played config first now old new count w = Goes first now (λ xs ys. IsPlayed config xs ys old new count w)
+
+pub play_begins : (config : ConfigData) (a old : Option (List ℕ)) (w : World) → ((t : ℕ) → view t w ≡ opening config t) → Played config a a old old 0 w
+play_begins config a old w parts =
+    goes_same a (λ xs ys. IsPlayed config xs ys old old 0 w) (λ xs. record { requests = []; number = refl; parts = parts; written = appends_none old; reads = refl })
+
+answered_settled : (config : ConfigData) (xs ys zs : List ℕ) (old mid : Option (List ℕ)) (count : ℕ) (w : World) (line : Saying) (it : IsPlayed config xs ys old mid count w) (s : IsSettled config line ys zs)
+    → IsAnsweredBy config (parts_after config (opening config) it.requests) s.request line w
+answered_settled config xs ys zs old mid count w line it s =
+    let is = s.next_is (parts_after config (opening config) it.requests) in
+    record { says = ap (λ (n : Next). n.line) is; leads = λ t. it.parts t ∙ ap (λ (n : Next). n.parts t) (sym is) }
+
+pub settled_on : EachInTurn → (config : ConfigData) (a b c old mid new : Option (List ℕ)) (count : ℕ) (w : World) (answer : Result Request LineFault) (who : Option (List ℕ)) (words : Said)
+    → heard.Told who words ≡ heard_of config answer → Takes 100000000 None b c answer → Played config a b old mid count w → Appends mid new (reply_line who words) → Played config a c old new (count + 1) w
+settled_on turns config a b c old mid new count w answer who words is takes played written =
+    goes_on a b c (λ xs ys. IsPlayed config xs ys old mid count w) (IsSettled config (record { who = who; said = words })) (λ xs zs. IsPlayed config xs zs old new (count + 1) w)
+    played (told_takes config 100000000 b c answer who words is takes)
+    (λ xs ys zs it s. play_on turns config xs ys zs old mid new count w w (record { who = who; said = words }) it s.request s.cut (answered_settled config xs ys zs old mid count w (record { who = who; said = words }) it s) written)
+
+pub settled_cut : EachInTurn → (config : ConfigData) (a b c old mid new : Option (List ℕ)) (count : ℕ) (w : World) (answer : Result Request LineFault) (who : Option (List ℕ)) (words : Said)
+    → heard.Told who words ≡ heard_of config answer → Takes 100000000 None b c answer → Played config a b old mid count w → AppendsPart mid new (reply_line who words)
+    → IfSome a (λ xs. IsCutOff config fault.Write xs old new)
+settled_cut turns config a b c old mid new count w answer who words is takes played part =
+    known_first a c (λ xs zs. IsCutOff config fault.Write xs old new) (λ xs. IsCutOff config fault.Write xs old new)
+    (goes_on a b c (λ xs ys. IsPlayed config xs ys old mid count w) (IsSettled config (record { who = who; said = words })) (λ xs zs. IsCutOff config fault.Write xs old new)
+    played (told_takes config 100000000 b c answer who words is takes)
+    (λ xs ys zs it s. cut_by_write turns config xs ys zs old mid new count w w (record { who = who; said = words }) it s.request s.cut (answered_settled config xs ys zs old mid count w (record { who = who; said = words }) it s) part))
+    (λ xs zs known it. it)
+
+abbrev marked : Bool → Refused
+marked true = Answering
+marked false = Nowhere
+
+next_asked : (config : ConfigData) (parts : Parts) (item : Item) (t : ℕ) (who : List ℕ) (what : What) (refused : Bool) → item.answer ≡ Ok (record { who = who; what = what }) → number_of who config ≡ Some t
+    → next config parts (record { item = item; refused = marked refused })
+    ≡ record { line = record { who = Some who; said = (told_under refused (parts t) what).said }; parts = with_part parts t (told_under refused (parts t) what).after }
+next_asked config parts item t who what true is at = ap (answered config true parts) is ∙ ap (asked true parts (record { who = who; what = what })) at
+next_asked config parts item t who what false is at = ap (answered config false parts) is ∙ ap (asked false parts (record { who = who; what = what })) at
+
+not_same : (u t : ℕ) → u ≢ t → (u == t) ≡ false
+not_same u t d = elim (u == t) as (λ b. (u == t) ≡ b → b ≡ false) [ true ↦ λ e. absurd (d (eqb-true u t e)) | false ↦ λ _. refl ] refl
+
+leads_to : (config : ConfigData) (parts : Parts) (w w' : World) (t : ℕ) (what : What) (refused : Bool) → told_under refused (view t w) what ≡ told_under refused (parts t) what
+    → view t w' ≡ (told_under refused (view t w) what).after → ((u : ℕ) → u ≢ t → view u w' ≡ view u w) → ((u : ℕ) → view u w ≡ parts u)
+    → (u : ℕ) → view u w' ≡ with_part parts t (told_under refused (parts t) what).after u
+leads_to config parts w w' t what refused same own others is u =
+    ⊎_elim
+    (λ (e : u ≡ t). ap (λ k. view k w') e ∙ own ∙ ap (λ (x : Told). x.after) same ∙ ap (λ b. cond b (told_under refused (parts t) what).after (parts u)) (sym (eq-eqb u t e)))
+    (λ (d : u ≡ t → ⊥). others u d ∙ is u ∙ ap (λ b. cond b (told_under refused (parts t) what).after (parts u)) (sym (not_same u t d)))
+    (cases_eq u t)
+
+answered_asked : (config : ConfigData) (xs ys zs : List ℕ) (old mid : Option (List ℕ)) (count : ℕ) (w w' : World) (t : ℕ) (who : List ℕ) (what : What) (words : Said) (it : IsPlayed config xs ys old mid count w)
+    (s : IsAsked config t who what ys zs) (h : IsTold w t what words w')
+    → IsAnsweredBy config (parts_after config (opening config) it.requests) (record { item = s.item; refused = marked h.refused }) (record { who = Some who; said = words }) w'
+answered_asked config xs ys zs old mid count w w' t who what words it s h =
+    let parts : Parts = parts_after config (opening config) it.requests in
+    let is = next_asked config parts s.item t who what h.refused s.answer_is s.number in
+    let same : told_under h.refused (view t w) what ≡ told_under h.refused (parts t) what = ap (λ v. told_under h.refused v what) (it.parts t) in
+    record {
+      says = ap (λ (n : Next). n.line) is ∙ ap (λ v. let l : Saying = record { who = Some who; said = v } in l) (sym (h.said ∙ ap (λ (x : Told). x.said) same));
+      leads = λ u. leads_to config parts w w' t what h.refused same h.own h.others it.parts u ∙ ap (λ (n : Next). n.parts u) (sym is);
+    }
+
+pub asked_on : EachInTurn → (config : ConfigData) (a b c old mid new : Option (List ℕ)) (count : ℕ) (w w' : World) (answer : Result Request LineFault) (t : ℕ) (who : List ℕ) (what : What) (words : Said)
+    → heard.Asked t who what ≡ heard_of config answer → Takes 100000000 None b c answer → IsTold w t what words w' → Played config a b old mid count w → Appends mid new (reply_line (Some who) words)
+    → Played config a c old new (count + 1) w'
+asked_on turns config a b c old mid new count w w' answer t who what words is takes told played written =
+    goes_on a b c (λ xs ys. IsPlayed config xs ys old mid count w) (IsAsked config t who what) (λ xs zs. IsPlayed config xs zs old new (count + 1) w')
+    played (asked_takes config 100000000 b c answer t who what is takes)
+    (λ xs ys zs it s. play_on turns config xs ys zs old mid new count w w' (record { who = Some who; said = words }) it (record { item = s.item; refused = marked told.refused }) (record { cut = s.cut })
+    (answered_asked config xs ys zs old mid count w w' t who what words it s told) written)
+
+pub asked_cut : EachInTurn → (config : ConfigData) (a b c old mid new : Option (List ℕ)) (count : ℕ) (w w' : World) (answer : Result Request LineFault) (t : ℕ) (who : List ℕ) (what : What) (words : Said)
+    → heard.Asked t who what ≡ heard_of config answer → Takes 100000000 None b c answer → IsTold w t what words w' → Played config a b old mid count w → AppendsPart mid new (reply_line (Some who) words)
+    → IfSome a (λ xs. IsCutOff config fault.Write xs old new)
+asked_cut turns config a b c old mid new count w w' answer t who what words is takes told played part =
+    known_first a c (λ xs zs. IsCutOff config fault.Write xs old new) (λ xs. IsCutOff config fault.Write xs old new)
+    (goes_on a b c (λ xs ys. IsPlayed config xs ys old mid count w) (IsAsked config t who what) (λ xs zs. IsCutOff config fault.Write xs old new)
+    played (asked_takes config 100000000 b c answer t who what is takes)
+    (λ xs ys zs it s. cut_by_write turns config xs ys zs old mid new count w w' (record { who = Some who; said = words }) it (record { item = s.item; refused = marked told.refused }) (record { cut = s.cut })
+    (answered_asked config xs ys zs old mid count w w' t who what words it s told) part))
+    (λ xs zs known it. it)
+
+pub play_over : EachInTurn → (config : ConfigData) (a b c old new : Option (List ℕ)) (count : ℕ) (w : World) (answer : Result Request LineFault) → count ≤ 1000000 → heard.Over ≡ heard_of config answer
+    → Takes 100000000 None b c answer → Played config a b old new count w → IfSome a (λ xs. IsWritten config xs old new)
+play_over turns config a b c old new count w answer most is takes played =
+    known_first a c (λ xs zs. IsWritten config xs old new) (λ xs. IsWritten config xs old new)
+    (goes_on a b c (λ xs ys. IsPlayed config xs ys old new count w) (λ ys zs. requests_of ys ≡ []) (λ xs zs. IsWritten config xs old new) played (over_takes turns config 100000000 b c answer is takes)
+    (λ xs ys zs it none. played_whole config xs ys old new count w most none it))
+    (λ xs zs known it. it)
+
+pub play_broken : (config : ConfigData) (a b old new : Option (List ℕ)) (count : ℕ) (w : World) → Played config a b old new count w → IfSome a (λ xs. IsCutOff config fault.Read xs old new)
+play_broken config a b old new count w played =
+    known_first a b (λ xs ys. IsPlayed config xs ys old new count w) (λ xs. IsCutOff config fault.Read xs old new) played (λ xs ys known it. cut_between config xs ys old new count w fault.Read it refl)
+
+pub play_ends : (config : ConfigData) (a b old new : Option (List ℕ)) (count : ℕ) (w : World) → count ≤ 1000000 → Played config a b old new count w → IfSome b (λ ys. requests_of ys ≡ []) → IfSome a (λ xs. IsWritten config xs old new)
+play_ends config a b old new count w most played over =
+    known_first a b (λ xs ys. IsPlayed config xs ys old new count w) (λ xs. IsWritten config xs old new) played
+    (λ xs ys known it. played_whole config xs ys old new count w most (subst (λ o. IfSome o (λ ys. requests_of ys ≡ [])) known over) it)
+
+pub play_stops : (config : ConfigData) (a b old new : Option (List ℕ)) (w : World) (why : ReplayFault) → Played config a b old new 1000000 w → IfSome b (λ ys. GoesOn why ys)
+    → IfSome a (λ xs. IsCutOff config why xs old new)
+play_stops config a b old new w why played stops =
+    known_first a b (λ xs ys. IsPlayed config xs ys old new 1000000 w) (λ xs. IsCutOff config why xs old new) played
+    (λ xs ys known it. cut_between config xs ys old new 1000000 w why it (cause why xs ys it (subst (λ o. IfSome o (λ ys. GoesOn why ys)) known stops)))
+  where
+    cause : (why : ReplayFault) (xs ys : List ℕ) (it : IsPlayed config xs ys old new 1000000 w) → GoesOn why ys → IsCutBy why config it.requests (requests_of ys) []
+    cause fault.Read xs ys it h = refl
+    cause fault.Write xs ys it h = absurd h
+    cause fault.Requests xs ys it h = (refl, it.number, h)
+    cause fault.NoMemory xs ys it h = absurd h
+
+pub play_written : (config : ConfigData) (a b old new : Option (List ℕ)) (count : ℕ) (w : World) (result : Result ⊤ ReplayFault) → count ≤ 1000000 → Played config a b old new count w
+    → OnOk result (IfSome b (λ ys. requests_of ys ≡ [])) → OnOk result (IfSome a (λ xs. IsWritten config xs old new))
+play_written config a b old new count w (Ok u) most played over = play_ends config a b old new count w most played over
+play_written config a b old new count w (Err why) most played over = tt
+
+pub play_cut : (config : ConfigData) (a b old new : Option (List ℕ)) (w : World) (result : Result ⊤ ReplayFault) → Played config a b old new 1000000 w
+    → IfErr result (λ why. IfSome b (λ ys. GoesOn why ys)) → IfErr result (λ why. IfSome a (λ xs. IsCutOff config why xs old new))
+play_cut config a b old new w (Ok u) played stops = tt
+play_cut config a b old new w (Err why) played stops = play_stops config a b old new w why played stops
+
+-- in a new farm each tenant has done nothing yet
+pub begun : (config : ConfigData) (w : World) → FarmsAreReplayed → w ≡ opened config → (t : ℕ) → view t w ≡ opening config t
+unfolding opened
+begun config w replayed is t = ap (view t) is ∙ replayed.made config t

@@ -1,0 +1,235 @@
+-- Each line of a script's output is true.
+use Rattle.std.proofs.Common.{◌≡◌, ℕ, ◌==◌, Bool, true, false, cond, ◌&&◌, List, [], ◌∷◌, ◌++◌, Option, Some, None, refl, sym, ap, ◌∙◌, subst, ⊎_elim, eq-eqb, append_assoc, append-nil}
+use Rattle.std.specs.Prelude.{Result, Ok, Err, ⊤}
+use Rattle.std.proofs.lemmas.Bool.{cases_eq, eqb-true}
+use Rattle.psplib_mm.specs.Laws.{ReadingGivesProjects}
+use Rattle.strategy.specs.declared.kind.Kind.{Kind}
+use Rattle.strategy.specs.declared.plan.Plan.{Plan}
+use Rattle.mrcpsp.specs.Project.{ProjectData}
+use Rattle.farm_core.specs.declared.entry.Event.{Event}
+use Rattle.farm_core.specs.declared.entry.Event.TheVariants as event
+use Rattle.farm_core.specs.declared.reply.Reply.TheVariants as reply
+use Rattle.farm_core.specs.Config.{ConfigData}
+use Rattle.farm_core.specs.Tenant.{Tenant, newcomer, find_job}
+use Rattle.farm_core.specs.Step as calls
+use Rattle.farm_core.specs.Step.{Answer, Replied, Sent, Step, step}
+use Rattle.farm_core.specs.Held.{nodes_out}
+use Rattle.farm_core.specs.Truth.{IsTrueAnswer}
+use Rattle.farm_core.proofs.TruthLemmas.{Made, AreKnown, IsGood, step_good}
+use Rattle.session_lines.specs.declared.request.Request.{Request}
+use Rattle.session_lines.specs.declared.request.What.{What}
+use Rattle.session_lines.specs.declared.request.What.TheVariants.{Submit, Fund, Status, Fetch, Cancel, Forget, Ledger, Take, Give, Turn}
+use Rattle.session_lines.specs.declared.request.LineFault.{LineFault}
+use Rattle.session_lines.specs.declared.request.LineFault.TheVariants.{Eof, Read, TooLong, Syntax, File, NoMemory}
+use Rattle.session_lines.specs.declared.said.Said.TheVariants as said
+use Rattle.farm_session.specs.Heard.{number_of}
+use Rattle.farm_replay.specs.Output.{Told, said_for, told_by, given_back, turned, told_to, may_need, told_under, Parts, opening, with_part, Next, asked, said_to, answered, is_answering, unread, unless_unread, Marked, next, parts_after}
+use Rattle.farm_replay.proofs.PlayLemmas.{parts_more}
+use Rattle.farm_replay.proofs.PlannedLemmas.{IsPlannedWhat, IsPlannedRequest, ArePlanned, script_planned}
+use Rattle.farm_replay.specs.Truth.{IsTrueSaid, WasSubmitted, EachLineIsTrue}
+
+-- ---- one tenant
+
+record IsGoodTold (made : Made) (it : Told) : Type 0 where
+  said : IsTrueSaid made it.said
+  jobs : AreKnown made it.after.jobs
+
+true_said : (made : Made) (a : Answer) → IsTrueAnswer made a → IsTrueSaid made (said_for a)
+true_said made (Replied answer) h = h
+true_said made (Sent line) h = h
+true_said made calls.NoTurn h = tt
+
+good_told : (made : Made) (s : Step) → IsGood made s → IsGoodTold made (told_by s)
+good_told made s good = record { said = true_said made s.answer good.answer; jobs = good.jobs }
+
+back_good : (made : Made) (t : Tenant) (s : ℕ) → AreKnown made t.jobs → IsGoodTold made (given_back t s)
+back_good made t s known =
+    let e : Event = event.Give s (nodes_out (find_job s t.jobs)) in
+    good_told made (step t e) (step_good made t e known tt (λ plan quanta n is told. absurd (cc)))
+
+turned_good : (made : Made) (a : Answer) (t : Tenant) (s : ℕ) → IsTrueAnswer made a → AreKnown made t.jobs → IsGoodTold made (turned a t s)
+turned_good made (Sent line) t s h known = back_good made t s known
+turned_good made (Replied answer) t s h known = record { said = h; jobs = known }
+turned_good made calls.NoTurn t s h known = record { said = tt; jobs = known }
+
+-- what a submit makes is known
+abbrev IsMade : Made → Tenant → What → Type 0
+IsMade made t (Submit kind quanta project) =
+    (s : ℕ) → (step t (event.Submit (record { project = project; kind = kind }) quanta)).answer ≡ Replied (reply.Job s) → made s (record { project = project; kind = kind })
+IsMade made t what = ⊤
+
+told_good : (made : Made) (t : Tenant) (what : What) → AreKnown made t.jobs → IsPlannedWhat what → IsMade made t what → IsGoodTold made (told_to t what)
+told_good made t (Submit kind quanta project) known planned new =
+    let plan : Plan = record { project = project; kind = kind } in
+    good_told made (step t (event.Submit plan quanta)) (step_good made t (event.Submit plan quanta) known planned (made_by made t plan quanta new))
+  where
+    made_by : (made : Made) (t : Tenant) (plan : Plan) (quanta : ℕ) → ((s : ℕ) → (step t (event.Submit plan quanta)).answer ≡ Replied (reply.Job s) → made s plan)
+        → (p : Plan) (q s : ℕ) → event.Submit plan quanta ≡ event.Submit p q → (step t (event.Submit plan quanta)).answer ≡ Replied (reply.Job s) → made s p
+    made_by made t plan quanta new p q s is told = let same : plan ≡ p = cc in subst (made s) same (new s told)
+told_good made t (Fund s quanta) known planned new = good_told made (step t (event.Fund s quanta)) (step_good made t (event.Fund s quanta) known tt (λ p q n is told. absurd (cc)))
+told_good made t (Status s) known planned new = good_told made (step t (event.Status s)) (step_good made t (event.Status s) known tt (λ p q n is told. absurd (cc)))
+told_good made t (Fetch s) known planned new = good_told made (step t (event.Fetch s)) (step_good made t (event.Fetch s) known tt (λ p q n is told. absurd (cc)))
+told_good made t (Cancel s) known planned new = good_told made (step t (event.Cancel s)) (step_good made t (event.Cancel s) known tt (λ p q n is told. absurd (cc)))
+told_good made t (Forget s) known planned new = good_told made (step t (event.Forget s)) (step_good made t (event.Forget s) known tt (λ p q n is told. absurd (cc)))
+told_good made t Ledger known planned new = good_told made (step t event.Ledger) (step_good made t event.Ledger known tt (λ p q n is told. absurd (cc)))
+told_good made t (Take s slice) known planned new = good_told made (step t (event.Take s slice)) (step_good made t (event.Take s slice) known tt (λ p q n is told. absurd (cc)))
+told_good made t (Give s) known planned new = back_good made t s known
+told_good made t (Turn s slice) known planned new =
+    let good = step_good made t (event.Take s slice) known tt (λ p q n is told. absurd (cc)) in
+    turned_good made (step t (event.Take s slice)).answer (step t (event.Take s slice)).after s good.answer good.jobs
+
+under_good : (made : Made) (t : Tenant) (what : What) (refused : Bool) → AreKnown made t.jobs → IsPlannedWhat what
+    → ((refused && may_need t what) ≡ false → IsMade made t what) → IsGoodTold made (told_under refused t what)
+under_good made t what refused known planned new =
+    elim (refused && may_need t what) as (λ b. (refused && may_need t what) ≡ b → IsGoodTold made (cond b (record { said = said.Reply reply.NoMemory; after = t }) (told_to t what))) [
+      | true ↦ λ _. record { said = tt; jobs = known }
+      | false ↦ λ is. told_good made t what known planned (new is)
+    ] refl
+
+-- ---- all tenants
+
+abbrev AreAllKnown : (ℕ → Made) → Parts → Type 0
+AreAllKnown made parts = (u : ℕ) → AreKnown (made u) (parts u).jobs
+
+record IsGoodNext (made : ℕ → Made) (owner : Option ℕ) (n : Next) : Type 0 where
+  said : (t : ℕ) → owner ≡ Some t → IsTrueSaid (made t) n.line.said
+  jobs : AreAllKnown made n.parts
+
+quiet_good : (made : ℕ → Made) (owner : Option ℕ) (n : Next) → ((t : ℕ) → IsTrueSaid (made t) n.line.said) → AreAllKnown made n.parts → IsGoodNext made owner n
+quiet_good made owner n true_line known = record { said = λ t is. true_line t; jobs = known }
+
+asked_good : (made : ℕ → Made) (refused : Bool) (parts : Parts) (request : Request) (owner : Option ℕ) → AreAllKnown made parts → IsPlannedWhat request.what
+    → ((t : ℕ) → owner ≡ Some t → (refused && may_need (parts t) request.what) ≡ false → IsMade (made t) (parts t) request.what) → IsGoodNext made owner (asked refused parts request owner)
+asked_good made refused parts request None known planned new = quiet_good made None (asked refused parts request None) (λ t. tt) known
+asked_good made refused parts request (Some t) known planned new =
+    let it : Told = told_under refused (parts t) request.what in
+    let good = under_good (made t) (parts t) request.what refused (known t) planned (new t refl) in
+    record {
+      said = λ u is. let same : t ≡ u = cc in subst (λ k. IsTrueSaid (made k) it.said) same good.said;
+      jobs = λ u.
+          ⊎_elim
+          (λ (e : u ≡ t).
+          subst (λ k. AreKnown (made k) (with_part parts t it.after k).jobs) (sym e)
+          (subst (λ b. AreKnown (made t) (cond b it.after (parts t)).jobs) (sym (eq-eqb t t refl)) good.jobs))
+          (λ (d : u ≡ t → ⊥). subst (λ b. AreKnown (made u) (cond b it.after (parts u)).jobs) (sym (not_same u t d)) (known u))
+          (cases_eq u t);
+    }
+  where
+    not_same : (u t : ℕ) → (u ≡ t → ⊥) → (u == t) ≡ false
+    not_same u t d = elim (u == t) as (λ b. (u == t) ≡ b → b ≡ false) [ true ↦ λ e. absurd (d (eqb-true u t e)) | false ↦ λ _. refl ] refl
+
+abbrev owner_of : ConfigData → Result Request LineFault → Option ℕ
+owner_of config (Ok request) = number_of request.who config
+owner_of config (Err fault) = None
+
+-- what a request makes is known
+abbrev NewAt : (ℕ → Made) → ConfigData → Bool → Parts → Result Request LineFault → Type 0
+NewAt made config refused parts (Ok request) =
+    (t : ℕ) → number_of request.who config ≡ Some t → (refused && may_need (parts t) request.what) ≡ false → IsMade (made t) (parts t) request.what
+NewAt made config refused parts (Err fault) = ⊤
+
+fault_true : (made : Made) (why : LineFault) → IsTrueSaid made (said_to why).said
+fault_true made Eof = tt
+fault_true made Read = tt
+fault_true made (TooLong who) = tt
+fault_true made (Syntax who) = tt
+fault_true made (File who f) = tt
+fault_true made (NoMemory who) = tt
+
+answered_good : (made : ℕ → Made) (config : ConfigData) (refused : Bool) (parts : Parts) (answer : Result Request LineFault) → AreAllKnown made parts → IsPlannedRequest answer
+    → NewAt made config refused parts answer → IsGoodNext made (owner_of config answer) (answered config refused parts answer)
+answered_good made config refused parts (Ok request) known planned new = asked_good made refused parts request (number_of request.who config) known planned new
+answered_good made config refused parts (Err why) known planned new = quiet_good made None (answered config refused parts (Err why)) (λ t. fault_true (made t) why) known
+
+next_good : (made : ℕ → Made) (config : ConfigData) (parts : Parts) (m : Marked) → AreAllKnown made parts → IsPlannedRequest m.item.answer
+    → (unread m.refused m.item.submits ≡ None → NewAt made config (is_answering m.refused) parts m.item.answer) → IsGoodNext made (owner_of config m.item.answer) (next config parts m)
+next_good made config parts m known planned new = by (unread m.refused m.item.submits) new
+  where
+    by : (submits : Option (List ℕ)) → (submits ≡ None → NewAt made config (is_answering m.refused) parts m.item.answer)
+        → IsGoodNext made (owner_of config m.item.answer) (unless_unread submits parts (answered config (is_answering m.refused) parts m.item.answer))
+    by None n = answered_good made config (is_answering m.refused) parts m.item.answer known planned (n refl)
+    by (Some who) n = quiet_good made (owner_of config m.item.answer) (unless_unread (Some who) parts (answered config (is_answering m.refused) parts m.item.answer)) (λ t. tt) known
+
+-- ---- a whole script
+
+module _ (config : ConfigData) (all : List Marked) where
+  made_in : ℕ → Made
+  made_in u = WasSubmitted config all u
+
+  after : List Marked → Parts
+  after done = parts_after config (opening config) done
+
+  says_job : (parts : Parts) (m : Marked) (who : List ℕ) (kind : Kind) (quanta : ℕ) (project : ProjectData) (t s : ℕ) → m.item.answer ≡ Ok (record { who = who; what = Submit kind quanta project })
+      → unread m.refused m.item.submits ≡ None → number_of who config ≡ Some t → (is_answering m.refused && may_need (parts t) (Submit kind quanta project)) ≡ false
+      → (step (parts t) (event.Submit (record { project = project; kind = kind }) quanta)).answer ≡ Replied (reply.Job s) → said.Reply (reply.Job s) ≡ (next config parts m).line.said
+  says_job parts m who kind quanta project t s asks none number kept told =
+      let plan : Plan = record { project = project; kind = kind } in
+      let request : Request = record { who = who; what = Submit kind quanta project } in
+      let r : Bool = is_answering m.refused in
+      ap said_for (sym told)
+      ∙ ap (λ b. (cond b (let it : Told = record { said = said.Reply reply.NoMemory; after = parts t } in it) (told_to (parts t) (Submit kind quanta project))).said) (sym kept)
+      ∙ ap (λ n. (asked r parts request n).line.said) (sym number)
+      ∙ ap (λ a. (answered config r parts a).line.said) (sym asks)
+      ∙ ap (λ u. (unless_unread u parts (answered config r parts m.item.answer)).line.said) (sym none)
+
+  new_by : (before : List Marked) (m : Marked) (behind : List Marked) → all ≡ before ++ m ∷ behind → (who : List ℕ) (what : What) → m.item.answer ≡ Ok (record { who = who; what = what })
+      → unread m.refused m.item.submits ≡ None → (t : ℕ) → number_of who config ≡ Some t → (is_answering m.refused && may_need (after before t) what) ≡ false
+      → IsMade (made_in t) (after before t) what
+  unfolding made_in after
+  new_by before m behind whole who (Submit kind quanta project) asks none t number kept = λ s told. (
+    quanta,
+    record {
+      before = before;
+      request = m;
+      behind = behind;
+      whole = whole;
+      who = who;
+      asks = asks;
+      number = number;
+      says = says_job (parts_after config (opening config) before) m who kind quanta project t s asks none number kept told;
+    },
+  )
+  new_by before m behind whole who (Fund s q) asks none t number kept = tt
+  new_by before m behind whole who (Status s) asks none t number kept = tt
+  new_by before m behind whole who (Fetch s) asks none t number kept = tt
+  new_by before m behind whole who (Cancel s) asks none t number kept = tt
+  new_by before m behind whole who (Forget s) asks none t number kept = tt
+  new_by before m behind whole who Ledger asks none t number kept = tt
+  new_by before m behind whole who (Take s slice) asks none t number kept = tt
+  new_by before m behind whole who (Give s) asks none t number kept = tt
+  new_by before m behind whole who (Turn s slice) asks none t number kept = tt
+
+  new_at : (before : List Marked) (m : Marked) (behind : List Marked) → all ≡ before ++ m ∷ behind → unread m.refused m.item.submits ≡ None → (answer : Result Request LineFault)
+      → m.item.answer ≡ answer → NewAt made_in config (is_answering m.refused) (after before) answer
+  new_at before m behind whole none (Ok request) is = λ t number kept. new_by before m behind whole request.who request.what is none t number kept
+  new_at before m behind whole none (Err why) is = tt
+
+  good_at : (before : List Marked) (m : Marked) (behind : List Marked) → all ≡ before ++ m ∷ behind → AreAllKnown made_in (after before) → IsPlannedRequest m.item.answer
+      → IsGoodNext made_in (owner_of config m.item.answer) (next config (after before) m)
+  good_at before m behind whole known planned = next_good made_in config (after before) m known planned (λ none. new_at before m behind whole none m.item.answer refl)
+
+  known_on : (done todo behind : List Marked) → all ≡ done ++ (todo ++ behind) → ArePlanned todo → AreAllKnown made_in (after done) → AreAllKnown made_in (after (done ++ todo))
+  unfolding after
+  known_on done [] behind whole planned known = subst (λ l. AreAllKnown made_in (after l)) (sym (append-nil done)) known
+  known_on done (m ∷ ms) behind whole planned known =
+      let good = good_at done m (ms ++ behind) whole known planned.0 in
+      let more : AreAllKnown made_in (after (done ++ m ∷ [])) = subst (AreAllKnown made_in) (sym (parts_more config (opening config) done m)) good.jobs in
+      subst (λ l. AreAllKnown made_in (after l)) (append_assoc done (m ∷ []) ms)
+      (known_on (done ++ m ∷ []) ms behind (whole ∙ sym (append_assoc done (m ∷ []) (ms ++ behind))) planned.1 more)
+
+  none_known : AreAllKnown made_in (after [])
+  unfolding after newcomer
+  none_known u = tt
+
+planned_parts : (xs ys : List Marked) → ArePlanned (xs ++ ys) → ArePlanned xs × ArePlanned ys
+planned_parts [] ys h = (tt, h)
+planned_parts (x ∷ xs) ys h = let p = planned_parts xs ys h.1 in ((h.0, p.0), p.1)
+
+pub each_line_is_true : ReadingGivesProjects → EachLineIsTrue
+unfolding made_in after
+each_line_is_true projects config script requests is t what words it =
+    let planned = script_planned projects script requests is in
+    let parts = planned_parts it.before (it.request ∷ it.behind) (subst ArePlanned it.whole planned) in
+    let known = known_on config requests [] it.before (it.request ∷ it.behind) it.whole parts.0 (none_known config requests) in
+    let good = good_at config requests it.before it.request it.behind it.whole known parts.1.0 in
+    subst (IsTrueSaid (WasSubmitted config requests t)) (sym it.says) (good.said t (ap (owner_of config) it.asks ∙ it.number))

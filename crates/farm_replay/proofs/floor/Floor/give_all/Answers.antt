@@ -1,0 +1,7 @@
+use Rattle.std.proofs.Common.{arith}
+use Rattle.farm_replay.proofs.FloorLemmas.{none_left, none_out}
+use Rattle.farm_replay.proofs.floor.Floor.give_all.Goals as goal
+
+pub returns-clause-back : goal.returns-clause-back
+returns-clause-back g c =
+    none_out g.J.Strategy.meaning c.loop-given.self.farm c.loop-given.self.held.items (none_left c.loop-given.self.held.items (omega (arith, c.loop-given.invariant.1))) c.loop-given.invariant.0

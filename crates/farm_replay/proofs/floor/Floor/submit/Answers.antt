@@ -1,0 +1,16 @@
+use Rattle.std.proofs.Common.{refl}
+use Rattle.farm_core.specs.declared.entry.Event.TheVariants.{Submit}
+use Rattle.session_lines.specs.declared.request.What.TheVariants as what
+use Rattle.farm_replay.proofs.FloorLemmas.{replied, floor_replied}
+use Rattle.farm_replay.proofs.floor.Floor.submit.Goals as goal
+
+pub returns-clause-told : goal.returns-clause-told
+returns-clause-told g c =
+    replied c.args.self.now.farm c.submit.new.self c.args.tenant (what.Submit c.args.plan.kind c.args.quanta c.args.plan.project) (Submit c.args.plan c.args.quanta) c.submit.result
+    refl (λ none room. refl) c.submit.ensures
+
+pub returns-clause-floor : goal.returns-clause-floor
+returns-clause-floor g c =
+    let know = c.know_turns.ensures in
+    floor_replied g.J.Strategy.meaning know.stay know.only c.args.self.now.farm c.submit.new.self c.args.tenant (Submit c.args.plan c.args.quanta) c.submit.result know.replayed
+    (λ s. refl) (λ s. refl) c.args.self.now.held.items c.submit.ensures c.requires.floor

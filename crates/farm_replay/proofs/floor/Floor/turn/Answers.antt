@@ -1,0 +1,14 @@
+use Rattle.std.proofs.Common.{subst, sym}
+use Rattle.session_lines.specs.declared.request.What.TheVariants as what
+use Rattle.farm_replay.specs.Floor.{IsTold}
+use Rattle.farm_replay.proofs.FloorLemmas.{turned_untaken, turned_whole}
+use Rattle.farm_replay.proofs.floor.Floor.turn.Goals as goal
+
+pub returns-in-Ok-clause-told : goal.returns-in-Ok-clause-told
+returns-in-Ok-clause-told g c =
+    turned_whole c.args.self.now.farm c.hold.new.self.farm c.give.new.self.farm c.args.tenant c.args.seq c.args.slice c.in-Ok.field-0 c.give.result c.in-Ok.ensures.held c.give.ensures.told
+
+pub returns-in-Err-clause-told : goal.returns-in-Err-clause-told
+returns-in-Err-clause-told g c =
+    subst (λ a. IsTold c.args.self.now.farm c.args.tenant (what.Turn c.args.seq c.args.slice) a c.hold.new.self.farm) (sym c.untaken.ensures)
+    (turned_untaken c.args.self.now.farm c.hold.new.self.farm c.args.tenant c.args.seq c.args.slice c.in-Err.why c.in-Err.ensures.refused)

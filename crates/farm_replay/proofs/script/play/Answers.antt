@@ -1,0 +1,101 @@
+use Rattle.std.proofs.Common.{◌≡◌, map, arith, sym, ap, ◌∙◌, subst}
+use Rattle.farm_replay.proofs.CounterLemmas.{known_number, own_till, kept_tills, tills_length}
+use Rattle.farm_core.specs.World.{terms_in, opened}
+use Rattle.farm_replay.specs.Counter.{counter_of}
+use Rattle.farm_replay.specs.Floor.{IsFloor}
+use Rattle.farm_replay.proofs.PlayLemmas.{Played, begun, play_begins, settled_on, settled_cut, asked_known, asked_on, asked_cut, play_over, play_written, play_cut}
+use Rattle.farm_replay.proofs.script.play.Goals as goal
+use Rattle.farm_replay.proofs.script.play.Goals.{in-Told+in_default, in-Asked+in_default-tell}
+
+pub loop-answered-init : goal.loop-answered-init
+unfolding opened
+loop-answered-init g c = (
+  ap (λ w. w.config) c.requires.farm,
+  c.requires.counters,
+  c.requires.floor,
+  play_begins c.args.config.now (g.R.Read.remaining c.args.script.now) (g.W.Write.contents c.args.writer.now) c.args.floor.now.farm
+      (begun c.args.config.now c.args.floor.now.farm c.farms_are_replayed.ensures c.requires.farm),
+)
+
+pub returns-in-Over-clause-written : goal.returns-in-Over-clause-written
+returns-in-Over-clause-written g c =
+    play_over c.requests_come_in_turn.ensures c.args.config.now (g.R.Read.remaining c.args.script.now) (g.R.Read.remaining c.loop-answered.script) (g.R.Read.remaining c.read_request.new.reader)
+    (g.W.Write.contents c.args.writer.now) (g.W.Write.contents c.loop-answered.writer) c.loop-answered._answered c.loop-answered.floor.farm c.read_request.result (omega arith) (cc (c.in-Over.is, c.hear.ensures))
+    c.read_request.ensures c.loop-answered.invariant.3
+
+pub returns-in-Err-clause-cut_off : goal.returns-in-Err-clause-cut_off
+returns-in-Err-clause-cut_off g c =
+    rw c.in-Err.ensures.fault
+    (settled_cut c.requests_come_in_turn.ensures c.args.config.now (g.R.Read.remaining c.args.script.now) (g.R.Read.remaining c.loop-answered.script) (g.R.Read.remaining c.read_request.new.reader)
+    (g.W.Write.contents c.args.writer.now) (g.W.Write.contents c.loop-answered.writer) (g.W.Write.contents c.tell.new.writer) c.loop-answered._answered c.loop-answered.floor.farm c.read_request.result
+    c.in-Told.who c.in-Told.said (cc (c.in-Told.is, c.hear.ensures)) c.read_request.ensures c.loop-answered.invariant.3 c.in-Err.ensures.writes.err)
+
+pub returns-in-Err-tell-clause-cut_off : goal.returns-in-Err-tell-clause-cut_off
+returns-in-Err-tell-clause-cut_off g c =
+    rw c.in-Err-tell.ensures.fault
+    (asked_cut c.requests_come_in_turn.ensures c.args.config.now (g.R.Read.remaining c.args.script.now) (g.R.Read.remaining c.loop-answered.script) (g.R.Read.remaining c.read_request.new.reader)
+    (g.W.Write.contents c.args.writer.now) (g.W.Write.contents c.loop-answered.writer) (g.W.Write.contents c.tell-in-Asked.new.writer) c.loop-answered._answered c.loop-answered.floor.farm
+    c.answer-said.new.self.farm c.read_request.result c.in-Asked.tenant c.in-Asked.who c.in-Asked.asked c.answer-said.result (cc (c.in-Asked.is, c.hear.ensures)) c.read_request.ensures
+    c.answer-said.ensures.told c.loop-answered.invariant.3 c.in-Err-tell.ensures.writes.err)
+
+pub loop-answered-preserved : goal.loop-answered-preserved
+loop-answered-preserved g c =
+    let inv = c.loop-answered.invariant in
+    elim c.match-hear.branch [
+      | in-Told+in_default w ↦ (
+        ap (λ x. x.farm.config) w.floor-is ∙ inv.0,
+        ap (map counter_of) w.counters-is ∙ inv.1,
+        subst (λ x. IsFloor g.J.Strategy.meaning x.farm x.held.items) (sym w.floor-is) inv.2,
+        rw (w.floor-is, w.writer-is)
+            (settled_on c.requests_come_in_turn.ensures c.args.config.now (g.R.Read.remaining c.args.script.now) (g.R.Read.remaining c.loop-answered.script) (g.R.Read.remaining c.read_request.new.reader)
+            (g.W.Write.contents c.args.writer.now) (g.W.Write.contents c.loop-answered.writer) (g.W.Write.contents w.tell.new.writer) c.loop-answered._answered c.loop-answered.floor.farm c.read_request.result
+            w.in-Told.who w.in-Told.said (cc (w.in-Told.is, c.hear.ensures)) c.read_request.ensures inv.3 w.in_default.ensures.writes.ok),
+      )
+      | in-Asked+in_default-tell w ↦ (
+        ap (λ x. x.farm.config) w.floor-is ∙ w.answer-said.ensures.told.config ∙ inv.0,
+        ap (map counter_of)
+            (w.counters-is
+            ∙ kept_tills c.loop-answered.counters w.in-Asked.tenant w.index-counters-tenant.result w.answer-said.new.counter
+            (tills_length c.args.config.now c.loop-answered.counters w.in-Asked.tenant inv.1
+            (known_number w.in-Asked.who c.args.config.now w.in-Asked.tenant (asked_known c.args.config.now c.read_request.result w.in-Asked.tenant w.in-Asked.who w.in-Asked.asked (cc (w.in-Asked.is, c.hear.ensures)))))
+            w.index-counters-tenant.is w.answer-said.ensures.counter)
+            ∙ inv.1,
+        subst (λ x. IsFloor g.J.Strategy.meaning x.farm x.held.items) (sym w.floor-is) w.answer-said.ensures.floor,
+        rw (w.floor-is, w.writer-is)
+            (asked_on c.requests_come_in_turn.ensures c.args.config.now (g.R.Read.remaining c.args.script.now) (g.R.Read.remaining c.loop-answered.script) (g.R.Read.remaining c.read_request.new.reader)
+            (g.W.Write.contents c.args.writer.now) (g.W.Write.contents c.loop-answered.writer) (g.W.Write.contents w.tell-in-Asked.new.writer) c.loop-answered._answered c.loop-answered.floor.farm
+            w.answer-said.new.self.farm c.read_request.result w.in-Asked.tenant w.in-Asked.who w.in-Asked.asked w.answer-said.result (cc (w.in-Asked.is, c.hear.ensures)) c.read_request.ensures
+            w.answer-said.ensures.told inv.3 w.in_default-tell.ensures.writes.ok),
+      )
+    ]
+
+pub returns-clause-written : goal.returns-clause-written
+returns-clause-written g c =
+    play_written c.args.config.now (g.R.Read.remaining c.args.script.now) (g.R.Read.remaining c.loop-answered.script) (g.W.Write.contents c.args.writer.now) (g.W.Write.contents c.loop-answered.writer)
+    c.loop-answered._answered c.loop-answered.floor.farm c.end.result (omega arith) c.loop-answered.invariant.3 c.end.ensures.over
+
+pub returns-clause-cut_off : goal.returns-clause-cut_off
+returns-clause-cut_off g c =
+    let all : c.loop-answered._answered ≡ 1000000 = omega arith in
+    play_cut c.args.config.now (g.R.Read.remaining c.args.script.now) (g.R.Read.remaining c.loop-answered.script) (g.W.Write.contents c.args.writer.now) (g.W.Write.contents c.loop-answered.writer)
+    c.loop-answered.floor.farm c.end.result
+    (subst (λ n. Played c.args.config.now (g.R.Read.remaining c.args.script.now) (g.R.Read.remaining c.loop-answered.script) (g.W.Write.contents c.args.writer.now) (g.W.Write.contents c.loop-answered.writer) n c.loop-answered.floor.farm)
+    all c.loop-answered.invariant.3) c.end.ensures.fault
+
+pub bounds-counters-tenant : goal.bounds-counters-tenant
+bounds-counters-tenant g c =
+    tills_length c.args.config.now c.loop-answered.counters c.in-Asked.tenant c.loop-answered.invariant.1
+    (known_number c.in-Asked.who c.args.config.now c.in-Asked.tenant (asked_known c.args.config.now c.read_request.result c.in-Asked.tenant c.in-Asked.who c.in-Asked.asked (cc (c.in-Asked.is, c.hear.ensures))))
+
+pub answer-said-requires-clause-counter : goal.answer-said-requires-clause-counter
+answer-said-requires-clause-counter g c κs within =
+    ap (λ x. x.tenant)
+    (own_till c.args.config.now c.loop-answered.counters c.in-Asked.tenant c.index-counters-tenant.result c.loop-answered.invariant.1
+    (known_number c.in-Asked.who c.args.config.now c.in-Asked.tenant (asked_known c.args.config.now c.read_request.result c.in-Asked.tenant c.in-Asked.who c.in-Asked.asked (cc (c.in-Asked.is, c.hear.ensures)))))
+
+pub answer-said-requires-clause-granted : goal.answer-said-requires-clause-granted
+answer-said-requires-clause-granted g c κs within =
+    ap (λ x. x.granted)
+    (own_till c.args.config.now c.loop-answered.counters c.in-Asked.tenant c.index-counters-tenant.result c.loop-answered.invariant.1
+    (known_number c.in-Asked.who c.args.config.now c.in-Asked.tenant (asked_known c.args.config.now c.read_request.result c.in-Asked.tenant c.in-Asked.who c.in-Asked.asked (cc (c.in-Asked.is, c.hear.ensures)))))
+    ∙ ap (λ k. (terms_in k c.in-Asked.tenant).quanta) (sym c.loop-answered.invariant.0)

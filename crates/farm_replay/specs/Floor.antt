@@ -1,0 +1,46 @@
+-- The turns that a script holds.
+use Rattle.std.specs.Prelude.{◌≡◌, ◌≢◌, ℕ, Bool, true, false, ◌&&◌, ◌==◌, List, [], ◌∷◌, ⊤}
+use Rattle.std.specs.List.{list_any}
+use Rattle.strategy.specs.Search.{Meaning}
+use Rattle.farm_core.specs.declared.turn.Turn.{Turn}
+use Rattle.farm_core.specs.declared.reply.Reply.TheVariants as reply
+use Rattle.farm_core.specs.declared.reply.NoTurn.{NoTurn}
+use Rattle.farm_core.specs.declared.reply.NoTurn.TheVariants as no_turn
+use Rattle.farm_core.specs.Tenant.{find_job}
+use Rattle.farm_core.specs.World.{World, view}
+use Rattle.farm_core.specs.Held.{AreHeld, is_out_of}
+use Rattle.session_lines.specs.declared.request.What.{What}
+use Rattle.session_lines.specs.declared.said.Said.{Said}
+use Rattle.session_lines.specs.declared.said.Said.TheVariants as said
+use Rattle.farm_replay.specs.Output.{told_under}
+
+-- a turn of a tenant's job of that number
+abbrev pub is_turn_of : {J : Type 0} → ℕ → ℕ → Turn J → Bool
+is_turn_of t s turn = (turn.tenant == t) && (turn.seq == s)
+
+abbrev pub has_turn : {J : Type 0} → ℕ → ℕ → List (Turn J) → Bool
+has_turn t s turns = list_any (is_turn_of t s) turns
+
+-- no two turns are of one job
+abbrev pub AreApart : {J : Type 0} → List (Turn J) → Type 0
+AreApart [] = ⊤
+AreApart (turn ∷ turns) = (has_turn turn.tenant turn.seq turns ≡ false) × AreApart turns
+
+-- each turn is of a job that is out, and has not run; each job that is out has its turn here, and one alone
+pub record IsFloor {J : Type 0} (meaning : J → Meaning) (w : World) (turns : List (Turn J)) : Type 0 where
+  pub held : AreHeld meaning w turns
+  pub apart : AreApart turns
+  pub all : (t s : ℕ) → is_out_of (find_job s (view t w).jobs) ≡ true → has_turn t s turns ≡ true
+
+-- a tenant's request was answered, whether or not memory was refused, and nothing changed for the other tenants
+pub record IsTold (old : World) (t : ℕ) (what : What) (answer : Said) (new : World) : Type 0 where
+  pub refused : Bool
+  pub said : answer ≡ (told_under refused (view t old) what).said
+  pub own : view t new ≡ (told_under refused (view t old) what).after
+  pub others : (u : ℕ) → u ≢ t → view u new ≡ view u old
+  pub config : new.config ≡ old.config
+
+-- what is said where no turn was taken
+abbrev pub untaken : NoTurn → Said
+untaken no_turn.None = said.NoTurn
+untaken no_turn.NoMemory = said.Reply reply.NoMemory

@@ -1,0 +1,8 @@
+pub mod Replay
+pub mod Output
+pub mod Floor
+pub mod Isolation
+pub mod Truth
+pub mod Begins
+pub mod Bytes
+pub mod Counter

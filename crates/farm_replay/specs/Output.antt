@@ -1,0 +1,202 @@
+-- What a replay writes: one line for each request of its script, which the farm's steps give.
+use Rattle.std.specs.Prelude.{◌≡◌, ◌≢◌, ℕ, Bool, true, false, not, cond, ◌&&◌, ◌==◌, ◌≤◌, List, [], ◌∷◌, ◌++◌, Option, Some, None, Result, Ok, Err, length, map}
+use Rattle.std.specs.Io.KnownBytes.{Appends}
+use Rattle.std.specs.List.{flat_map}
+use Rattle.farm_core.specs.declared.entry.Event.TheVariants as event
+use Rattle.farm_core.specs.declared.reply.Reply.TheVariants as reply
+use Rattle.farm_core.specs.Config.{ConfigData}
+use Rattle.farm_core.specs.Tenant.{Tenant, newcomer, find_job}
+use Rattle.farm_core.specs.Step as step
+use Rattle.farm_core.specs.Step.{Step, Answer, Replied, Sent, step, has_room}
+use Rattle.farm_core.specs.World.{terms_in}
+use Rattle.farm_core.specs.Held.{nodes_out}
+use Rattle.session_lines.specs.declared.request.Request.{Request}
+use Rattle.session_lines.specs.declared.request.What.{What}
+use Rattle.session_lines.specs.declared.request.What.TheVariants.{Submit, Fund, Status, Fetch, Cancel, Forget, Ledger, Take, Give, Turn}
+use Rattle.session_lines.specs.declared.request.LineFault.{LineFault}
+use Rattle.session_lines.specs.declared.request.LineFault.TheVariants.{Eof, Read, TooLong, Syntax, File, NoMemory}
+use Rattle.session_lines.specs.declared.said.Said.{Said}
+use Rattle.session_lines.specs.declared.said.Said.TheVariants as said
+use Rattle.session_lines.specs.ReplyText.{reply_line}
+use Rattle.session_lines.specs.Script.{Item, requests_of}
+use Rattle.farm_session.specs.Heard.{number_of}
+use Rattle.farm_replay.specs.declared.script.ReplayFault.{ReplayFault}
+use Rattle.farm_replay.specs.declared.script.ReplayFault.TheVariants as fault
+
+-- ---- one tenant
+
+-- what is said to a tenant, and its part of the farm then
+pub record Told : Type 0 where
+  pub said : Said
+  pub after : Tenant
+
+-- what is said for an answer of the farm: a turn that goes out is told by the line of its job
+abbrev pub said_for : Answer → Said
+said_for (Replied answer) = said.Reply answer
+said_for (Sent line) = said.Reply (reply.Line line)
+said_for step.NoTurn = said.NoTurn
+
+abbrev pub told_by : Step → Told
+told_by s = record { said = said_for s.answer; after = s.after }
+
+-- the turn of job s that is out runs all that it can, and comes back
+abbrev pub given_back : Tenant → ℕ → Told
+given_back t s = told_by (step t (event.Give s (nodes_out (find_job s t.jobs))))
+
+-- once a turn of job s was asked for: where there is one it runs and comes back
+abbrev pub turned : Answer → Tenant → ℕ → Told
+turned (Sent line) t s = given_back t s
+turned answer t s = record { said = said_for answer; after = t }
+
+-- a tenant's request is a call of the farm, and a whole turn is two
+abbrev pub told_to : Tenant → What → Told
+told_to t (Submit kind quanta project) = told_by (step t (event.Submit (record { project = project; kind = kind }) quanta))
+told_to t (Fund s quanta) = told_by (step t (event.Fund s quanta))
+told_to t (Status s) = told_by (step t (event.Status s))
+told_to t (Fetch s) = told_by (step t (event.Fetch s))
+told_to t (Cancel s) = told_by (step t (event.Cancel s))
+told_to t (Forget s) = told_by (step t (event.Forget s))
+told_to t Ledger = told_by (step t event.Ledger)
+told_to t (Take s slice) = told_by (step t (event.Take s slice))
+told_to t (Give s) = given_back t s
+told_to t (Turn s slice) = turned (step t (event.Take s slice)).answer (step t (event.Take s slice)).after s
+
+abbrev pub is_line : Answer → Bool
+is_line (Replied (reply.Line line)) = true
+is_line answer = false
+
+-- whether a request may need memory: a submit and a turn that is taken do; a give does not; and a command does only where the journal has room
+-- for its entry, but for a cancel that is accepted
+abbrev pub may_need : Tenant → What → Bool
+may_need t (Submit kind quanta project) = true
+may_need t (Take s slice) = true
+may_need t (Turn s slice) = true
+may_need t (Give s) = false
+may_need t (Cancel s) = has_room 1 t && not (is_line (step t (event.Cancel s)).answer)
+may_need t what = has_room 1 t
+
+-- what is said to a request where memory that it needs is refused, or where it is not: a refusal changes nothing
+abbrev pub told_under : Bool → Tenant → What → Told
+told_under refused t what = cond (refused && may_need t what) (record { said = said.Reply reply.NoMemory; after = t }) (told_to t what)
+
+-- ---- all tenants
+
+-- each tenant's part of the farm, by its number
+abbrev pub Parts : Type 0
+Parts = ℕ → Tenant
+
+abbrev pub opening : ConfigData → Parts
+opening config t = newcomer (terms_in config t)
+
+abbrev pub with_part : Parts → ℕ → Tenant → Parts
+with_part parts t new u = cond (u == t) new (parts u)
+
+-- a reply line: whose it is, where that is known, and what is said
+pub record Saying : Type 0 where
+  pub who : Option (List ℕ)
+  pub said : Said
+
+-- the line that answers a request, and the tenants' parts then
+pub record Next : Type 0 where
+  pub line : Saying
+  pub parts : Parts
+
+abbrev pub asked : Bool → Parts → Request → Option ℕ → Next
+asked refused parts request None = record { line = record { who = Some request.who; said = said.NoTenant }; parts = parts }
+asked refused parts request (Some t) =
+    let it : Told = told_under refused (parts t) request.what in
+    record { line = record { who = Some request.who; said = it.said }; parts = with_part parts t it.after }
+
+-- what is said where bytes are no request; the end of the script and a failed read are no request's
+abbrev pub said_to : LineFault → Saying
+said_to Eof = record { who = None; said = said.Syntax }
+said_to Read = record { who = None; said = said.Syntax }
+said_to (TooLong who) = record { who = who; said = said.LongLine }
+said_to (Syntax who) = record { who = who; said = said.Syntax }
+said_to (File who fault) = record { who = Some who; said = said.File fault }
+said_to (NoMemory who) = record { who = Some who; said = said.Reply reply.NoMemory }
+
+abbrev pub answered : ConfigData → Bool → Parts → Result Request LineFault → Next
+answered config refused parts (Ok request) = asked refused parts request (number_of request.who config)
+answered config refused parts (Err fault) = record { line = said_to fault; parts = parts }
+
+-- where memory was refused that a request needed: nowhere, for the text of a submit and its project, or for its answer
+pub data Refused : Type 0 where
+  Nowhere : Refused
+  Reading : Refused
+  Answering : Refused
+
+abbrev pub is_answering : Refused → Bool
+is_answering Nowhere = false
+is_answering Reading = false
+is_answering Answering = true
+
+-- whose the text is that was not read, if there is one
+abbrev pub unread : Refused → Option (List ℕ) → Option (List ℕ)
+unread Nowhere submits = None
+unread Reading submits = submits
+unread Answering submits = None
+
+-- a submit whose text was not read is answered before it is judged
+abbrev pub unless_unread : Option (List ℕ) → Parts → Next → Next
+unless_unread None parts next = next
+unless_unread (Some who) parts next = record { line = record { who = Some who; said = said.Reply reply.NoMemory }; parts = parts }
+
+-- a request of a script, and where memory was refused for it
+pub record Marked : Type 0 where
+  pub item : Item
+  pub refused : Refused
+
+abbrev pub next : ConfigData → Parts → Marked → Next
+next config parts m = unless_unread (unread m.refused m.item.submits) parts (answered config (is_answering m.refused) parts m.item.answer)
+
+-- the lines that answer these requests, one after another, and the tenants' parts at their end
+abbrev pub lines_for : ConfigData → Parts → List Marked → List Saying
+lines_for config parts [] = []
+lines_for config parts (m ∷ ms) = (next config parts m).line ∷ lines_for config (next config parts m).parts ms
+
+abbrev pub parts_after : ConfigData → Parts → List Marked → Parts
+parts_after config parts [] = parts
+parts_after config parts (m ∷ ms) = parts_after config (next config parts m).parts ms
+
+abbrev pub line_text : Saying → List ℕ
+line_text line = reply_line line.who line.said
+
+-- the output of a script's requests on a new farm of the configuration
+abbrev pub output_of : ConfigData → List Marked → List ℕ
+output_of config ms = flat_map line_text (lines_for config (opening config) ms)
+
+abbrev pub items_of : List Marked → List Item
+items_of ms = map (λ (m : Marked). m.item) ms
+
+-- the whole output of a script of at most 1,000,000 requests was written, whatever memory was refused
+pub record IsWritten (config : ConfigData) (script : List ℕ) (old new : Option (List ℕ)) : Type 0 where
+  pub requests : List Marked
+  pub all : items_of requests ≡ requests_of script
+  pub few : length requests ≤ 1000000
+  pub written : Appends old new (output_of config requests)
+
+-- a part of the line of the first of these requests, from its front
+pub record IsPartOfNext (config : ConfigData) (before : List Marked) (rest : List Item) (part : List ℕ) : Type 0 where
+  pub refused : Refused
+  pub item : Item
+  pub more : List Item
+  pub behind : List ℕ
+  pub first : rest ≡ item ∷ more
+  pub line : line_text (next config (parts_after config (opening config) before) (record { item = item; refused = refused })).line ≡ part ++ behind
+
+-- what was written after the lines of these requests, and how many there are, by the fault
+abbrev pub IsCutBy : ReplayFault → ConfigData → List Marked → List Item → List ℕ → Type 0
+IsCutBy fault.Read config requests rest part = part ≡ []
+IsCutBy fault.Write config requests rest part = IsPartOfNext config requests rest part
+IsCutBy fault.Requests config requests rest part = (part ≡ []) × (length requests ≡ 1000000) × (rest ≢ [])
+IsCutBy fault.NoMemory config requests rest part = (part ≡ []) × (requests ≡ [])
+
+-- the output of a script's first requests was written, and after a failed write a part of the next line
+pub record IsCutOff (config : ConfigData) (fault : ReplayFault) (script : List ℕ) (old new : Option (List ℕ)) : Type 0 where
+  pub requests : List Marked
+  pub rest : List Item
+  pub part : List ℕ
+  pub all : items_of requests ++ rest ≡ requests_of script
+  pub written : Appends old new (output_of config requests ++ part)
+  pub cause : IsCutBy fault config requests rest part

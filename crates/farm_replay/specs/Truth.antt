@@ -1,0 +1,43 @@
+-- Why what a replay writes about a job is true.
+use Rattle.std.specs.Prelude.{◌≡◌, ℕ, ⊤, List, ◌∷◌, ◌++◌, Some, Ok}
+use Rattle.strategy.specs.declared.plan.Plan.{Plan}
+use Rattle.farm_core.specs.declared.reply.Reply.TheVariants as reply
+use Rattle.farm_core.specs.Config.{ConfigData}
+use Rattle.farm_core.specs.Truth.{IsTrueReply}
+use Rattle.session_lines.specs.declared.request.What.{What}
+use Rattle.session_lines.specs.declared.request.What.TheVariants.{Submit}
+use Rattle.session_lines.specs.declared.said.Said.{Said}
+use Rattle.session_lines.specs.declared.said.Said.TheVariants as said
+use Rattle.session_lines.specs.Script.{requests_of}
+use Rattle.farm_session.specs.Heard.{number_of}
+use Rattle.farm_replay.specs.Output.{Marked, items_of, opening, next, parts_after}
+
+-- what is said of a job is true of a plan that was made under its number
+abbrev pub IsTrueSaid : (ℕ → Plan → Type 0) → Said → Type 0
+IsTrueSaid made (said.Reply answer) = IsTrueReply made answer
+IsTrueSaid made said.NoTurn = ⊤
+IsTrueSaid made said.NoTenant = ⊤
+IsTrueSaid made said.Syntax = ⊤
+IsTrueSaid made said.LongLine = ⊤
+IsTrueSaid made (said.File fault) = ⊤
+
+-- one of these requests is tenant t's, and this is said to it
+pub record IsAnswered (config : ConfigData) (requests : List Marked) (t : ℕ) (what : What) (words : Said) : Type 0 where
+  pub before : List Marked
+  pub request : Marked
+  pub behind : List Marked
+  pub whole : requests ≡ before ++ request ∷ behind
+  pub who : List ℕ
+  pub asks : request.item.answer ≡ Ok (record { who = who; what = what })
+  pub number : number_of who config ≡ Some t
+  pub says : words ≡ (next config (parts_after config (opening config) before) request).line.said
+
+-- one of them is tenant t's submit of the plan, to which this number is said
+abbrev pub WasSubmitted : ConfigData → List Marked → ℕ → ℕ → Plan → Type 0
+WasSubmitted config requests t s plan = (quanta : ℕ) × IsAnswered config requests t (Submit plan.kind quanta plan.project) (said.Reply (reply.Job s))
+
+-- in the output of a script, whatever memory was refused, each line about a job is true of the plan that its tenant has submitted under that number: a
+-- schedule is feasible and has the makespan that is named, with 'optimal' no feasible schedule is shorter, and with 'infeasible' there is none
+abbrev pub EachLineIsTrue : Type 0
+EachLineIsTrue = (config : ConfigData) (script : List ℕ) (requests : List Marked) → items_of requests ≡ requests_of script → (t : ℕ) (what : What) (words : Said) →
+    IsAnswered config requests t what words → IsTrueSaid (WasSubmitted config requests t) words

@@ -1,0 +1,263 @@
+//! The farm of a script, and the turns that the script holds.
+ghost use Rattle.std.specs.Prelude.{◌≡◌, ◌≢◌, ℕ, ◌<◌, ◌-◌, [], length, position, false, IfOk, IfErr, IfSome};
+ghost use Rattle.quanta_till.specs.Lease.{empty_lease};
+ghost use Rattle.farm_core.specs.Tenant.{find_job};
+ghost use Rattle.farm_core.specs.World.{World, opened, terms_in, view, IsReplayed, Follows};
+ghost use Rattle.farm_core.specs.Step.{Sent};
+ghost use Rattle.farm_core.specs.Turn.{IsNotTaken};
+ghost use Rattle.farm_core.specs.Held.{is_out_of, TakenTurnsAreHeld, TakenJobsWereNotOut, TurnsStayHeld, HeldTurnsAreNoStrangers, HeldTurnsRunTheirNodes, OnlyTakenJobsAreOut, GivenJobsAreNotOut};
+ghost use Rattle.session_lines.specs.declared.request.What.TheVariants as what;
+ghost use Rattle.farm_replay.specs.Floor.{IsFloor, IsTold, is_turn_of, untaken};
+
+use crate::counter::Counter;
+use farm_core::{Config, Event, Farm, Line, NoTurn, Reply, Stranger, Turn, laws};
+use farm_session::Ready;
+use session_lines::{Said, What};
+use std::alloc::{AllocError, Global};
+use strategy::{Plan, Strategy};
+
+/// The farm that a script asks, and the turns that it has taken and not yet given back.
+pub(crate) struct Floor<J> {
+    pub(crate) farm: Farm<J>,
+    pub(crate) held: Vec<Turn<J>>,
+}
+
+/// Where the turn of a tenant's job of that number lies.
+fn place_of<J: Strategy>(turns: &[Turn<J>], tenant: u32, seq: u64) -> Option<usize>
+    ensures { result ≡ position (is_turn_of tenant seq) turns.now }
+{
+    turns
+        .iter()
+        .position(|turn| turn.tenant() == tenant && turn.seq() == seq)
+}
+
+/// What is said where no turn was taken.
+fn untaken(why: NoTurn) -> Said
+    ensures { result ≡ untaken why }
+{
+    match why {
+        NoTurn::None => Said::NoTurn,
+        NoTurn::NoMemory => Said::Reply(Reply::NoMemory),
+    }
+}
+
+/// A plan with a lease of the tenant's till, of which nothing was drawn. There is nothing where there is no memory for it.
+fn ready_for(alloc: Global, counter: &mut Counter, plan: &Plan) -> Option<Ready>
+    ensures counter { counter.new ≡ counter.old }
+    ensures made { IfSome result (λ ready. ready ≡ record { plan = plan.now; lease = empty_lease counter.old }) }
+{
+    let lease = counter.lease().ok()?;
+    Ready::of(alloc, lease, plan)
+}
+
+/// What each call does to turns that are out, for proofs. Does nothing.
+fn know_turns<J: Strategy>(farm: &Farm<J>)
+    ensures replayed { IsReplayed farm.now }
+    ensures taken { TakenTurnsAreHeld }
+    ensures waited { TakenJobsWereNotOut }
+    ensures stay { TurnsStayHeld }
+    ensures known { HeldTurnsAreNoStrangers }
+    ensures nodes { HeldTurnsRunTheirNodes }
+    ensures only { OnlyTakenJobsAreOut }
+    ensures given { GivenJobsAreNotOut }
+{
+    farm.journal();
+    laws::taken_turns_are_held();
+    laws::taken_jobs_were_not_out();
+    laws::turns_stay_held();
+    laws::held_turns_are_no_strangers();
+    laws::held_turns_run_their_nodes();
+    laws::only_taken_jobs_are_out();
+    laws::given_jobs_are_not_out();
+}
+
+impl<J: Strategy> Floor<J> {
+    /// A new farm of the configuration, of which no turn is held.
+    pub(crate) fn new(alloc: Global, config: &Config) -> Result<Floor<J>, AllocError>
+        ensures farm { IfOk result (λ floor. floor.farm ≡ opened config.now) }
+        ensures floor { IfOk result (λ floor. IsFloor J.meaning floor.farm floor.held.items) }
+    {
+        let farm = Farm::new(alloc, config)?;
+        Ok(Floor {
+            farm,
+            held: Vec::new(alloc),
+        })
+    }
+
+    /// Submits a job for a plan, with the search that is made for it.
+    fn submit<M: Fn(Ready) -> Option<J>>(
+        &mut self,
+        alloc: Global,
+        counter: &mut Counter,
+        tenant: u32,
+        plan: Plan,
+        quanta: u64,
+        make: &M,
+    ) -> Said
+        requires known { tenant < length self.old.farm.config.tenants }
+        requires counter { counter.old.tenant ≡ tenant }
+        requires granted { counter.old.granted ≡ (terms_in self.old.farm.config tenant).quanta }
+        requires make { M.IsAlwaysCallable make.now }
+        requires floor { IsFloor J.meaning self.old.farm self.old.held.items }
+        ensures counter { counter.new ≡ counter.old }
+        ensures told { IsTold self.old.farm tenant (what.Submit plan.kind quanta plan.project) result self.new.farm }
+        ensures floor { IsFloor J.meaning self.new.farm self.new.held.items }
+    {
+        know_turns(&self.farm);
+        let Some(ready) = ready_for(alloc, counter, &plan) else {
+            return Said::Reply(Reply::NoMemory);
+        };
+        let Some(search) = make(ready) else {
+            return Said::Reply(Reply::NoMemory);
+        };
+        Said::Reply(self.farm.submit(tenant, plan, quanta, search))
+    }
+
+    /// Takes a turn of a job, and holds it. Tells what is known of the job then.
+    fn hold(&mut self, tenant: u32, seq: u64, slice: u64) -> Result<Line, NoTurn>
+        requires known { tenant < length self.old.farm.config.tenants }
+        requires floor { IsFloor J.meaning self.old.farm self.old.held.items }
+        ensures held { IfOk result (λ line. Follows self.old.farm tenant (Event.Take seq slice) (Sent line) self.new.farm) }
+        ensures refused { IfErr result (λ why. IsNotTaken self.old.farm tenant seq slice why self.new.farm) }
+        ensures floor { IsFloor J.meaning self.new.farm self.new.held.items }
+    {
+        know_turns(&self.farm);
+        let Ok(()) = self.held.reserve(1) else {
+            return Err(NoTurn::NoMemory);
+        };
+        let turn = self.farm.take(tenant, seq, slice)?;
+        self.held.push_reserved(turn);
+        let Some(line) = self.farm.snapshot(tenant, seq) else {
+            return Err(NoTurn::None);
+        };
+        Ok(line)
+    }
+
+    /// Takes a turn of a job, and holds it.
+    fn take(&mut self, tenant: u32, seq: u64, slice: u64) -> Said
+        requires known { tenant < length self.old.farm.config.tenants }
+        requires floor { IsFloor J.meaning self.old.farm self.old.held.items }
+        ensures told { IsTold self.old.farm tenant (what.Take seq slice) result self.new.farm }
+        ensures floor { IsFloor J.meaning self.new.farm self.new.held.items }
+    {
+        match self.hold(tenant, seq, slice) {
+            Ok(line) => Said::Reply(Reply::Line(line)),
+            Err(why) => untaken(why),
+        }
+    }
+
+    /// Runs the turn of a job that is held, and gives it back.
+    fn give(&mut self, tenant: u32, seq: u64) -> Said
+        requires known { tenant < length self.old.farm.config.tenants }
+        requires floor { IsFloor J.meaning self.old.farm self.old.held.items }
+        ensures told { IsTold self.old.farm tenant (what.Give seq) result self.new.farm }
+        ensures floor { IsFloor J.meaning self.new.farm self.new.held.items }
+    {
+        know_turns(&self.farm);
+        let Some(place) = place_of(&self.held, tenant, seq) else {
+            return Said::NoTurn;
+        };
+        let mut turn = self.held.remove(place);
+        turn.run();
+        match self.farm.give(turn) {
+            Ok(reply) => Said::Reply(reply),
+            Err(Stranger(turn)) => {
+                turn.abandon();
+                Said::NoTurn
+            }
+        }
+    }
+
+    /// Takes a turn of a job, runs it, and gives it back.
+    fn turn(&mut self, tenant: u32, seq: u64, slice: u64) -> Said
+        requires known { tenant < length self.old.farm.config.tenants }
+        requires floor { IsFloor J.meaning self.old.farm self.old.held.items }
+        ensures told { IsTold self.old.farm tenant (what.Turn seq slice) result self.new.farm }
+        ensures floor { IsFloor J.meaning self.new.farm self.new.held.items }
+    {
+        match self.hold(tenant, seq, slice) {
+            Ok(_) => self.give(tenant, seq),
+            Err(why) => untaken(why),
+        }
+    }
+
+    /// Answers a tenant's request.
+    pub(crate) fn answer<M: Fn(Ready) -> Option<J>>(
+        &mut self,
+        alloc: Global,
+        counter: &mut Counter,
+        tenant: u32,
+        asked: What,
+        make: &M,
+    ) -> Said
+        requires known { tenant < length self.old.farm.config.tenants }
+        requires counter { counter.old.tenant ≡ tenant }
+        requires granted { counter.old.granted ≡ (terms_in self.old.farm.config tenant).quanta }
+        requires make { M.IsAlwaysCallable make.now }
+        requires floor { IsFloor J.meaning self.old.farm self.old.held.items }
+        ensures counter { counter.new ≡ counter.old }
+        ensures told { IsTold self.old.farm tenant asked result self.new.farm }
+        ensures floor { IsFloor J.meaning self.new.farm self.new.held.items }
+    {
+        know_turns(&self.farm);
+        match asked {
+            What::Submit {
+                kind,
+                quanta,
+                project,
+            } => {
+                let plan = Plan { project, kind };
+                self.submit(alloc, counter, tenant, plan, quanta, make)
+            }
+            What::Fund { seq, quanta } => Said::Reply(self.farm.fund(tenant, seq, quanta)),
+            What::Status(seq) => Said::Reply(self.farm.status(tenant, seq)),
+            What::Fetch(seq) => Said::Reply(self.farm.result(tenant, seq)),
+            What::Cancel(seq) => Said::Reply(self.farm.cancel(tenant, seq)),
+            What::Forget(seq) => Said::Reply(self.farm.forget(tenant, seq)),
+            What::Ledger => Said::Reply(self.farm.ledger(tenant)),
+            What::Take { seq, slice } => self.take(tenant, seq, slice),
+            What::Give(seq) => self.give(tenant, seq),
+            What::Turn { seq, slice } => self.turn(tenant, seq, slice),
+        }
+    }
+
+    /// Gives back the last of the turns that are held, unrun.
+    fn give_last(&mut self)
+        requires { IsFloor J.meaning self.old.farm self.old.held.items }
+        ensures floor { IsFloor J.meaning self.new.farm self.new.held.items }
+        ensures fewer { length self.new.held.items ≡ length self.old.held.items - 1 }
+        ensures unrun { (t : ℕ) → (view t self.new.farm).spent ≡ (view t self.old.farm).spent }
+    {
+        know_turns(&self.farm);
+        let Some(turn) = self.held.pop() else {
+            return;
+        };
+        match self.farm.give(turn) {
+            Ok(reply) => drop(reply),
+            Err(Stranger(turn)) => turn.abandon(),
+        }
+    }
+
+    /// Gives back all turns that are held, unrun.
+    fn give_all(&mut self)
+        requires { IsFloor J.meaning self.old.farm self.old.held.items }
+        ensures none { self.new.held.items ≡ [] }
+        ensures unrun { (t : ℕ) → (view t self.new.farm).spent ≡ (view t self.old.farm).spent }
+        ensures back { (t s : ℕ) → is_out_of (find_job s (view t self.new.farm).jobs) ≡ false }
+    {
+        for _given in 0..self.held.len() {
+            self.give_last();
+        }
+    }
+
+    /// Gives back all turns that are held, unrun, and drops the farm.
+    pub(crate) fn close(self)
+        requires { IsFloor J.meaning self.farm self.held.items }
+    {
+        let mut floor = self;
+        floor.give_all();
+        let Floor { farm, held } = floor;
+        drop(farm);
+        held.destroy_empty();
+    }
+}

@@ -1,0 +1,18 @@
+//! Scripts of requests, replayed on a farm of one thread.
+//!
+//! [`replay`] is the main job: what it writes is the output that the definitions make of the script's bytes (`specs/Output`), whole
+//! or cut off by a named fault, and the `laws` say what a user may rest on: each tenant's lines are those of its own requests,
+//! and each line about a job is true.
+//!
+//! - `script`: `replay`, one request after another.
+//! - `floor`: the farm with the turns that the script holds.
+//! - `counter`: the tenants' tills.
+//! - `laws`: laws of outputs.
+#![tactic(auto)]
+
+mod counter;
+mod floor;
+pub mod laws;
+mod script;
+
+pub use script::{ReplayFault, replay};

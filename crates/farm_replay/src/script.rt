@@ -1,0 +1,163 @@
+//! Scripts of requests, run one after another on a farm of one thread.
+ghost use Rattle.std.specs.Prelude.{◌≡◌, [], length, map, IfSome, IfErr, OnOk};
+ghost use Rattle.farm_core.specs.World.{opened};
+ghost use Rattle.session_lines.specs.Known.{Writes};
+ghost use Rattle.session_lines.specs.ReplyText.{reply_line};
+ghost use Rattle.session_lines.specs.Script.{requests_of};
+ghost use Rattle.farm_replay.specs.Counter.{counter_of, counters_of};
+ghost use Rattle.farm_replay.specs.Floor.{IsFloor};
+ghost use Rattle.farm_replay.specs.Output.{IsWritten, IsCutOff};
+ghost use Rattle.farm_replay.specs.Replay.{end_of, GoesOn};
+
+use crate::counter::{Counter, open_counters};
+use crate::floor::Floor;
+use farm_core::laws::farms_are_replayed;
+use farm_core::{Config, Name};
+use farm_session::{Heard, Ready, hear};
+use session_lines::laws::requests_come_in_turn;
+use session_lines::{LineFault, Request, Said, read_request, write_reply};
+use std::alloc::Global;
+use std::io::{BufReader, Read, Write};
+use strategy::{Kind, Strategy};
+
+/// The most requests of a script.
+const MOST_REQUESTS: u64 = 1_000_000;
+
+/// Why a replay ended before its script.
+#[derive(Clone, Copy, Debug, PartialEq, Eq, thiserror::Error)]
+pub enum ReplayFault {
+    /// The reader failed, or one request passed 100,000,000 bytes.
+    #[error("Read")]
+    Read,
+    /// A write failed, or took nothing.
+    #[error("Write")]
+    Write,
+    /// The script has more than 1,000,000 requests.
+    #[error("Requests")]
+    Requests,
+    /// There was no memory to begin with.
+    #[error("NoMemory")]
+    NoMemory,
+}
+
+/// Writes a reply line.
+fn tell<W: Write>(writer: &mut W, who: Option<Name>, said: Said) -> Result<(), ReplayFault>
+    ensures writes { Writes result (W.contents writer.old) (W.contents writer.new) (reply_line who said) }
+    ensures fault { IfErr result (λ fault. fault ≡ ReplayFault.Write) }
+{
+    match write_reply(writer, who, &said) {
+        Ok(()) => Ok(()),
+        Err(_) => Err(ReplayFault::Write),
+    }
+}
+
+/// How a replay ends that has answered all requests that it may, by what is read then.
+fn ended(read: Result<Request, LineFault>) -> Result<(), ReplayFault>
+    ensures { result ≡ end_of read }
+{
+    match read {
+        Err(LineFault::Eof) => Ok(()),
+        Err(LineFault::Read) => Err(ReplayFault::Read),
+        _ => Err(ReplayFault::Requests),
+    }
+}
+
+/// Whether a script ends here, or goes on past its last request that may be.
+fn end<R: Read>(alloc: Global, script: &mut R) -> Result<(), ReplayFault>
+    ensures over { OnOk result (IfSome (R.remaining script.old) (λ bytes. requests_of bytes ≡ [])) }
+    ensures fault { IfErr result (λ fault. IfSome (R.remaining script.old) (λ bytes. GoesOn fault bytes)) }
+{
+    requests_come_in_turn();
+    ended(read_request(alloc, script))
+}
+
+/// Answers the requests of a script, one line each.
+fn play<J: Strategy, R: Read, W: Write, M: Fn(Ready) -> Option<J>>(
+    alloc: Global,
+    config: &Config,
+    floor: &mut Floor<J>,
+    counters: &mut [Counter],
+    script: &mut R,
+    writer: &mut W,
+    make: &M,
+) -> Result<(), ReplayFault>
+    requires farm { floor.old.farm ≡ opened config.now }
+    requires counters { map counter_of counters.old ≡ counters_of config.now }
+    requires make { M.IsAlwaysCallable make.now }
+    requires floor { IsFloor J.meaning floor.old.farm floor.old.held.items }
+    ensures written { OnOk result (IfSome (R.remaining script.old) (λ bytes. IsWritten config.now bytes (W.contents writer.old) (W.contents writer.new))) }
+    ensures cut_off { IfErr result (λ fault. IfSome (R.remaining script.old) (λ bytes. IsCutOff config.now fault bytes (W.contents writer.old) (W.contents writer.new))) }
+    ensures floor { IsFloor J.meaning floor.new.farm floor.new.held.items }
+{
+    requests_come_in_turn();
+    farms_are_replayed();
+    for _answered in 0..MOST_REQUESTS {
+        match hear(config, read_request(alloc, script)) {
+            Heard::Over => return Ok(()),
+            Heard::Broken => return Err(ReplayFault::Read),
+            Heard::Told(who, said) => {
+                if let Err(fault) = tell(writer, who, said) {
+                    return Err(fault);
+                }
+            }
+            Heard::Asked(tenant, who, asked) => {
+                let counter = &mut counters[tenant as usize];
+                let said = floor.answer(alloc, counter, tenant, asked, make);
+                if let Err(fault) = tell(writer, Some(who), said) {
+                    return Err(fault);
+                }
+            }
+        }
+    }
+    end(alloc, script)
+}
+
+/// Runs a script of requests on a new farm of the configuration, and writes one reply line for each. Turns that the script still
+/// holds at its end are given back unrun. After a fault the lines of the requests before it stand whole; after `Write` a front part
+/// of the next line stands behind them.
+pub fn replay<R: Read + Drop, W: Write>(
+    alloc: Global,
+    config: &Config,
+    reader: R,
+    writer: &mut W,
+) -> Result<(), ReplayFault>
+    ensures written { OnOk result (IfSome (R.remaining reader) (λ script. IsWritten config.now script (W.contents writer.old) (W.contents writer.new))) }
+    ensures cut_off { IfErr result (λ fault. IfSome (R.remaining reader) (λ script. IsCutOff config.now fault script (W.contents writer.old) (W.contents writer.new))) }
+{
+    let Ok(mut script) = BufReader::new(alloc, reader) else {
+        return Err(ReplayFault::NoMemory);
+    };
+    let Ok(mut counters) = open_counters(alloc, config) else {
+        return Err(ReplayFault::NoMemory);
+    };
+    let Ok(mut floor) = Floor::<Box<dyn Strategy>>::new(alloc, config) else {
+        return Err(ReplayFault::NoMemory);
+    };
+    let make = |ready: Ready| -> Option<Box<dyn Strategy>> {
+        match ready.kind() {
+            Kind::Tree => {
+                let search: Box<dyn Strategy> = ready.tree(alloc)?;
+                Some(search)
+            }
+            Kind::Sample(_) => {
+                let search: Box<dyn Strategy> = ready.sample(alloc)?;
+                Some(search)
+            }
+            _ => {
+                let search: Box<dyn Strategy> = ready.rule(alloc)?;
+                Some(search)
+            }
+        }
+    };
+    let ended = play(
+        alloc,
+        config,
+        &mut floor,
+        &mut counters,
+        &mut script,
+        writer,
+        &make,
+    );
+    floor.close();
+    ended
+}

@@ -1,0 +1,19 @@
+//! A farm that answers requests over connections.
+//!
+//! [`serve`] answers so many connections, each in a thread of its own, while workers advance the jobs; what is said to a request is
+//! the pool's answer (`farm_pool`).
+//!
+//! - `service`: `serve`, its threads and its end.
+//! - `connection`: the requests of one connection.
+//! - `tills`: the tenants' tills, and a connection's desks at them.
+//! - `lobby`: when workers rest, and when they go home.
+//! - `wire`: a connection whose replies leave before it waits.
+#![tactic(auto)]
+
+mod connection;
+mod lobby;
+mod service;
+mod tills;
+mod wire;
+
+pub use service::{ServeFault, serve};

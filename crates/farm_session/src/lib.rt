@@ -1,0 +1,11 @@
+//! What scripts and connections share: what a request comes to before the farm is asked, and the search of a submitted job.
+//!
+//! - `heard`: whose a request is, or what is said where it is nobody's or cannot be read.
+//! - `ready`: a plan with an empty lease, and the searches that are made of it.
+#![tactic(auto)]
+
+mod heard;
+mod ready;
+
+pub use heard::{Heard, hear};
+pub use ready::Ready;

@@ -1,0 +1,83 @@
+//! The searches of submitted jobs.
+ghost use Rattle.std.specs.Prelude.{◌≡◌, IfSome};
+ghost use Rattle.strategy.specs.declared.kind.Kind.TheVariants as kind;
+ghost use Rattle.quanta_till.specs.Lease.{IsEmpty};
+ghost use Rattle.tree_search.specs.Search as tree_search;
+ghost use Rattle.rule_search.specs.Rule.{IsRule};
+ghost use Rattle.rule_search.specs.Search as rule_search;
+ghost use Rattle.sample_search.specs.Search as sample_search;
+ghost use Rattle.sample_search.specs.Search.{IsSample};
+
+use quanta_till::Lease;
+use rule_search::RuleSearch;
+use sample_search::SampleSearch;
+use std::alloc::Global;
+use std::marker::Model;
+use strategy::{Kind, Plan};
+use tree_search::TreeSearch;
+
+/// What a search is made of. Contracts see the plan and the lease.
+#[derive(Drop)]
+pub struct Ready {
+    plan: Plan,
+    lease: Lease,
+}
+
+impl Model for Ready {
+    ghost use Rattle.quanta_till.specs.Lease.{IsEmpty};
+    ghost use Rattle.farm_session.specs.Ready.{ReadyData};
+
+    ghost Value = { ReadyData };
+
+    ghost view = { λ r. record { plan = r.plan; lease = r.lease } };
+
+    ghost invariant = { λ r. IsEmpty r.lease };
+}
+
+impl Ready {
+    /// A copy of the plan, with a lease of which nothing was drawn. There is nothing where there is no memory for it.
+    pub fn of(alloc: Global, lease: Lease, plan: &Plan) -> Option<Ready>
+        requires { IsEmpty lease }
+        ensures { IfSome result (λ ready. ready ≡ record { plan = plan.now; lease = lease }) }
+    {
+        let plan = plan.clone_in(alloc).ok()?;
+        Some(Ready { plan, lease })
+    }
+
+    /// How it is searched.
+    pub fn kind(&self) -> Kind
+        ensures { result ≡ self.now.plan.kind }
+    {
+        self.plan.kind
+    }
+
+    /// The search of the precedence tree.
+    pub fn tree(self, alloc: Global) -> Option<Box<TreeSearch>>
+        requires { self.plan.kind ≡ kind.Tree }
+        ensures { IfSome result (λ search. search.value ≡ tree_search.fresh self.plan self.lease) }
+    {
+        let Ready { plan, lease } = self;
+        let search = TreeSearch::new(alloc, plan, lease).ok()?;
+        Box::new(alloc, search).ok()
+    }
+
+    /// The search of passes drawn from a seed.
+    pub fn sample(self, alloc: Global) -> Option<Box<SampleSearch>>
+        requires { IsSample self.plan.kind }
+        ensures { IfSome result (λ search. search.value ≡ sample_search.fresh self.plan self.lease) }
+    {
+        let Ready { plan, lease } = self;
+        let search = SampleSearch::new(alloc, plan, lease).ok()?;
+        Box::new(alloc, search).ok()
+    }
+
+    /// The search of one pass by a rule.
+    pub fn rule(self, alloc: Global) -> Option<Box<RuleSearch>>
+        requires { IsRule self.plan.kind }
+        ensures { IfSome result (λ search. search.value ≡ rule_search.fresh self.plan self.lease) }
+    {
+        let Ready { plan, lease } = self;
+        let search = RuleSearch::new(alloc, plan, lease).ok()?;
+        Box::new(alloc, search).ok()
+    }
+}
