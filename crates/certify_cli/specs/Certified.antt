@@ -4,7 +4,7 @@ use Rattle.std.specs.Io.KnownBytes.{Appends}
 use Rattle.mrcpsp.specs.Project.{ProjectData}
 use Rattle.mrcpsp.specs.Schedule.{ScheduleData, IsOptimal, IsInfeasible, makespan}
 use Rattle.psplib_mm.specs.Reading.{reading}
-use Rattle.certify_cli.specs.ScheduleText.{Tells}
+use Rattle.schedule_text.specs.ScheduleText.{Tells}
 
 abbrev pub optimal_line : ℕ → List ℕ
 optimal_line makespan = codes "optimal " ++ decimal makespan ++ 10 ∷ []

@@ -1,2 +1,1 @@
-pub mod ScheduleText
 pub mod Certified

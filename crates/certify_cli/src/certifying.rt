@@ -7,10 +7,10 @@ ghost use Rattle.certify_cli.specs.Certified.{CertifiesOptimal, CertifiesInfeasi
 
 use crate::dimacs::write_formula;
 use crate::fault::CertifyFault;
-use crate::schedule_text::read_schedule;
 use mrcpsp::Project;
 use psplib_mm::read;
 use schedule_clauses::{clauses, stock_clauses};
+use schedule_text::read_schedule;
 use std::alloc::Global;
 use std::io::Write;
 

@@ -5,7 +5,6 @@
 //! periods, and [`certify_infeasible`] writes `infeasible` only where no schedule of it is feasible: that is their contract
 //! (`specs/Certified`). What [`write_clauses`] writes is tested; a solver that is misled by it can only write a proof that is refused.
 //!
-//! - `schedule_text`: the schedule that a text tells.
 //! - `dimacs`: clauses in DIMACS form.
 //! - `fault`: why nothing is certified.
 //! - `certifying`: `certify`, `certify_infeasible`, `write_clauses`.
@@ -16,9 +15,7 @@ mod certifying;
 mod dimacs;
 mod fault;
 mod program;
-mod schedule_text;
 
 pub use certifying::{certify, certify_infeasible, write_clauses};
 pub use fault::CertifyFault;
 pub use program::{run_certify, run_clauses, run_infeasible};
-pub use schedule_text::read_schedule;

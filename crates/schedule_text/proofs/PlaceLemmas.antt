@@ -1,7 +1,7 @@
 -- The places of a schedule's activities, one after the other.
 use Rattle.std.proofs.Common.{◌≡◌, ℕ, zero, suc, ◌+◌, ◌<◌, List, [], ◌∷◌, ◌++◌, length, take, get_or, refl, sym, ap, ◌∙◌, append_assoc, add-one, arith, min}
 use Rattle.std.proofs.lemmas.List.{append-nil}
-use Rattle.certify_cli.specs.ScheduleText.{place_text, places_text}
+use Rattle.schedule_text.specs.ScheduleText.{place_text, places_text}
 
 places_more_suc : (j i : ℕ) (modes starts : List ℕ) → i < length modes → i < length starts
     → places_text j (take (suc i) modes) (take (suc i) starts) ≡ places_text j (take i modes) (take i starts) ++ place_text (i + j) (get_or modes i 0) (get_or starts i 0)

@@ -1,7 +1,8 @@
 //! The schedule that a text tells. How it is found is a hint: its own words are compared with the text's.
-ghost use Rattle.std.specs.Prelude.{◌≡◌, ◌++◌, true, IfOk, IfSome, string_bytes};
-ghost use Rattle.certify_cli.specs.ScheduleText.{Tells, place_text, schedule_text};
+ghost use Rattle.std.specs.Prelude.{◌≡◌, true, IfOk, IfSome};
+ghost use Rattle.schedule_text.specs.ScheduleText.{Tells};
 
+use crate::words::put_schedule;
 use mrcpsp::{Schedule, Sequence};
 use std::alloc::{AllocError, Global};
 use std::str;
@@ -43,28 +44,6 @@ impl Places {
     }
 }
 
-/// Adds the word of an activity behind a blank.
-fn put_place(text: &mut String, number: usize, mode: u32, start: u32) -> Result<(), AllocError>
-    ensures { IfOk result (λ _. string_bytes text.new ≡ string_bytes text.old ++ place_text number mode start) }
-{
-    write!(text, " {number}:{mode}:{start}")?;
-    Ok(())
-}
-
-/// The words of a schedule, each behind a blank.
-#[tactic(auto, using(crate::proofs::PlaceLemmas::place_rules))]
-fn words_of(alloc: Global, schedule: &Schedule) -> Result<String, AllocError>
-    ensures { IfOk result (λ text. string_bytes text ≡ schedule_text schedule.now) }
-{
-    let modes = schedule.modes.as_slice();
-    let starts = schedule.starts.as_slice();
-    let mut text = String::new(alloc);
-    for place in 0..modes.len().min(starts.len()) {
-        put_place(&mut text, place + 1, modes[place], starts[place])?;
-    }
-    Ok(text)
-}
-
 /// Whether a text tells the schedule.
 fn does_tell(alloc: Global, text: &[u8], schedule: &Schedule) -> Result<bool, AllocError>
     ensures { IfOk result (λ told. told ≡ true → Tells text.now schedule.now) }
@@ -72,7 +51,8 @@ fn does_tell(alloc: Global, text: &[u8], schedule: &Schedule) -> Result<bool, Al
     let mut spaced = Vec::new(alloc);
     spaced.push(b' ')?;
     spaced.extend_from_slice(text)?;
-    let mut words = words_of(alloc, schedule)?;
+    let mut words = String::new(alloc);
+    put_schedule(&mut words, schedule)?;
     if spaced.as_slice().ends_with(words.as_bytes()) {
         return Ok(true);
     }

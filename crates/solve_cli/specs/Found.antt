@@ -1,0 +1,45 @@
+-- What one search finds within so many nodes.
+use Rattle.std.specs.Prelude.{◌≡◌, ℕ, ◌+◌, ◌≤◌, ◌⊎◌, true, false, option_map}
+use Rattle.mrcpsp.specs.Schedule as schedule
+use Rattle.strategy.specs.Outcome.{best_after, is_closed, verdict_after}
+use Rattle.strategy.specs.Search.{Meaning, shown_closed}
+use Rattle.strategy.specs.declared.plan.Plan.{Plan}
+use Rattle.solve_cli.specs.declared.searching.Found.{Found}
+
+-- what the search of the plan gives after its nodes, which are at most so many, and fewer only where the search is over then
+pub record IsFound (plan : Plan) (most : ℕ) (f : Found) : Type 0 where
+  pub few : f.nodes ≤ most
+  pub whole : (is_closed plan f.nodes ≡ true) ⊎ (f.nodes ≡ most)
+  pub best : f.best ≡ best_after plan f.nodes
+  pub makespan : f.makespan ≡ option_map (schedule.makespan plan.project) f.best
+  pub verdict : f.verdict ≡ verdict_after plan f.nodes
+
+-- a search that has run no nodes and holds no quanta
+pub record IsFresh (m : Meaning) : Type 0 where
+  pub nodes : m.nodes ≡ 0
+  pub left : m.left ≡ 0
+  pub taken : m.taken ≡ false
+
+-- the same search, with some of its quanta used for as many nodes
+pub record IsAt (before after : Meaning) : Type 0 where
+  pub plan : after.plan ≡ before.plan
+  pub taken : after.taken ≡ before.taken
+  pub paid : after.nodes + after.left ≡ before.nodes + before.left
+
+-- it is over, or has nothing left
+abbrev pub IsOver : Meaning → Type 0
+IsOver m = (shown_closed m ≡ true) ⊎ (m.left ≡ 0)
+
+-- it has run no nodes, and holds so many quanta, or none where it is over
+pub record IsBegun (of : Plan) (most : ℕ) (m : Meaning) : Type 0 where
+  pub plan : m.plan ≡ of
+  pub nodes : m.nodes ≡ 0
+  pub taken : m.taken ≡ false
+  pub left : ((shown_closed m ≡ true) × (m.left ≡ 0)) ⊎ (m.left ≡ most)
+
+-- what a search shows whose best was not taken
+pub record IsShown (m : Meaning) (f : Found) : Type 0 where
+  pub nodes : f.nodes ≡ m.nodes
+  pub best : f.best ≡ best_after m.plan m.nodes
+  pub makespan : f.makespan ≡ option_map (schedule.makespan m.plan.project) (best_after m.plan m.nodes)
+  pub verdict : f.verdict ≡ verdict_after m.plan m.nodes

@@ -1,0 +1,35 @@
+-- The text of what a search has found, in the words of a farm's replies: a line of its nodes, and a line of its best schedule.
+use Rattle.std.specs.Prelude.{ℕ, List, [], ◌∷◌, ◌++◌, Option, Some, None, codes, decimal}
+use Rattle.mrcpsp.specs.Schedule.{ScheduleData}
+use Rattle.schedule_text.specs.ScheduleText.{schedule_text}
+use Rattle.strategy.specs.declared.verdict.Verdict.{Verdict}
+use Rattle.strategy.specs.declared.verdict.Verdict.TheVariants.{Going, Optimal, Infeasible, Ended}
+use Rattle.solve_cli.specs.declared.searching.Found.{Found}
+
+abbrev pub verdict_text : Verdict → List ℕ
+verdict_text Going = codes "open"
+verdict_text Optimal = codes "optimal"
+verdict_text Infeasible = codes "infeasible"
+verdict_text Ended = codes "ended"
+
+-- the makespan of a best schedule, and its activities' words, where there is one
+abbrev pub best_text : Option ℕ → List ℕ
+best_text None = codes "none"
+best_text (Some makespan) = decimal makespan
+
+abbrev pub places_of : Option ScheduleData → List ℕ
+places_of None = []
+places_of (Some schedule) = schedule_text schedule
+
+-- a makespan and a verdict
+abbrev pub shown_text : Found → List ℕ
+shown_text f = best_text f.makespan ++ codes " " ++ verdict_text f.verdict
+
+abbrev pub nodes_line : Found → List ℕ
+nodes_line f = codes "nodes " ++ decimal f.nodes ++ codes " best " ++ shown_text f ++ 10 ∷ []
+
+abbrev pub result_line : Found → List ℕ
+result_line f = codes "makespan " ++ shown_text f ++ places_of f.best ++ 10 ∷ []
+
+abbrev pub found_text : Found → List ℕ
+found_text f = nodes_line f ++ result_line f

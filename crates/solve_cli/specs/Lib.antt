@@ -1,0 +1,3 @@
+pub mod Verified
+pub mod Found
+pub mod FoundText

@@ -1,0 +1,39 @@
+-- What a verified schedule is, and why a text is of none.
+use Rattle.std.specs.Prelude.{◌≡◌, ℕ, ◌<◌, ⊤, List, length, Ok}
+use Rattle.mrcpsp.specs.Project.{ProjectData}
+use Rattle.mrcpsp.specs.Schedule.{ScheduleData, IsFeasible, makespan}
+use Rattle.mrcpsp.specs.Breach.{IsFirstBreach}
+use Rattle.mrcpsp.specs.declared.breach.Breach.{Breach}
+use Rattle.psplib_mm.specs.Gives.{Fails}
+use Rattle.psplib_mm.specs.Reading.{reading}
+use Rattle.schedule_text.specs.ScheduleText.{Tells}
+use Rattle.solve_cli.specs.declared.verifying.Verified.{Verified}
+use Rattle.solve_cli.specs.declared.fault.VerifyFault.{VerifyFault}
+use Rattle.solve_cli.specs.declared.fault.VerifyFault.TheVariants as fault
+
+-- the project is the file's, the text tells the schedule, which is feasible, and the makespan is the schedule's
+pub record IsVerified (file text : List ℕ) (v : Verified) : Type 0 where
+  pub read : reading file ≡ Ok v.project
+  pub told : Tells text v.schedule
+  pub feasible : IsFeasible v.project v.schedule
+  pub length : v.makespan ≡ makespan v.project v.schedule
+
+-- the file is of a project
+pub record IsFile (file : List ℕ) : Type 0 where
+  pub project : ProjectData
+  pub read : reading file ≡ Ok project
+
+-- the file is of a project, and the text tells a schedule of at least one activity that breaks this first
+pub record IsBroken (file text : List ℕ) (b : Breach) : Type 0 where
+  pub project : ProjectData
+  pub schedule : ScheduleData
+  pub read : reading file ≡ Ok project
+  pub told : Tells text schedule
+  pub some : 0 < length schedule.modes
+  pub first : IsFirstBreach project schedule b
+
+abbrev pub IsAtFault : List ℕ → List ℕ → VerifyFault → Type 0
+IsAtFault file text (fault.File f) = Fails f (reading file)
+IsAtFault file text fault.Words = IsFile file
+IsAtFault file text (fault.Breach b) = IsBroken file text b
+IsAtFault file text fault.NoMemory = ⊤

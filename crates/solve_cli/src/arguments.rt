@@ -1,0 +1,170 @@
+//! The words of a command line.
+use clap::builder::ValueParser;
+use clap::{Arg, ArgAction, ArgMatches, Command};
+use std::alloc::{AllocError, Global};
+
+/// What the words of a command line ask for.
+#[derive(Clone, Copy, Debug, PartialEq, Eq)]
+pub(crate) enum Task<'a> {
+    /// Tell whether a schedule is feasible.
+    Verify {
+        /// The path of a project's file.
+        file: &'a str,
+        /// The path of a schedule's text.
+        schedule: &'a str,
+    },
+    /// Search for a schedule.
+    Solve {
+        /// The path of a project's file.
+        file: &'a str,
+        /// The word of a kind of search.
+        search: &'a str,
+        /// The digits of the most nodes.
+        nodes: &'a str,
+        /// Whether JSON is to be printed.
+        is_json: bool,
+        /// Whether how far a search has come is told on standard error.
+        is_telling: bool,
+    },
+    /// Draw a feasible schedule.
+    Draw {
+        /// The path of a project's file.
+        file: &'a str,
+        /// The path of a schedule's text.
+        schedule: &'a str,
+    },
+}
+
+/// The path of a project's file.
+fn file_arg<'a>(alloc: Global) -> Arg<'a> {
+    Arg::new(alloc, "FILE")
+        .help("A PSPLIB multi-mode file, or - for standard input")
+        .required(true)
+}
+
+/// The path of a schedule's text.
+fn schedule_arg<'a>(alloc: Global) -> Arg<'a> {
+    Arg::new(alloc, "SCHEDULE")
+        .help("What solve prints, or words J:MODE:START, or - for standard input")
+        .required(true)
+}
+
+/// An option of this name that takes no value.
+fn flag<'a>(alloc: Global, name: &'a str, help: &'a str) -> Arg<'a> {
+    Arg::new(alloc, name)
+        .long(name)
+        .help(help)
+        .action(ArgAction::SetTrue)
+}
+
+fn verify_command<'a>(alloc: Global) -> Result<Command<'a>, AllocError> {
+    Command::new(alloc, "verify")
+        .about("Tells whether a schedule is feasible, and how long it takes")
+        .after_help(VERIFY_HELP)
+        .arg(file_arg(alloc))?
+        .arg(schedule_arg(alloc))
+}
+
+fn draw_command<'a>(alloc: Global) -> Result<Command<'a>, AllocError> {
+    Command::new(alloc, "draw")
+        .about("Draws a feasible schedule as an SVG picture")
+        .after_help(DRAW_HELP)
+        .arg(file_arg(alloc))?
+        .arg(schedule_arg(alloc))
+}
+
+fn solve_command<'a>(alloc: Global) -> Result<Command<'a>, AllocError> {
+    let search = Arg::new(alloc, "search")
+        .long("search")
+        .value_name("S")
+        .help("tree, rule:lft, rule:mts, rule:spt or sample:SEED")
+        .default_value("tree");
+    let nodes = Arg::new(alloc, "nodes")
+        .long("nodes")
+        .value_name("N")
+        .help("The most nodes that it runs, 1 to 1000000000000")
+        .value_parser(ValueParser::unsigned(1, 1_000_000_000_000))
+        .default_value("10000000");
+    Command::new(alloc, "solve")
+        .about("Searches for a short schedule of one project")
+        .after_help(SOLVE_HELP)
+        .arg(file_arg(alloc))?
+        .arg(search)?
+        .arg(nodes)?
+        .arg(flag(alloc, "json", "Print one JSON object"))?
+        .arg(flag(
+            alloc,
+            "progress",
+            "Tell on standard error, once a second, how far the search is",
+        ))
+}
+
+/// The command with its subcommands, or an error where there is no memory for it.
+pub(crate) fn solve_commands<'a>(alloc: Global) -> Result<Command<'a>, AllocError> {
+    Command::new(alloc, "farm")
+        .about("Schedules one multi-mode project")
+        .subcommand_required(true)
+        .subcommand(verify_command(alloc)?)?
+        .subcommand(solve_command(alloc)?)?
+        .subcommand(draw_command(alloc)?)
+}
+
+/// What a subcommand and its arguments ask for.
+pub(crate) fn task_of<'a>(matches: &ArgMatches<'a>) -> Option<Task<'a>> {
+    match matches.subcommand() {
+        Some(("verify", chosen)) => Some(Task::Verify {
+            file: chosen.get_str("FILE")?,
+            schedule: chosen.get_str("SCHEDULE")?,
+        }),
+        Some(("solve", chosen)) => Some(Task::Solve {
+            file: chosen.get_str("FILE")?,
+            search: chosen.get_str("search")?,
+            nodes: chosen.get_str("nodes")?,
+            is_json: chosen.get_flag("json"),
+            is_telling: chosen.get_flag("progress"),
+        }),
+        Some(("draw", chosen)) => Some(Task::Draw {
+            file: chosen.get_str("FILE")?,
+            schedule: chosen.get_str("SCHEDULE")?,
+        }),
+        _ => None,
+    }
+}
+
+/// What `verify --help` says at its end.
+const VERIFY_HELP: &str = "\
+It prints 'feasible makespan M', with status 0. Otherwise what is broken first goes to standard
+error, with status 1:
+
+  breach Shape               not one mode and one start for each activity
+  breach Mode(J)             activity J has no such mode
+  breach Precedence(I, J)    activity J starts before activity I ends
+  breach Renewable(R, T)     renewable resource R is used above its capacity in period T
+  breach Nonrenewable(R)     nonrenewable resource R is consumed above its capacity
+
+Example:
+
+  $ farm solve examples/first.mm | farm verify examples/first.mm -
+  feasible makespan 4";
+
+/// What `draw --help` says at its end.
+const DRAW_HELP: &str = "\
+A bar for each activity with its number and its mode, and under them what is used of each renewable
+resource against its capacity. A schedule that is not feasible is not drawn; it ends as in verify.
+
+Example:
+
+  $ farm solve examples/j10_1.mm | farm draw examples/j10_1.mm - > j10_1.svg";
+
+/// What `solve --help` says at its end.
+const SOLVE_HELP: &str = "\
+It prints a line of the nodes that were run and a line of the best schedule: its makespan, a verdict,
+and a word J:MODE:START for each activity. The verdict is 'optimal' or 'infeasible' where that is
+shown, 'open' where the search is not over, and 'ended' where it is over and shows nothing.
+
+Examples:
+
+  $ farm solve examples/first.mm
+  nodes 9 best 4 optimal
+  makespan 4 optimal 1:1:0 2:1:0 3:2:0 4:1:4
+  $ farm solve --search sample:7 --nodes 100000 --progress examples/j30_1.mm";

@@ -1,0 +1,28 @@
+//! Why a schedule is not feasible.
+use mrcpsp::Breach;
+use psplib_mm::MmFault;
+use std::alloc::AllocError;
+use thiserror::Error;
+
+/// Why a text is of no feasible schedule. Each prints what is wrong, by the name of its own fault, as `breach Mode(3)`.
+#[derive(Clone, Copy, Debug, PartialEq, Eq, Error)]
+pub enum VerifyFault {
+    /// The file is of no project.
+    #[error("no file {0}")]
+    File(MmFault),
+    /// The text does not end with a word `J:MODE:START` for each activity 1, 2, and so on.
+    #[error("no schedule Words")]
+    Words,
+    /// The schedule breaks this first.
+    #[error("breach {0}")]
+    Breach(Breach),
+    /// There is no memory left.
+    #[error("no memory")]
+    NoMemory,
+}
+
+impl From<AllocError> for VerifyFault {
+    fn from(_: AllocError) -> VerifyFault {
+        VerifyFault::NoMemory
+    }
+}

@@ -1,0 +1,104 @@
+//! What a search has found, as text.
+ghost use Rattle.std.specs.Prelude.{◌≡◌, ◌++◌, IfOk, string_bytes};
+ghost use Rattle.std.specs.Option.{option_copied};
+ghost use Rattle.solve_cli.specs.FoundText.{verdict_text, best_text, places_of, shown_text, found_text};
+
+use crate::searching::Found;
+use mrcpsp::Schedule;
+use schedule_text::put_schedule;
+use std::alloc::{AllocError, Global};
+use strategy::Verdict;
+
+/// The word for a verdict.
+fn verdict_word(verdict: Verdict) -> &'static str
+    ensures { result.now ≡ verdict_text verdict }
+{
+    match verdict {
+        Verdict::Going => "open",
+        Verdict::Optimal => "optimal",
+        Verdict::Infeasible => "infeasible",
+        Verdict::Ended => "ended",
+    }
+}
+
+/// Adds a makespan, or `none`.
+fn put_best(text: &mut String, makespan: Option<u32>) -> Result<(), AllocError>
+    ensures { IfOk result (λ _. string_bytes text.new ≡ string_bytes text.old ++ best_text makespan) }
+{
+    match makespan {
+        Some(makespan) => write!(text, "{makespan}")?,
+        None => write!(text, "none")?,
+    }
+    Ok(())
+}
+
+/// Adds the makespan and the verdict.
+fn put_shown(text: &mut String, found: &Found) -> Result<(), AllocError>
+    ensures { IfOk result (λ _. string_bytes text.new ≡ string_bytes text.old ++ shown_text found.now) }
+{
+    let word = verdict_word(found.verdict);
+    put_best(text, found.makespan)?;
+    write!(text, " {word}")?;
+    Ok(())
+}
+
+/// Adds the words of a schedule, where there is one.
+fn put_places(text: &mut String, best: Option<&Schedule>) -> Result<(), AllocError>
+    ensures { IfOk result (λ _. string_bytes text.new ≡ string_bytes text.old ++ places_of (option_copied best.entry)) }
+{
+    match best {
+        Some(schedule) => put_schedule(text, schedule),
+        None => Ok(()),
+    }
+}
+
+/// A line of a search's nodes and a line of its best schedule. An error is want of memory.
+pub fn tell(alloc: Global, found: &Found) -> Result<String, AllocError>
+    ensures { IfOk result (λ text. string_bytes text ≡ found_text found.now) }
+{
+    let nodes = found.nodes;
+    let mut text = String::new(alloc);
+    write!(text, "nodes {nodes} best ")?;
+    put_shown(&mut text, found)?;
+    text.push_str("\nmakespan ")?;
+    put_shown(&mut text, found)?;
+    put_places(&mut text, found.best.as_ref())?;
+    text.push('\n')?;
+    Ok(text)
+}
+
+/// Adds a schedule as a JSON array, or `null`.
+fn put_json(text: &mut String, best: Option<&Schedule>) -> Result<(), AllocError> {
+    let Some(schedule) = best else {
+        return text.push_str("null");
+    };
+    let modes = schedule.modes.as_slice();
+    let starts = schedule.starts.as_slice();
+    for place in 0..modes.len().min(starts.len()) {
+        let comma = if place == 0 { "[" } else { "," };
+        let number = place + 1;
+        let mode = modes[place];
+        let start = starts[place];
+        write!(
+            text,
+            "{comma}{{\"activity\":{number},\"mode\":{mode},\"start\":{start}}}"
+        )?;
+    }
+    text.push(']')
+}
+
+/// The same as one JSON object on one line: `nodes`, `makespan`, `verdict` and `schedule`.
+pub fn tell_json(alloc: Global, found: &Found) -> Result<String, AllocError> {
+    let nodes = found.nodes;
+    let word = verdict_word(found.verdict);
+    let mut text = String::new(alloc);
+    write!(text, "{{\"nodes\":{nodes},\"makespan\":")?;
+    match found.makespan {
+        Some(makespan) => write!(text, "{makespan}")?,
+        None => text.push_str("null")?,
+    }
+    write!(text, ",\"verdict\":\"{word}\",\"schedule\":")?;
+    put_json(&mut text, found.best.as_ref())?;
+    text.push_str("}\n")?;
+    Ok(text)
+}
