@@ -173,8 +173,7 @@ ends_with_its_nodes plan ok k longer =
     let p = plan.project in
     let project = kept p ok in
     let best = best_of p plan.kind k in
-    let not : is_at_bound p best ≡ false = not-at-bound p project best (good-of p project plan.kind k) longer in
-    (
+    let not : is_at_bound p best ≡ false = not-at-bound p project best (good-of p project plan.kind k) longer in (
       ap (λ b. b || all_run p plan.kind k) not,
       cond-false (is_at_bound p best) Optimal (cond (all_run p plan.kind k) (final_verdict plan.kind best) Going) not,
     )
