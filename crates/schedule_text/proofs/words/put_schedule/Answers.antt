@@ -1,4 +1,4 @@
-use Rattle.std.proofs.Common.{◌≡◌, ◌+◌, ◌++◌, get_or, take, string_bytes, arith, sym, ap, ◌∙◌, append_assoc}
+use Rattle.std.proofs.Common.{◌+◌, ◌++◌, get_or, take, string_bytes, arith, sym, ap, ◌∙◌, append_assoc}
 use Rattle.schedule_text.specs.ScheduleText.{place_text, places_text}
 use Rattle.schedule_text.proofs.PlaceLemmas.{places_more}
 use Rattle.schedule_text.proofs.words.put_schedule.Goals as goal
