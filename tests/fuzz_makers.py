@@ -2,6 +2,9 @@
 the random numbers that it is given and from nothing else."""
 import json
 import re
+from itertools import islice
+
+import plain_searches
 
 NUMBERS = [0, 1, 2, 3, 4, 5, 7, 8, 9, 10, 11, 63, 64, 65, 100, 200, 202, 203, 999, 1000, 1001, 4096, 19999, 20000, 20001,
            999999, 1000000, 1000001, 10 ** 12 - 1, 10 ** 12, 10 ** 12 + 1, 2 ** 31, 2 ** 32 - 1, 2 ** 32, 2 ** 32 + 1,
@@ -417,3 +420,36 @@ def config_text(r):
                          data.replace(b"a", b"\xff", 1), data.replace(b"a", b"\xed\xa0\x80", 1),
                          data.replace(b"a", b"\xc0\x80", 1), data.decode("utf-8", "replace").encode("utf-16")])
     return data
+
+
+# Schedules
+
+
+KINDS = ["tree", "rule:lft", "rule:mts", "rule:spt", "sample:1", "sample:77"]
+NO_SEARCHES = ["tre", "rule:LFT", "sample:x"]
+
+
+def schedule_text(r, project):
+    """A schedule of a project, mostly feasible, in some form."""
+    kind = r.choice(["tree", "rule:lft", "sample:3"])
+    best = None
+    if project:
+        for best, _, _ in islice(plain_searches.search(project, kind), 60):
+            pass
+    places = sorted(best) if best else [(j, r.randrange(2), r.randrange(9)) for j in range(r.randrange(6))]
+    numbers = [[j + 1, mode + 1, start] for j, mode, start in places]
+    if numbers and r.random() < 0.3:
+        r.choice(numbers)[r.randrange(3)] += r.choice([-1, 1, 1, 2**32, 1000000000])
+    words = " ".join(":".join(str(n) for n in place) for place in numbers)
+    form = r.randrange(5)
+    if form == 0:
+        return (words + r.choice(["", "\n"])).encode()
+    if form == 1:
+        line = f"makespan 3 open {words}\n"
+        return (r.choice(["", "nodes 4 best 3 open\n", line]) + line).encode()
+    array = [dict(zip(["activity", "mode", "start"], place)) for place in numbers]
+    if r.random() < 0.5:
+        r.shuffle(array)
+    value = array if form == 2 else {"nodes": 3, "schedule": array}
+    text = json.dumps(value, indent=r.choice([None, None, 1]))
+    return (r.choice(["", "", "{}\n", text + "\n"]) + text + r.choice(["", "\n"])).encode()

@@ -2,6 +2,8 @@
 """A second farm of one thread, written from docs/PROTOCOL.md, docs/FARM.md and docs/CONFIGURATION.md, to compare with.
 
     plain_farm.py CONFIG SCRIPT     what the program says to `farm replay --config CONFIG SCRIPT`
+    plain_farm.py --fault CONFIG    the two lines that the program writes on standard error where it is no configuration, with L and C for a
+                                    line and a column
 
 What the searches show is told by plain_searches.py, what a project's text spells by plain_reader.py. Nothing here is
 shared with the service: no code, no tables.
@@ -22,7 +24,15 @@ NAME = re.compile(r"[a-z][a-z0-9_-]{0,31}")
 
 
 class Fault(Exception):
-    """The text of a fault of a configuration, such as Name(1)."""
+    """The text of a fault of a configuration, such as Name(1), and where it lies with what is wanted there."""
+
+    def __init__(self, text, why=None):
+        super().__init__(text)
+        self.why = why
+
+    def lines(self):
+        """What is written on standard error."""
+        return f"farm: config {self}\n" + (f"farm: why: {self.why}\n" if self.why else "")
 
 
 class Unknown(Exception):
@@ -82,46 +92,54 @@ def value_of(data):
         judge_strings([value])
         return value
     except (ValueError, RecursionError):
-        raise Fault("Json") from None
+        raise Fault("Json", "line L column C: this is no JSON text") from None
 
 
-def natural(fields, key, missing=None):
+NATURAL = "a natural number below 2^64 is wanted, in digits alone"
+
+
+def natural(fields, key, missing=None, place=""):
     if key not in fields and missing is not None:
         return missing
     value = fields.get(key)
     if not isinstance(value, Literal) or not re.fullmatch("[0-9]+", value.text) or int(value.text) >= 2 ** 64:
-        raise Fault("Shape")
+        raise Fault("Shape", f"{place}{key}: {NATURAL}")
     return int(value.text)
 
 
 class Terms:
     """What a tenant has by the configuration."""
 
-    def __init__(self, fields):
-        if not isinstance(fields, dict) or not isinstance(fields.get("name"), str):
-            raise Fault("Shape")
+    def __init__(self, fields, place):
+        if not isinstance(fields, dict):
+            raise Fault("Shape", f"{place}: an object is wanted")
+        if not isinstance(fields.get("name"), str):
+            raise Fault("Shape", f"{place}.name: a string is wanted")
         self.name = fields["name"]
-        self.quanta, self.jobs, self.entries = (natural(fields, key) for key in ("quanta", "jobs", "entries"))
+        self.quanta, self.jobs, self.entries = (natural(fields, key, place=f"{place}.") for key in ("quanta", "jobs", "entries"))
 
 
 def config_of(data):
     """The terms of each tenant. Raises the first Fault."""
     fields = value_of(data)
-    if not isinstance(fields, dict) or not isinstance(fields.get("tenants"), list):
-        raise Fault("Shape")
-    tenants = [Terms(t) for t in fields["tenants"]]
+    if not isinstance(fields, dict):
+        raise Fault("Shape", "the whole: an object is wanted")
+    if not isinstance(fields.get("tenants"), list):
+        raise Fault("Shape", "tenants: a list is wanted")
+    tenants = [Terms(t, f"tenants[{i}]") for i, t in enumerate(fields["tenants"])]
     workers, turn = natural(fields, "workers", 2), natural(fields, "slice", 1000)
     if not 1 <= len(tenants) <= 64:
-        raise Fault("Tenants")
+        raise Fault("Tenants", "tenants: 1 to 64 are allowed")
     for i, t in enumerate(tenants):
         if not NAME.fullmatch(t.name) or t.name in [s.name for s in tenants[:i]]:
-            raise Fault(f"Name({i})")
+            raise Fault(f"Name({i})", f"tenants[{i}].name: 1 to 32 of a-z, 0-9, _ and - are allowed, a letter first, and no name twice")
     ranges = []
-    for t in tenants:
-        ranges += [("quanta", t.quanta, 0, MOST_QUANTA), ("jobs", t.jobs, 1, 1000), ("entries", t.entries, 1, 1000000)]
-    for key, value, least, most in ranges + [("workers", workers, 1, 16), ("slice", turn, 1, 1000000)]:
+    for i, t in enumerate(tenants):
+        terms = [("quanta", t.quanta, 0, MOST_QUANTA), ("jobs", t.jobs, 1, 1000), ("entries", t.entries, 1, 1000000)]
+        ranges += [(f"tenants[{i}].", *term) for term in terms]
+    for place, key, value, least, most in ranges + [("", "workers", workers, 1, 16), ("", "slice", turn, 1, 1000000)]:
         if not least <= value <= most:
-            raise Fault(f"Range({key})")
+            raise Fault(f"Range({key})", f"{place}{key}: {least} to {most} are allowed")
     return tenants
 
 
@@ -346,6 +364,7 @@ class Farm:
     def __init__(self, terms, nodes=10 ** 9, takes=True):
         self.tenants = {t.name: Tenant(t) for t in terms}
         self.nodes, self.takes, self.turns = nodes, takes, {}
+        self.refused = self.doubtful = None
 
     def tick(self):
         self.nodes -= 1
@@ -392,8 +411,20 @@ class Farm:
             return self.turn(command, name, args[0], args[1] if len(args) > 1 else 0)
         return getattr(self.tenants[name], command)(*args)
 
+    def notes(self, is_strict, fault=""):
+        """The status of a replay, and what is written on standard error: its fault, what --strict tells, and where a count of lines may be wrong."""
+        said = [fault] if fault else []
+        if is_strict and self.refused and not fault:
+            said.append(f"farm: refused at line {self.refused}\n")
+        status = 1 if said else 0
+        if self.doubtful:
+            said.append(f"farm: line {self.doubtful}: the text of this submit ends with a line that begins with '@'; is its count of lines right?\n")
+        return status, "".join(said).encode()
+
     def replay(self, data):
-        """Yields the lines that are said. Raises Fault where no more requests are read, by the size of one or their number."""
+        """Yields the lines that are said. Raises Fault where no more requests are read, by the size of one or their number. The number of the
+        first line whose request was refused is `refused` then, and `doubtful` that of the first submit whose text ends with a line
+        that begins with `@`."""
         lines, at, begin, many = lines_of(data), 0, 0, 0
         while at < len(lines):
             line = lines[at]
@@ -412,7 +443,13 @@ class Farm:
             begin, many = end, many + 1
             if many > MOST_REQUESTS:
                 raise Fault("Requests")
-            yield self.said(line, request, text, data)
+            number = at - len(text)
+            if text and data[lines[at - 1].begin:][:1] == b"@":
+                self.doubtful = self.doubtful or number
+            reply = self.said(line, request, text, data)
+            if reply.split(" ")[1] == "no":
+                self.refused = self.refused or number
+            yield reply
         if len(data) - begin > MOST_REQUEST:
             raise Fault("Read")
 
@@ -431,10 +468,21 @@ class Farm:
             return f"@{request[1]} no {refusal}"
 
 
+def main_fault(path):
+    with open(path, "rb") as config:
+        try:
+            config_of(config.read())
+        except Fault as fault:
+            print(fault.lines(), end="")
+
+
 if __name__ == "__main__":
+    if sys.argv[1] == "--fault":
+        main_fault(sys.argv[2])
+        sys.exit()
     with open(sys.argv[1], "rb") as config, open(sys.argv[2], "rb") as script:
         try:
             for reply in Farm(config_of(config.read())).replay(script.read()):
                 print(reply)
         except Fault as fault:
-            sys.exit(f"farm: config {fault}")
+            sys.exit(fault.lines().rstrip("\n"))

@@ -27,10 +27,8 @@ fn command<'a>(alloc: Global) -> Result<Command<'a>, AllocError> {
             "SCHEDULE",
             "A result line, or its words J:MODE:START",
         ))?
-        .arg(needed(
-            alloc,
-            "PROOF",
-            "A DRAT proof of the clauses of one period less",
+        .arg(Arg::new(alloc, "PROOF").help(
+            "A DRAT proof of the clauses of one period less; none where the longest chain alone decides",
         ))?;
     let infeasible = Command::new(alloc, "infeasible")
         .about("Checks a proof that no schedule is feasible")
@@ -60,7 +58,7 @@ fn run_chosen<R: Runtime + AllocGlobal>(rt: &R, matches: &ArgMatches<'_>) -> Exi
             rt,
             chosen.get_str("FILE").unwrap_or("-"),
             chosen.get_str("SCHEDULE").unwrap_or("-"),
-            chosen.get_str("PROOF").unwrap_or("-"),
+            chosen.get_str("PROOF"),
         ),
         Some(("infeasible", chosen)) => certify_cli::run_infeasible(
             rt,

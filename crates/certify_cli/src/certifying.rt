@@ -68,13 +68,15 @@ pub fn certify_infeasible<W: Write>(
 }
 
 /// Writes the clauses that a file's project and a bound on the makespan make, in DIMACS form; without a bound those on modes
-/// and stocks alone.
+/// and stocks alone. But for a fault of the writer nothing was written at an error.
 pub fn write_clauses<W: Write>(
     alloc: Global,
     file: &[u8],
     bound: Option<u32>,
     writer: &mut W,
-) -> Result<(), CertifyFault> {
+) -> Result<(), CertifyFault>
+    ensures { IfErr result (λ fault. (W.contents writer.new ≡ W.contents writer.old) ⊎ (fault ≡ CertifyFault.Write)) }
+{
     let project = match read(alloc, file) {
         Ok(project) => project,
         Err(fault) => return Err(CertifyFault::File(fault)),

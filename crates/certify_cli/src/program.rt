@@ -4,6 +4,7 @@ ghost use Rattle.std.specs.Process.{exit_status};
 
 use crate::certifying::{certify, certify_infeasible, write_clauses};
 use crate::fault::CertifyFault;
+use file_words::{reason, tell_unread};
 use std::alloc::Global;
 use std::io::{BufWriter, Eprint, Read, Write};
 use std::process::ExitCode;
@@ -35,8 +36,8 @@ fn read_path<R: Runtime + AllocGlobal>(rt: &R, path: &str, most: u64) -> Option<
     };
     match bytes {
         Ok(bytes) => Some(bytes),
-        Err(_) => {
-            let _ = eprintln!(rt; "farm: cannot read {path}");
+        Err(error) => {
+            tell_unread(rt, path, reason(error.kind()));
             None
         }
     }
@@ -55,13 +56,21 @@ fn end<R: Eprint>(rt: &R, ended: Result<(), CertifyFault>) -> ExitCode
     }
 }
 
+/// The bytes of the proof in the file at the path; without a path those of an empty proof. `None` is told on standard error.
+fn read_proof<R: Runtime + AllocGlobal>(rt: &R, path: Option<&str>) -> Option<Vec<u8>> {
+    match path {
+        Some(path) => read_path(rt, path, MOST_PROOF),
+        None => Some(Vec::new(rt.alloc())),
+    }
+}
+
 /// Prints `optimal M` where the proof in the third file makes the schedule in the second one optimal for the project in the
-/// first one.
+/// first one. Where the longest chain of activities alone takes so long, no proof is needed.
 pub fn run_certify<R: Runtime + AllocGlobal>(
     rt: &R,
     file: &str,
     schedule: &str,
-    proof: &str,
+    proof: Option<&str>,
 ) -> ExitCode
     ensures { exit_status result ≤ 1 }
 {
@@ -71,7 +80,7 @@ pub fn run_certify<R: Runtime + AllocGlobal>(
     let Some(text) = read_path(rt, schedule, MOST_TEXT) else {
         return ExitCode::FAILURE;
     };
-    let Some(proof) = read_path(rt, proof, MOST_PROOF) else {
+    let Some(proof) = read_proof(rt, proof) else {
         return ExitCode::FAILURE;
     };
     let mut output = io::writer(rt);

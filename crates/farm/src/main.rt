@@ -5,6 +5,30 @@ use std::process::ExitCode;
 use std::rt::Runtime;
 use std::{env, io};
 
+/// The version of the program, and the kit by which it was proved.
+const VERSION: &str = "farm 0.1.0 (rattle-kit-13b logic dac8208d650f15bf)";
+
+/// What the program is, for its help.
+const ABOUT: &str = "\
+Schedules multi-mode projects, one by one or for several tenants.
+docs/USE.md has the commands, and --version tells the version.";
+
+/// Whether the words ask for the version, and for nothing else.
+fn asks_for_version(words: &[String]) -> bool {
+    match words.get(1) {
+        Some(word) => words.len() == 2 && matches!(word.as_str(), "--version" | "-V"),
+        None => false,
+    }
+}
+
+/// Prints the version.
+fn print_version<R: Runtime>(rt: &R) -> ExitCode {
+    match println!(rt; "{VERSION}") {
+        Ok(()) => ExitCode::SUCCESS,
+        Err(_) => ExitCode::FAILURE,
+    }
+}
+
 /// The words of the process, or an error where one is not UTF-8 or there is no memory for them.
 fn words_of<R: Runtime + AllocGlobal>(rt: &R) -> io::Result<Vec<String>> {
     Ok(env::args(rt)?.collect::<Vec<String>>(rt.alloc())?)
@@ -16,6 +40,7 @@ fn print_help<R: Runtime + AllocGlobal>(rt: &R, words: &[String]) -> ExitCode {
         return ExitCode::FAILURE;
     };
     match command
+        .about(ABOUT)
         .after_help(solve_cli::COMMANDS_HELP)
         .try_get_matches_from(words)
     {
@@ -32,7 +57,9 @@ fn main(rt: HostRuntime) -> ExitCode {
         let _ = eprintln!(rt; "farm: cannot read the command line");
         return ExitCode::FAILURE;
     };
-    if solve_cli::is_command(words.as_slice()) {
+    if asks_for_version(words.as_slice()) {
+        print_version(&rt)
+    } else if solve_cli::is_command(words.as_slice()) {
         solve_cli::run_command(&rt, words.as_slice())
     } else if solve_cli::asks_for_help(words.as_slice()) {
         print_help(&rt, words.as_slice())

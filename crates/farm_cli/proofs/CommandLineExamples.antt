@@ -1,6 +1,6 @@
 -- What worked command lines ask for, computed.
-use Rattle.std.proofs.Common.{◌≡◌, ℕ, List, [], ◌∷◌, Option, Some, refl, codes, option_map}
-use Rattle.clap.specs.Words.{Row, Text, fault_of, subcommand_of}
+use Rattle.std.proofs.Common.{◌≡◌, ℕ, List, [], ◌∷◌, Option, Some, None, refl, codes, option_map, option_and_then}
+use Rattle.clap.specs.Words.{Row, Text, fault_of, one_of, subcommand_of}
 use Rattle.clap.specs.Kinds.{Kinds}
 use Rattle.clap.specs.declared.error.kind.ErrorKind.TheVariants as kind
 use Rattle.clap.proofs.OnLiterals.{clap_on_literals}
@@ -38,6 +38,18 @@ a_replay = refl
 a_replay_turned : asked both (codes "farm" ∷ codes "replay" ∷ codes "s" ∷ codes "--config=k.json" ∷ []) ≡ Some (codes "replay", codes "k.json" ∷ codes "s" ∷ [])
 unfolding clap_on_literals
 a_replay_turned = refl
+
+-- the text of the flag that asks for status 1
+abbrev strict : List Text → Option Text
+strict words = option_and_then (λ (found : Text × List Row). one_of (codes "strict") found.1) (subcommand_of farm_app words)
+
+a_strict_replay : strict (codes "farm" ∷ codes "replay" ∷ codes "--strict" ∷ codes "--config" ∷ codes "k.json" ∷ codes "s" ∷ []) ≡ Some (codes "true")
+unfolding clap_on_literals
+a_strict_replay = refl
+
+a_replay_that_goes_on : strict (codes "farm" ∷ codes "replay" ∷ codes "--config" ∷ codes "k.json" ∷ codes "s" ∷ []) ≡ Some (codes "false")
+unfolding clap_on_literals
+a_replay_that_goes_on = refl
 
 a_service :
     asked service (codes "farm" ∷ codes "serve" ∷ codes "--config" ∷ codes "k.json" ∷ codes "--port" ∷ codes "0" ∷ codes "--sessions" ∷ codes "2" ∷ [])

@@ -1,7 +1,8 @@
 -- What the words of a command line ask for, as the kit's `clap` reads them.
-use Rattle.std.specs.Prelude.{◌≡◌, ℕ, true, List, Option, Some, codes, unwrap_or}
-use Rattle.clap.specs.Words.{App, Row, Rule, Text, new_app, new_rule, with_rule, with_subcommand, first_of}
+use Rattle.std.specs.Prelude.{◌≡◌, ℕ, Bool, true, false, List, Option, Some, codes, unwrap_or}
+use Rattle.clap.specs.Words.{App, Row, Rule, Text, new_app, new_rule, with_rule, with_subcommand, first_of, one_of}
 use Rattle.clap.specs.declared.builder.value_parser.ValueParser.TheVariants as value_parser
+use Rattle.clap.specs.declared.builder.action.ArgAction.TheVariants.{SetTrue}
 use Rattle.farm_cli.specs.declared.arguments.Task.{Task}
 use Rattle.farm_cli.specs.declared.arguments.Task.TheVariants as task
 
@@ -24,9 +25,13 @@ number_rule id least most = record (option_rule id) { parser = Some (value_parse
 abbrev pub config_rule : Rule
 config_rule = option_rule (codes "config")
 
--- replay --config F SCRIPT
+-- an option of this name that takes no value
+abbrev pub flag_rule : Text → Rule
+flag_rule id = record (new_rule id) { long = Some id; action = Some SetTrue }
+
+-- replay --config F [--strict] SCRIPT
 abbrev pub replay_app : App
-replay_app = with_rule (with_rule (new_app (codes "replay")) config_rule) (needed (codes "SCRIPT"))
+replay_app = with_rule (with_rule (with_rule (new_app (codes "replay")) config_rule) (needed (codes "SCRIPT"))) (flag_rule (codes "strict"))
 
 -- serve --config F --port P --sessions K
 abbrev pub serve_app : App
@@ -44,17 +49,25 @@ farm_app = with_subcommand (with_subcommand (with_subcommand (asking (new_app (c
 -- the task is a check of this file, a replay of this script under this configuration, or a service of it at this port for so many connections
 abbrev pub Checks : Text → Task → Type 0
 Checks file (task.Check path) = path.now ≡ file
-Checks file (task.Replay config script) = ⊥
+Checks file (task.Replay config script is_strict) = ⊥
 Checks file (task.Serve config port sessions) = ⊥
 
-abbrev pub Replays : Text → Text → Task → Type 0
-Replays config script (task.Check path) = ⊥
-Replays config script (task.Replay f path) = (f.now ≡ config) × (path.now ≡ script)
-Replays config script (task.Serve f p k) = ⊥
+-- a flag is set as its text says
+abbrev pub flag_text : Bool → Text
+flag_text true = codes "true"
+flag_text false = codes "false"
+
+abbrev pub IsSetBy : Option Text → Bool → Type 0
+IsSetBy found is_set = (wanted : Bool) → found ≡ Some (flag_text wanted) → is_set ≡ wanted
+
+abbrev pub Replays : Text → Text → Option Text → Task → Type 0
+Replays config script strict (task.Check path) = ⊥
+Replays config script strict (task.Replay f path is_strict) = (f.now ≡ config) × (path.now ≡ script) × IsSetBy strict is_strict
+Replays config script strict (task.Serve f p k) = ⊥
 
 abbrev pub Serves : Text → Text → Text → Task → Type 0
 Serves config port sessions (task.Check path) = ⊥
-Serves config port sessions (task.Replay f path) = ⊥
+Serves config port sessions (task.Replay f path is_strict) = ⊥
 Serves config port sessions (task.Serve f p k) = (f.now ≡ config) × (p.now ≡ port) × (k.now ≡ sessions)
 
 -- the text at an argument
@@ -64,6 +77,6 @@ path_at id rows = unwrap_or (first_of id rows) (codes "-")
 -- what a subcommand with its arguments asks for
 pub record Asks (found : Option (Text × List Row)) (t : Task) : Type 0 where
   pub check : (rows : List Row) → found ≡ Some (codes "check", rows) → Checks (path_at (codes "FILE") rows) t
-  pub replay : (rows : List Row) → found ≡ Some (codes "replay", rows) → Replays (path_at (codes "config") rows) (path_at (codes "SCRIPT") rows) t
+  pub replay : (rows : List Row) → found ≡ Some (codes "replay", rows) → Replays (path_at (codes "config") rows) (path_at (codes "SCRIPT") rows) (one_of (codes "strict") rows) t
   pub serve : (rows : List Row) → found ≡ Some (codes "serve", rows)
       → Serves (path_at (codes "config") rows) (path_at (codes "port") rows) (path_at (codes "sessions") rows) t

@@ -1,2 +1,3 @@
 pub mod Summary
 pub mod CommandLine
+pub mod Strict

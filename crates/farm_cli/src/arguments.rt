@@ -1,10 +1,11 @@
 //! The words of a command line.
 ghost use Rattle.std.specs.Prelude.{◌≡◌, ◌<◌, ◌≤◌, false, IfOk, IsOkAnd, length, map, codes, string_bytes};
 ghost use Rattle.clap.specs.Words.{app_of, fault_of, rule_of, subcommand_of, subcommand_rows_of, with_subcommand, FailsBy};
-ghost use Rattle.farm_cli.specs.CommandLine.{option_rule, number_rule, serve_app, farm_app, Checks, Asks};
+ghost use Rattle.farm_cli.specs.CommandLine.{flag_rule, option_rule, number_rule, serve_app, farm_app, Checks, Asks};
 
+use crate::help::{CHECK_HELP, CONFIG_HELP, REPLAY_HELP, SERVE_HELP, STRICT_HELP};
 use clap::builder::ValueParser;
-use clap::{Arg, ArgMatches, Command, Error};
+use clap::{Arg, ArgAction, ArgMatches, Command, Error};
 use std::alloc::{AllocError, Global};
 
 /// What the words of a command line ask for.
@@ -21,6 +22,8 @@ pub enum Task<'a> {
         config: &'a str,
         /// A path, or `-` for standard input.
         script: &'a str,
+        /// Whether a refused request ends with status 1.
+        is_strict: bool,
     },
     /// Serve a farm over connections.
     Serve {
@@ -61,16 +64,22 @@ fn needed_number<'a>(
     needed_option(alloc, name, value, help).value_parser(within)
 }
 
+/// An option of this name that takes no value.
+fn flag<'a>(alloc: Global, name: &'a str, help: &'a str) -> Arg<'a>
+    ensures rule { rule_of result ≡ flag_rule name.entry.now }
+    ensures own { result.global ≡ false }
+{
+    Arg::new(alloc, name)
+        .long(name)
+        .help(help)
+        .action(ArgAction::SetTrue)
+}
+
 /// The command with the subcommand that serves, or an error where there is no memory for it.
 fn with_serve<'a>(alloc: Global, command: Command<'a>) -> Result<Command<'a>, AllocError>
     ensures { IfOk result (λ whole. app_of whole ≡ with_subcommand (app_of command.entry) serve_app.top) }
 {
-    let config = needed_option(
-        alloc,
-        "config",
-        "F",
-        "The farm's configuration, a JSON file",
-    );
+    let config = needed_option(alloc, "config", "F", CONFIG_HELP);
     let port = needed_number(
         alloc,
         "port",
@@ -89,6 +98,7 @@ fn with_serve<'a>(alloc: Global, command: Command<'a>) -> Result<Command<'a>, Al
     );
     let serve = Command::new(alloc, "serve")
         .about("Answers the requests of so many connections and settles the farm")
+        .after_help(SERVE_HELP)
         .arg(config)?
         .arg(port)?
         .arg(sessions)?;
@@ -104,19 +114,19 @@ pub fn farm_command<'a>(alloc: Global) -> Result<Command<'a>, AllocError>
         .required(true);
     let check = Command::new(alloc, "check")
         .about("Reads a multi-mode project and prints what it holds")
+        .after_help(CHECK_HELP)
         .arg(file)?;
-    let config = Arg::new(alloc, "config")
-        .long("config")
-        .value_name("F")
-        .help("The farm's configuration, a JSON file")
-        .required(true);
+    let config = needed_option(alloc, "config", "F", CONFIG_HELP);
     let script = Arg::new(alloc, "SCRIPT")
         .help("Requests, one a line, or - for standard input")
         .required(true);
+    let strict = flag(alloc, "strict", STRICT_HELP);
     let replay = Command::new(alloc, "replay")
         .about("Replays a script of requests and prints the replies")
+        .after_help(REPLAY_HELP)
         .arg(config)?
-        .arg(script)?;
+        .arg(script)?
+        .arg(strict)?;
     let farm = Command::new(alloc, "farm")
         .about("Schedules multi-mode projects for several tenants")
         .subcommand_required(true)
@@ -153,6 +163,7 @@ fn task_of<'a>(matches: &ArgMatches<'a>) -> Task<'a>
         Some(("replay", chosen)) => Task::Replay {
             config: chosen.get_str("config").unwrap_or("-"),
             script: chosen.get_str("SCRIPT").unwrap_or("-"),
+            is_strict: chosen.get_flag("strict"),
         },
         Some(("serve", chosen)) => Task::Serve {
             config: chosen.get_str("config").unwrap_or("-"),

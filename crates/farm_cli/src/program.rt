@@ -1,15 +1,17 @@
 //! The programs: what each task does, and the status that it ends with.
 ghost use Rattle.std.specs.Prelude.{◌≡◌, ◌≤◌, OnOk, OnErr};
 ghost use Rattle.std.specs.Process.{exit_status};
+ghost use Rattle.farm_cli.specs.Strict.{replay_status};
 
 use crate::arguments::{Task, parse_words};
 use crate::input::{read_path, read_whole};
 use crate::summary::summarize;
-use farm_config::read_config;
+use farm_config::{ConfigFault, place_of, read_config};
 use farm_core::Config;
 use farm_pool::Settled;
-use farm_replay::{ReplayFault, replay};
+use farm_replay::{Notes, ReplayFault, replay_noting};
 use farm_service::{ServeFault, serve};
+use file_words::{reason, tell_unread};
 use psplib_mm::read;
 use std::io::{BufWriter, Eprint, Print, Read, Write};
 use std::net::{Ipv4Addr, Net, SocketAddr, TcpListener, TcpStream};
@@ -56,7 +58,13 @@ pub fn run_words<
 {
     match parse_words(rt.alloc(), words) {
         Ok(Task::Check { file }) => run_check(rt, file),
-        Ok(Task::Replay { config, script }) => run_replay(rt, config, script),
+        Ok(
+            Task::Replay {
+                config,
+                script,
+                is_strict,
+            },
+        ) => run_replay(rt, config, script, is_strict),
         Ok(
             Task::Serve {
                 config,
@@ -71,13 +79,25 @@ pub fn run_words<
     }
 }
 
+/// Tells the fault of a configuration, and on a second line where it lies and what is wanted there.
+fn tell_config_fault<R: AllocGlobal + Eprint>(rt: &R, bytes: &[u8], fault: ConfigFault) {
+    let _ = eprintln!(rt; "farm: config {fault}");
+    if let Some(place) = place_of(rt.alloc(), bytes, fault) {
+        let wanted = place.wanted(fault);
+        let _ = eprintln!(rt; "farm: why: {place}: {wanted}");
+    }
+}
+
 /// Prints what the project of a file holds, or the fault of the file.
 fn run_check<R: Runtime + AllocGlobal>(rt: &R, file: &str) -> ExitCode
     ensures { exit_status result ≤ 1 }
 {
-    let Ok(text) = read_path(rt, file) else {
-        let _ = eprintln!(rt; "farm: cannot read {file}");
-        return ExitCode::FAILURE;
+    let text = match read_path(rt, file) {
+        Ok(text) => text,
+        Err(error) => {
+            tell_unread(rt, file, reason(error.kind()));
+            return ExitCode::FAILURE;
+        }
     };
     match read(rt.alloc(), &text) {
         Ok(project) => {
@@ -100,33 +120,50 @@ fn config_at<R: Files + AllocGlobal + Eprint>(rt: &R, path: &str) -> Option<Conf
         Ok(file) => read_whole(rt.alloc(), file),
         Err(error) => Err(error),
     };
-    let Ok(Some(bytes)) = bytes else {
-        let _ = eprintln!(rt; "farm: cannot read {path}");
-        return None;
+    let bytes = match bytes {
+        Ok(Some(bytes)) => bytes,
+        Ok(None) => {
+            tell_unread(rt, path, "it has more than 1048576 bytes");
+            return None;
+        }
+        Err(error) => {
+            tell_unread(rt, path, reason(error.kind()));
+            return None;
+        }
     };
     match read_config(rt.alloc(), &bytes) {
         Ok(config) => Some(config),
         Err(fault) => {
-            let _ = eprintln!(rt; "farm: config {fault}");
+            tell_config_fault(rt, &bytes, fault);
             None
         }
     }
 }
 
 /// Replays a script on a farm of the configuration, and prints the replies.
-fn run_replay<R: Runtime + AllocGlobal>(rt: &R, config: &str, script: &str) -> ExitCode
+fn run_replay<R: Runtime + AllocGlobal>(
+    rt: &R,
+    config: &str,
+    script: &str,
+    is_strict: bool,
+) -> ExitCode
     ensures { exit_status result ≤ 1 }
 {
     let Some(config) = config_at(rt, config) else {
         return ExitCode::FAILURE;
     };
+    let mut notes = Notes::default();
     if script == "-" {
-        return end_replay(rt, replay_to(rt, &config, rt.reader()));
+        let ended = replay_to(rt, &config, rt.reader(), &mut notes);
+        return end_replay(rt, ended, notes, is_strict);
     }
     match fs::open(rt, script) {
-        Ok(file) => end_replay(rt, replay_to(rt, &config, file)),
-        Err(_) => {
-            let _ = eprintln!(rt; "farm: cannot read {script}");
+        Ok(file) => {
+            let ended = replay_to(rt, &config, file, &mut notes);
+            end_replay(rt, ended, notes, is_strict)
+        }
+        Err(error) => {
+            tell_unread(rt, script, reason(error.kind()));
             ExitCode::FAILURE
         }
     }
@@ -137,29 +174,45 @@ fn replay_to<R: Runtime + AllocGlobal, S: Read + Drop>(
     rt: &R,
     config: &Config,
     script: S,
+    notes: &mut Notes,
 ) -> Result<(), ReplayFault> {
     let Ok(mut output) = BufWriter::new(rt.alloc(), io::writer(rt)) else {
         return Err(ReplayFault::NoMemory);
     };
-    let ended = replay(rt.alloc(), config, script, &mut output);
+    let ended = replay_noting(rt.alloc(), config, script, &mut output, notes);
     match output.flush() {
         Ok(()) => ended,
         Err(_) => Err(ReplayFault::Write),
     }
 }
 
-/// The status of a replay, with its fault on standard error.
-fn end_replay<R: Eprint>(rt: &R, ended: Result<(), ReplayFault>) -> ExitCode
-    ensures ok { OnOk ended (exit_status result ≡ 0) }
+/// The status of a replay, with its fault on standard error, and what was noted of its script.
+fn end_replay<R: Eprint>(
+    rt: &R,
+    ended: Result<(), ReplayFault>,
+    notes: Notes,
+    is_strict: bool,
+) -> ExitCode
+    ensures ok { OnOk ended (exit_status result ≡ replay_status is_strict notes.refused) }
     ensures fault { OnErr ended (exit_status result ≡ 1) }
 {
-    match ended {
-        Ok(()) => ExitCode::SUCCESS,
-        Err(fault) => {
+    let status = match (ended, notes.refused) {
+        (Err(fault), _) => {
             let _ = eprintln!(rt; "farm: replay {fault}");
             ExitCode::FAILURE
         }
+        (Ok(()), Some(line)) if is_strict => {
+            let _ = eprintln!(rt; "farm: refused at line {line}");
+            ExitCode::FAILURE
+        }
+        (Ok(()), _) => ExitCode::SUCCESS,
+    };
+    if let Some(line) = notes.doubtful {
+        let _ = eprintln!(rt;
+            "farm: line {line}: the text of this submit ends with a line that begins with '@'; is its count of lines right?"
+        );
     }
+    status
 }
 
 /// Serves a farm of the configuration at a port of this machine, which is printed first, until so many connections have ended.

@@ -46,7 +46,7 @@ fn named(alloc: Global, drafts: &[LineDraft<'_>]) -> Result<Vec<TenantLine>, Con
 }
 
 /// The first number of a tenant's line that is out of range.
-fn first_out_of_line(line: &LineDraft<'_>) -> Option<Key>
+pub(crate) fn first_out_of_line(line: &LineDraft<'_>) -> Option<Key>
     ensures { result ≡ first_out (terms_of line.now) }
 {
     if !Key::Quanta.allows(line.quanta) {

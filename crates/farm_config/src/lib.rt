@@ -7,6 +7,7 @@
 //! - `draft`: the values of a text in the shape of a configuration.
 //! - `judge`: its limits, in their order.
 //! - `fault`: the faults and their texts.
+//! - `place`: where a fault lies, and what is wanted there.
 //! - `laws`: a fault is told exactly where there is no configuration.
 #![tactic(auto)]
 
@@ -14,7 +15,9 @@ mod draft;
 mod fault;
 mod judge;
 pub mod laws;
+mod place;
 mod read;
 
 pub use fault::{ConfigFault, Key};
+pub use place::{Part, Place, place_of};
 pub use read::read_config;

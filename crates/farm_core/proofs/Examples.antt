@@ -13,7 +13,7 @@ use Rattle.strategy.specs.declared.kind.Kind.{Kind}
 use Rattle.strategy.specs.declared.kind.Kind.TheVariants.{Tree, RuleLft}
 use Rattle.strategy.specs.declared.plan.Plan.{Plan}
 use Rattle.strategy.specs.declared.verdict.Verdict.{Verdict}
-use Rattle.strategy.specs.declared.verdict.Verdict.TheVariants.{Going, Optimal, Ended}
+use Rattle.strategy.specs.declared.verdict.Verdict.TheVariants.{Going, Optimal}
 use Rattle.job_table.specs.Table.{Row, waiting_keys}
 use Rattle.job_table.specs.declared.phase.Phase.{Phase}
 use Rattle.job_table.specs.declared.phase.Phase.TheVariants.{Waiting, Out, Leaving, Dry, Closed, Cancelled}

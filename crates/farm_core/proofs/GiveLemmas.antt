@@ -7,7 +7,7 @@ use Rattle.mrcpsp.specs.Numbers.{first_from}
 use Rattle.tenant_book.specs.Book.{BookData, after_spend, after_free_up}
 use Rattle.strategy.specs.Outcome.{is_closed}
 use Rattle.strategy.specs.declared.plan.Plan.{Plan}
-use Rattle.strategy.specs.Search.{Meaning}
+use Rattle.strategy.specs.Search.{Meaning, nodes_within}
 use Rattle.job_table.specs.Table.{Row, JobData, is_waiting, is_out, find_row, put_row}
 use Rattle.job_table.specs.Job.{is_turn, phase_after, back, meaning_of, IsOwn, IsSent, IsBack}
 use Rattle.job_table.specs.declared.phase.Phase.{Phase}
@@ -20,7 +20,7 @@ use Rattle.farm_core.specs.Tenant.{book, held, find_job, line_of, nodes_of_turn}
 use Rattle.farm_core.specs.Step.{Replied, Sent, NoTurn, is_slice, has_room, may_have_run}
 use Rattle.farm_core.specs.World.{World, view, Follows}
 use Rattle.farm_core.specs.Farm.{IsFarm, owed, owed_in}
-use Rattle.farm_core.specs.Turn.{nodes_of, IsTurn, IsReady}
+use Rattle.farm_core.specs.Turn.{IsTurn, IsReady}
 use Rattle.farm_core.proofs.MoveLemmas.{IsMove, account_in, spent_in, stays_follows}
 use Rattle.farm_core.proofs.RunningLemmas.{found_held, after_back}
 use Rattle.farm_core.proofs.FarmLemmas.{owed-most}
@@ -112,7 +112,7 @@ has_run slice ran job Cancelled turn all = absurd (cc)
 
 -- an own turn began where its job stands
 pub own_run : (t slice ran : ℕ) (m : Meaning) (job : JobData) → IsTurn slice ran m → IsOwn t slice ran m job → may_have_run ran job job.phase ≡ true
-unfolding nodes_of
+unfolding nodes_within
 own_run t slice ran m job turn own =
     let plan_is : turn.start.plan ≡ job.plan = sym (ap (λ (x : Meaning). x.plan) turn.after) ∙ own.plan in
     let nodes_are : turn.start.nodes ≡ job.nodes = omega (arith, ap (λ (x : Meaning). x.nodes) turn.after, own.nodes) in

@@ -6,7 +6,7 @@ use Rattle.std.proofs.lemmas.Bool.Decides.{nat_tests}
 use Rattle.mrcpsp.specs.Numbers.{first_from}
 use Rattle.mrcpsp.specs.Schedule.{makespan}
 use Rattle.strategy.specs.Outcome.{best_after, is_closed, verdict_after}
-use Rattle.strategy.specs.Search.{Meaning}
+use Rattle.strategy.specs.Search.{Meaning, nodes_within}
 use Rattle.strategy.specs.declared.plan.Plan.{Plan}
 use Rattle.job_table.specs.Table.{JobData, is_waiting, is_out, is_ended}
 use Rattle.job_table.specs.Job.{given_up, is_turn, back}
@@ -20,7 +20,6 @@ use Rattle.farm_core.specs.declared.reply.Reply.TheVariants as reply
 use Rattle.farm_core.specs.Tenant.{Tenant, book, free, find_job, put_job, drop_job, line_of, nodes_of_turn, nodes_out_in}
 use Rattle.farm_core.specs.Step.{Replied, Sent, NoTurn, Step, step, has_room, is_amount, is_slice, unnoted, noted, changed, fresh_job, submitted, about, funded, fetched, cancelled_as, cancelled, forgotten, commanded, taken, may_have_run, gave}
 use Rattle.farm_core.specs.World.{World, terms_in, view, events_of, IsReplayed}
-use Rattle.farm_core.specs.Turn.{nodes_of}
 use Rattle.farm_core.specs.Held.{is_out_of, takes, gives, nodes_out, TakenTurnsAreHeld, TakenJobsWereNotOut, TurnsStayHeld, HeldTurnsAreNoStrangers, HeldTurnsRunTheirNodes, OnlyTakenJobsAreOut, GivenJobsAreNotOut}
 use Rattle.farm_core.proofs.CommandLemmas.{own_row}
 use Rattle.farm_core.proofs.NeedLemmas.{IsNumberOf, AreDistinct, alone_distinct, first_from-most}
@@ -365,14 +364,14 @@ taken_turns_are_held old new t s slice m it =
       best = ap (λ (x : Meaning). x.taken) it.search;
     }
 
-nodes_most : (slice : ℕ) (m : Meaning) → nodes_of slice m ≤ m.left
-unfolding nodes_of
+nodes_most : (slice : ℕ) (m : Meaning) → nodes_within slice m ≤ m.left
+unfolding nodes_within
 nodes_most slice m = omega (arith, first_from-most (λ r. is_closed m.plan (m.nodes + r)) (min slice m.left) 0)
 
 pub held_turns_are_no_strangers : HeldTurnsAreNoStrangers
 held_turns_are_no_strangers w t s slice m after it =
     let there = own_row w t s it.job it.found in
-    let ran : ℕ = nodes_of slice m in (
+    let ran : ℕ = nodes_within slice m in (
       (λ is strange. strange it.job there
           (record {
             turn = it.own.turn;
@@ -385,8 +384,8 @@ held_turns_are_no_strangers w t s slice m after it =
     )
 
 -- the nodes of an own turn
-own_nodes : (slice : ℕ) (m : Meaning) (job : JobData) → m.plan ≡ job.plan → m.nodes ≡ job.nodes → m.left ≡ job.left → nodes_of slice m ≡ nodes_of_turn (min slice job.left) job
-unfolding nodes_of nodes_of_turn
+own_nodes : (slice : ℕ) (m : Meaning) (job : JobData) → m.plan ≡ job.plan → m.nodes ≡ job.nodes → m.left ≡ job.left → nodes_within slice m ≡ nodes_of_turn (min slice job.left) job
+unfolding nodes_within nodes_of_turn
 own_nodes slice m job plan nodes left =
     ap (λ (p : Plan). first_from (λ r. is_closed p (m.nodes + r)) (min slice m.left) 0) plan
     ∙ ap (λ n. first_from (λ r. is_closed job.plan (n + r)) (min slice m.left) 0) nodes

@@ -1,5 +1,5 @@
 -- Each call of a tenant that the farm has can be made: there is a world in which it was. So there are runs; and what their journals have.
-use Rattle.std.proofs.Common.{◌≡◌, ◌≢◌, ℕ, suc, ◌+◌, ◌<◌, Bool, true, false, cond, not, List, [], ◌∷◌, ◌++◌, length, map, filter, nat_le, nat_lt, ◌==◌, ◌&&◌, Option, Some, None, refl, sym, ap, ◌∙◌, subst, arith, get_or, set, append_assoc, append-nil}
+use Rattle.std.proofs.Common.{◌≡◌, ◌≢◌, ℕ, suc, ◌+◌, ◌<◌, Bool, true, false, cond, not, List, [], ◌∷◌, ◌++◌, length, map, filter, nat_le, nat_lt, ◌==◌, ◌&&◌, Option, Some, None, refl, sym, ap, ◌∙◌, subst, arith, append_assoc, append-nil}
 use Rattle.std.specs.Prelude.{option_map, All, flat_map}
 use Rattle.std.proofs.lemmas.Bool.{cond_both}
 use Rattle.std.proofs.lemmas.List.{length-set, length-map}
@@ -18,7 +18,7 @@ use Rattle.farm_core.specs.declared.entry.Event.{Event}
 use Rattle.farm_core.specs.declared.entry.Event.TheVariants.{Submit, Fund, Status, Fetch, Cancel, Forget, Ledger, Take, Give}
 use Rattle.farm_core.specs.declared.reply.Reply.{Reply}
 use Rattle.farm_core.specs.declared.reply.Reply.TheVariants as reply
-use Rattle.farm_core.specs.Tenant.{Tenant, newcomer, book, free, find_job, put_job, drop_job, line_of}
+use Rattle.farm_core.specs.Tenant.{Tenant, book, free, find_job, put_job, drop_job, line_of}
 use Rattle.farm_core.specs.Step.{Answer, Replied, Sent, NoTurn, Step, step, has_room, is_amount, is_slice, unnoted, noted, changed, fresh_job, submitted, about, funded, fetched, cancelled_as, cancelled, forgotten, commanded, taken, may_have_run, gave}
 use Rattle.farm_core.specs.Config.{ConfigData}
 use Rattle.farm_core.specs.World.{World, Call, account_of, opened, terms_in, view, entries_of, is_noted, entry_of, Steps, Leads}

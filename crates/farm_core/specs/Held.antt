@@ -1,6 +1,6 @@
 -- Turns that were taken and are not back yet.
 use Rattle.std.specs.Prelude.{◌≡◌, ◌⊎◌, ⊤, ℕ, ◌<◌, Bool, true, false, ◌==◌, List, [], ◌∷◌, length, Option, Some, None}
-use Rattle.strategy.specs.Search.{Meaning}
+use Rattle.strategy.specs.Search.{Meaning, nodes_within, ran_on}
 use Rattle.job_table.specs.Table.{JobData, is_out}
 use Rattle.job_table.specs.Job.{IsOwn, IsStrange}
 use Rattle.farm_core.specs.declared.entry.Event.{Event}
@@ -10,7 +10,7 @@ use Rattle.farm_core.specs.declared.turn.Turn.{Turn}
 use Rattle.farm_core.specs.Config.{ConfigData}
 use Rattle.farm_core.specs.Tenant.{find_job, nodes_out_in}
 use Rattle.farm_core.specs.Step.{Answer, Replied}
-use Rattle.farm_core.specs.Turn.{nodes_of, ran_on, IsTaken}
+use Rattle.farm_core.specs.Turn.{IsTaken}
 use Rattle.farm_core.specs.World.{World, opened, view, Follows, IsReplayed}
 
 -- a job is out, where there is one
@@ -57,12 +57,12 @@ TurnsStayHeld = (old new : World) (t : ℕ) (e : Event) (answer : Answer) → Fo
 -- the farm knows the search of a turn that is held, run or unrun
 abbrev pub HeldTurnsAreNoStrangers : Type 0
 HeldTurnsAreNoStrangers = (w : World) (t s slice : ℕ) (m after : Meaning) → IsHeld w t s slice m →
-    (after ≡ ran_on (nodes_of slice m) m → IsStrange w.rows t s slice (nodes_of slice m) after → ⊥)
+    (after ≡ ran_on (nodes_within slice m) m → IsStrange w.rows t s slice (nodes_within slice m) after → ⊥)
     × (IsStrange w.rows t s slice 0 m → ⊥)
 
 -- a turn that is held runs the nodes of its job that is out
 abbrev pub HeldTurnsRunTheirNodes : Type 0
-HeldTurnsRunTheirNodes = (w : World) (t s slice : ℕ) (m : Meaning) → IsHeld w t s slice m → nodes_of slice m ≡ nodes_out (find_job s (view t w).jobs)
+HeldTurnsRunTheirNodes = (w : World) (t s slice : ℕ) (m : Meaning) → IsHeld w t s slice m → nodes_within slice m ≡ nodes_out (find_job s (view t w).jobs)
 
 -- a farm is where its journal leads, when it is made and after each call
 pub record FarmsAreReplayed : Type 0 where

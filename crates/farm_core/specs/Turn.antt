@@ -1,8 +1,6 @@
 -- Turns: a job's search in the hands of a worker.
-use Rattle.std.specs.Prelude.{◌≡◌, ◌⊎◌, ℕ, ◌+◌, ◌-◌, ◌<◌, min, true, false, length, Some, slice_get}
-use Rattle.mrcpsp.specs.Numbers.{first_from}
-use Rattle.strategy.specs.Outcome.{is_closed}
-use Rattle.strategy.specs.Search.{Meaning}
+use Rattle.std.specs.Prelude.{◌≡◌, ◌⊎◌, ℕ, ◌<◌, true, false, length, Some, slice_get}
+use Rattle.strategy.specs.Search.{Meaning, ran_on, nodes_within}
 use Rattle.job_table.specs.Table.{JobData, find_row, is_waiting, waiting_keys}
 use Rattle.job_table.specs.Job.{meaning_of, IsOwn}
 use Rattle.job_table.specs.declared.phase.Phase.TheVariants.{Out}
@@ -15,20 +13,12 @@ use Rattle.farm_core.specs.Step as step
 use Rattle.farm_core.specs.Step.{Replied, Sent, is_slice, has_room}
 use Rattle.farm_core.specs.World.{World, view, Follows}
 
--- how many nodes a turn of at most `slice` runs from here: as many as the slice and the quanta allow, or until the search is over
-unfoldable pub nodes_of : ℕ → Meaning → ℕ
-nodes_of slice m = first_from (λ r. is_closed m.plan (m.nodes + r)) (min slice m.left) 0
-
--- the search after so many nodes of a turn
-abbrev pub ran_on : ℕ → Meaning → Meaning
-ran_on r m = record m { nodes = m.nodes + r; left = m.left - r }
-
 -- a turn that has run so many nodes: nothing yet, or all that it could; and the best schedule is still with its search
 pub record IsTurn (slice ran : ℕ) (m : Meaning) : Type 0 where
   pub best : m.taken ≡ false
   pub start : Meaning
   pub after : m ≡ ran_on ran start
-  pub all : (ran ≡ 0) ⊎ (ran ≡ nodes_of slice start)
+  pub all : (ran ≡ 0) ⊎ (ran ≡ nodes_within slice start)
 
 -- a turn was taken: the search is that of a job that waited, and the call follows
 pub record IsTaken (old : World) (t s slice : ℕ) (m : Meaning) (new : World) : Type 0 where

@@ -5,7 +5,8 @@ ghost use Rattle.job_table.specs.Table.{JobData, find_row, is_waiting};
 ghost use Rattle.farm_core.specs.Tenant.{line_of};
 ghost use Rattle.farm_core.specs.Step.{is_slice, has_room};
 ghost use Rattle.farm_core.specs.World.{World, view};
-ghost use Rattle.farm_core.specs.Turn.{nodes_of, ran_on, IsTurn, IsTaken, IsNotTaken, IsGiven, IsIdle, IsReady, IsFirstReady};
+ghost use Rattle.strategy.specs.Search.{nodes_within, ran_on};
+ghost use Rattle.farm_core.specs.Turn.{IsTurn, IsTaken, IsNotTaken, IsGiven, IsIdle, IsReady, IsFirstReady};
 
 use crate::farm::{keep_room, line_of, write_down};
 use crate::{Event, Farm, Line, NoTurn, Reply};
@@ -29,21 +30,6 @@ fn is_slice(slice: u64) -> bool
     ensures { result ≡ is_slice slice }
 {
     0 < slice && slice <= 1_000_000
-}
-
-/// Runs as many nodes as the slice and the search's quanta allow, or until the search is over.
-fn run_slice<S: Strategy>(search: &mut S, slice: u64) -> u64
-    requires { (S.meaning search.old).taken ≡ false }
-    ensures ran { result ≡ nodes_of slice (S.meaning search.old) }
-    ensures search { S.meaning search.new ≡ ran_on result (S.meaning search.old) }
-{
-    for ran in 0..slice {
-        if search.closed() || search.left() == 0 {
-            return ran;
-        }
-        search.advance();
-    }
-    slice
 }
 
 /// What is told of a tenant's job of that number now, or what was told of it where there is none.
@@ -75,7 +61,7 @@ impl<J: Strategy> Turn<J> {
     /// call runs none.
     pub fn run(&mut self) -> u64
         requires { IsTurn self.old.slice self.old.ran (J.meaning self.old.search) }
-        ensures first { self.old.ran ≡ 0 → result ≡ nodes_of self.old.slice (J.meaning self.old.search) }
+        ensures first { self.old.ran ≡ 0 → result ≡ nodes_within self.old.slice (J.meaning self.old.search) }
         ensures again { self.old.ran ≢ 0 → result ≡ 0 }
         ensures search { J.meaning self.new.search ≡ ran_on result (J.meaning self.old.search) }
         ensures ran { self.new.ran ≡ self.old.ran + result }
@@ -87,7 +73,7 @@ impl<J: Strategy> Turn<J> {
         if self.ran > 0 {
             return 0;
         }
-        self.ran = run_slice(&mut self.search, self.slice);
+        self.ran = self.search.run(self.slice);
         self.ran
     }
 

@@ -1,9 +1,9 @@
 -- What a worker's calls come to.
 use Rattle.std.proofs.Common.{◌≡◌, ℕ, ◌+◌, ◌-◌, ◌<◌, false, [], ◌∷◌, length, min, Some, refl, sym, ap, ◌∙◌, subst, arith}
-use Rattle.strategy.specs.Search.{Meaning}
+use Rattle.strategy.specs.Search.{Meaning, nodes_within, ran_on}
 use Rattle.farm_core.specs.declared.turn.Turn.{Turn}
 use Rattle.farm_core.specs.Config.{ConfigData}
-use Rattle.farm_core.specs.Turn.{nodes_of, ran_on, IsTurn}
+use Rattle.farm_core.specs.Turn.{IsTurn}
 use Rattle.farm_core.proofs.TurnLemmas.{turn_fresh}
 use Rattle.turn_lock.specs.Plays.{Called}
 use Rattle.farm_pool.specs.declared.image.TurnImage.{TurnImage}
@@ -38,10 +38,10 @@ nothing n = omega arith
 
 -- a turn that has run is told so
 pub image_ran : {J : Type 0} (meaning : J → Meaning) (t u : Turn J) (n : ℕ) → u.tenant ≡ t.tenant → u.seq ≡ t.seq → u.slice ≡ t.slice → t.ran ≡ 0 → u.ran ≡ t.ran + n
-    → n ≡ nodes_of t.slice (meaning t.search) → meaning u.search ≡ ran_on n (meaning t.search) → turn_image meaning u ≡ run_out (turn_image meaning t)
+    → n ≡ nodes_within t.slice (meaning t.search) → meaning u.search ≡ ran_on n (meaning t.search) → turn_image meaning u ≡ run_out (turn_image meaning t)
 image_ran meaning t u n tenant seq slice unrun ran all is =
     let m : Meaning = meaning t.search in
-    let k : ℕ = nodes_of t.slice m in
+    let k : ℕ = nodes_within t.slice m in
     let e1 : (meaning u.search).tenant ≡ m.tenant = ap (λ (x : Meaning). x.tenant) is in
     let e2 : (meaning u.search).plan ≡ m.plan = ap (λ (x : Meaning). x.plan) is in
     let e3 : (meaning u.search).nodes ≡ m.nodes + k = ap (λ (x : Meaning). x.nodes) is ∙ ap (λ j. m.nodes + j) all in

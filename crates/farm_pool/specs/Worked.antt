@@ -4,7 +4,7 @@ use mathlib.Core.List.{IsPrefix}
 use Rattle.farm_core.specs.declared.entry.Entry.{Entry}
 use Rattle.farm_core.specs.declared.reply.Reply.{Reply}
 use Rattle.farm_core.specs.Config.{ConfigData}
-use Rattle.farm_core.specs.Turn.{nodes_of}
+use Rattle.strategy.specs.Search.{nodes_within}
 use Rattle.farm_core.specs.World.{World}
 use Rattle.turn_lock.specs.declared.view.View.{View}
 use Rattle.turn_lock.specs.History.{events_of, entries_of, IsLegal}
@@ -23,7 +23,7 @@ PoolView = View ConfigData Entry
 
 -- a turn that has run all that it could
 abbrev pub run_out : TurnImage → TurnImage
-run_out i = let n : ℕ = nodes_of i.slice (meaning_in i) in record i { ran = n; nodes = i.nodes + n; left = i.left - n }
+run_out i = let n : ℕ = nodes_within i.slice (meaning_in i) in record i { ran = n; nodes = i.nodes + n; left = i.left - n }
 
 -- it is given back
 pub record HasGiven (v : PoolView) (turn : TurnImage) (w : PoolView) : Type 0 where

@@ -9,7 +9,7 @@ use Rattle.std.proofs.Math.Seq.{drop-cons}
 use Rattle.std.proofs.lemmas.List.{take-append-drop}
 use Rattle.std.proofs.lemmas.List.Folds.{list_any-append}
 use Rattle.std.proofs.lemmas.List.Quantifiers.{position-Some}
-use Rattle.strategy.specs.Search.{Meaning}
+use Rattle.strategy.specs.Search.{Meaning, nodes_within, ran_on}
 use Rattle.job_table.specs.Table.{JobData, is_waiting, is_out}
 use Rattle.job_table.specs.Job.{is_turn, back, IsStrange}
 use Rattle.job_table.specs.declared.phase.Phase.{Phase}
@@ -26,7 +26,7 @@ use Rattle.farm_core.specs.Tenant.{Tenant, find_job, put_job, line_of, nodes_out
 use Rattle.farm_core.specs.Step as calls
 use Rattle.farm_core.specs.Step.{Answer, Replied, Sent, Step, step, has_room, is_slice, unnoted, changed, taken, may_have_run, gave}
 use Rattle.farm_core.specs.Farm.{IsReply}
-use Rattle.farm_core.specs.Turn.{nodes_of, ran_on, IsTurn, IsTaken, IsNotTaken}
+use Rattle.farm_core.specs.Turn.{IsTurn, IsTaken, IsNotTaken}
 use Rattle.farm_core.specs.Config.{ConfigData}
 use Rattle.farm_core.specs.World.{World, opened, view, Follows, IsReplayed}
 use Rattle.farm_core.specs.Held.{is_out_of, nodes_out, takes, gives, IsHeld, AreHeld, TakenTurnsAreHeld, TakenJobsWereNotOut, TurnsStayHeld, HeldTurnsAreNoStrangers, HeldTurnsRunTheirNodes, OnlyTakenJobsAreOut, GivenJobsAreNotOut}
@@ -450,11 +450,11 @@ pub record IsRun {J : Type 0} (meaning : J → Meaning) (x : Turn J) (tenant seq
   pub tenant_is : tenant ≡ x.tenant
   pub seq_is : seq ≡ x.seq
   pub slice_is : slice ≡ x.slice
-  pub first : x.ran ≡ 0 → result ≡ nodes_of x.slice (meaning x.search)
+  pub first : x.ran ≡ 0 → result ≡ nodes_within x.slice (meaning x.search)
   pub ran_is : ran ≡ x.ran + result
   pub search : m ≡ ran_on result (meaning x.search)
 
-ran_all : {J : Type 0} (meaning : J → Meaning) (x : Turn J) (tenant seq slice ran result : ℕ) (m : Meaning) → IsRun meaning x tenant seq slice ran result m → x.ran ≡ 0 → ran ≡ nodes_of x.slice (meaning x.search)
+ran_all : {J : Type 0} (meaning : J → Meaning) (x : Turn J) (tenant seq slice ran result : ℕ) (m : Meaning) → IsRun meaning x tenant seq slice ran result m → x.ran ≡ 0 → ran ≡ nodes_within x.slice (meaning x.search)
 ran_all meaning x tenant seq slice ran result m it none = omega (arith, it.ran_is, it.first none)
 
 pub found_follows : {J : Type 0} (meaning : J → Meaning) (old new : World) (t s : ℕ) (turns rest : List (Turn J)) (x : Turn J) (tenant seq slice ran result : ℕ) (m : Meaning) (answer : Reply)
@@ -473,7 +473,7 @@ found_told meaning nodes old new t s turns rest x tenant seq slice ran result m 
 pub never_strange : {J : Type 0} (meaning : J → Meaning) → HeldTurnsAreNoStrangers → (old : World) (t s : ℕ) (turns rest : List (Turn J)) (x : Turn J) (tenant seq slice ran result : ℕ) (m : Meaning)
     → IsFound meaning old t s turns rest x → IsRun meaning x tenant seq slice ran result m → IsStrange old.rows tenant seq slice ran m → ⊥
 never_strange meaning known old t s turns rest x tenant seq slice ran result m it run strange =
-    let search : m ≡ ran_on (nodes_of x.slice (meaning x.search)) (meaning x.search) = run.search ∙ ap (λ n. ran_on n (meaning x.search)) (run.first it.ran) in
+    let search : m ≡ ran_on (nodes_within x.slice (meaning x.search)) (meaning x.search) = run.search ∙ ap (λ n. ran_on n (meaning x.search)) (run.first it.ran) in
     (known old x.tenant x.seq x.slice (meaning x.search) m it.held).0 search
     (subst (λ n. IsStrange old.rows x.tenant x.seq x.slice n m) (ran_all meaning x tenant seq slice ran result m run it.ran)
     (subst (λ k. IsStrange old.rows x.tenant x.seq k ran m) run.slice_is (subst (λ k. IsStrange old.rows x.tenant k slice ran m) run.seq_is

@@ -2,7 +2,7 @@
 use Rattle.std.proofs.Common.{◌≡◌, ◌≢◌, ℕ, ◌+◌, ◌≤◌, ◌==◌, Bool, true, false, cond, List, [], ◌∷◌, ◌++◌, length, Option, Some, None, refl, sym, ap, ◌∙◌, subst, arith, ⊎_elim, eq-eqb, append_assoc, append-nil, length-append}
 use Rattle.std.specs.Prelude.{Result, Ok, Err, IfSome, IfErr, OnOk, ⊤}
 use Rattle.std.specs.List.{flat_map}
-use Rattle.std.specs.Io.KnownBytes.{Appends}
+use Rattle.std.specs.Io.KnownBytes.{Keeps, Appends}
 use Rattle.std.proofs.lemmas.Bool.{cases_eq, eqb-true}
 use Rattle.farm_replay.specs.Output.{answered, unless_unread}
 use Rattle.std.proofs.lemmas.Grind.{flat_map-append}
@@ -61,6 +61,12 @@ appends_on None b c xs ys h k = tt
 appends_on (Some us) None c xs ys h k = absurd h
 appends_on (Some us) (Some vs) None xs ys h k = absurd k
 appends_on (Some us) (Some vs) (Some ws) xs ys h k = k ∙ ap (λ l. l ++ ys) h ∙ append_assoc us xs ys
+
+appends_kept : (a b c : Option (List ℕ)) (xs : List ℕ) → Appends a b xs → Keeps b c → Appends a c xs
+appends_kept None b c xs h k = tt
+appends_kept (Some us) None c xs h k = absurd h
+appends_kept (Some us) (Some vs) None xs h k = absurd k
+appends_kept (Some us) (Some vs) (Some ws) xs h k = k ∙ h
 
 -- ---- one request more
 
@@ -128,6 +134,25 @@ cut_by_write turns config xs ys zs old mid new count w w' line it m n by part = 
   all = ap (λ l. items_of it.requests ++ l) (sym (reads_next turns m ys zs n)) ∙ sym it.reads;
   written = appends_on old mid new (output_of config it.requests) part.part it.written part.written;
   cause = record { refused = m.refused; item = m.item; more = requests_of zs; behind = part.rest; first = refl; line = ap line_text by.says ∙ part.split };
+}
+
+-- nothing of its line was written
+cut_before : EachInTurn → (config : ConfigData) (xs ys zs : List ℕ) (old new : Option (List ℕ)) (count : ℕ) (w : World) (it : IsPlayed config xs ys old new count w) (m : Marked)
+    → IsNext m ys zs → IsCutOff config fault.Write xs old new
+cut_before turns config xs ys zs old new count w it m n = record {
+  requests = it.requests;
+  rest = m.item ∷ requests_of zs;
+  part = [];
+  all = ap (λ l. items_of it.requests ++ l) (sym (reads_next turns m ys zs n)) ∙ sym it.reads;
+  written = subst (Appends old new) (sym (append-nil (output_of config it.requests))) it.written;
+  cause = record {
+    refused = m.refused;
+    item = m.item;
+    more = requests_of zs;
+    behind = line_text (next config (parts_after config (opening config) it.requests) m).line;
+    first = refl;
+    line = refl;
+  };
 }
 
 cut_between : (config : ConfigData) (xs ys : List ℕ) (old new : Option (List ℕ)) (count : ℕ) (w : World) (why : ReplayFault) (it : IsPlayed config xs ys old new count w)
@@ -278,6 +303,13 @@ pub play_begins : (config : ConfigData) (a old : Option (List ℕ)) (w : World) 
 play_begins config a old w parts =
     goes_same a (λ xs ys. IsPlayed config xs ys old old 0 w) (λ xs. record { requests = []; number = refl; parts = parts; written = appends_none old; reads = refl })
 
+-- what was written is sent on its way, and the same bytes are left to be read
+pub played_sent : (config : ConfigData) (a b c old mid new : Option (List ℕ)) (count : ℕ) (w : World) → c ≡ b → Keeps mid new → Played config a b old mid count w → Played config a c old new count w
+played_sent config a b c old mid new count w same kept played =
+    subst (λ r. Played config a r old new count w) (sym same)
+    (goes_to a b (λ xs ys. IsPlayed config xs ys old mid count w) (λ xs ys. IsPlayed config xs ys old new count w) played
+    (λ xs ys it. record { requests = it.requests; number = it.number; parts = it.parts; written = appends_kept old mid new (output_of config it.requests) it.written kept; reads = it.reads }))
+
 answered_settled : (config : ConfigData) (xs ys zs : List ℕ) (old mid : Option (List ℕ)) (count : ℕ) (w : World) (line : Saying) (it : IsPlayed config xs ys old mid count w) (s : IsSettled config line ys zs)
     → IsAnsweredBy config (parts_after config (opening config) it.requests) s.request line w
 answered_settled config xs ys zs old mid count w line it s =
@@ -353,6 +385,16 @@ asked_cut turns config a b c old mid new count w w' answer t who what words is t
     played (asked_takes config 100000000 b c answer t who what is takes)
     (λ xs ys zs it s. cut_by_write turns config xs ys zs old mid new count w w' (record { who = Some who; said = words }) it (record { item = s.item; refused = marked told.refused }) (record { cut = s.cut })
     (answered_asked config xs ys zs old mid count w w' t who what words it s told) part))
+    (λ xs zs known it. it)
+
+-- nothing could be sent before it is answered
+pub asked_unsent : EachInTurn → (config : ConfigData) (a b c old new : Option (List ℕ)) (count : ℕ) (w : World) (answer : Result Request LineFault) (t : ℕ) (who : List ℕ) (what : What)
+    → heard.Asked t who what ≡ heard_of config answer → Takes 100000000 None b c answer → Played config a b old new count w → IfSome a (λ xs. IsCutOff config fault.Write xs old new)
+asked_unsent turns config a b c old new count w answer t who what is takes played =
+    known_first a c (λ xs zs. IsCutOff config fault.Write xs old new) (λ xs. IsCutOff config fault.Write xs old new)
+    (goes_on a b c (λ xs ys. IsPlayed config xs ys old new count w) (IsAsked config t who what) (λ xs zs. IsCutOff config fault.Write xs old new)
+    played (asked_takes config 100000000 b c answer t who what is takes)
+    (λ xs ys zs it s. cut_before turns config xs ys zs old new count w it (record { item = s.item; refused = Nowhere }) (record { cut = s.cut })))
     (λ xs zs known it. it)
 
 pub play_over : EachInTurn → (config : ConfigData) (a b c old new : Option (List ℕ)) (count : ℕ) (w : World) (answer : Result Request LineFault) → count ≤ 1000000 → heard.Over ≡ heard_of config answer

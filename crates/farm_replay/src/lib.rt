@@ -5,6 +5,9 @@
 //! and each line about a job is true.
 //!
 //! - `script`: `replay`, one request after another.
+//! - `reader`: the script's bytes, with the numbers of their lines.
+//! - `sending`: when replies go out.
+//! - `notes`: what is noted beside the replies.
 //! - `floor`: the farm with the turns that the script holds.
 //! - `counter`: the tenants' tills.
 //! - `laws`: laws of outputs.
@@ -13,6 +16,10 @@
 mod counter;
 mod floor;
 pub mod laws;
+mod notes;
+mod reader;
 mod script;
+mod sending;
 
-pub use script::{ReplayFault, replay};
+pub use notes::{Notes, is_refused};
+pub use script::{ReplayFault, replay, replay_noting};

@@ -7,17 +7,21 @@ ghost use Rattle.session_lines.specs.Script.{requests_of};
 ghost use Rattle.farm_replay.specs.Counter.{counter_of, counters_of};
 ghost use Rattle.farm_replay.specs.Floor.{IsFloor};
 ghost use Rattle.farm_replay.specs.Output.{IsWritten, IsCutOff};
+ghost use Rattle.farm_replay.specs.Reader.{script_rest};
 ghost use Rattle.farm_replay.specs.Replay.{end_of, GoesOn};
 
 use crate::counter::{Counter, open_counters};
 use crate::floor::Floor;
+use crate::notes::Notes;
+use crate::reader::Script;
+use crate::sending::{send_before_nodes, send_before_wait};
 use farm_core::laws::farms_are_replayed;
 use farm_core::{Config, Name};
 use farm_session::{Heard, Ready, hear};
 use session_lines::laws::requests_come_in_turn;
 use session_lines::{LineFault, Request, Said, read_request, write_reply};
 use std::alloc::Global;
-use std::io::{BufReader, Read, Write};
+use std::io::{Read, Write};
 use strategy::{Kind, Strategy};
 
 /// The most requests of a script.
@@ -71,38 +75,46 @@ fn end<R: Read>(alloc: Global, script: &mut R) -> Result<(), ReplayFault>
     ended(read_request(alloc, script))
 }
 
-/// Answers the requests of a script, one line each.
+/// Answers the requests of a script, one line each. Replies go out before a request is waited for, and before one runs nodes.
 fn play<J: Strategy, R: Read, W: Write, M: Fn(Ready) -> Option<J>>(
     alloc: Global,
     config: &Config,
     floor: &mut Floor<J>,
     counters: &mut [Counter],
-    script: &mut R,
+    script: &mut Script<R>,
     writer: &mut W,
+    notes: &mut Notes,
     make: &M,
 ) -> Result<(), ReplayFault>
     requires farm { floor.old.farm ≡ opened config.now }
     requires counters { map counter_of counters.old ≡ counters_of config.now }
     requires make { M.IsAlwaysCallable make.now }
     requires floor { IsFloor J.meaning floor.old.farm floor.old.held.items }
-    ensures written { OnOk result (IfSome (R.remaining script.old) (λ bytes. IsWritten config.now bytes (W.contents writer.old) (W.contents writer.new))) }
-    ensures cut_off { IfErr result (λ fault. IfSome (R.remaining script.old) (λ bytes. IsCutOff config.now fault bytes (W.contents writer.old) (W.contents writer.new))) }
+    ensures written { OnOk result (IfSome (script_rest R.remaining script.old) (λ bytes. IsWritten config.now bytes (W.contents writer.old) (W.contents writer.new))) }
+    ensures cut_off { IfErr result (λ fault. IfSome (script_rest R.remaining script.old) (λ bytes. IsCutOff config.now fault bytes (W.contents writer.old) (W.contents writer.new))) }
     ensures floor { IsFloor J.meaning floor.new.farm floor.new.held.items }
 {
     requests_come_in_turn();
     farms_are_replayed();
     for _answered in 0..MOST_REQUESTS {
+        send_before_wait(script, writer);
+        script.begin();
         match hear(config, read_request(alloc, script)) {
             Heard::Over => return Ok(()),
             Heard::Broken => return Err(ReplayFault::Read),
             Heard::Told(who, said) => {
+                notes.add(script.line(), script.is_doubtful(), &said);
                 if let Err(fault) = tell(writer, who, said) {
                     return Err(fault);
                 }
             }
             Heard::Asked(tenant, who, asked) => {
+                if let Err(fault) = send_before_nodes(&asked, writer) {
+                    return Err(fault);
+                }
                 let counter = &mut counters[tenant as usize];
                 let said = floor.answer(alloc, counter, tenant, asked, make);
+                notes.add(script.line(), script.is_doubtful(), &said);
                 if let Err(fault) = tell(writer, Some(who), said) {
                     return Err(fault);
                 }
@@ -114,17 +126,19 @@ fn play<J: Strategy, R: Read, W: Write, M: Fn(Ready) -> Option<J>>(
 
 /// Runs a script of requests on a new farm of the configuration, and writes one reply line for each. Turns that the script still
 /// holds at its end are given back unrun. After a fault the lines of the requests before it stand whole; after `Write` a front part
-/// of the next line stands behind them.
-pub fn replay<R: Read + Drop, W: Write>(
+/// of the next line stands behind them. Replies go out before the script is waited for, and before a turn is run. What a writer of scripts
+/// may want to look at is noted.
+pub fn replay_noting<R: Read + Drop, W: Write>(
     alloc: Global,
     config: &Config,
     reader: R,
     writer: &mut W,
+    notes: &mut Notes,
 ) -> Result<(), ReplayFault>
     ensures written { OnOk result (IfSome (R.remaining reader) (λ script. IsWritten config.now script (W.contents writer.old) (W.contents writer.new))) }
     ensures cut_off { IfErr result (λ fault. IfSome (R.remaining reader) (λ script. IsCutOff config.now fault script (W.contents writer.old) (W.contents writer.new))) }
 {
-    let Ok(mut script) = BufReader::new(alloc, reader) else {
+    let Ok(mut script) = Script::new(alloc, reader) else {
         return Err(ReplayFault::NoMemory);
     };
     let Ok(mut counters) = open_counters(alloc, config) else {
@@ -156,8 +170,23 @@ pub fn replay<R: Read + Drop, W: Write>(
         &mut counters,
         &mut script,
         writer,
+        notes,
         &make,
     );
     floor.close();
     ended
+}
+
+/// The same, without notes.
+pub fn replay<R: Read + Drop, W: Write>(
+    alloc: Global,
+    config: &Config,
+    reader: R,
+    writer: &mut W,
+) -> Result<(), ReplayFault>
+    ensures written { OnOk result (IfSome (R.remaining reader) (λ script. IsWritten config.now script (W.contents writer.old) (W.contents writer.new))) }
+    ensures cut_off { IfErr result (λ fault. IfSome (R.remaining reader) (λ script. IsCutOff config.now fault script (W.contents writer.old) (W.contents writer.new))) }
+{
+    let mut notes = Notes::default();
+    replay_noting(alloc, config, reader, writer, &mut notes)
 }

@@ -124,15 +124,25 @@ impl<N: Nodes> Strategy for Paid<N> {
     }
 
     fn advance(&mut self) {
-        self.lease.use_one();
-        self.run.advance();
-        self.nodes += 1;
-        self.shown = verdict_by(
-            self.plan.kind,
-            self.run.makespan(),
-            self.bound,
-            self.run.all_run(),
-        );
+        let _ran = self.run(1);
+    }
+
+    fn run(&mut self, most: u64) -> u64 {
+        let limit = most.min(self.lease.left());
+        let mut ran = 0;
+        while ran < limit && !is_over(self.shown) {
+            self.run.advance();
+            self.shown = verdict_by(
+                self.plan.kind,
+                self.run.makespan(),
+                self.bound,
+                self.run.all_run(),
+            );
+            ran += 1;
+        }
+        self.lease.use_up(ran);
+        self.nodes += ran;
+        ran
     }
 
     fn settle(&mut self) {

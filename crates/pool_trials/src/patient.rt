@@ -27,6 +27,16 @@ impl Patient {
             begun: false,
         }
     }
+
+    /// Waits at the meeting, the first time.
+    fn meet(&mut self)
+        ensures { self.new.search ≡ self.old.search }
+    {
+        if !self.begun {
+            self.begun = true;
+            self.meeting.wait();
+        }
+    }
 }
 
 impl Strategy for Patient {
@@ -67,11 +77,13 @@ impl Strategy for Patient {
     }
 
     fn advance(&mut self) {
-        if !self.begun {
-            self.begun = true;
-            self.meeting.wait();
-        }
+        self.meet();
         self.search.advance();
+    }
+
+    fn run(&mut self, most: u64) -> u64 {
+        self.meet();
+        self.search.run(most)
     }
 
     fn settle(&mut self) {

@@ -77,10 +77,10 @@ module _ (granted slots id : ℕ) (me : Me (Unit {0}) SeatView) where
       let grant = get_or-set_other s.words POOL GRANTED y 0 (omega arith) in
       (w, keeps, tt, stays s k at POOL y w (λ t d b. omega arith) (λ t u. omega arith) (grant ∙ k.grant) (omega (arith, most), h.1), refl)
 
-  pub uses : me.0.used + me.0.back < me.0.drawn → Allows Rule slots id me SPENT (λ x. (x + 1) % 2 ^ 64) (λ _ m. m.0 ≡ after_use me.0)
-  uses most s k _ at _ =
-      let y : ℕ = (get_or s.words SPENT 0 + 1) % 2 ^ 64 in
-      let w = after_use me.0 in
+  pub uses : (n : ℕ) → (me.0.used + me.0.back) + n ≤ me.0.drawn → Allows Rule slots id me SPENT (λ x. (x + n) % 2 ^ 64) (λ _ m. m.0 ≡ after_use me.0 n)
+  uses n most s k _ at _ =
+      let y : ℕ = (get_or s.words SPENT 0 + n) % 2 ^ 64 in
+      let w = after_use me.0 n in
       let h = k.covered id me.0 at in
       let p = k.pool in
       let q = k.spent in

@@ -26,9 +26,9 @@ pub record IsEmpty (l : LeaseValue) : Type 0 where
 abbrev pub after_draw : LeaseValue → ℕ → LeaseValue
 after_draw l n = record l { drawn = l.drawn + n; left = l.left + n }
 
--- of a lease that has one left
-abbrev pub after_use : LeaseValue → LeaseValue
-after_use l = record l { used = l.used + 1; left = l.left - 1 }
+-- of a lease that has n left
+abbrev pub after_use : LeaseValue → ℕ → LeaseValue
+after_use l n = record l { used = l.used + n; left = l.left - n }
 
 -- the rest is handed back
 abbrev pub after_settle : LeaseValue → LeaseValue

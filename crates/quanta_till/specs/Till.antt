@@ -33,9 +33,9 @@ after_split v = record v { seats = v.seats + 1 }
 abbrev pub after_draw : SeatView → ℕ → SeatView
 after_draw v n = record v { drawn = v.drawn + n }
 
--- SPENT gains one
-abbrev pub after_use : SeatView → SeatView
-after_use v = record v { used = v.used + 1 }
+-- n are used: SPENT gains them
+abbrev pub after_use : SeatView → ℕ → SeatView
+after_use v n = record v { used = v.used + n }
 
 -- n go back to POOL
 abbrev pub after_hand_back : SeatView → ℕ → SeatView

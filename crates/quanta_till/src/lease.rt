@@ -79,9 +79,17 @@ impl Lease {
     /// Uses one quantum of those that are left: SPENT gains it, modulo 2^64.
     pub fn use_one(&mut self)
         requires { 0 < self.old.left }
-        ensures { self.new ≡ after_use self.old }
+        ensures { self.new ≡ after_use self.old 1 }
     {
-        self.purse.use_one(&self.account.table);
+        self.purse.use_up(&self.account.table, 1);
+    }
+
+    /// Uses `n` quanta of those that are left, in one step: SPENT gains them, modulo 2^64.
+    pub fn use_up(&mut self, n: u64)
+        requires { n ≤ self.old.left }
+        ensures { self.new ≡ after_use self.old n }
+    {
+        self.purse.use_up(&self.account.table, n);
     }
 
     /// Hands back what is left to POOL, and holds nothing. The lease may draw again.

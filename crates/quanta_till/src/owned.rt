@@ -55,9 +55,17 @@ impl Owned {
     /// Uses one quantum of those that are left.
     pub fn use_one(&mut self)
         requires { 0 < self.old.left }
-        ensures { self.new ≡ after_use self.old }
+        ensures { self.new ≡ after_use self.old 1 }
     {
         self.lease.use_one();
+    }
+
+    /// Uses `n` quanta of those that are left, in one step.
+    pub fn use_up(&mut self, n: u64)
+        requires { n ≤ self.old.left }
+        ensures { self.new ≡ after_use self.old n }
+    {
+        self.lease.use_up(n);
     }
 
     /// Hands back what is left, and holds nothing. The lease may draw again.

@@ -67,15 +67,15 @@ impl Purse {
         self.left += n;
     }
 
-    /// Uses one of those that are left: SPENT gains it.
-    pub(crate) fn use_one(&mut self, words: &Words)
+    /// Uses `n` of those that are left: SPENT gains them.
+    pub(crate) fn use_up(&mut self, words: &Words, n: u64)
         requires till { self.old.id ≡ words.now.shared.table_id }
         requires words { words.now.shared.table_id.words ≡ WORDS }
-        requires left { 0 < self.old.left }
-        ensures { self.new ≡ record self.old { used = self.old.used + 1; left = self.old.left - 1 } }
+        requires left { n ≤ self.old.left }
+        ensures { self.new ≡ record self.old { used = self.old.used + n; left = self.old.left - n } }
     {
-        words.shared.fetch_add::<Use>(&mut self.seat, SPENT, 1);
-        self.left -= 1;
+        words.shared.fetch_add::<Use>(&mut self.seat, SPENT, n);
+        self.left -= n;
     }
 
     /// Hands back to POOL what is left.

@@ -70,14 +70,14 @@ impl Play<(), SeatView> for Draw {
     ghost then = { λ step before _ after. after.0 ≡ after_draw before.0 step.first };
 }
 
-/// One quantum is used: SPENT gains it.
+/// Quanta are used: SPENT gains them.
 pub(crate) struct Use;
 
 impl Play<(), SeatView> for Use {
     ghost use Rattle.std.specs.Prelude.{◌≡◌};
     ghost use Rattle.quanta_till.specs.Till.{after_use};
 
-    ghost then = { λ _ before _ after. after.0 ≡ after_use before.0 };
+    ghost then = { λ step before _ after. after.0 ≡ after_use before.0 step.first };
 }
 
 /// Quanta go back to POOL.

@@ -1,1 +1,2 @@
 pub mod ScheduleText
+pub mod ScheduleJson

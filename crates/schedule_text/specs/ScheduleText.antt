@@ -2,6 +2,7 @@
 use Rattle.std.specs.Prelude.{◌⊎◌, ℕ, ◌+◌, ◌==◌, IsTrue, List, [], ◌∷◌, ◌++◌, codes, decimal}
 use Rattle.std.specs.List.{ends_with}
 use Rattle.mrcpsp.specs.Schedule.{ScheduleData}
+use Rattle.schedule_text.specs.ScheduleJson.{TellsJson}
 
 -- the word of activity j behind a blank
 abbrev pub place_text : ℕ → ℕ → ℕ → List ℕ
@@ -17,7 +18,11 @@ abbrev pub schedule_text : ScheduleData → List ℕ
 schedule_text s = places_text 1 s.modes s.starts
 
 -- the text ends with the words of the schedule, the first one behind a blank or at the beginning; a line feed may follow
-abbrev pub Tells : List ℕ → ScheduleData → Type 0
-Tells text s =
+abbrev pub TellsWords : List ℕ → ScheduleData → Type 0
+TellsWords text s =
     IsTrue (ends_with ◌==◌ (32 ∷ text) (schedule_text s))
     ⊎ IsTrue (ends_with ◌==◌ (32 ∷ text) (schedule_text s ++ 10 ∷ []))
+
+-- the text ends with the schedule, as words or as JSON
+abbrev pub Tells : List ℕ → ScheduleData → Type 0
+Tells text s = TellsWords text s ⊎ TellsJson text s

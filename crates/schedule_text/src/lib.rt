@@ -5,9 +5,11 @@
 //! (`specs/ScheduleText`). That it finds one where there is one is tested.
 //!
 //! - `words`: the words of a schedule.
+//! - `json`: the schedule that a JSON text tells.
 //! - `reading`: the schedule that a text tells.
 #![tactic(auto)]
 
+mod json;
 mod reading;
 mod words;
 

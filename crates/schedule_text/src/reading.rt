@@ -1,7 +1,8 @@
 //! The schedule that a text tells. How it is found is a hint: its own words are compared with the text's.
 ghost use Rattle.std.specs.Prelude.{◌≡◌, true, IfOk, IfSome};
-ghost use Rattle.schedule_text.specs.ScheduleText.{Tells};
+ghost use Rattle.schedule_text.specs.ScheduleText.{TellsWords, Tells};
 
+use crate::json::read_json;
 use crate::words::put_schedule;
 use mrcpsp::{Schedule, Sequence};
 use std::alloc::{AllocError, Global};
@@ -46,7 +47,7 @@ impl Places {
 
 /// Whether a text tells the schedule.
 fn does_tell(alloc: Global, text: &[u8], schedule: &Schedule) -> Result<bool, AllocError>
-    ensures { IfOk result (λ told. told ≡ true → Tells text.now schedule.now) }
+    ensures { IfOk result (λ told. told ≡ true → TellsWords text.now schedule.now) }
 {
     let mut spaced = Vec::new(alloc);
     spaced.push(b' ')?;
@@ -60,10 +61,9 @@ fn does_tell(alloc: Global, text: &[u8], schedule: &Schedule) -> Result<bool, Al
     Ok(spaced.as_slice().ends_with(words.as_bytes()))
 }
 
-/// The schedule that a text tells: a result line of a farm, or the words `J:MODE:START` of its activities alone, with one
-/// blank between them and in the order of their numbers. `None` where it tells none. An error is want of memory.
-pub fn read_schedule(alloc: Global, text: &[u8]) -> Result<Option<Schedule>, AllocError>
-    ensures { IfOk result (λ found. IfSome found (λ schedule. Tells text.now schedule)) }
+/// The schedule whose words a text ends with.
+fn read_words(alloc: Global, text: &[u8]) -> Result<Option<Schedule>, AllocError>
+    ensures { IfOk result (λ found. IfSome found (λ schedule. TellsWords text.now schedule)) }
 {
     let Ok(words) = str::from_utf8(text) else {
         return Ok(None);
@@ -83,5 +83,17 @@ pub fn read_schedule(alloc: Global, text: &[u8]) -> Result<Option<Schedule>, All
         Ok(Some(schedule))
     } else {
         Ok(None)
+    }
+}
+
+/// The schedule that a text tells: a result line of a farm, or the words `J:MODE:START` of its activities alone, with one
+/// blank between them and in the order of their numbers; or as JSON what `solve --json` prints, or its array alone, in any order.
+/// `None` where it tells none. An error is want of memory.
+pub fn read_schedule(alloc: Global, text: &[u8]) -> Result<Option<Schedule>, AllocError>
+    ensures { IfOk result (λ found. IfSome found (λ schedule. Tells text.now schedule)) }
+{
+    match read_json(alloc, text)? {
+        Some(schedule) => Ok(Some(schedule)),
+        None => read_words(alloc, text),
     }
 }

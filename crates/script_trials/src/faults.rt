@@ -50,6 +50,29 @@ impl Write for Full {
     }
 }
 
+// Takes one byte at each write, and fails from a write on.
+#[derive(Drop)]
+struct Narrow {
+    taken: Vec<u8>,
+    writes: usize,
+}
+
+impl Write for Narrow {
+    fn write(&mut self, buf: &[u8]) -> io::Result<usize> {
+        if self.writes == 0 {
+            return Err(Error::from(ErrorKind::Other));
+        }
+        let most = buf.len().min(1);
+        self.taken.extend_from_slice(&buf[..most])?;
+        self.writes -= 1;
+        Ok(most)
+    }
+
+    fn flush(&mut self) -> io::Result<()> {
+        Ok(())
+    }
+}
+
 // A vector with memory for all lines.
 fn room_for_lines(alloc: Global) -> Result<Vec<u8>, AllocError> {
     let mut room = Vec::new(alloc);
@@ -145,5 +168,29 @@ fn a_writer_with_just_enough_room(rt: HostRuntime) -> Result<(), Fail> {
     let (taken, ended) = written_into(rt.alloc(), &config, &script, TREE_TOLD.len(), true)?;
     assert!(rt; ended == Ok(()));
     assert!(rt; taken.as_slice() == TREE_TOLD.as_bytes());
+    Ok(())
+}
+
+// Where each write takes one byte and the one after so many fails, as many bytes stand.
+#[test]
+fn writers_of_one_byte(rt: HostRuntime) -> Result<(), Fail> {
+    let config = read_config(rt.alloc(), TWO.as_bytes())?;
+    let script = spelled(rt.alloc(), TREE)?;
+    let expected = TREE_TOLD.as_bytes();
+    for writes in 0..=expected.len() {
+        let taken = room_for_lines(rt.alloc())?;
+        let mut writer = Narrow { taken, writes };
+        let ended = replay(rt.alloc(), &config, script.as_bytes(), &mut writer);
+        let is_whole = writes == expected.len();
+        assert!(rt; ended.is_ok() == is_whole, "after {writes} writes");
+        assert!(rt;
+            is_whole || ended == Err(ReplayFault::Write),
+            "after {writes} writes"
+        );
+        assert!(rt;
+            writer.taken.as_slice() == &expected[..writes],
+            "after {writes} writes"
+        );
+    }
     Ok(())
 }

@@ -25,12 +25,7 @@ fn run_nodes<S: Strategy>(search: &mut S, most: u64) -> Found {
     let is_fresh = !search.closed() && search.nodes() == 0 && search.left() == 0;
     if is_fresh && most <= 1_000_000_000_000 {
         search.fund(most);
-        for _ in 0..most {
-            if search.closed() || search.left() == 0 {
-                break;
-            }
-            search.advance();
-        }
+        let _ran = search.run(most);
     }
     found_by(search)
 }

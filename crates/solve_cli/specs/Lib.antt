@@ -1,3 +1,5 @@
 pub mod Verified
 pub mod Found
 pub mod FoundText
+pub mod Several
+pub mod Laws

@@ -14,18 +14,7 @@ pub(crate) enum Task<'a> {
         schedule: &'a str,
     },
     /// Search for a schedule.
-    Solve {
-        /// The path of a project's file.
-        file: &'a str,
-        /// The word of a kind of search.
-        search: &'a str,
-        /// The digits of the most nodes.
-        nodes: &'a str,
-        /// Whether JSON is to be printed.
-        is_json: bool,
-        /// Whether how far a search has come is told on standard error.
-        is_telling: bool,
-    },
+    Solve(Solving<'a>),
     /// Draw a feasible schedule.
     Draw {
         /// The path of a project's file.
@@ -33,6 +22,23 @@ pub(crate) enum Task<'a> {
         /// The path of a schedule's text.
         schedule: &'a str,
     },
+}
+
+/// What `solve` is asked for.
+#[derive(Clone, Copy, Debug, PartialEq, Eq)]
+pub(crate) struct Solving<'a> {
+    /// The path of a project's file.
+    pub(crate) file: &'a str,
+    /// The words of kinds of searches, with commas between them.
+    pub(crate) search: &'a str,
+    /// The digits of the most nodes of each search.
+    pub(crate) nodes: &'a str,
+    /// Whether JSON is to be printed.
+    pub(crate) is_json: bool,
+    /// Whether how far a search has come is told on standard error.
+    pub(crate) is_telling: bool,
+    /// Whether each better schedule is printed when it is found.
+    pub(crate) is_improving: bool,
 }
 
 /// The path of a project's file.
@@ -45,7 +51,9 @@ fn file_arg<'a>(alloc: Global) -> Arg<'a> {
 /// The path of a schedule's text.
 fn schedule_arg<'a>(alloc: Global) -> Arg<'a> {
     Arg::new(alloc, "SCHEDULE")
-        .help("What solve prints, or words J:MODE:START, or - for standard input")
+        .help(
+            "What solve prints, as lines or as JSON, or words J:MODE:START, or - for standard input",
+        )
         .required(true)
 }
 
@@ -76,13 +84,15 @@ fn draw_command<'a>(alloc: Global) -> Result<Command<'a>, AllocError> {
 fn solve_command<'a>(alloc: Global) -> Result<Command<'a>, AllocError> {
     let search = Arg::new(alloc, "search")
         .long("search")
-        .value_name("S")
-        .help("tree, rule:lft, rule:mts, rule:spt or sample:SEED")
+        .value_name("S,..")
+        .help(
+            "tree, rule:lft, rule:mts, rule:spt or sample:SEED, or several with commas, run in this order",
+        )
         .default_value("tree");
     let nodes = Arg::new(alloc, "nodes")
         .long("nodes")
         .value_name("N")
-        .help("The most nodes that it runs, 1 to 1000000000000")
+        .help("The most nodes that each search runs, 1 to 1000000000000")
         .value_parser(ValueParser::unsigned(1, 1_000_000_000_000))
         .default_value("10000000");
     Command::new(alloc, "solve")
@@ -96,6 +106,12 @@ fn solve_command<'a>(alloc: Global) -> Result<Command<'a>, AllocError> {
             alloc,
             "progress",
             "Tell on standard error, once a second, how far the search is",
+        ))?
+        .arg(flag(alloc, "quiet", "Tell nothing of that, also with --progress"))?
+        .arg(flag(
+            alloc,
+            "improvements",
+            "Print each better schedule as soon as it is found, before the lines of the best",
         ))
 }
 
@@ -116,13 +132,14 @@ pub(crate) fn task_of<'a>(matches: &ArgMatches<'a>) -> Option<Task<'a>> {
             file: chosen.get_str("FILE")?,
             schedule: chosen.get_str("SCHEDULE")?,
         }),
-        Some(("solve", chosen)) => Some(Task::Solve {
+        Some(("solve", chosen)) => Some(Task::Solve(Solving {
             file: chosen.get_str("FILE")?,
             search: chosen.get_str("search")?,
             nodes: chosen.get_str("nodes")?,
             is_json: chosen.get_flag("json"),
-            is_telling: chosen.get_flag("progress"),
-        }),
+            is_telling: chosen.get_flag("progress") && !chosen.get_flag("quiet"),
+            is_improving: chosen.get_flag("improvements"),
+        })),
         Some(("draw", chosen)) => Some(Task::Draw {
             file: chosen.get_str("FILE")?,
             schedule: chosen.get_str("SCHEDULE")?,
@@ -162,9 +179,16 @@ It prints a line of the nodes that were run and a line of the best schedule: its
 and a word J:MODE:START for each activity. The verdict is 'optimal' or 'infeasible' where that is
 shown, 'open' where the search is not over, and 'ended' where it is over and shows nothing.
 
+Several searches run one after another, each for at most N nodes, and none after one that shows
+'optimal' or 'infeasible'; the shortest of their schedules is printed. With --improvements each
+better schedule is printed as a line of its own, with the verdict 'open', when it is found: what
+was printed last when the program is stopped is the best so far.
+
 Examples:
 
   $ farm solve examples/first.mm
   nodes 9 best 4 optimal
   makespan 4 optimal 1:1:0 2:1:0 3:2:0 4:1:4
-  $ farm solve --search sample:7 --nodes 100000 --progress examples/j30_1.mm";
+  $ farm solve --search sample:7 --nodes 100000 --progress examples/j30_1.mm
+  $ farm solve --search rule:lft,rule:mts,tree examples/j10_1.mm
+  $ timeout 10 farm solve --improvements --nodes 1000000000 examples/j20_1.mm | tail -n 1";

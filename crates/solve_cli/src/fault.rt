@@ -10,7 +10,7 @@ pub enum VerifyFault {
     /// The file is of no project.
     #[error("no file {0}")]
     File(MmFault),
-    /// The text does not end with a word `J:MODE:START` for each activity 1, 2, and so on.
+    /// The text does not end with a word `J:MODE:START` for each activity 1, 2, and so on, nor with JSON that has each once.
     #[error("no schedule Words")]
     Words,
     /// The schedule breaks this first.

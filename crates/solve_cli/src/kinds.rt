@@ -1,5 +1,24 @@
 //! The words for kinds of search.
+ghost use Rattle.std.specs.Prelude.{◌≤◌, IfOk, vec_len};
+
+use crate::several::MOST_SEARCHES;
+use std::alloc::Global;
 use strategy::Kind;
+use thiserror::Error;
+
+/// Why words name no searches.
+#[derive(Clone, Copy, Debug, PartialEq, Eq, Error)]
+pub enum SearchFault<'a> {
+    /// This word is of no kind of search.
+    #[error("no search {0}")]
+    Unknown(&'a str),
+    /// They are more than `MOST_SEARCHES`.
+    #[error("more than 1000 searches")]
+    TooMany,
+    /// There is no memory left.
+    #[error("no memory")]
+    NoMemory,
+}
 
 /// The kind of search that a word of a request names.
 pub(crate) fn kind_of(word: &str) -> Option<Kind> {
@@ -16,4 +35,23 @@ pub(crate) fn kind_of(word: &str) -> Option<Kind> {
             Some(Kind::Sample(seed.parse().ok()?))
         }
     }
+}
+
+/// The kinds of search that words with commas between them name, in their order, at most `MOST_SEARCHES`.
+pub fn kinds_of(alloc: Global, words: &str) -> Result<Vec<Kind>, SearchFault<'_>>
+    ensures { IfOk result (λ kinds. vec_len kinds ≤ MOST_SEARCHES) }
+{
+    let mut kinds = Vec::new(alloc);
+    for word in words.split(',') {
+        if kinds.len() >= MOST_SEARCHES {
+            return Err(SearchFault::TooMany);
+        }
+        let Some(kind) = kind_of(word) else {
+            return Err(SearchFault::Unknown(word));
+        };
+        if kinds.push(kind).is_err() {
+            return Err(SearchFault::NoMemory);
+        }
+    }
+    Ok(kinds)
 }

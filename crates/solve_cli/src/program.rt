@@ -1,22 +1,26 @@
 //! The commands on files, with an exit status.
-ghost use Rattle.std.specs.Prelude.{◌≤◌, IfSome};
+ghost use Rattle.std.specs.Prelude.{◌≤◌, IfSome, vec_len};
 ghost use Rattle.std.specs.Process.{exit_status};
 ghost use Rattle.mrcpsp.specs.Schedule.{IsFeasible};
 
-use crate::arguments::{Task, solve_commands, task_of};
+use crate::arguments::{Solving, Task, solve_commands, task_of};
 use crate::drawing::draw;
-use crate::kinds::kind_of;
+use crate::improvements::{Improvements, Style};
+use crate::kinds::kinds_of;
 use crate::progress::Progress;
-use crate::searching::{MOST_NODES, solve};
+use crate::searching::MOST_NODES;
+use crate::several::{MOST_SEARCHES, solve_each};
 use crate::telling::{tell, tell_json};
 use crate::verifying::{Verified, verify};
+use file_words::{reason, tell_unread};
+use mrcpsp::Project;
 use psplib_mm::read;
 use std::alloc::{AllocError, Global};
 use std::io::{Eprint, Print, Read};
 use std::process::ExitCode;
 use std::rt::Runtime;
 use std::{fs, io};
-use strategy::{Kind, Plan};
+use strategy::Kind;
 
 /// The most bytes that are read of a project's file or of a schedule's text: one more than a file may have.
 const MOST_TEXT: u64 = 1_048_577;
@@ -78,22 +82,7 @@ fn run_task<R: Runtime + AllocGlobal>(rt: &R, task: Task<'_>) -> ExitCode
 {
     match task {
         Task::Verify { file, schedule } => run_verify(rt, file, schedule),
-        Task::Solve {
-            file,
-            search,
-            nodes,
-            is_json,
-            is_telling,
-        } => {
-            let Some(kind) = kind_of(search) else {
-                let _ = eprintln!(rt; "farm: no search {search}");
-                return ExitCode::from(2);
-            };
-            let Ok(most) = nodes.parse::<u64>() else {
-                return ExitCode::from(2);
-            };
-            run_solve(rt, file, kind, most.min(MOST_NODES), is_json, is_telling)
-        }
+        Task::Solve(solving) => run_solve(rt, solving),
         Task::Draw { file, schedule } => run_draw(rt, file, schedule),
     }
 }
@@ -125,8 +114,8 @@ fn read_path<R: Runtime + AllocGlobal>(rt: &R, path: &str) -> Option<Vec<u8>> {
     };
     match bytes {
         Ok(bytes) => Some(bytes),
-        Err(_) => {
-            let _ = eprintln!(rt; "farm: cannot read {path}");
+        Err(error) => {
+            tell_unread(rt, path, reason(error.kind()));
             None
         }
     }
@@ -184,11 +173,11 @@ fn print_text<R: Print + Eprint>(rt: &R, text: Result<String, AllocError>) -> Ex
     }
 }
 
-/// The plan of a search for the project of a file. `None` is told on standard error.
-fn plan_of<R: Runtime + AllocGlobal>(rt: &R, file: &str, kind: Kind) -> Option<Plan> {
+/// The project of a file. `None` is told on standard error.
+fn project_of<R: Runtime + AllocGlobal>(rt: &R, file: &str) -> Option<Project> {
     let text = read_path(rt, file)?;
     match read(rt.alloc(), &text) {
-        Ok(project) => Some(Plan { project, kind }),
+        Ok(project) => Some(project),
         Err(fault) => {
             let _ = eprintln!(rt; "farm: no file {fault}");
             None
@@ -196,26 +185,50 @@ fn plan_of<R: Runtime + AllocGlobal>(rt: &R, file: &str, kind: Kind) -> Option<P
     }
 }
 
-/// Prints what a search of a file's project finds.
-fn run_solve<R: Runtime + AllocGlobal>(
-    rt: &R,
-    file: &str,
-    kind: Kind,
-    most: u64,
-    is_json: bool,
-    is_telling: bool,
-) -> ExitCode
-    requires { most ≤ MOST_NODES }
-    ensures { exit_status result ≤ 1 }
+/// The kinds of search that are asked for. `None` is told on standard error.
+fn kinds_asked<R: Eprint + AllocGlobal>(rt: &R, search: &str) -> Option<Vec<Kind>>
+    ensures { IfSome result (λ kinds. vec_len kinds ≤ MOST_SEARCHES) }
 {
-    let Some(plan) = plan_of(rt, file, kind) else {
+    match kinds_of(rt.alloc(), search) {
+        Ok(kinds) => Some(kinds),
+        Err(fault) => {
+            let _ = eprintln!(rt; "farm: {fault}");
+            None
+        }
+    }
+}
+
+/// Prints what searches of a file's project find. The status is 2 where their words are refused.
+fn run_solve<R: Runtime + AllocGlobal>(rt: &R, solving: Solving<'_>) -> ExitCode
+    ensures { exit_status result ≤ 2 }
+{
+    let Some(kinds) = kinds_asked(rt, solving.search) else {
+        return ExitCode::from(2);
+    };
+    let Ok(most) = solving.nodes.parse::<u64>() else {
+        return ExitCode::from(2);
+    };
+    let Some(project) = project_of(rt, solving.file) else {
         return ExitCode::FAILURE;
     };
-    let mut progress = Progress::new(rt, is_telling);
-    let Ok(found) = solve(rt.alloc(), plan, most, &mut progress) else {
+    let style = match (solving.is_improving, solving.is_json) {
+        (false, _) => Style::Silent,
+        (true, false) => Style::Lines,
+        (true, true) => Style::Json,
+    };
+    let progress = Progress::new(rt, solving.is_telling);
+    let mut watch = Improvements::new(rt, style, progress);
+    let kinds = kinds.as_slice();
+    let Ok(found) = solve_each(
+        rt.alloc(),
+        &project,
+        kinds,
+        most.min(MOST_NODES),
+        &mut watch,
+    ) else {
         return failure(rt, "no memory");
     };
-    let told = if is_json {
+    let told = if solving.is_json {
         tell_json(rt.alloc(), &found)
     } else {
         tell(rt.alloc(), &found)

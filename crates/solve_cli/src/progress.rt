@@ -12,6 +12,7 @@ pub(crate) struct Progress<'a, R> {
     rt: &'a R,
     start: Option<Instant>,
     told: u64,
+    ended: u64,
 }
 
 impl<'a, R: Runtime> Progress<'a, R> {
@@ -22,7 +23,12 @@ impl<'a, R: Runtime> Progress<'a, R> {
         } else {
             None
         };
-        Progress { rt, start, told: 0 }
+        Progress {
+            rt,
+            start,
+            told: 0,
+            ended: 0,
+        }
     }
 
     /// The whole seconds since the start, where there is something to be told.
@@ -43,6 +49,7 @@ impl<'a, R: Runtime> Watch for Progress<'a, R> {
             return;
         };
         self.told = seconds;
+        let nodes = self.ended.saturating_add(nodes);
         let rate = nodes / seconds.max(1);
         let makespan = match best {
             Some(schedule) => check(&plan.project, schedule).ok(),
@@ -52,5 +59,9 @@ impl<'a, R: Runtime> Watch for Progress<'a, R> {
             Some(makespan) => eprintln!(self.rt; "nodes {nodes} rate {rate} best {makespan}"),
             None => eprintln!(self.rt; "nodes {nodes} rate {rate} best none"),
         };
+    }
+
+    fn end(&mut self, nodes: u64) {
+        self.ended = self.ended.saturating_add(nodes);
     }
 }

@@ -38,6 +38,9 @@ pub struct Found {
 pub trait Watch {
     /// Looks at a search that has run so many nodes and knows this best schedule.
     fn look(&mut self, plan: &Plan, nodes: u64, best: Option<&Schedule>);
+
+    /// Looks away from a search that has run so many nodes, and runs no more.
+    fn end(&mut self, nodes: u64);
 }
 
 /// Runs some nodes of a search that is not over and may run so many in all.
@@ -47,13 +50,7 @@ fn run_chunk<S: Strategy>(search: &mut S)
     ensures at { IsAt (S.meaning search.old) (S.meaning search.new) }
     ensures more { (S.meaning search.new).left < (S.meaning search.old).left }
 {
-    search.advance();
-    for _ in 1..CHUNK {
-        if search.closed() || search.left() == 0 {
-            break;
-        }
-        search.advance();
-    }
+    let _ran = search.run(CHUNK);
 }
 
 /// Runs a search to its end, or until it has no quanta left.

@@ -1,7 +1,7 @@
 //! What a search has found, as text.
 ghost use Rattle.std.specs.Prelude.{◌≡◌, ◌++◌, IfOk, string_bytes};
 ghost use Rattle.std.specs.Option.{option_copied};
-ghost use Rattle.solve_cli.specs.FoundText.{verdict_text, best_text, places_of, shown_text, found_text};
+ghost use Rattle.solve_cli.specs.FoundText.{verdict_text, best_text, places_of, shown_text, better_line, found_text};
 
 use crate::searching::Found;
 use mrcpsp::Schedule;
@@ -10,7 +10,7 @@ use std::alloc::{AllocError, Global};
 use strategy::Verdict;
 
 /// The word for a verdict.
-fn verdict_word(verdict: Verdict) -> &'static str
+pub fn verdict_word(verdict: Verdict) -> &'static str
     ensures { result.now ≡ verdict_text verdict }
 {
     match verdict {
@@ -21,8 +21,8 @@ fn verdict_word(verdict: Verdict) -> &'static str
     }
 }
 
-/// Adds a makespan, or `none`.
-fn put_best(text: &mut String, makespan: Option<u32>) -> Result<(), AllocError>
+/// Adds a makespan, or `none`. An error is want of memory.
+pub fn put_best(text: &mut String, makespan: Option<u32>) -> Result<(), AllocError>
     ensures { IfOk result (λ _. string_bytes text.new ≡ string_bytes text.old ++ best_text makespan) }
 {
     match makespan {
@@ -67,6 +67,17 @@ pub fn tell(alloc: Global, found: &Found) -> Result<String, AllocError>
     Ok(text)
 }
 
+/// A line of a schedule that is the best so far of a search that goes on. An error is want of memory.
+pub fn tell_better(alloc: Global, makespan: u32, best: &Schedule) -> Result<String, AllocError>
+    ensures { IfOk result (λ text. string_bytes text ≡ better_line makespan best.now) }
+{
+    let mut text = String::new(alloc);
+    write!(text, "makespan {makespan} open")?;
+    put_schedule(&mut text, best)?;
+    text.push('\n')?;
+    Ok(text)
+}
+
 /// Adds a schedule as a JSON array, or `null`.
 fn put_json(text: &mut String, best: Option<&Schedule>) -> Result<(), AllocError> {
     let Some(schedule) = best else {
@@ -87,18 +98,46 @@ fn put_json(text: &mut String, best: Option<&Schedule>) -> Result<(), AllocError
     text.push(']')
 }
 
-/// The same as one JSON object on one line: `nodes`, `makespan`, `verdict` and `schedule`.
-pub fn tell_json(alloc: Global, found: &Found) -> Result<String, AllocError> {
-    let nodes = found.nodes;
-    let word = verdict_word(found.verdict);
-    let mut text = String::new(alloc);
+/// Adds one JSON object on one line: `nodes`, `makespan`, `verdict` and `schedule`.
+fn put_object(
+    text: &mut String,
+    nodes: u64,
+    makespan: Option<u32>,
+    word: &str,
+    best: Option<&Schedule>,
+) -> Result<(), AllocError> {
     write!(text, "{{\"nodes\":{nodes},\"makespan\":")?;
-    match found.makespan {
+    match makespan {
         Some(makespan) => write!(text, "{makespan}")?,
         None => text.push_str("null")?,
     }
     write!(text, ",\"verdict\":\"{word}\",\"schedule\":")?;
-    put_json(&mut text, found.best.as_ref())?;
-    text.push_str("}\n")?;
+    put_json(text, best)?;
+    text.push_str("}\n")
+}
+
+/// What `tell` says, as one JSON object on one line: `nodes`, `makespan`, `verdict` and `schedule`.
+pub fn tell_json(alloc: Global, found: &Found) -> Result<String, AllocError> {
+    let word = verdict_word(found.verdict);
+    let mut text = String::new(alloc);
+    put_object(
+        &mut text,
+        found.nodes,
+        found.makespan,
+        word,
+        found.best.as_ref(),
+    )?;
+    Ok(text)
+}
+
+/// What `tell_better` says after so many nodes, as such an object.
+pub fn tell_better_json(
+    alloc: Global,
+    nodes: u64,
+    makespan: u32,
+    best: &Schedule,
+) -> Result<String, AllocError> {
+    let mut text = String::new(alloc);
+    put_object(&mut text, nodes, Some(makespan), "open", Some(best))?;
     Ok(text)
 }

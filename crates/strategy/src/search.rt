@@ -1,8 +1,8 @@
 //! The trait of searches, and its implementation for a box.
-ghost use Rattle.std.specs.Prelude.{◌≡◌, ◌+◌, ◌≤◌, ◌<◌, IsFalse};
+ghost use Rattle.std.specs.Prelude.{◌≡◌, ◌+◌, ◌≤◌, ◌<◌, IsFalse, false};
 ghost use Rattle.std.specs.Option.{option_copied};
 ghost use Rattle.quanta_till.specs.Lease.{LeaseValue, after_draw, after_use, after_settle};
-ghost use Rattle.strategy.specs.Search.{Meaning, shown_best, shown_closed, shown_verdict, funded, advanced, settled, emptied};
+ghost use Rattle.strategy.specs.Search.{Meaning, shown_best, shown_closed, shown_verdict, funded, advanced, ran_on, nodes_within, settled, emptied};
 
 use crate::{Plan, Verdict};
 use mrcpsp::Schedule;
@@ -56,7 +56,16 @@ pub trait Strategy: Send + Drop {
         requires going { IsFalse (shown_closed (meaning self.old)) }
         requires paid { 0 < (meaning self.old).left }
         ensures shown { meaning self.new ≡ advanced (meaning self.old) }
-        ensures used { lease self.new ≡ after_use (lease self.old) };
+        ensures used { lease self.new ≡ after_use (lease self.old) 1 };
+
+    /// Runs nodes until so many have run, it holds no more quanta or it is over, and tells how many. Each is paid with a
+    /// quantum of those that it holds, all of them in one step at the end: so searches that share a till do not wait for
+    /// each other at every node.
+    fn run(&mut self, most: u64) -> u64
+        requires { (meaning self.old).taken ≡ false }
+        ensures ran { result ≡ nodes_within most (meaning self.old) }
+        ensures shown { meaning self.new ≡ ran_on result (meaning self.old) }
+        ensures used { lease self.new ≡ after_use (lease self.old) result };
 
     /// Hands back all quanta that it holds.
     fn settle(&mut self)
@@ -110,6 +119,10 @@ impl Strategy for Box<dyn Strategy> {
 
     fn advance(&mut self) {
         (**self).advance()
+    }
+
+    fn run(&mut self, most: u64) -> u64 {
+        (**self).run(most)
     }
 
     fn settle(&mut self) {

@@ -1,6 +1,7 @@
-use Rattle.std.proofs.Common.{rules, ◌≡◌, Some, option_map, ap, ◌∙◌, codes}
-use Rattle.clap.specs.Words.{rows_of, found_of, first_of}
-use Rattle.clap.proofs.WalkLemmas.{first_value-rows}
+use Rattle.std.proofs.Common.{rules, ◌≡◌, Bool, true, false, Some, option_map, ap, ◌∙◌, codes}
+use Rattle.clap.specs.Words.{rows_of, found_of, first_of, one_of}
+use Rattle.clap.proofs.WalkLemmas.{first_value-rows, one_text-rows}
+use Rattle.farm_cli.specs.CommandLine.{flag_text}
 use Rattle.farm_cli.proofs.CommandLineLemmas.{text_or}
 use Rattle.farm_cli.proofs.arguments.task_of.Goals as goal
 
@@ -28,6 +29,10 @@ returns-in-Some-replay-default c =
                 ∙ text_or c.get_str-in-Some-replay-default.result (first_of (codes "config") rows) _ (c.get_str-in-Some-replay-default.ensures ∙ first_value-rows m (codes "config") ∙ ap (first_of (codes "config")) same),
             ap (λ b. b.now) c.unwrap_or-in-Some-replay-default-2.ensures
                 ∙ text_or c.get_str-in-Some-replay-default-2.result (first_of (codes "SCRIPT") rows) _ (c.get_str-in-Some-replay-default-2.ensures ∙ first_value-rows m (codes "SCRIPT") ∙ ap (first_of (codes "SCRIPT")) same),
+            λ wanted. elim wanted as (λ (w : Bool). one_of (codes "strict") rows ≡ Some (flag_text w) → c.get_flag.result ≡ w) [
+              | true ↦ λ named. c.get_flag.ensures.value (one_text-rows m (codes "strict") ∙ ap (one_of (codes "strict")) same ∙ named)
+              | false ↦ λ named. c.get_flag.ensures.other (one_text-rows m (codes "strict") ∙ ap (one_of (codes "strict")) same ∙ named)
+            ],
           );
       serve = λ rows found. search rules;
     }

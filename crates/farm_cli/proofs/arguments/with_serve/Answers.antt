@@ -10,7 +10,7 @@ either a b = a || b
 
 pub returns : goal.returns
 returns c =
-    let serve_new : app_of c.about.result ≡ new_app (codes "serve") = ap app_of_fields c.about.ensures ∙ c.new.ensures.app in
+    let serve_new : app_of c.after_help.result ≡ new_app (codes "serve") = ap app_of_fields c.after_help.ensures ∙ ap app_of_fields c.about.ensures ∙ c.new.ensures.app in
     let serve_is : app_of c.in_ok-serve.serve ≡ serve_app =
     c.in_ok-serve.ensures.shape c.needed_number-sessions.ensures.own
     ∙ ap₂ with_rule
@@ -26,7 +26,7 @@ returns c =
     ∙ ap₂ either
     (c.in_ok-arg-2.ensures.globals
     ∙ ap₂ either
-    (c.in_ok-arg.ensures.globals ∙ ap₂ either (ap (λ f. f.has_globals) c.about.ensures ∙ c.new.ensures.local) c.needed_option-config.ensures.own)
+    (c.in_ok-arg.ensures.globals ∙ ap₂ either (ap (λ f. f.has_globals) c.after_help.ensures ∙ ap (λ f. f.has_globals) c.about.ensures ∙ c.new.ensures.local) c.needed_option-config.ensures.own)
     c.needed_number-port.ensures.own)
     c.needed_number-sessions.ensures.own)
     ∙ ap (with_subcommand (app_of c.args.command)) (ap (λ (a : App). a.top) serve_is))

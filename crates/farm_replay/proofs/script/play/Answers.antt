@@ -1,11 +1,12 @@
-use Rattle.std.proofs.Common.{◌≡◌, map, arith, sym, ap, ◌∙◌, subst}
+use Rattle.std.proofs.Common.{◌≡◌, refl, map, arith, sym, ap, ◌∙◌, subst}
 use Rattle.farm_replay.proofs.CounterLemmas.{known_number, own_till, kept_tills, tills_length}
 use Rattle.farm_core.specs.World.{terms_in, opened}
 use Rattle.farm_replay.specs.Counter.{counter_of}
 use Rattle.farm_replay.specs.Floor.{IsFloor}
-use Rattle.farm_replay.proofs.PlayLemmas.{Played, begun, play_begins, settled_on, settled_cut, asked_known, asked_on, asked_cut, play_over, play_written, play_cut}
+use Rattle.farm_replay.specs.Reader.{script_rest}
+use Rattle.farm_replay.proofs.PlayLemmas.{Played, begun, play_begins, settled_on, settled_cut, asked_known, asked_on, asked_cut, asked_unsent, played_sent, play_over, play_written, play_cut}
 use Rattle.farm_replay.proofs.script.play.Goals as goal
-use Rattle.farm_replay.proofs.script.play.Goals.{in-Told+in_default, in-Asked+in_default-tell}
+use Rattle.farm_replay.proofs.script.play.Goals.{in-Told+in_default, in-Asked+in_default-send_before_nodes+in_default-tell}
 
 pub loop-answered-init : goal.loop-answered-init
 unfolding opened
@@ -13,30 +14,50 @@ loop-answered-init g c = (
   ap (λ w. w.config) c.requires.farm,
   c.requires.counters,
   c.requires.floor,
-  play_begins c.args.config.now (g.R.Read.remaining c.args.script.now) (g.W.Write.contents c.args.writer.now) c.args.floor.now.farm
+  play_begins c.args.config.now (script_rest g.R.Read.remaining c.args.script.now) (g.W.Write.contents c.args.writer.now) c.args.floor.now.farm
       (begun c.args.config.now c.args.floor.now.farm c.farms_are_replayed.ensures c.requires.farm),
 )
 
 pub returns-in-Over-clause-written : goal.returns-in-Over-clause-written
 returns-in-Over-clause-written g c =
-    play_over c.requests_come_in_turn.ensures c.args.config.now (g.R.Read.remaining c.args.script.now) (g.R.Read.remaining c.loop-answered.script) (g.R.Read.remaining c.read_request.new.reader)
-    (g.W.Write.contents c.args.writer.now) (g.W.Write.contents c.loop-answered.writer) c.loop-answered._answered c.loop-answered.floor.farm c.read_request.result (omega arith) (cc (c.in-Over.is, c.hear.ensures))
-    c.read_request.ensures c.loop-answered.invariant.3
+    play_over c.requests_come_in_turn.ensures c.args.config.now (script_rest g.R.Read.remaining c.args.script.now) (script_rest g.R.Read.remaining c.begin.new.self) (script_rest g.R.Read.remaining c.read_request.new.reader)
+    (g.W.Write.contents c.args.writer.now) (g.W.Write.contents c.send_before_wait.new.writer) c.loop-answered._answered c.loop-answered.floor.farm c.read_request.result (omega arith) (cc (c.in-Over.is, c.hear.ensures))
+    c.read_request.ensures (played_sent c.args.config.now (script_rest g.R.Read.remaining c.args.script.now) (script_rest g.R.Read.remaining c.loop-answered.script) (script_rest g.R.Read.remaining c.begin.new.self)
+    (g.W.Write.contents c.args.writer.now) (g.W.Write.contents c.loop-answered.writer) (g.W.Write.contents c.send_before_wait.new.writer) c.loop-answered._answered c.loop-answered.floor.farm c.begin.ensures
+    c.send_before_wait.ensures c.loop-answered.invariant.3)
 
 pub returns-in-Err-clause-cut_off : goal.returns-in-Err-clause-cut_off
 returns-in-Err-clause-cut_off g c =
     rw c.in-Err.ensures.fault
-    (settled_cut c.requests_come_in_turn.ensures c.args.config.now (g.R.Read.remaining c.args.script.now) (g.R.Read.remaining c.loop-answered.script) (g.R.Read.remaining c.read_request.new.reader)
-    (g.W.Write.contents c.args.writer.now) (g.W.Write.contents c.loop-answered.writer) (g.W.Write.contents c.tell.new.writer) c.loop-answered._answered c.loop-answered.floor.farm c.read_request.result
-    c.in-Told.who c.in-Told.said (cc (c.in-Told.is, c.hear.ensures)) c.read_request.ensures c.loop-answered.invariant.3 c.in-Err.ensures.writes.err)
+    (settled_cut c.requests_come_in_turn.ensures c.args.config.now (script_rest g.R.Read.remaining c.args.script.now) (script_rest g.R.Read.remaining c.begin.new.self) (script_rest g.R.Read.remaining c.read_request.new.reader)
+    (g.W.Write.contents c.args.writer.now) (g.W.Write.contents c.send_before_wait.new.writer) (g.W.Write.contents c.tell.new.writer) c.loop-answered._answered c.loop-answered.floor.farm c.read_request.result
+    c.in-Told.who c.in-Told.said (cc (c.in-Told.is, c.hear.ensures)) c.read_request.ensures (played_sent c.args.config.now (script_rest g.R.Read.remaining c.args.script.now) (script_rest g.R.Read.remaining c.loop-answered.script) (script_rest g.R.Read.remaining c.begin.new.self)
+    (g.W.Write.contents c.args.writer.now) (g.W.Write.contents c.loop-answered.writer) (g.W.Write.contents c.send_before_wait.new.writer) c.loop-answered._answered c.loop-answered.floor.farm c.begin.ensures
+    c.send_before_wait.ensures c.loop-answered.invariant.3) c.in-Err.ensures.writes.err)
+
+pub returns-in-Err-send_before_nodes-clause-cut_off : goal.returns-in-Err-send_before_nodes-clause-cut_off
+returns-in-Err-send_before_nodes-clause-cut_off g c =
+    rw c.in-Err-send_before_nodes.ensures.fault
+    (asked_unsent c.requests_come_in_turn.ensures c.args.config.now (script_rest g.R.Read.remaining c.args.script.now) (script_rest g.R.Read.remaining c.begin.new.self) (script_rest g.R.Read.remaining c.read_request.new.reader)
+    (g.W.Write.contents c.args.writer.now) (g.W.Write.contents c.send_before_nodes.new.writer) c.loop-answered._answered c.loop-answered.floor.farm c.read_request.result
+    c.in-Asked.tenant c.in-Asked.who c.in-Asked.asked (cc (c.in-Asked.is, c.hear.ensures)) c.read_request.ensures
+    (played_sent c.args.config.now (script_rest g.R.Read.remaining c.args.script.now) (script_rest g.R.Read.remaining c.begin.new.self) (script_rest g.R.Read.remaining c.begin.new.self)
+    (g.W.Write.contents c.args.writer.now) (g.W.Write.contents c.send_before_wait.new.writer) (g.W.Write.contents c.send_before_nodes.new.writer) c.loop-answered._answered c.loop-answered.floor.farm refl
+    c.send_before_nodes.ensures.kept (played_sent c.args.config.now (script_rest g.R.Read.remaining c.args.script.now) (script_rest g.R.Read.remaining c.loop-answered.script) (script_rest g.R.Read.remaining c.begin.new.self)
+    (g.W.Write.contents c.args.writer.now) (g.W.Write.contents c.loop-answered.writer) (g.W.Write.contents c.send_before_wait.new.writer) c.loop-answered._answered c.loop-answered.floor.farm c.begin.ensures
+    c.send_before_wait.ensures c.loop-answered.invariant.3)))
 
 pub returns-in-Err-tell-clause-cut_off : goal.returns-in-Err-tell-clause-cut_off
 returns-in-Err-tell-clause-cut_off g c =
     rw c.in-Err-tell.ensures.fault
-    (asked_cut c.requests_come_in_turn.ensures c.args.config.now (g.R.Read.remaining c.args.script.now) (g.R.Read.remaining c.loop-answered.script) (g.R.Read.remaining c.read_request.new.reader)
-    (g.W.Write.contents c.args.writer.now) (g.W.Write.contents c.loop-answered.writer) (g.W.Write.contents c.tell-in-Asked.new.writer) c.loop-answered._answered c.loop-answered.floor.farm
+    (asked_cut c.requests_come_in_turn.ensures c.args.config.now (script_rest g.R.Read.remaining c.args.script.now) (script_rest g.R.Read.remaining c.begin.new.self) (script_rest g.R.Read.remaining c.read_request.new.reader)
+    (g.W.Write.contents c.args.writer.now) (g.W.Write.contents c.send_before_nodes.new.writer) (g.W.Write.contents c.tell-in-Asked.new.writer) c.loop-answered._answered c.loop-answered.floor.farm
     c.answer-said.new.self.farm c.read_request.result c.in-Asked.tenant c.in-Asked.who c.in-Asked.asked c.answer-said.result (cc (c.in-Asked.is, c.hear.ensures)) c.read_request.ensures
-    c.answer-said.ensures.told c.loop-answered.invariant.3 c.in-Err-tell.ensures.writes.err)
+    c.answer-said.ensures.told (played_sent c.args.config.now (script_rest g.R.Read.remaining c.args.script.now) (script_rest g.R.Read.remaining c.begin.new.self) (script_rest g.R.Read.remaining c.begin.new.self)
+    (g.W.Write.contents c.args.writer.now) (g.W.Write.contents c.send_before_wait.new.writer) (g.W.Write.contents c.send_before_nodes.new.writer) c.loop-answered._answered c.loop-answered.floor.farm refl
+    c.send_before_nodes.ensures.kept (played_sent c.args.config.now (script_rest g.R.Read.remaining c.args.script.now) (script_rest g.R.Read.remaining c.loop-answered.script) (script_rest g.R.Read.remaining c.begin.new.self)
+    (g.W.Write.contents c.args.writer.now) (g.W.Write.contents c.loop-answered.writer) (g.W.Write.contents c.send_before_wait.new.writer) c.loop-answered._answered c.loop-answered.floor.farm c.begin.ensures
+    c.send_before_wait.ensures c.loop-answered.invariant.3)) c.in-Err-tell.ensures.writes.err)
 
 pub loop-answered-preserved : goal.loop-answered-preserved
 loop-answered-preserved g c =
@@ -47,11 +68,13 @@ loop-answered-preserved g c =
         ap (map counter_of) w.counters-is ∙ inv.1,
         subst (λ x. IsFloor g.J.Strategy.meaning x.farm x.held.items) (sym w.floor-is) inv.2,
         rw (w.floor-is, w.writer-is)
-            (settled_on c.requests_come_in_turn.ensures c.args.config.now (g.R.Read.remaining c.args.script.now) (g.R.Read.remaining c.loop-answered.script) (g.R.Read.remaining c.read_request.new.reader)
-            (g.W.Write.contents c.args.writer.now) (g.W.Write.contents c.loop-answered.writer) (g.W.Write.contents w.tell.new.writer) c.loop-answered._answered c.loop-answered.floor.farm c.read_request.result
-            w.in-Told.who w.in-Told.said (cc (w.in-Told.is, c.hear.ensures)) c.read_request.ensures inv.3 w.in_default.ensures.writes.ok),
+            (settled_on c.requests_come_in_turn.ensures c.args.config.now (script_rest g.R.Read.remaining c.args.script.now) (script_rest g.R.Read.remaining c.begin.new.self) (script_rest g.R.Read.remaining c.read_request.new.reader)
+            (g.W.Write.contents c.args.writer.now) (g.W.Write.contents c.send_before_wait.new.writer) (g.W.Write.contents w.tell.new.writer) c.loop-answered._answered c.loop-answered.floor.farm c.read_request.result
+            w.in-Told.who w.in-Told.said (cc (w.in-Told.is, c.hear.ensures)) c.read_request.ensures (played_sent c.args.config.now (script_rest g.R.Read.remaining c.args.script.now) (script_rest g.R.Read.remaining c.loop-answered.script) (script_rest g.R.Read.remaining c.begin.new.self)
+            (g.W.Write.contents c.args.writer.now) (g.W.Write.contents c.loop-answered.writer) (g.W.Write.contents c.send_before_wait.new.writer) c.loop-answered._answered c.loop-answered.floor.farm c.begin.ensures
+            c.send_before_wait.ensures c.loop-answered.invariant.3) w.in_default.ensures.writes.ok),
       )
-      | in-Asked+in_default-tell w ↦ (
+      | in-Asked+in_default-send_before_nodes+in_default-tell w ↦ (
         ap (λ x. x.farm.config) w.floor-is ∙ w.answer-said.ensures.told.config ∙ inv.0,
         ap (map counter_of)
             (w.counters-is
@@ -62,24 +85,28 @@ loop-answered-preserved g c =
             ∙ inv.1,
         subst (λ x. IsFloor g.J.Strategy.meaning x.farm x.held.items) (sym w.floor-is) w.answer-said.ensures.floor,
         rw (w.floor-is, w.writer-is)
-            (asked_on c.requests_come_in_turn.ensures c.args.config.now (g.R.Read.remaining c.args.script.now) (g.R.Read.remaining c.loop-answered.script) (g.R.Read.remaining c.read_request.new.reader)
-            (g.W.Write.contents c.args.writer.now) (g.W.Write.contents c.loop-answered.writer) (g.W.Write.contents w.tell-in-Asked.new.writer) c.loop-answered._answered c.loop-answered.floor.farm
+            (asked_on c.requests_come_in_turn.ensures c.args.config.now (script_rest g.R.Read.remaining c.args.script.now) (script_rest g.R.Read.remaining c.begin.new.self) (script_rest g.R.Read.remaining c.read_request.new.reader)
+            (g.W.Write.contents c.args.writer.now) (g.W.Write.contents w.send_before_nodes.new.writer) (g.W.Write.contents w.tell-in-Asked.new.writer) c.loop-answered._answered c.loop-answered.floor.farm
             w.answer-said.new.self.farm c.read_request.result w.in-Asked.tenant w.in-Asked.who w.in-Asked.asked w.answer-said.result (cc (w.in-Asked.is, c.hear.ensures)) c.read_request.ensures
-            w.answer-said.ensures.told inv.3 w.in_default-tell.ensures.writes.ok),
+            w.answer-said.ensures.told (played_sent c.args.config.now (script_rest g.R.Read.remaining c.args.script.now) (script_rest g.R.Read.remaining c.begin.new.self) (script_rest g.R.Read.remaining c.begin.new.self)
+            (g.W.Write.contents c.args.writer.now) (g.W.Write.contents c.send_before_wait.new.writer) (g.W.Write.contents w.send_before_nodes.new.writer) c.loop-answered._answered c.loop-answered.floor.farm refl
+            w.send_before_nodes.ensures.kept (played_sent c.args.config.now (script_rest g.R.Read.remaining c.args.script.now) (script_rest g.R.Read.remaining c.loop-answered.script) (script_rest g.R.Read.remaining c.begin.new.self)
+            (g.W.Write.contents c.args.writer.now) (g.W.Write.contents c.loop-answered.writer) (g.W.Write.contents c.send_before_wait.new.writer) c.loop-answered._answered c.loop-answered.floor.farm c.begin.ensures
+            c.send_before_wait.ensures c.loop-answered.invariant.3)) w.in_default-tell.ensures.writes.ok),
       )
     ]
 
 pub returns-clause-written : goal.returns-clause-written
 returns-clause-written g c =
-    play_written c.args.config.now (g.R.Read.remaining c.args.script.now) (g.R.Read.remaining c.loop-answered.script) (g.W.Write.contents c.args.writer.now) (g.W.Write.contents c.loop-answered.writer)
+    play_written c.args.config.now (script_rest g.R.Read.remaining c.args.script.now) (script_rest g.R.Read.remaining c.loop-answered.script) (g.W.Write.contents c.args.writer.now) (g.W.Write.contents c.loop-answered.writer)
     c.loop-answered._answered c.loop-answered.floor.farm c.end.result (omega arith) c.loop-answered.invariant.3 c.end.ensures.over
 
 pub returns-clause-cut_off : goal.returns-clause-cut_off
 returns-clause-cut_off g c =
     let all : c.loop-answered._answered ≡ 1000000 = omega arith in
-    play_cut c.args.config.now (g.R.Read.remaining c.args.script.now) (g.R.Read.remaining c.loop-answered.script) (g.W.Write.contents c.args.writer.now) (g.W.Write.contents c.loop-answered.writer)
+    play_cut c.args.config.now (script_rest g.R.Read.remaining c.args.script.now) (script_rest g.R.Read.remaining c.loop-answered.script) (g.W.Write.contents c.args.writer.now) (g.W.Write.contents c.loop-answered.writer)
     c.loop-answered.floor.farm c.end.result
-    (subst (λ n. Played c.args.config.now (g.R.Read.remaining c.args.script.now) (g.R.Read.remaining c.loop-answered.script) (g.W.Write.contents c.args.writer.now) (g.W.Write.contents c.loop-answered.writer) n c.loop-answered.floor.farm)
+    (subst (λ n. Played c.args.config.now (script_rest g.R.Read.remaining c.args.script.now) (script_rest g.R.Read.remaining c.loop-answered.script) (g.W.Write.contents c.args.writer.now) (g.W.Write.contents c.loop-answered.writer) n c.loop-answered.floor.farm)
     all c.loop-answered.invariant.3) c.end.ensures.fault
 
 pub bounds-counters-tenant : goal.bounds-counters-tenant

@@ -1,0 +1,142 @@
+//! A script is played on a pool of its own.
+ghost use Rattle.std.specs.Prelude.{◌≡◌, length, IfOk};
+ghost use Rattle.turn_lock.specs.Values.{IsPassOf};
+
+use crate::calls::{Ask, SCARCE, make};
+use crate::made::{Purse, Ready, config_of, trees_of};
+use farm_core::Config;
+use farm_pool::{Pool, PoolPass};
+use std::alloc::Global;
+use std::process::Abort;
+use std::sync::Wait;
+use std::test::Fail;
+
+/// What is asked, what is said then, and what status and ledger are from then on.
+#[derive(Clone, Copy)]
+pub(crate) struct Step(pub(crate) Ask, pub(crate) &'static str, pub(crate) Known);
+
+/// What job 1's status is, and the ledger.
+#[derive(Clone, Copy)]
+pub(crate) struct Known(pub(crate) &'static str, pub(crate) &'static str);
+
+/// How many submits a script has at most, each of which may be made twice.
+const MOST_SUBMITS: u32 = 4;
+
+/// What is known of a pool in which nothing has happened.
+const NOTHING: Known = Known("@a no unknown\n", WHOLE);
+
+/// Its ledger.
+const WHOLE: &str = "@a ledger granted 100 free 100 held 0 spent 0\n";
+
+/// Whether it may find no memory: not a cancel that is accepted.
+fn may_want_memory(step: Step) -> bool {
+    match step {
+        Step(Ask::Cancel(_), told, _) => !told.starts_with("@a job"),
+        _ => true,
+    }
+}
+
+/// How many entries of the journal a call leaves that had memory.
+fn entries_of(ask: Ask) -> usize {
+    match ask {
+        Ask::Work => 2,
+        _ => 1,
+    }
+}
+
+/// The pool of a configuration of one tenant, and its first pass.
+pub(crate) fn pool_of(alloc: Global, config: &Config) -> Result<(Pool, PoolPass), Fail>
+    ensures own { IfOk result (λ made. IsPassOf made.0.lock made.1) }
+    ensures known { IfOk result (λ made. length made.0.lock.opening.tenants ≡ 1) }
+{
+    if config.tenants().len() != 1 {
+        return Err(Fail::from("one tenant"));
+    }
+    Ok(Pool::new(alloc, config)?)
+}
+
+/// Makes a call. Where it finds no memory it has changed nothing, and is made again. Tells how many entries were left.
+fn insist<R: Wait + Abort>(
+    rt: &R,
+    alloc: Global,
+    pool: &Pool,
+    pass: &mut PoolPass,
+    ready: &mut Vec<Ready>,
+    step: Step,
+    before: Known,
+) -> Result<usize, Fail>
+    requires own { IsPassOf pool.now.lock pass.old }
+    requires known { length pool.now.lock.opening.tenants ≡ 1 }
+    ensures own { IsPassOf pool.now.lock pass.new }
+{
+    let Step(ask, wanted, _) = step;
+    let told = make(rt, alloc, pool, pass, ready, ask)?;
+    if told.as_slice() != SCARCE.as_bytes() {
+        assert!(rt; told.as_slice() == wanted.as_bytes(), "{wanted}");
+        return Ok(entries_of(ask));
+    }
+    assert!(rt; may_want_memory(step), "a call that needs none: {wanted}");
+    let status = make(rt, alloc, pool, pass, ready, Ask::Status(1))?;
+    assert!(rt;
+        status.as_slice() == before.0.as_bytes(),
+        "{wanted}, the status"
+    );
+    let ledger = make(rt, alloc, pool, pass, ready, Ask::Ledger)?;
+    assert!(rt;
+        ledger.as_slice() == before.1.as_bytes(),
+        "{wanted}, the ledger"
+    );
+    let told = make(rt, alloc, pool, pass, ready, ask)?;
+    assert!(rt; told.as_slice() == wanted.as_bytes(), "{wanted}, again");
+    Ok(entries_of(ask).saturating_add(2))
+}
+
+/// Makes the calls one after another, behind so many for the ledger. Tells how many entries were left.
+fn play_all<R: Wait + Abort>(
+    rt: &R,
+    alloc: Global,
+    pool: &Pool,
+    pass: &mut PoolPass,
+    ready: &mut Vec<Ready>,
+    lead: usize,
+    steps: &[Step],
+) -> Result<usize, Fail>
+    requires own { IsPassOf pool.now.lock pass.old }
+    requires known { length pool.now.lock.opening.tenants ≡ 1 }
+    ensures own { IsPassOf pool.now.lock pass.new }
+{
+    let mut entries: usize = 0;
+    let mut before = NOTHING;
+    let first = Step(Ask::Ledger, WHOLE, NOTHING);
+    for step in [first; 8][..lead.min(8)].iter().chain(steps) {
+        let left = insist(rt, alloc, pool, pass, ready, *step, before)?;
+        entries = entries.saturating_add(left);
+        before = step.2;
+    }
+    Ok(entries)
+}
+
+/// Plays a script on a pool of its own whose turns are of so many nodes, behind so many calls for the ledger, and compares how many entries the journal
+/// has, and the words of the till once the farm is gone.
+pub(crate) fn play<R: Wait + Abort>(
+    rt: &R,
+    alloc: Global,
+    lead: usize,
+    steps: &[Step],
+    words: [u64; 3],
+) -> Result<(), Fail> {
+    let config = config_of(alloc, 10)?;
+    let (pool, mut pass) = pool_of(alloc, &config)?;
+    let mut purse = Purse::new(alloc)?;
+    let mut ready = trees_of(alloc, &mut purse, MOST_SUBMITS)?;
+    let entries = play_all(rt, alloc, &pool, &mut pass, &mut ready, lead, steps)?;
+    drop(ready);
+    let farm = pool.close(pass).ok_or("a farm")?;
+    assert!(rt;
+        farm.journal().len() == entries,
+        "the entries of the journal"
+    );
+    drop(farm);
+    assert!(rt; purse.words() == words, "the words of the till");
+    Ok(())
+}

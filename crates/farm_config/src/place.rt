@@ -1,0 +1,164 @@
+//! Where the fault of a configuration lies, and what is wanted there, for a person who mends it.
+ghost use Rattle.std.specs.Prelude.{◌≡◌, ℕ, IfSome};
+ghost use Rattle.farm_config.specs.declared.fault.ConfigFault.TheVariants.{Name as misnamed};
+
+use crate::draft::draft_of;
+use crate::fault::{ConfigFault, Key};
+use crate::judge::first_out_of_line;
+use serde_json::Value;
+use std::alloc::Global;
+use std::fmt;
+
+/// A part of a configuration, or of a tenant in it.
+#[derive(Clone, Copy, Debug, PartialEq, Eq)]
+pub enum Part {
+    /// The object itself.
+    Whole,
+    /// The list of tenants.
+    Tenants,
+    /// A tenant's name.
+    Name,
+    /// A number.
+    Number(Key),
+}
+
+/// Where a fault lies.
+#[derive(Clone, Copy, Debug, PartialEq, Eq)]
+pub enum Place {
+    /// A line of the text and a column of it, counted from 1.
+    Text(usize, usize),
+    /// A part of the configuration.
+    Whole(Part),
+    /// A part of the tenant at that place of the list, counted from 0.
+    Tenant(usize, Part),
+}
+
+impl fmt::Display for Part {
+    /// Writes the part as a key.
+    fn fmt<W: fmt::Write>(&self, f: &mut fmt::Formatter<W>) -> fmt::Result {
+        match self {
+            Part::Whole => write!(f, "the whole"),
+            Part::Tenants => write!(f, "tenants"),
+            Part::Name => write!(f, "name"),
+            Part::Number(key) => write!(f, "{key}"),
+        }
+    }
+}
+
+impl fmt::Display for Place {
+    /// Writes the place as a path, as `tenants[1].name`.
+    fn fmt<W: fmt::Write>(&self, f: &mut fmt::Formatter<W>) -> fmt::Result {
+        match self {
+            Place::Text(line, column) => write!(f, "line {line} column {column}"),
+            Place::Whole(part) => write!(f, "{part}"),
+            Place::Tenant(index, Part::Whole) => write!(f, "tenants[{index}]"),
+            Place::Tenant(index, part) => write!(f, "tenants[{index}].{part}"),
+        }
+    }
+}
+
+/// What may stand at a part where its value is of the wrong kind.
+fn kind_of(part: Part) -> &'static str {
+    match part {
+        Part::Whole => "an object is wanted",
+        Part::Tenants => "a list is wanted",
+        Part::Name => "a string is wanted",
+        Part::Number(_) => "a natural number below 2^64 is wanted, in digits alone",
+    }
+}
+
+/// The numbers that a key may have.
+fn range_of(key: Key) -> &'static str {
+    match key {
+        Key::Quanta => "0 to 1000000000000 are allowed",
+        Key::Jobs => "1 to 1000 are allowed",
+        Key::Entries => "1 to 1000000 are allowed",
+        Key::Workers => "1 to 16 are allowed",
+        Key::Slice => "1 to 1000000 are allowed",
+    }
+}
+
+impl Place {
+    /// What is wanted at the place of this fault.
+    pub fn wanted(self, fault: ConfigFault) -> &'static str {
+        match (fault, self) {
+            (ConfigFault::Shape, Place::Whole(part) | Place::Tenant(_, part)) => kind_of(part),
+            (ConfigFault::Tenants, _) => "1 to 64 are allowed",
+            (ConfigFault::Name(_), _) => {
+                "1 to 32 of a-z, 0-9, _ and - are allowed, a letter first, and no name twice"
+            }
+            (ConfigFault::Range(key), _) => range_of(key),
+            _ => "this is no JSON text",
+        }
+    }
+}
+
+/// The first part of a tenant's object that is missing or of the wrong kind.
+fn misfit_of(tenant: &Value) -> Option<Part> {
+    if !tenant.is_object() {
+        return Some(Part::Whole);
+    }
+    if tenant.get("name").and_then(Value::as_str).is_none() {
+        return Some(Part::Name);
+    }
+    let keys = [
+        ("quanta", Key::Quanta),
+        ("jobs", Key::Jobs),
+        ("entries", Key::Entries),
+    ];
+    for (key, number) in keys {
+        if tenant.get(key).and_then(Value::as_u64).is_none() {
+            return Some(Part::Number(number));
+        }
+    }
+    None
+}
+
+/// Where a value has not the shape of a configuration.
+fn misfit(value: &Value) -> Place {
+    if !value.is_object() {
+        return Place::Whole(Part::Whole);
+    }
+    let Some(tenants) = value.get("tenants").and_then(Value::as_array) else {
+        return Place::Whole(Part::Tenants);
+    };
+    for (index, tenant) in tenants.iter().enumerate() {
+        if let Some(part) = misfit_of(tenant) {
+            return Place::Tenant(index, part);
+        }
+    }
+    match value.get("workers") {
+        Some(workers) if workers.as_u64().is_none() => Place::Whole(Part::Number(Key::Workers)),
+        _ => Place::Whole(Part::Number(Key::Slice)),
+    }
+}
+
+/// Where the first number at this key stands that is out of range.
+fn out_of_range(alloc: Global, value: &Value, key: Key) -> Place {
+    let number = Part::Number(key);
+    let Ok(draft) = draft_of(alloc, value) else {
+        return Place::Whole(number);
+    };
+    for (index, line) in draft.tenants.iter().enumerate() {
+        if first_out_of_line(line) == Some(key) {
+            return Place::Tenant(index, number);
+        }
+    }
+    Place::Whole(number)
+}
+
+/// Where the fault of these bytes lies. It is not known where memory ran out.
+pub fn place_of(alloc: Global, bytes: &[u8], fault: ConfigFault) -> Option<Place>
+    ensures { (index : ℕ) → fault ≡ misnamed index → IfSome result (λ place. place ≡ Place.Tenant index Part.Name) }
+{
+    if let ConfigFault::Name(index) = fault {
+        return Some(Place::Tenant(index, Part::Name));
+    }
+    match (Value::from_slice(alloc, bytes), fault) {
+        (Ok(value), ConfigFault::Shape) => Some(misfit(&value)),
+        (Ok(_), ConfigFault::Tenants) => Some(Place::Whole(Part::Tenants)),
+        (Ok(value), ConfigFault::Range(key)) => Some(out_of_range(alloc, &value, key)),
+        (Err(error), ConfigFault::Json) => Some(Place::Text(error.line(), error.column())),
+        _ => None,
+    }
+}

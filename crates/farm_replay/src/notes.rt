@@ -1,0 +1,45 @@
+//! What is noted of a script beside its replies.
+ghost use Rattle.std.specs.Prelude.{◌≡◌};
+ghost use Rattle.farm_replay.specs.Refusal.{is_refusal};
+
+use farm_core::Reply;
+use session_lines::Said;
+
+/// Lines of a script that its writer may want to look at. They are numbered from 1.
+#[derive(Clone, Copy, Debug, Default, PartialEq, Eq)]
+pub struct Notes {
+    /// The line of the first request that was refused.
+    pub refused: Option<u64>,
+    /// The line of the first submit whose text ends with a line that begins with `@`, as a request does.
+    pub doubtful: Option<u64>,
+}
+
+/// Whether the reply refuses its request: its text begins with the word `no`.
+pub fn is_refused(said: &Said) -> bool
+    ensures { result ≡ is_refusal said.now }
+{
+    match said {
+        Said::Reply(reply) => !matches!(
+            reply,
+            Reply::Job(_)
+                | Reply::Line(_)
+                | Reply::Ran(..)
+                | Reply::Best(..)
+                | Reply::Forgotten(_)
+                | Reply::Ledger(_)
+        ),
+        Said::NoTurn | Said::NoTenant | Said::Syntax | Said::LongLine | Said::File(_) => true,
+    }
+}
+
+impl Notes {
+    /// Notes the request at this line, by what is said to it.
+    pub(crate) fn add(&mut self, line: u64, is_doubtful: bool, said: &Said) {
+        if self.refused.is_none() && is_refused(said) {
+            self.refused = Some(line);
+        }
+        if self.doubtful.is_none() && is_doubtful {
+            self.doubtful = Some(line);
+        }
+    }
+}

@@ -1,0 +1,127 @@
+//! The bytes of a script: read ahead, and with the numbers of their lines.
+ghost use Rattle.std.specs.Prelude.{◌≡◌, IfOk, Some};
+ghost use Rattle.farm_replay.specs.Reader.{script_rest};
+
+use std::alloc::Global;
+use std::io;
+use std::io::{BufReader, Read};
+
+/// The lines of the bytes that were taken, and the first of them that is not blank since a request began.
+#[derive(Clone, Copy, Debug)]
+struct Lines {
+    /// How many have ended.
+    ended: u64,
+    /// The number of the first line with a byte of a word, counted from 1.
+    first: Option<u64>,
+    /// Whether the last line that began behind the first one begins with `@`.
+    is_marked: bool,
+    /// The last byte, or a line feed before the first one.
+    last: u8,
+}
+
+impl Lines {
+    /// No line yet.
+    fn new() -> Lines {
+        Lines {
+            ended: 0,
+            first: None,
+            is_marked: false,
+            last: b'\n',
+        }
+    }
+
+    /// Whether the byte belongs to a word, or tells that the one before it does: a carriage return ends a line right before its line
+    /// feed, and belongs to a word elsewhere.
+    fn is_of_word(&self, byte: u8) -> bool {
+        match byte {
+            b'\n' => false,
+            b' ' | b'\t' | b'\r' => self.last == b'\r',
+            _ => true,
+        }
+    }
+
+    /// One more byte.
+    fn add(&mut self, byte: u8) {
+        if self.last == b'\n' && self.first.is_some() {
+            self.is_marked = byte == b'@';
+        }
+        if self.first.is_none() && self.is_of_word(byte) {
+            self.first = Some(self.ended.saturating_add(1));
+        }
+        if byte == b'\n' {
+            self.ended = self.ended.saturating_add(1);
+        }
+        self.last = byte;
+    }
+
+    /// So many bytes more.
+    fn add_all(&mut self, bytes: &[u8]) {
+        for byte in bytes {
+            self.add(*byte);
+        }
+    }
+}
+
+/// The reader of a script, which knows the lines of the request that was read last.
+#[derive(Drop)]
+pub(crate) struct Script<R> {
+    input: BufReader<R>,
+    lines: Lines,
+}
+
+impl<R: Read> Script<R> {
+    /// A script of all bytes of the reader.
+    pub(crate) fn new(alloc: Global, reader: R) -> io::Result<Script<R>>
+    where
+        R: Drop,
+        ensures { IfOk result (λ script. script_rest R.remaining script ≡ R.remaining reader) }
+    {
+        let input = BufReader::new(alloc, reader)?;
+        Ok(Script {
+            input,
+            lines: Lines::new(),
+        })
+    }
+
+    /// Counts the lines of the next request from here on.
+    pub(crate) fn begin(&mut self)
+        ensures { script_rest R.remaining self.new ≡ script_rest R.remaining self.old }
+    {
+        self.lines.first = None;
+        self.lines.is_marked = false;
+    }
+
+    /// The number of the line at which the request begins, counted from 1.
+    pub(crate) fn line(&self) -> u64 {
+        match self.lines.first {
+            Some(line) => line,
+            None => self.lines.ended.saturating_add(1),
+        }
+    }
+
+    /// Whether the last line of the request's text begins with `@`.
+    pub(crate) fn is_doubtful(&self) -> bool {
+        self.lines.is_marked
+    }
+
+    /// Whether the next request can be read without a wait: a whole line that asks something and opens no text was read ahead.
+    pub(crate) fn is_at_hand(&self) -> bool {
+        let ahead = self.input.buffer();
+        let Some(end) = ahead.iter().position(|byte| *byte == b'\n') else {
+            return false;
+        };
+        let line = &ahead[..end];
+        line.iter().any(|byte| *byte > b' ')
+            && !line.windows(6).any(|word| word == b"submit".as_slice())
+    }
+}
+
+impl<R: Read> Read for Script<R> {
+    ghost remaining = { script_rest R.remaining };
+
+    fn read(&mut self, bytes: &mut [u8]) -> io::Result<usize> {
+        let count = self.input.read(bytes)?;
+        self.lines.add_all(&bytes[..count]);
+        Ok(count)
+    }
+}

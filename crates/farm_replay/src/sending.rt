@@ -1,0 +1,32 @@
+//! When replies go out: before a wait for more of the script, and before nodes are run.
+ghost use Rattle.std.specs.Prelude.{◌≡◌, IfErr};
+ghost use Rattle.std.specs.Io.KnownBytes.{Keeps};
+
+use crate::reader::Script;
+use crate::script::ReplayFault;
+use session_lines::What;
+use std::io::{Read, Write};
+
+/// Sends the replies that were gathered, where the next request may have to be waited for. Where they cannot be sent, the end of the
+/// replay or a later reply tells so.
+pub(crate) fn send_before_wait<R: Read, W: Write>(script: &Script<R>, writer: &mut W)
+    ensures { Keeps (W.contents writer.old) (W.contents writer.new) }
+{
+    if !script.is_at_hand() {
+        let _ = writer.flush();
+    }
+}
+
+/// Sends the replies that were gathered, where the request may run nodes.
+pub(crate) fn send_before_nodes<W: Write>(asked: &What, writer: &mut W) -> Result<(), ReplayFault>
+    ensures kept { Keeps (W.contents writer.old) (W.contents writer.new) }
+    ensures fault { IfErr result (λ fault. fault ≡ ReplayFault.Write) }
+{
+    if !matches!(asked, What::Turn { .. } | What::Give(_)) {
+        return Ok(());
+    }
+    match writer.flush() {
+        Ok(()) => Ok(()),
+        Err(_) => Err(ReplayFault::Write),
+    }
+}

@@ -1,6 +1,0 @@
-use Rattle.std.proofs.Common.{rules}
-use Rattle.quanta_till.proofs.TillLemmas.{uses}
-use Rattle.quanta_till.proofs.purse.Purse.use_one.Goals as goal
-
-pub fetch_add-requires : goal.fetch_add-requires
-fetch_add-requires c = (search rules, search rules, uses _ _ _ _ (search rules))

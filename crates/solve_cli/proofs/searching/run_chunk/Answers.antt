@@ -1,0 +1,14 @@
+use Rattle.std.proofs.Common.{ap, ◌∙◌, arith}
+use Rattle.strategy.specs.Search.{ran_on}
+use Rattle.solve_cli.proofs.SearchLemmas.{ran_at, ran_less}
+use Rattle.solve_cli.proofs.searching.run_chunk.Goals as goal
+
+pub returns-clause-at : goal.returns-clause-at
+returns-clause-at g c =
+    let m = g.S.Strategy.meaning c.args.search.now in
+    ran_at 65536 m (g.S.Strategy.meaning c.run-ran.new.self) (c.run-ran.ensures.shown ∙ ap (λ n. ran_on n m) c.run-ran.ensures.ran)
+
+pub returns-clause-more : goal.returns-clause-more
+returns-clause-more g c =
+    let m = g.S.Strategy.meaning c.args.search.now in
+    ran_less 65536 m (g.S.Strategy.meaning c.run-ran.new.self) (omega arith) c.requires.going c.requires.paid (c.run-ran.ensures.shown ∙ ap (λ n. ran_on n m) c.run-ran.ensures.ran)

@@ -1,0 +1,95 @@
+//! Better schedules, printed when they are found.
+use crate::progress::Progress;
+use crate::searching::Watch;
+use crate::telling::{tell_better, tell_better_json};
+use mrcpsp::{Schedule, check};
+use std::alloc::{AllocError, Global};
+use std::io::Print;
+use std::rt::Runtime;
+use strategy::Plan;
+
+/// How better schedules are printed.
+#[derive(Clone, Copy, Debug, PartialEq, Eq)]
+pub(crate) enum Style {
+    /// Not at all.
+    Silent,
+    /// As result lines.
+    Lines,
+    /// As JSON objects, one a line.
+    Json,
+}
+
+/// Prints each schedule that is shorter than all before it.
+#[derive(Drop)]
+pub(crate) struct Improvements<'a, R> {
+    rt: &'a R,
+    style: Style,
+    shortest: Option<u32>,
+    ended: u64,
+    progress: Progress<'a, R>,
+}
+
+impl<'a, R: Runtime + AllocGlobal> Improvements<'a, R> {
+    /// Prints from now on, and lets the progress of the search be told.
+    pub(crate) fn new(rt: &'a R, style: Style, progress: Progress<'a, R>) -> Improvements<'a, R> {
+        Improvements {
+            rt,
+            style,
+            shortest: None,
+            ended: 0,
+            progress,
+        }
+    }
+
+    /// The text of a better schedule, where one is printed.
+    fn told(
+        &self,
+        alloc: Global,
+        nodes: u64,
+        makespan: u32,
+        best: &Schedule,
+    ) -> Option<Result<String, AllocError>> {
+        match self.style {
+            Style::Silent => None,
+            Style::Lines => Some(tell_better(alloc, makespan, best)),
+            Style::Json => Some(tell_better_json(alloc, nodes, makespan, best)),
+        }
+    }
+
+    /// Whether a schedule of this makespan is shorter than all before it.
+    fn is_better(&self, makespan: u32) -> bool {
+        match self.shortest {
+            Some(shortest) => makespan < shortest,
+            None => true,
+        }
+    }
+
+    /// Prints a schedule that is shorter than all before it.
+    fn take(&mut self, plan: &Plan, nodes: u64, best: &Schedule) {
+        let Ok(makespan) = check(&plan.project, best) else {
+            return;
+        };
+        if !self.is_better(makespan) {
+            return;
+        }
+        self.shortest = Some(makespan);
+        let nodes = self.ended.saturating_add(nodes);
+        if let Some(Ok(text)) = self.told(self.rt.alloc(), nodes, makespan, best) {
+            let _ = print!(self.rt; "{text}");
+        }
+    }
+}
+
+impl<'a, R: Runtime + AllocGlobal> Watch for Improvements<'a, R> {
+    fn look(&mut self, plan: &Plan, nodes: u64, best: Option<&Schedule>) {
+        self.progress.look(plan, nodes, best);
+        if let Some(schedule) = best {
+            self.take(plan, nodes, schedule);
+        }
+    }
+
+    fn end(&mut self, nodes: u64) {
+        self.progress.end(nodes);
+        self.ended = self.ended.saturating_add(nodes);
+    }
+}

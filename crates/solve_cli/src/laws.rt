@@ -1,0 +1,13 @@
+//! Laws of several searches: each is the proved contract of a function that does nothing.
+ghost use Rattle.solve_cli.specs.Laws.{SeveralAreTrue, OneIsItself};
+
+/// Whatever the searches, the best schedule is feasible and has the makespan that is told. 'Optimal' is told only where no feasible
+/// schedule is shorter than it, and 'infeasible' only where there is none.
+pub fn what_several_tell_is_true()
+    ensures { SeveralAreTrue }
+{}
+
+/// What one search tells among several that are but one is what it finds by itself.
+pub fn one_search_tells_itself()
+    ensures { OneIsItself }
+{}

@@ -1,0 +1,101 @@
+//! Running several searches of one project, one after another.
+ghost use Rattle.std.specs.Prelude.{◌≡◌, ◌+◌, ◌<◌, ◌≤◌, ◌^◌, length, option_map, IfOk};
+ghost use Rattle.mrcpsp.specs.Schedule.{makespan};
+ghost use Rattle.solve_cli.specs.Several.{is_decided, is_shorter, stronger, joined, IsFoundByEach};
+
+use crate::searching::{Found, MOST_NODES, Watch, solve};
+use mrcpsp::Project;
+use std::alloc::{AllocError, Global};
+use strategy::{Kind, Plan, Verdict};
+
+/// The most searches that run one after another.
+pub const MOST_SEARCHES: usize = 1_000;
+
+/// Whether a verdict decides the project.
+fn is_decided(verdict: Verdict) -> bool
+    ensures { result ≡ is_decided verdict }
+{
+    match verdict {
+        Verdict::Optimal | Verdict::Infeasible => true,
+        Verdict::Going | Verdict::Ended => false,
+    }
+}
+
+/// What two searches show together.
+fn stronger(one: Verdict, other: Verdict) -> Verdict
+    ensures { result ≡ stronger one other }
+{
+    match one {
+        Verdict::Optimal | Verdict::Infeasible => one,
+        Verdict::Going => match other {
+            Verdict::Ended => Verdict::Going,
+            _ => other,
+        },
+        Verdict::Ended => other,
+    }
+}
+
+/// Whether the other makespan is less, where there is one.
+fn is_shorter(one: Option<u32>, other: Option<u32>) -> bool
+    ensures { result ≡ is_shorter one other }
+{
+    match (one, other) {
+        (Some(one), Some(other)) => other < one,
+        (None, Some(_)) => true,
+        (_, None) => false,
+    }
+}
+
+/// What two searches of a project have found together.
+fn joined(_project: &Project, one: Found, other: Found) -> Found
+    requires one { one.makespan ≡ option_map (makespan _project.now) one.best }
+    requires other { other.makespan ≡ option_map (makespan _project.now) other.best }
+    requires few { one.nodes + other.nodes < 2 ^ 64 }
+    ensures { result ≡ joined _project.now one other }
+{
+    let is_shorter = is_shorter(one.makespan, other.makespan);
+    let nodes = one.nodes + other.nodes;
+    let verdict = stronger(one.verdict, other.verdict);
+    let shorter = if is_shorter { other } else { one };
+    Found {
+        nodes,
+        verdict,
+        best: shorter.best,
+        makespan: shorter.makespan,
+    }
+}
+
+/// Runs a search of each kind, one after another, each for at most so many nodes, and tells what they have found together. None
+/// runs after one that has decided the project. An error is want of memory.
+pub fn solve_each<W: Watch>(
+    alloc: Global,
+    project: &Project,
+    kinds: &[Kind],
+    most: u64,
+    watch: &mut W,
+) -> Result<Found, AllocError>
+    requires few { most ≤ MOST_NODES }
+    requires short { length kinds.now ≤ MOST_SEARCHES }
+    ensures { IfOk result (λ found. IsFoundByEach project.now kinds.now most found) }
+{
+    let mut found = Found {
+        nodes: 0,
+        best: None,
+        makespan: None,
+        verdict: Verdict::Ended,
+    };
+    for kind in kinds {
+        let plan = Plan {
+            project: project.clone_in(alloc)?,
+            kind: *kind,
+        };
+        let next = solve(alloc, plan, most, watch)?;
+        watch.end(next.nodes);
+        let is_decided = is_decided(next.verdict);
+        found = joined(project, found, next);
+        if is_decided {
+            return Ok(found);
+        }
+    }
+    Ok(found)
+}

@@ -1,0 +1,182 @@
+#!/usr/bin/env python3
+"""What `farm solve`, `farm verify` and `farm bench` say, written from docs/ alone: a second program to compare with.
+
+    plain_solve.py solve FILE KIND[,KIND..] NODES       the two lines of several searches, one after another
+    plain_solve.py verify FILE SCHEDULE                 'feasible makespan M', or what is wrong, with status 1
+    plain_solve.py rows KIND[,KIND..] NODES FILE..      the rows of a bench, with a star for the seconds
+
+Each search is that of plain_searches.py. A schedule's text is read by its last line: words J:MODE:START, or JSON.
+"""
+import json
+import os
+import re
+import sys
+from itertools import islice
+
+sys.dont_write_bytecode = True
+sys.path.insert(0, os.path.dirname(os.path.realpath(__file__)))
+import plain_reader  # noqa: E402
+import plain_searches  # noqa: E402
+
+DECIDED = ["optimal", "infeasible"]
+MOST_START = 1_000_000_000
+WORD = re.compile(rb"(0|[1-9][0-9]*):(0|[1-9][0-9]*):(0|[1-9][0-9]*)")
+
+
+def found(p, kind, most):
+    """Nodes, best and verdict of one search of at most so many nodes."""
+    nodes, best, verdict = 0, None, "open"
+    for nodes, (best, closed, verdict) in enumerate(islice(plain_searches.search(p, kind), most), 1):
+        if closed:
+            break
+    return nodes, best, verdict
+
+
+def together(p, kinds, most):
+    """The same of several searches: none runs after one that has decided the project."""
+    total, shortest, verdicts = 0, None, []
+    for kind in kinds:
+        nodes, best, verdict = found(p, kind, most)
+        total += nodes
+        if best is not None and (shortest is None or p.makespan(best) < p.makespan(shortest)):
+            shortest = best
+        verdicts.append(verdict)
+        if verdict in DECIDED:
+            return total, shortest, verdict
+    return total, shortest, "open" if "open" in verdicts else "ended"
+
+
+def places(p, best):
+    """The words of a schedule, by rising activity."""
+    return " ".join(f"{j + 1}:{m + 1}:{start}" for j, m, start in sorted(best))
+
+
+def solved(p, kinds, most):
+    nodes, best, verdict = together(p, kinds, most)
+    makespan = "none" if best is None else p.makespan(best)
+    words = "" if best is None else " " + places(p, best)
+    return f"nodes {nodes} best {makespan} {verdict}\nmakespan {makespan} {verdict}{words}\n"
+
+
+def told_as_json(p, nodes, best, verdict):
+    schedule = [{"activity": j + 1, "mode": m + 1, "start": start} for j, m, start in sorted(best)] if best is not None else None
+    value = {"nodes": nodes, "makespan": None if best is None else p.makespan(best), "verdict": verdict, "schedule": schedule}
+    return json.dumps(value, separators=(",", ":")) + "\n"
+
+
+def output(p, kinds, most, is_improving, is_json):
+    """All that solve prints of searches that are short enough to be looked at once, at their ends."""
+    text, shortest, total = "", None, 0
+    for kind in kinds if is_improving else []:
+        nodes, best, verdict = found(p, kind, most)
+        total += nodes
+        if best is not None and (shortest is None or p.makespan(best) < shortest):
+            shortest = p.makespan(best)
+            line = f"makespan {shortest} open {places(p, best)}\n"
+            text += told_as_json(p, total, best, "open") if is_json else line
+        if verdict in DECIDED:
+            break
+    return text + (told_as_json(p, *together(p, kinds, most)) if is_json else solved(p, kinds, most))
+
+
+def is_hidden(text):
+    """Whether words of a schedule stand right behind such a word, where the program does not look for them."""
+    return re.search(rb"[0-9]:[0-9]+:[0-9]+[ \t\n\x0c\r]+1:[0-9]+:[0-9]", text) is not None
+
+
+def no_number(word):
+    """Python's reader takes NaN, which is no JSON."""
+    raise ValueError(word)
+
+
+def whole(word):
+    """A number with a sign is no natural one, also -0."""
+    return None if word.startswith("-") else int(word)
+
+
+def json_schedule(text):
+    """Modes and starts that a JSON text has, each activity once, or None."""
+    try:
+        value = json.loads(text.decode("utf-8"), parse_constant=no_number, parse_int=whole)
+    except (ValueError, RecursionError):
+        return None
+    if isinstance(value, dict):
+        value = value.get("schedule")
+    if not isinstance(value, list):
+        return None
+    of = {}
+    for place in value:
+        if not isinstance(place, dict):
+            return None
+        numbers = [place.get(key) for key in ["activity", "mode", "start"]]
+        if any(type(n) is not int or not 0 <= n < 2**32 for n in numbers):
+            return None
+        of[numbers[0]] = numbers[1:]
+    if sorted(of) != list(range(1, len(value) + 1)):
+        return None
+    return [of[j][0] for j in sorted(of)], [of[j][1] for j in sorted(of)]
+
+
+def word_schedule(text):
+    """Modes and starts of the words `1:MODE:START`, `2:MODE:START` and so on with which a text ends, or None."""
+    try:
+        text.decode("utf-8")
+    except ValueError:
+        return None
+    if text.endswith(b"\n"):
+        text = text[:-1]
+    for begin in [0] + [at + 1 for at, byte in enumerate(text) if byte == 32]:
+        words = [WORD.fullmatch(word) for word in text[begin:].split(b" ")]
+        if all(words):
+            numbers = [[int(n) for n in word.groups()] for word in words]
+            if [n[0] for n in numbers] == list(range(1, len(numbers) + 1)) and all(max(n) < 2**32 for n in numbers):
+                return [n[1] for n in numbers], [n[2] for n in numbers]
+    return None
+
+
+def schedule_of(text):
+    lines = text[:-1].split(b"\n")
+    last = lines[-1] + text[-1:]
+    for told in [json_schedule(text), json_schedule(last), word_schedule(text)]:
+        if told is not None:
+            return told if told[0] else None
+    return None
+
+
+def verified(p, text):
+    """Whether the schedule of a text is feasible, and the line that says so, or what is wrong."""
+    schedule = schedule_of(text)
+    if schedule is None:
+        return False, "no schedule Words"
+    if len(schedule[0]) != p.n or max(schedule[1]) > MOST_START:
+        return False, "breach Shape"
+    told = plain_searches.breach(p, schedule)
+    if told[0] == 0:
+        return True, f"feasible makespan {told[1]}"
+    name = {2: "Mode", 3: "Precedence", 4: "Renewable", 5: "Nonrenewable"}[told[0]]
+    return False, f"breach {name}({', '.join(str(n) for n in told[1:])})"
+
+
+def row(name, p, search, most):
+    nodes, best, verdict = together(p, search.split(","), most)
+    makespan = "none" if best is None else p.makespan(best)
+    words = f'"{search}"' if "," in search else search
+    return f"{name},{p.n},{words},{nodes},*,{makespan},{verdict}\n"
+
+
+def main():
+    task = sys.argv[1]
+    if task == "solve":
+        print(solved(plain_searches.read(sys.argv[2]), sys.argv[3].split(","), int(sys.argv[4])), end="")
+    elif task == "verify":
+        with open(sys.argv[3], "rb") as file:
+            holds, line = verified(plain_searches.read(sys.argv[2]), file.read())
+        print(line if holds else f"farm: {line}")
+        sys.exit(0 if holds else 1)
+    else:
+        for path in sorted(sys.argv[4:]):
+            print(row(os.path.basename(path), plain_searches.read(path), sys.argv[2], int(sys.argv[3])), end="")
+
+
+if __name__ == "__main__":
+    main()
