@@ -332,6 +332,7 @@ class Sessions:
                 thread.start()
             for thread in threads:
                 thread.join()
+            wait_until(lambda: not is_listening(port))
             wait_until(lambda: threads_of(it.pid) <= threads_then)
             fault = next(filter(None, (self.judged(client, ask) for client in self.clients)), None)
             self.kilobytes = memory_of(it.pid, "VmHWM")
@@ -385,6 +386,12 @@ def wait_until(holds):
     end = time.monotonic() + 30
     while not holds() and time.monotonic() < end:
         time.sleep(0.002)
+
+
+def is_listening(port):
+    """Whether a port still waits for connections: a service's does until it has accepted the last of them, and its thread runs."""
+    with open("/proc/net/tcp") as it:
+        return any(row[1].endswith(f":{port:04X}") and row[3] == "0A" for row in map(str.split, it))
 
 
 def threads_of(pid):

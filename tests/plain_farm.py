@@ -102,7 +102,7 @@ def natural(fields, key, missing=None, place=""):
     if key not in fields and missing is not None:
         return missing
     value = fields.get(key)
-    if not isinstance(value, Literal) or not re.fullmatch("[0-9]+", value.text) or int(value.text) >= 2 ** 64:
+    if not isinstance(value, Literal) or not re.fullmatch("[0-9]{1,20}", value.text) or int(value.text) >= 2 ** 64:
         raise Fault("Shape", f"{place}{key}: {NATURAL}")
     return int(value.text)
 

@@ -20,7 +20,8 @@ import plain_searches  # noqa: E402
 
 DECIDED = ["optimal", "infeasible"]
 MOST_START = 1_000_000_000
-WORD = re.compile(rb"(0|[1-9][0-9]*):(0|[1-9][0-9]*):(0|[1-9][0-9]*)")
+# A number of more digits than these is none of a schedule.
+WORD = re.compile(rb"(0|[1-9][0-9]{,9}):(0|[1-9][0-9]{,9}):(0|[1-9][0-9]{,9})")
 
 
 def found(p, kind, most):
@@ -90,8 +91,8 @@ def no_number(word):
 
 
 def whole(word):
-    """A number with a sign is no natural one, also -0."""
-    return None if word.startswith("-") else int(word)
+    """A number with a sign is no natural one, also -0, nor one of more digits than a schedule's have."""
+    return None if word.startswith("-") or len(word) > 10 else int(word)
 
 
 def json_schedule(text):
@@ -155,6 +156,17 @@ def verified(p, text):
         return True, f"feasible makespan {told[1]}"
     name = {2: "Mode", 3: "Precedence", 4: "Renewable", 5: "Nonrenewable"}[told[0]]
     return False, f"breach {name}({', '.join(str(n) for n in told[1:])})"
+
+
+def titles(p, text):
+    """The titles in a picture of a feasible schedule, in their order."""
+    modes, starts = schedule_of(text)
+    lasts = [start + p.modes[j][mode - 1][0] for j, (mode, start) in enumerate(zip(modes, starts))]
+    return [
+        f"A schedule of {p.n} activities that takes {max(lasts)} periods",
+        *(f"Activity {j} in mode {mode}, from {start} to {last}" for j, (mode, start, last) in enumerate(zip(modes, starts, lasts), 1)),
+        *(f"Use of renewable resource {k}, of which there are {capacity} in each period" for k, capacity in enumerate(p.capacities, 1)),
+    ]
 
 
 def row(name, p, search, most):
