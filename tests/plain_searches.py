@@ -323,7 +323,8 @@ def boards(drawn, n):
 
 
 def breach(p, schedule):
-    """0 and the makespan, or what is broken first: 2 mode, 3 precedence, 4 renewable, 5 nonrenewable, with its numbers."""
+    """0 and the makespan, or what is broken first: 2 mode, 3 precedence, 4 renewable, 5 nonrenewable, with its numbers. The first period in which too much is used is one
+    in which an activity starts."""
     modes, starts = schedule
     for j in range(p.n):
         if not 1 <= modes[j] <= len(p.modes[j]):
@@ -333,7 +334,7 @@ def breach(p, schedule):
     for i, j in product(range(p.n), range(p.n)):
         if j in p.successors[i] and starts[j] < ends[i]:
             return 3, i + 1, j + 1
-    for r, t in product(range(len(p.capacities)), range(max(ends))):
+    for r, t in product(range(len(p.capacities)), sorted(set(starts))):
         if sum(mode[1][r] for j, mode in enumerate(chosen) if starts[j] <= t < ends[j]) > p.capacities[r]:
             return 4, r + 1, t
     for k, stock in enumerate(p.stocks):
