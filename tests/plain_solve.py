@@ -11,7 +11,7 @@ import json
 import os
 import re
 import sys
-from itertools import islice
+from itertools import islice, takewhile
 
 sys.dont_write_bytecode = True
 sys.path.insert(0, os.path.dirname(os.path.realpath(__file__)))
@@ -126,13 +126,12 @@ def word_schedule(text):
         return None
     if text.endswith(b"\n"):
         text = text[:-1]
-    for begin in [0] + [at + 1 for at, byte in enumerate(text) if byte == 32]:
-        words = [WORD.fullmatch(word) for word in text[begin:].split(b" ")]
-        if all(words):
-            numbers = [[int(n) for n in word.groups()] for word in words]
-            if [n[0] for n in numbers] == list(range(1, len(numbers) + 1)) and all(max(n) < 2**32 for n in numbers):
-                return [n[1] for n in numbers], [n[2] for n in numbers]
-    return None
+    places = [[int(n) for n in word.groups()] for word in reversed([*takewhile(bool, map(WORD.fullmatch, reversed(text.split(b" "))))])]
+    # The last activity tells how many there are.
+    places = places[-places[-1][0]:] if places else []
+    if not places or [n[0] for n in places] != list(range(1, len(places) + 1)) or any(max(n) >= 2**32 for n in places):
+        return None
+    return [n[1] for n in places], [n[2] for n in places]
 
 
 def schedule_of(text):
