@@ -1,6 +1,6 @@
 //! A farm that answers requests over connections.
-ghost use Rattle.std.specs.Prelude.{◌≡◌, length};
-ghost use Rattle.farm_pool.specs.Settle.{AreSeated};
+ghost use Rattle.std.specs.Prelude.{◌≡◌, length, map, None, OnOk};
+ghost use Rattle.farm_pool.specs.Settle.{books_of, words_at, AreLoaded, AreSeated, first_unsettled};
 
 use crate::connection::session;
 use crate::lobby::{Lobby, Nobody, Seat};
@@ -233,7 +233,7 @@ pub fn serve<R: Threads + Wait + Clock + Sync>(
     }
 }
 
-/// Settles a farm with the tills of its configuration.
+/// Settles a farm with the tills of its configuration, whose words are loaded now.
 fn settle<J: Strategy>(
     farm: Farm<J>,
     tills: &[Till],
@@ -241,6 +241,8 @@ fn settle<J: Strategy>(
 ) -> Result<Settled, ServeFault>
     requires tills { length tills.now ≡ length farm.config.tenants }
     requires seated { AreSeated tills.now desks.old }
+    ensures loaded { AreLoaded desks.old desks.new }
+    ensures settled { OnOk result (first_unsettled (books_of farm) (map words_at desks.new) ≡ None) }
 {
     match finish(farm, tills, desks) {
         Ok(settled) => Ok(settled),
