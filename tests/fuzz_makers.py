@@ -335,11 +335,15 @@ def bent_request(r, line):
 
 
 def terms(r, names):
-    """The configuration of a script, as a value."""
-    quanta = lambda: r.choice([0, 5, 100, 1000, 3000, 10000, 10 ** 12])
-    return {"tenants": [{"name": name, "quanta": quanta(), "jobs": r.choice([1, 2, 3, 10, 1000]),
-                         "entries": r.choice([1, r.randint(2, 12), r.randint(2, 40), 1000, 1000, 1000000])} for name in names],
-            "workers": 2, "slice": 1000}
+    """The configuration of a script, as a value. In one of three some tenants share purses, which may have a tenant's name."""
+    shares = r.random() < 0.35
+    quanta = lambda: r.choice([0, 5, 100, 1000, 3000, 10000] + [10 ** 12] * (not shares))
+    tenants = [{"name": name, "quanta": quanta(), "jobs": r.choice([1, 2, 3, 10, 1000]),
+                "entries": r.choice([1, r.randint(2, 12), r.randint(2, 40), 1000, 1000, 1000000])} for name in names]
+    for tenant in tenants:
+        if shares and r.random() < 0.7:
+            tenant["purse"] = r.choice(["p", "p", "q", r.choice(names)])
+    return {"tenants": tenants, "workers": 2, "slice": 1000}
 
 
 JUNK = ["null", "true", "false", '"7"', "7.0", "7e0", "7E+0", "-0", "-1", "0.5", "[]", "{}", "[7]", "1e400", "-1e400", "1e308",

@@ -117,6 +117,9 @@ class Terms:
             raise Fault("Shape", f"{place}.name: a string is wanted")
         self.name = fields["name"]
         self.quanta, self.jobs, self.entries = (natural(fields, key, place=f"{place}.") for key in ("quanta", "jobs", "entries"))
+        self.purse = fields.get("purse")
+        if "purse" in fields and not isinstance(self.purse, str):
+            raise Fault("Shape", f"{place}.purse: a string is wanted")
 
 
 def config_of(data):
@@ -131,6 +134,8 @@ def config_of(data):
     if not 1 <= len(tenants) <= 64:
         raise Fault("Tenants", "tenants: 1 to 64 are allowed")
     for i, t in enumerate(tenants):
+        if t.purse is not None and not NAME.fullmatch(t.purse):
+            raise Fault(f"Name({i})", f"tenants[{i}].purse: 1 to 32 of a-z, 0-9, _ and - are allowed, a letter first")
         if not NAME.fullmatch(t.name) or t.name in [s.name for s in tenants[:i]]:
             raise Fault(f"Name({i})", f"tenants[{i}].name: 1 to 32 of a-z, 0-9, _ and - are allowed, a letter first, and no name twice")
     ranges = []
@@ -140,6 +145,9 @@ def config_of(data):
     for place, key, value, least, most in ranges + [("", "workers", workers, 1, 16), ("", "slice", turn, 1, 1000000)]:
         if not least <= value <= most:
             raise Fault(f"Range({key})", f"{place}{key}: {least} to {most} are allowed")
+    for i, t in enumerate(tenants):
+        if t.purse is not None and sum(s.quanta for s in tenants if s.purse == t.purse) > MOST_QUANTA:
+            raise Fault("Range(purse)", f"tenants[{i}].purse: 0 to {MOST_QUANTA} quanta are allowed for its tenants together")
     return tenants
 
 
@@ -181,10 +189,22 @@ class No(Exception):
     """The text of a refusal."""
 
 
+class Purse:
+    """What its members were granted together, and where it is."""
+
+    def __init__(self, granted):
+        self.granted, self.free, self.held, self.spent = granted, granted, 0, 0
+
+
+def purses_of(terms):
+    """The purse of each tenant, by the tenant's name: tenants that name the same purse have one, any other has its own."""
+    named = {t.purse: Purse(sum(s.quanta for s in terms if s.purse == t.purse)) for t in terms if t.purse is not None}
+    return {t.name: named[t.purse] if t.purse is not None else Purse(t.quanta) for t in terms}
+
+
 class Tenant:
-    def __init__(self, terms):
-        self.terms, self.jobs, self.submitted, self.used = terms, {}, 0, 0
-        self.free, self.held, self.spent = terms.quanta, 0, 0
+    def __init__(self, terms, purse):
+        self.terms, self.purse, self.jobs, self.submitted, self.used = terms, purse, {}, 0, 0
 
     def rest(self):
         """Entries that are neither used nor kept for a turn that is out."""
@@ -201,10 +221,10 @@ class Tenant:
         return self.jobs[seq]
 
     def pay(self, quanta):
-        if quanta > self.free:
-            raise No(f"short {self.free}")
-        self.free -= quanta
-        self.held += quanta
+        if quanta > self.purse.free:
+            raise No(f"short {self.purse.free}")
+        self.purse.free -= quanta
+        self.purse.held += quanta
 
     def submit(self, project, kind, quanta):
         self.enter()
@@ -256,8 +276,8 @@ class Tenant:
 
     def end(self, job, phase):
         job.phase = phase
-        self.free += job.left
-        self.held -= job.left
+        self.purse.free += job.left
+        self.purse.held -= job.left
         job.left = 0
 
     def forget(self, seq):
@@ -269,7 +289,8 @@ class Tenant:
 
     def ledger(self):
         self.enter()
-        return f"ledger granted {self.terms.quanta} free {self.free} held {self.held} spent {self.spent}"
+        p = self.purse
+        return f"ledger granted {p.granted} free {p.free} held {p.held} spent {p.spent}"
 
     def take(self, seq, slice_):
         if seq not in self.jobs or self.jobs[seq].phase != "waiting" or not 1 <= slice_ <= 1000000 or self.rest() < 2:
@@ -288,8 +309,8 @@ class Tenant:
         self.used += 1
         job.nodes += ran
         job.left -= ran
-        self.held -= ran
-        self.spent += ran
+        self.purse.held -= ran
+        self.purse.spent += ran
         if job.phase == "leaving":
             self.end(job, "cancelled")
         elif job.search.over:
@@ -362,7 +383,8 @@ class Farm:
     are answered as lines that are not known, where the tenant is."""
 
     def __init__(self, terms, nodes=10 ** 9, takes=True):
-        self.tenants = {t.name: Tenant(t) for t in terms}
+        purses = purses_of(terms)
+        self.tenants = {t.name: Tenant(t, purses[t.name]) for t in terms}
         self.nodes, self.takes, self.turns = nodes, takes, {}
         self.refused = self.doubtful = None
 

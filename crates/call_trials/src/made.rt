@@ -53,7 +53,7 @@ impl Purse {
     fn lease(&mut self) -> Result<Lease, AllocError>
         ensures { IfOk result IsEmpty }
     {
-        self.till.lease(&mut self.desk)
+        self.till.lease(&mut self.desk, 0)
     }
 
     /// The words POOL, SPENT and GRANTED.
@@ -72,6 +72,7 @@ pub(crate) fn config_of(alloc: Global, slice: u64) -> Result<Config, Fail> {
         quanta: 100,
         jobs: 2,
         entries: 100,
+        purse: None,
     })?;
     Ok(Config::new(Sequence::from(lines), 2, slice).ok_or("within the limits")?)
 }

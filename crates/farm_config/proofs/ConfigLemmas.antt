@@ -1,18 +1,18 @@
 -- What is written has no fault exactly where it is a configuration.
-use Rattle.std.proofs.Common.{◌≡◌, ℕ, ◌+◌, Bool, true, false, not, ◌&&◌, ◌||◌, cond, nat_le, List, [], ◌∷◌, ◌++◌, length, take, Option, Some, None, is_none, option_map, Ok, refl, sym, ap, ◌∙◌, arith, append_assoc, length-append}
+use Rattle.std.proofs.Common.{◌≡◌, ℕ, ◌+◌, Bool, true, false, not, ◌&&◌, ◌||◌, cond, nat_le, List, [], ◌∷◌, ◌++◌, length, take, Option, Some, None, is_none, option_map, Ok, Err, refl, sym, ap, ◌∙◌, arith, append_assoc, length-append}
 use Rattle.std.specs.List.{find, list_all, flat_map, enumerate_from}
 use Rattle.std.specs.Option.{option_or}
 use Rattle.std.proofs.lemmas.Bool.{and_parts}
 use Rattle.std.proofs.lemmas.Bool.Decides.{nat_tests}
 use Rattle.std.proofs.lemmas.List.{take_at}
-use Rattle.farm_core.specs.Name.{is_name}
-use Rattle.farm_core.specs.Config.{ConfigData, is_within, are_terms, same_bytes, has_name, are_distinct, is_config}
+use Rattle.farm_core.specs.Name.{same_bytes}
+use Rattle.farm_core.specs.Config.{ConfigData, is_within, are_terms, has_name, are_distinct, are_purses, is_config}
 use Rattle.farm_core.specs.declared.config.TenantLine.{TenantLine}
 use Rattle.farm_config.specs.declared.fault.Key.{Key}
-use Rattle.farm_config.specs.declared.fault.Key.TheVariants.{Quanta, Jobs, Entries, Workers, Slice}
+use Rattle.farm_config.specs.declared.fault.Key.TheVariants.{Quanta, Jobs, Entries, Workers, Slice, Purse}
 use Rattle.farm_config.specs.declared.fault.ConfigFault.{ConfigFault}
 use Rattle.farm_config.specs.declared.fault.ConfigFault.TheVariants.{Tenants, Name, Range}
-use Rattle.farm_config.specs.Config.{is_misnamed, first_misnamed, is_out, terms_of, all_terms, first_out, count_fault, first_fault, is_well_named, unless}
+use Rattle.farm_config.specs.Config.{is_misnamed, first_misnamed, is_out, terms_of, all_terms, first_out, count_fault, fault_before_purses, purse_fault, first_fault, is_well_named, unless, judged}
 
 -- ---- an option with no value
 
@@ -100,7 +100,7 @@ names_from earlier (line ∷ later) =
     ≡ (list_all is_well_named later && (are_distinct later && (are_apart earlier later && not (has_name line.name later))))
     = rw (all, count, apart_push earlier line later) at rest in
     rw (none_cond (is_misnamed (earlier ++ line ∷ later) (length earlier, line)) (length earlier, line) (find (is_misnamed (earlier ++ line ∷ later)) (enumerate_from (length earlier + 1) later)), tail, before, apart_cons earlier line later)
-    (name_step (is_name line.name) (has_name line.name earlier) (list_all is_well_named later) (are_distinct later) (are_apart earlier later) (has_name line.name later))
+    (name_step (is_well_named line) (has_name line.name earlier) (list_all is_well_named later) (are_distinct later) (are_apart earlier later) (has_name line.name later))
 
 and_true : (b : Bool) → (b && true) ≡ b
 and_true true = refl
@@ -153,9 +153,14 @@ whole_step true true false true a b = refl
 whole_step true true true false a b = refl
 whole_step true true true true a b = refl
 
-pub fault_none : (config : ConfigData) → is_none (first_fault config) ≡ (list_all is_well_named config.tenants && is_config config)
-unfolding is_config
-fault_none config =
+-- a configuration but for its purses
+abbrev is_config_but : ConfigData → Bool
+is_config_but config =
+    (((is_within 1 64 (length config.tenants) && list_all are_terms config.tenants) && are_distinct config.tenants) && is_within 1 16 config.workers)
+    && is_within 1 1000000 config.slice
+
+before_none : (config : ConfigData) → is_none (fault_before_purses config) ≡ (list_all is_well_named config.tenants && is_config_but config)
+before_none config =
     let lines = config.tenants in
     let named = first_misnamed lines in
     let last : List (Key × ℕ) = (Workers, config.workers) ∷ (Slice, config.slice) ∷ [] in
@@ -175,18 +180,69 @@ fault_none config =
     (whole_step count (list_all is_well_named lines) (are_distinct lines) (list_all are_terms lines)
     (is_within 1 16 config.workers) (is_within 1 1000000 config.slice))
 
-none_is : {X : Type 0} (o : Option X) → is_none o ≡ true → o ≡ None
-none_is None h = refl
-none_is (Some x) h = absurd (cc)
+-- f: the tenants are different and within range; p: so are their purses; a and b: so are the workers and the slice
+purse_step : (f p a b : Bool) → (((f && p) && a) && b) ≡ (((f && a) && b) && p)
+purse_step false p a b = refl
+purse_step true false false b = refl
+purse_step true false true false = refl
+purse_step true false true true = refl
+purse_step true true false b = refl
+purse_step true true true false = refl
+purse_step true true true true = refl
+
+purses_last : (config : ConfigData) → is_config config ≡ (is_config_but config && are_purses config.tenants)
+unfolding is_config
+purses_last config =
+    purse_step ((is_within 1 64 (length config.tenants) && list_all are_terms config.tenants) && are_distinct config.tenants)
+    (are_purses config.tenants) (is_within 1 16 config.workers) (is_within 1 1000000 config.slice)
+
+pub fault_none : (config : ConfigData) → is_none (first_fault config) ≡ (list_all is_well_named config.tenants && is_config config)
+fault_none config =
+    rw (
+      none_or (fault_before_purses config) (purse_fault config.tenants),
+      before_none config,
+      count_none (are_purses config.tenants) (Range Purse),
+      purses_last config,
+    )
+    (sym (push_step (list_all is_well_named config.tenants) (is_config_but config) (are_purses config.tenants)))
 
 unless_ok : {X : Type 0} (o : Option ConfigFault) (x y : X) → unless o x ≡ Ok y → (o ≡ None) × (x ≡ y)
 unless_ok None x y h = (refl, cc)
 unless_ok (Some fault) x y h = absurd (cc)
 
--- lines that were judged are those of a configuration
-pub made : (config : ConfigData) (lines : List TenantLine) →
-    unless (first_fault config) config.tenants ≡ Ok lines → (config.tenants ≡ lines) × (is_config config ≡ true)
-made config lines judged =
-    let parts = unless_ok (first_fault config) config.tenants lines judged in
-    let all : (list_all is_well_named config.tenants && is_config config) ≡ true = sym (fault_none config) ∙ ap is_none parts.0 in
-    (parts.1, (and_parts (list_all is_well_named config.tenants) (is_config config) all).1)
+unless_cond : {X : Type 0} (b : Bool) (fault : ConfigFault) (x : X) → unless (cond b None (Some fault)) x ≡ cond b (Ok x) (Err fault)
+unless_cond true fault x = refl
+unless_cond false fault x = refl
+
+-- lines that were judged are those that are written,
+pub lines_are : (config : ConfigData) (lines : List TenantLine) → unless (fault_before_purses config) config.tenants ≡ Ok lines → config.tenants ≡ lines
+lines_are config lines before = (unless_ok (fault_before_purses config) config.tenants lines before).1
+
+-- and then a fault is that of the purses
+left : (config : ConfigData) (lines : List TenantLine) → unless (fault_before_purses config) config.tenants ≡ Ok lines
+    → judged config ≡ cond (is_config config) (Ok config) (Err (Range Purse))
+left config lines before =
+    let none = (unless_ok (fault_before_purses config) config.tenants lines before).0 in
+    let all : (list_all is_well_named config.tenants && is_config_but config) ≡ true = sym (before_none config) ∙ ap is_none none in
+    let kept = (and_parts (list_all is_well_named config.tenants) (is_config_but config) all).1 in
+    let same : is_config config ≡ are_purses config.tenants = purses_last config ∙ ap (λ b. b && are_purses config.tenants) kept in
+    let fault : first_fault config ≡ purse_fault config.tenants = ap (λ o. option_or o (purse_fault config.tenants)) none in
+    ap (λ o. unless o config) fault
+    ∙ unless_cond (are_purses config.tenants) (Range Purse) config
+    ∙ ap (λ b. cond b (Ok config) (Err (Range Purse))) (sym same)
+
+some_ok : (b : Bool) (fault : ConfigFault) (x y : ConfigData) → Some y ≡ cond b (Some x) None → cond b (Ok x) (Err fault) ≡ Ok y
+some_ok true fault x y h = cc
+some_ok false fault x y h = absurd (cc)
+
+none_err : (b : Bool) (fault : ConfigFault) (x : ConfigData) → None ≡ cond b (Some x) None → cond b (Ok x) (Err fault) ≡ Err fault
+none_err true fault x h = absurd (cc)
+none_err false fault x h = refl
+
+pub kept : (config : ConfigData) (lines : List TenantLine) (made : ConfigData) → unless (fault_before_purses config) config.tenants ≡ Ok lines
+    → Some made ≡ cond (is_config config) (Some config) None → judged config ≡ Ok made
+kept config lines made before h = left config lines before ∙ some_ok (is_config config) (Range Purse) config made h
+
+pub refused : (config : ConfigData) (lines : List TenantLine) → unless (fault_before_purses config) config.tenants ≡ Ok lines
+    → None ≡ cond (is_config config) (Some config) None → judged config ≡ Err (Range Purse)
+refused config lines before h = left config lines before ∙ none_err (is_config config) (Range Purse) config h

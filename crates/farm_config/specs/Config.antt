@@ -1,15 +1,15 @@
 -- The configuration that a JSON text is (RFC 8259), and why a text is none.
-use Rattle.std.specs.Prelude.{◌≡◌, ℕ, Bool, not, ◌&&◌, ◌||◌, List, [], ◌∷◌, ◌++◌, length, take, nat_le, is_none, if◌then◌else◌, Option, Some, None, option_map, option_and_then, Result, Ok, Err, codes, IsUtf8}
+use Rattle.std.specs.Prelude.{◌≡◌, ℕ, Bool, true, not, ◌&&◌, ◌||◌, List, [], ◌∷◌, ◌++◌, length, take, nat_le, is_none, if◌then◌else◌, Option, Some, None, option_map, option_and_then, Result, Ok, Err, codes, IsUtf8}
 use Rattle.std.specs.List.{find, list_all, flat_map, enumerate_from}
 use Rattle.std.specs.Option.{option_or}
 use Rattle.serde_json.specs.Data.{Data, Items, no_items, item}
 use Rattle.serde_json.specs.Read.{read}
 use Rattle.serde_json.specs.Find.{get, as_number, as_u64, as_str, as_array}
 use Rattle.farm_core.specs.Name.{is_name}
-use Rattle.farm_core.specs.Config.{ConfigData, is_within, has_name, is_config}
+use Rattle.farm_core.specs.Config.{ConfigData, is_within, has_name, are_purses, is_config}
 use Rattle.farm_core.specs.declared.config.TenantLine.{TenantLine}
 use Rattle.farm_config.specs.declared.fault.Key.{Key}
-use Rattle.farm_config.specs.declared.fault.Key.TheVariants.{Quanta, Jobs, Entries, Workers, Slice}
+use Rattle.farm_config.specs.declared.fault.Key.TheVariants.{Quanta, Jobs, Entries, Workers, Slice, Purse}
 use Rattle.farm_config.specs.declared.fault.ConfigFault.{ConfigFault}
 use Rattle.farm_config.specs.declared.fault.ConfigFault.TheVariants.{Json, Shape, Tenants, Name, Range, NoMemory}
 
@@ -35,6 +35,11 @@ abbrev pub natural_or : ℕ → Option Data → Option ℕ
 natural_or missing None = Some missing
 natural_or missing (Some value) = natural value
 
+-- a text at a key that may be missing
+abbrev pub text_if_any : Option Data → Option (Option (List ℕ))
+text_if_any None = Some None
+text_if_any (Some value) = option_map Some (as_str value)
+
 -- a tenant's line as it is written
 abbrev pub line_of : Data → Option TenantLine
 line_of value = do
@@ -42,7 +47,8 @@ line_of value = do
   quanta ← natural_at (codes "quanta") value
   jobs ← natural_at (codes "jobs") value
   entries ← natural_at (codes "entries") value
-  Some (record { name = name; quanta = quanta; jobs = jobs; entries = entries })
+  purse ← text_if_any (get (codes "purse") value)
+  Some (record { name = name; quanta = quanta; jobs = jobs; entries = entries; purse = purse })
 
 abbrev pub lines_of : Items → Option (List TenantLine)
 lines_of no_items = Some []
@@ -66,20 +72,29 @@ written value = do
 
 -- ---- the faults of what is written
 
--- the first tenant, by its place, whose name is ill formed or is that of one before it
+-- a purse that is there is a name
+abbrev pub is_name_if_any : Option (List ℕ) → Bool
+is_name_if_any None = true
+is_name_if_any (Some purse) = is_name purse
+
+abbrev pub is_well_named : TenantLine → Bool
+is_well_named line = is_name line.name && is_name_if_any line.purse
+
+-- the first tenant, by its place, whose name or purse is ill formed, or whose name is that of one before it
 abbrev pub is_misnamed : List TenantLine → ℕ × TenantLine → Bool
-is_misnamed lines tenant = not (is_name tenant.1.name) || has_name tenant.1.name (take tenant.0 lines)
+is_misnamed lines tenant = not (is_well_named tenant.1) || has_name tenant.1.name (take tenant.0 lines)
 
 abbrev pub first_misnamed : List TenantLine → Option ℕ
 first_misnamed lines = option_map (λ tenant. tenant.0) (find (is_misnamed lines) (enumerate_from 0 lines))
 
--- the numbers that a key may have
+-- the numbers that a key may have, and a purse's members' quanta together
 abbrev pub allows : Key → ℕ → Bool
 allows Quanta n = nat_le n 1000000000000
 allows Jobs n = is_within 1 1000 n
 allows Entries n = is_within 1 1000000 n
 allows Workers n = is_within 1 16 n
 allows Slice n = is_within 1 1000000 n
+allows Purse n = nat_le n 1000000000000
 
 -- each key with its number, in the order in which they are judged
 abbrev pub terms_of : TenantLine → List (Key × ℕ)
@@ -97,16 +112,19 @@ first_out terms = option_map (λ term. term.0) (find is_out terms)
 abbrev pub count_fault : List TenantLine → Option ConfigFault
 count_fault lines = if is_within 1 64 (length lines) then None else Some Tenants
 
-abbrev pub first_fault : ConfigData → Option ConfigFault
-first_fault config =
+abbrev pub fault_before_purses : ConfigData → Option ConfigFault
+fault_before_purses config =
     option_or (count_fault config.tenants)
     (option_or (option_map Name (first_misnamed config.tenants))
     (option_map Range (first_out (all_terms config))))
 
--- what is written has no fault exactly where it keeps the farm's limits and each name is well formed
-abbrev pub is_well_named : TenantLine → Bool
-is_well_named line = is_name line.name
+abbrev pub purse_fault : List TenantLine → Option ConfigFault
+purse_fault lines = if are_purses lines then None else Some (Range Purse)
 
+abbrev pub first_fault : ConfigData → Option ConfigFault
+first_fault config = option_or (fault_before_purses config) (purse_fault config.tenants)
+
+-- what is written has no fault exactly where it keeps the farm's limits and each name is well formed
 abbrev pub FaultsAreWhatIsNoConfiguration : Type 0
 FaultsAreWhatIsNoConfiguration = (config : ConfigData) →
     is_none (first_fault config) ≡ (list_all is_well_named config.tenants && is_config config)

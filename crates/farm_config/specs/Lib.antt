@@ -1,2 +1,3 @@
 pub mod ConfigText
 pub mod Config
+pub mod Place

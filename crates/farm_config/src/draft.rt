@@ -1,15 +1,15 @@
 //! The shape of a configuration: which keys have to be there, and what kinds of values they have.
-ghost use Rattle.std.specs.Prelude.{◌≡◌, map};
+ghost use Rattle.std.specs.Prelude.{◌≡◌, map, option_map};
 ghost use Rattle.serde_json.specs.View.{view, items_of};
 ghost use Rattle.serde_json.specs.Find.{get};
-ghost use Rattle.farm_config.specs.Config.{natural_at, natural_or, line_of, lines_of, written, shaped, Gives};
+ghost use Rattle.farm_config.specs.Config.{natural_at, natural_or, text_if_any, line_of, lines_of, written, shaped, Gives};
 
 use crate::fault::ConfigFault;
 use serde_json::Value;
 use std::alloc::Global;
 use std::marker::Model;
 
-/// A tenant's line as it is written: its name may be ill formed, and its numbers out of range.
+/// A tenant's line as it is written: its name and its purse may be ill formed, and its numbers out of range.
 #[derive(Debug, Drop)]
 pub struct LineDraft<'a> {
     /// The bytes of its name.
@@ -20,14 +20,23 @@ pub struct LineDraft<'a> {
     pub jobs: u64,
     /// Its entries.
     pub entries: u64,
+    /// The bytes of its purse's name, where it names one.
+    pub purse: Option<&'a [u8]>,
 }
 
 impl<'a> Model for LineDraft<'a> {
+    ghost use Rattle.std.specs.Prelude.{option_map};
     ghost use Rattle.farm_core.specs.declared.config.TenantLine.{TenantLine};
 
     ghost Value = { TenantLine };
 
-    ghost view = { λ d. record { name = d.name.now; quanta = d.quanta; jobs = d.jobs; entries = d.entries } };
+    ghost view = { λ d. record {
+      name = d.name.now;
+      quanta = d.quanta;
+      jobs = d.jobs;
+      entries = d.entries;
+      purse = option_map (λ purse. purse.now) d.purse;
+    } };
 }
 
 /// A configuration as it is written.
@@ -66,6 +75,16 @@ fn natural_or(value: &Value, key: &str, missing: u64) -> Option<u64>
     }
 }
 
+/// The text at a key that may be missing, or `None` where its value is no string.
+fn text_if_any<'a>(value: &'a Value, key: &str) -> Option<Option<&'a [u8]>>
+    ensures { option_map (λ text. option_map (λ bytes. bytes.now) text) result ≡ text_if_any (get key.now (view value.now)) }
+{
+    match value.get(key) {
+        Some(text) => Some(Some(text.as_str()?.as_bytes())),
+        None => Some(None),
+    }
+}
+
 /// The line of a tenant, or `None` where a key is missing or a value is not of its kind.
 fn line_of(value: &Value) -> Option<LineDraft<'_>>
     ensures { result ≡ line_of (view value.now) }
@@ -74,11 +93,13 @@ fn line_of(value: &Value) -> Option<LineDraft<'_>>
     let quanta = natural_at(value, "quanta")?;
     let jobs = natural_at(value, "jobs")?;
     let entries = natural_at(value, "entries")?;
+    let purse = text_if_any(value, "purse")?;
     Some(LineDraft {
         name: name.as_bytes(),
         quanta,
         jobs,
         entries,
+        purse,
     })
 }
 

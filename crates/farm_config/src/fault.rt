@@ -6,7 +6,7 @@ ghost use Rattle.farm_config.specs.ConfigText.{key_text};
 use std::fmt;
 use thiserror::Error;
 
-/// A number of the configuration, named by its key.
+/// A number of the configuration, named by its key. That of a purse is the sum of its tenants' quanta.
 #[derive(Clone, Copy, Debug, PartialEq, Eq)]
 pub enum Key {
     /// A tenant's quanta: at most 10^12.
@@ -19,6 +19,8 @@ pub enum Key {
     Workers,
     /// How many nodes a worker's turn has at most: 1 to 1,000,000.
     Slice,
+    /// How many quanta the tenants of one purse have together: at most 10^12.
+    Purse,
 }
 
 impl Key {
@@ -32,6 +34,7 @@ impl Key {
             Key::Entries => (1..=1_000_000).contains(&number),
             Key::Workers => (1..=16).contains(&number),
             Key::Slice => (1..=1_000_000).contains(&number),
+            Key::Purse => number <= 1_000_000_000_000,
         }
     }
 }
@@ -47,6 +50,7 @@ impl fmt::Display for Key {
             Key::Entries => write!(f, "entries"),
             Key::Workers => write!(f, "workers"),
             Key::Slice => write!(f, "slice"),
+            Key::Purse => write!(f, "purse"),
         }
     }
 }
@@ -59,18 +63,19 @@ pub enum ConfigFault {
     #[error("Json")]
     Json,
     /// The value is no object, a key that must be there is missing, or a value is not of its kind: `tenants` a list of
-    /// objects, `name` a string, and each number a natural one below 2^64 in digits alone.
+    /// objects, `name` a string, `purse` one too where it is there, and each number a natural one below 2^64 in digits
+    /// alone.
     #[error("Shape")]
     Shape,
     /// There are not 1 to 64 tenants.
     #[error("Tenants")]
     Tenants,
-    /// The name of the tenant at this place, counted from 0, is ill formed or is that of one before it. It is the first such
-    /// tenant.
+    /// The name of the tenant at this place, counted from 0, is ill formed or is that of one before it, or the name of its
+    /// purse is ill formed. It is the first such tenant.
     #[error("Name({0})")]
     Name(usize),
     /// The number at this key is out of range. It is the first such number: tenant by tenant the quanta, the jobs and the
-    /// entries, then the workers, then the slice.
+    /// entries, then the workers, then the slice, then the quanta of a purse's tenants together.
     #[error("Range({0})")]
     Range(Key),
     /// There was no memory for what was read.

@@ -1,8 +1,8 @@
 //! The faults of a configuration as it is written.
-ghost use Rattle.std.specs.Prelude.{◌≡◌, option_map};
+ghost use Rattle.std.specs.Prelude.{◌≡◌, ◌&&◌, not, option_map, if◌then◌else◌, Some, None};
 ghost use Rattle.farm_core.specs.Config.{has_name};
 ghost use Rattle.farm_config.specs.declared.fault.ConfigFault.TheVariants.{Name as misnamed};
-ghost use Rattle.farm_config.specs.Config.{first_misnamed, terms_of, all_terms, first_out, first_fault, judged, unless, Gives};
+ghost use Rattle.farm_config.specs.Config.{first_misnamed, terms_of, all_terms, first_out, is_name_if_any, is_well_named, fault_before_purses, judged, unless, Gives};
 
 use crate::draft::{Draft, LineDraft};
 use crate::fault::{ConfigFault, Key};
@@ -22,21 +22,42 @@ fn has_name(name: &Name, lines: &[TenantLine]) -> bool
     false
 }
 
-/// The lines of the tenants, or the first whose name is ill formed or is that of one before it.
+/// The purse that a tenant's line names, where it names one, or `None` where that name is ill formed.
+fn purse_of(draft: &LineDraft<'_>) -> Option<Option<Name>>
+    ensures { result ≡ (if is_name_if_any draft.now.purse then Some draft.now.purse else None) }
+{
+    match draft.purse {
+        Some(purse) => Some(Some(Name::new(purse)?)),
+        None => Some(None),
+    }
+}
+
+/// The line of a tenant after these, or `None` where its name or its purse is ill formed, or one of these has its name.
+fn named_line(draft: &LineDraft<'_>, earlier: &[TenantLine]) -> Option<TenantLine>
+    ensures { result ≡ (if is_well_named draft.now && not (has_name draft.now.name earlier.now) then Some draft.now else None) }
+{
+    let name = Name::new(draft.name)?;
+    let purse = purse_of(draft)?;
+    if has_name(&name, earlier) {
+        return None;
+    }
+    Some(TenantLine {
+        name,
+        quanta: draft.quanta,
+        jobs: draft.jobs,
+        entries: draft.entries,
+        purse,
+    })
+}
+
+/// The lines of the tenants, or the first whose name or purse is ill formed, or whose name is that of one before it.
 fn named(alloc: Global, drafts: &[LineDraft<'_>]) -> Result<Vec<TenantLine>, ConfigFault>
     ensures { Gives (λ lines. lines.items) result (unless (option_map misnamed (first_misnamed drafts.now)) drafts.now) }
 {
     let mut lines = Vec::new(alloc);
     for (index, draft) in drafts.iter().enumerate() {
-        let name = Name::new(draft.name).filter(|name| !has_name(name, &lines));
-        let Some(name) = name else {
+        let Some(line) = named_line(draft, &lines) else {
             return Err(ConfigFault::Name(index));
-        };
-        let line = TenantLine {
-            name,
-            quanta: draft.quanta,
-            jobs: draft.jobs,
-            entries: draft.entries,
         };
         if lines.push(line).is_err() {
             return Err(ConfigFault::NoMemory);
@@ -78,9 +99,9 @@ fn first_out(draft: &Draft<'_>) -> Option<Key>
     }
 }
 
-/// The tenants' lines of a configuration, or its first fault.
+/// The tenants' lines of a configuration, or its first fault but for the purses.
 fn judged_lines(alloc: Global, draft: &Draft<'_>) -> Result<Vec<TenantLine>, ConfigFault>
-    ensures { Gives (λ lines. lines.items) result (unless (first_fault draft.now) draft.now.tenants) }
+    ensures { Gives (λ lines. lines.items) result (unless (fault_before_purses draft.now) draft.now.tenants) }
 {
     if !(1..=64).contains(&draft.tenants.len()) {
         return Err(ConfigFault::Tenants);
@@ -99,6 +120,7 @@ pub fn config_of(alloc: Global, draft: &Draft<'_>) -> Result<Config, ConfigFault
     let lines = judged_lines(alloc, draft)?;
     match Config::new(Sequence::from(lines), draft.workers, draft.slice) {
         Some(config) => Ok(config),
-        None => unreachable!(),
+        // All but the purses was judged.
+        None => Err(ConfigFault::Range(Key::Purse)),
     }
 }

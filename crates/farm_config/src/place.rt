@@ -1,10 +1,13 @@
 //! Where the fault of a configuration lies, and what is wanted there, for a person who mends it.
-ghost use Rattle.std.specs.Prelude.{◌≡◌, ℕ, IfSome};
+ghost use Rattle.std.specs.Prelude.{◌≡◌, ℕ, Some, IfSome};
 ghost use Rattle.farm_config.specs.declared.fault.ConfigFault.TheVariants.{Name as misnamed};
+ghost use Rattle.farm_config.specs.Place.{part_to_blame, to_blame};
 
-use crate::draft::draft_of;
+use crate::draft::{LineDraft, draft_of};
 use crate::fault::{ConfigFault, Key};
 use crate::judge::first_out_of_line;
+use crate::read::value_of;
+use farm_core::Name;
 use serde_json::Value;
 use std::alloc::Global;
 use std::fmt;
@@ -18,6 +21,8 @@ pub enum Part {
     Tenants,
     /// A tenant's name.
     Name,
+    /// The name of a tenant's purse.
+    Purse,
     /// A number.
     Number(Key),
 }
@@ -40,6 +45,7 @@ impl fmt::Display for Part {
             Part::Whole => write!(f, "the whole"),
             Part::Tenants => write!(f, "tenants"),
             Part::Name => write!(f, "name"),
+            Part::Purse => write!(f, "purse"),
             Part::Number(key) => write!(f, "{key}"),
         }
     }
@@ -62,7 +68,7 @@ fn kind_of(part: Part) -> &'static str {
     match part {
         Part::Whole => "an object is wanted",
         Part::Tenants => "a list is wanted",
-        Part::Name => "a string is wanted",
+        Part::Name | Part::Purse => "a string is wanted",
         Part::Number(_) => "a natural number below 2^64 is wanted, in digits alone",
     }
 }
@@ -75,6 +81,7 @@ fn range_of(key: Key) -> &'static str {
         Key::Entries => "1 to 1000000 are allowed",
         Key::Workers => "1 to 16 are allowed",
         Key::Slice => "1 to 1000000 are allowed",
+        Key::Purse => "0 to 1000000000000 quanta are allowed for its tenants together",
     }
 }
 
@@ -84,6 +91,9 @@ impl Place {
         match (fault, self) {
             (ConfigFault::Shape, Place::Whole(part) | Place::Tenant(_, part)) => kind_of(part),
             (ConfigFault::Tenants, _) => "1 to 64 are allowed",
+            (ConfigFault::Name(_), Place::Tenant(_, Part::Purse)) => {
+                "1 to 32 of a-z, 0-9, _ and - are allowed, a letter first"
+            }
             (ConfigFault::Name(_), _) => {
                 "1 to 32 of a-z, 0-9, _ and - are allowed, a letter first, and no name twice"
             }
@@ -111,7 +121,10 @@ fn misfit_of(tenant: &Value) -> Option<Part> {
             return Some(Part::Number(number));
         }
     }
-    None
+    match tenant.get("purse") {
+        Some(purse) if purse.as_str().is_none() => Some(Part::Purse),
+        _ => None,
+    }
 }
 
 /// Where a value has not the shape of a configuration.
@@ -133,26 +146,93 @@ fn misfit(value: &Value) -> Place {
     }
 }
 
-/// Where the first number at this key stands that is out of range.
-fn out_of_range(alloc: Global, value: &Value, key: Key) -> Place {
-    let number = Part::Number(key);
-    let Ok(draft) = draft_of(alloc, value) else {
-        return Place::Whole(number);
-    };
-    for (index, line) in draft.tenants.iter().enumerate() {
-        if first_out_of_line(line) == Some(key) {
-            return Place::Tenant(index, number);
+/// How many quanta the tenants of this purse have together, or `u64::MAX` where that is more.
+fn granted_to(purse: &[u8], lines: &[LineDraft<'_>]) -> u64 {
+    let mut granted = 0u64;
+    for line in lines {
+        if let Some(other) = line.purse {
+            if other == purse {
+                granted = granted.saturating_add(line.quanta);
+            }
         }
     }
-    Place::Whole(number)
+    granted
+}
+
+/// The first tenant whose purse has too many quanta.
+fn overfull(lines: &[LineDraft<'_>]) -> Option<usize> {
+    for (index, line) in lines.iter().enumerate() {
+        if let Some(purse) = line.purse {
+            if !Key::Purse.allows(granted_to(purse, lines)) {
+                return Some(index);
+            }
+        }
+    }
+    None
+}
+
+/// The first tenant with a number at this key that is out of range.
+fn first_over(lines: &[LineDraft<'_>], key: Key) -> Option<usize> {
+    for (index, line) in lines.iter().enumerate() {
+        if first_out_of_line(line) == Some(key) {
+            return Some(index);
+        }
+    }
+    None
+}
+
+/// Where the first number at this key stands that is out of range: of a purse, where its first tenant names it.
+fn out_of_range(alloc: Global, value: &Value, key: Key) -> Place {
+    let part = match key {
+        Key::Purse => Part::Purse,
+        _ => Part::Number(key),
+    };
+    let Ok(draft) = draft_of(alloc, value) else {
+        return Place::Whole(part);
+    };
+    let tenant = match key {
+        Key::Purse => overfull(&draft.tenants),
+        _ => first_over(&draft.tenants, key),
+    };
+    match tenant {
+        Some(index) => Place::Tenant(index, part),
+        None => Place::Whole(part),
+    }
+}
+
+/// What is to blame where this tenant is misnamed: its purse where that is ill formed, and otherwise its name.
+fn part_to_blame(line: &LineDraft<'_>) -> Part
+    ensures { result ≡ part_to_blame line.now }
+{
+    match line.purse {
+        Some(purse) if Name::new(purse).is_none() => Part::Purse,
+        _ => Part::Name,
+    }
+}
+
+/// Where the tenant at this place of the list is misnamed. It is not known where memory ran out.
+fn misnamed_place(alloc: Global, bytes: &[u8], index: usize) -> Option<Place>
+    ensures { IfSome result (λ place. (part : Part) × (to_blame bytes.now index ≡ Some part) × (place ≡ Place.Tenant index part)) }
+{
+    let Ok(value) = value_of(alloc, bytes) else {
+        return None;
+    };
+    let Ok(draft) = draft_of(alloc, &value) else {
+        return None;
+    };
+    match draft.tenants.get(index) {
+        Some(line) => Some(Place::Tenant(index, part_to_blame(line))),
+        None => None,
+    }
 }
 
 /// Where the fault of these bytes lies. It is not known where memory ran out.
 pub fn place_of(alloc: Global, bytes: &[u8], fault: ConfigFault) -> Option<Place>
-    ensures { (index : ℕ) → fault ≡ misnamed index → IfSome result (λ place. place ≡ Place.Tenant index Part.Name) }
+    ensures { (index : ℕ) → fault ≡ misnamed index →
+        IfSome result (λ place. (part : Part) × (to_blame bytes.now index ≡ Some part) × (place ≡ Place.Tenant index part)) }
 {
     if let ConfigFault::Name(index) = fault {
-        return Some(Place::Tenant(index, Part::Name));
+        return misnamed_place(alloc, bytes, index);
     }
     match (Value::from_slice(alloc, bytes), fault) {
         (Ok(value), ConfigFault::Shape) => Some(misfit(&value)),

@@ -12,7 +12,7 @@ use serde_json::{Category, Value};
 use std::alloc::Global;
 
 /// The value that the bytes are the JSON text of.
-fn value_of(alloc: Global, bytes: &[u8]) -> Result<Value, ConfigFault>
+pub(crate) fn value_of(alloc: Global, bytes: &[u8]) -> Result<Value, ConfigFault>
     ensures ok { IfOk result (λ value. IsUtf8 bytes.now × (read bytes.now ≡ Some (view value))) }
     ensures err { IfErr result (λ fault. (fault ≡ ConfigFault.NoMemory)
         ⊎ ((fault ≡ ConfigFault.Json) × (IsUtf8 bytes.now → read bytes.now ≡ None))) }
@@ -33,8 +33,8 @@ fn value_of(alloc: Global, bytes: &[u8]) -> Result<Value, ConfigFault>
 /// `ConfigFault`'s variants. Only want of memory, `NoMemory`, can come in place of another answer.
 ///
 /// The text is an object. `tenants` is a list of objects with `name`, a string, and `quanta`, `jobs` and `entries`, natural
-/// numbers; `workers` may be missing and is then 2, `slice` may be missing and is then 1,000. Other keys are ignored. Where a
-/// key stands twice in an object, the last value counts.
+/// numbers, and `purse`, a string, where the tenant shares one; `workers` may be missing and is then 2, `slice` may be missing
+/// and is then 1,000. Other keys are ignored. Where a key stands twice in an object, the last value counts.
 pub fn read_config(alloc: Global, bytes: &[u8]) -> Result<Config, ConfigFault>
     ensures ok { IfOk result (λ config. Means bytes.now (Ok config)) }
     ensures err { IfErr result (λ fault. HasFault bytes.now fault) }

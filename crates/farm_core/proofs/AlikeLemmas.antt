@@ -1,8 +1,12 @@
--- What a tenant's gifts make of its jobs, once they are at rest.
-use Rattle.std.proofs.Common.{◌≡◌, ℕ, ◌+◌, ◌-◌, ◌<◌, ◌≤◌, List, [], ◌∷◌, ◌++◌, length, map, Bool, true, false, cond, ◌&&◌, ◌==◌, nat_le, nat_lt, Option, Some, None, refl, sym, ap, ◌∙◌, subst, arith, ⊎_elim, ◌⊎◌}
+-- What their gifts make of the jobs of a purse's members, once they are at rest.
+use Rattle.std.proofs.Common.{◌≡◌, ◌≢◌, ℕ, ◌+◌, ◌-◌, ◌<◌, ◌≤◌, List, [], ◌∷◌, ◌++◌, length, map, get_or, Bool, true, false, cond, ◌&&◌, ◌==◌, nat_le, nat_lt, Option, Some, None, refl, sym, ap, ◌∙◌, subst, arith, ⊎_elim, ◌⊎◌, eq-eqb}
 use Rattle.std.specs.Prelude.{option_map, ⊤}
-use Rattle.std.proofs.lemmas.Bool.{cond_both, cases_lt, and_parts, eqb-true}
+use Rattle.std.specs.List.{sum_by}
+use Rattle.std.proofs.lemmas.Bool.{cond_both, cond-true, cases_lt, cases_Bool, and_parts, both_ways, eqb-true}
 use Rattle.std.proofs.lemmas.Bool.Decides.{nat_tests}
+use Rattle.std.proofs.lemmas.List.{length-map, get_or-map}
+use Rattle.std.proofs.lemmas.List.Sums.{sum_by-cons, sum_by-set, get_or-le-sum_by}
+use mathlib.Core.List.{map-map}
 use Rattle.mrcpsp.specs.Numbers.{first_from}
 use Rattle.mrcpsp.specs.Schedule.{makespan}
 use Rattle.strategy.specs.Outcome.{best_after, is_closed, verdict_after}
@@ -16,12 +20,15 @@ use Rattle.farm_core.specs.declared.entry.Event.{Event}
 use Rattle.farm_core.specs.declared.entry.Event.TheVariants.{Submit, Fund, Status, Fetch, Cancel, Forget, Ledger, Take, Give}
 use Rattle.farm_core.specs.declared.reply.Reply.{Reply}
 use Rattle.farm_core.specs.declared.reply.Reply.TheVariants as reply
-use Rattle.farm_core.specs.Tenant.{Tenant, newcomer, book, held, free, find_job, put_job, drop_job, line_of}
-use Rattle.farm_core.specs.Step.{Replied, Sent, NoTurn, Step, step, has_room, is_amount, is_slice, unnoted, noted, changed, fresh_job, submitted, about, funded, fetched, cancelled_as, cancelled, forgotten, commanded, taken, may_have_run, gave}
-use Rattle.farm_core.specs.Config.{ConfigData}
-use Rattle.farm_core.specs.World.{World, Call, Leads, Run, opened, terms_in, view, own_events, after_alone}
-use Rattle.farm_core.specs.Need.{nodes_for, asked, asked_by, are_gifts, AreAtRest, EachEndsAlike}
-use Rattle.farm_core.proofs.AloneLemmas.{each_is_alone}
+use Rattle.farm_core.specs.Purses.{purse_of, members_of}
+use Rattle.farm_core.specs.Config.{ConfigData, purse_names, lines_of, granted_by}
+use Rattle.farm_core.specs.Tenant.{Tenant, Member, Purse, new_member, newcomers, held_by, no_member, seat, own_of, with_seat, book, held, free, find_job, put_job, drop_job, line_of}
+use Rattle.farm_core.specs.Step.{Answer, Replied, Sent, NoTurn, Step, step, has_room, is_amount, is_slice, unnoted, noted, changed, fresh_job, submitted, about, funded, fetched, cancelled_as, cancelled, forgotten, commanded, taken, may_have_run, gave}
+use Rattle.farm_core.specs.World.{World, Call, Steps, Leads, Run, opened, opened_purse, member, purse, view, purse_in, place_in}
+use Rattle.farm_core.specs.Need.{nodes_for, asked, asked_by, are_gifts, AreAtRest, members_in, AllMembers, HasRested, AreAlike, EachEndsAlike}
+use Rattle.farm_core.proofs.PlaceLemmas.{same_below}
+use Rattle.farm_core.proofs.SeatLemmas.{named, place_known, held_whole, own_seen, each_view_is_a_seat, same_book, purse_after, purse_stays}
+use Rattle.farm_core.proofs.AloneLemmas.{member_opened, purse_opened, config_opened}
 use Rattle.farm_core.proofs.NeedLemmas.{Unclosed, turn_of, first_none, first_is}
 
 -- what a job was made for, and the quanta that it was given
@@ -69,10 +76,11 @@ abbrev nodes_in : List JobData → ℕ
 nodes_in [] = 0
 nodes_in (job ∷ jobs) = job.nodes + nodes_in jobs
 
-record Stood (x : Gifts) (t : Tenant) : Type 0 where
+-- what the gifts have made of a tenant, the other members of whose purse have run k nodes
+record Stood (x : Gifts) (k : ℕ) (t : Tenant) : Type 0 where
   next : t.next ≡ x.next
   jobs : AreGiven x.all t.jobs
-  spent : t.spent ≡ nodes_in t.jobs
+  spent : t.spent ≡ nodes_in t.jobs + k
 
 nodes_put : (s : ℕ) (old new : JobData) (jobs : List JobData) → find_job s jobs ≡ Some old → nodes_in (put_job s new jobs) + old.nodes ≡ nodes_in jobs + new.nodes
 nodes_put s old new [] found = absurd (cc)
@@ -118,18 +126,18 @@ given_more s quanta job new (g ∷ gs) (other ∷ jobs) found one all =
     (more_at (other.seq == s) s quanta job new other g gs jobs found one all (λ f. given_more s quanta job new gs jobs f one all.1))
 
 -- what a call does to what stands, where it is accepted as a gift or not at all
-abbrev GoesOn : Gifts → Event → Step → Type 0
-GoesOn x e s = are_gifts (asked e s.answer) ≡ true → Stood (give_on x (asked e s.answer)) s.after
+abbrev GoesOn : Gifts → ℕ → Event → Step → Type 0
+GoesOn x k e s = are_gifts (asked e s.answer) ≡ true → Stood (give_on x (asked e s.answer)) k s.after
 
-used_more : (x : Gifts) (t : Tenant) (used : ℕ) → Stood x t → Stood x (record t { used = used })
-used_more x t used it = record { next = it.next; jobs = it.jobs; spent = it.spent }
+used_more : (x : Gifts) (k : ℕ) (t : Tenant) (used : ℕ) → Stood x k t → Stood x k (record t { used = used })
+used_more x k t used it = record { next = it.next; jobs = it.jobs; spent = it.spent }
 
 none_before : (plan : Plan) → Unclosed plan 0
 none_before plan j l = absurd (omega arith)
 
-submit_on : (x : Gifts) (t : Tenant) (plan : Plan) (quanta : ℕ) → Stood x t → GoesOn x (Submit plan quanta) (step t (Submit plan quanta))
+submit_on : (x : Gifts) (k : ℕ) (t : Tenant) (plan : Plan) (quanta : ℕ) → Stood x k t → GoesOn x k (Submit plan quanta) (step t (Submit plan quanta))
 unfolding submitted
-submit_on x t plan quanta it =
+submit_on x k t plan quanta it =
     let e : Event = Submit plan quanta in
     let job : JobData = fresh_job t plan quanta in
     let s1 : Step = record { answer = Replied (reply.Job t.next); after = record t { used = t.used + 1; next = t.next + 1; jobs = t.jobs ++ job ∷ [] } } in
@@ -138,14 +146,14 @@ submit_on x t plan quanta it =
     let s4 : Step = cond (is_amount quanta) s3 (noted t reply.NoAmount) in
     let gift : Gift = record { seq = x.next; plan = plan; given = quanta } in
     let stands : Stands gift job = record { seq = sym it.next; plan = refl; has = (omega arith, none_before plan) } in
-    cond_both (has_room 1 t) s4 (unnoted t (Replied reply.NoRoom)) (GoesOn x e)
-    (λ _. cond_both (is_amount quanta) s3 (noted t reply.NoAmount) (GoesOn x e)
-    (λ _. cond_both (nat_lt (length t.jobs) t.terms.jobs) s2 (noted t reply.NoJobs) (GoesOn x e)
-    (λ _. cond_both (nat_le quanta (free t)) s1 (noted t (reply.NoShort (free t))) (GoesOn x e)
+    cond_both (has_room 1 t) s4 (unnoted t (Replied reply.NoRoom)) (GoesOn x k e)
+    (λ _. cond_both (is_amount quanta) s3 (noted t reply.NoAmount) (GoesOn x k e)
+    (λ _. cond_both (nat_lt (length t.jobs) t.terms.jobs) s2 (noted t reply.NoJobs) (GoesOn x k e)
+    (λ _. cond_both (nat_le quanta (free t)) s1 (noted t (reply.NoShort (free t))) (GoesOn x k e)
     (λ _ _. record { next = omega (arith, it.next); jobs = given_push gift job x.all t.jobs stands it.jobs; spent = omega (arith, it.spent, nodes_push job t.jobs) })
-    (λ _ _. used_more x t (t.used + 1) it))
-    (λ _ _. used_more x t (t.used + 1) it))
-    (λ _ _. used_more x t (t.used + 1) it))
+    (λ _ _. used_more x k t (t.used + 1) it))
+    (λ _ _. used_more x k t (t.used + 1) it))
+    (λ _ _. used_more x k t (t.used + 1) it))
     (λ _ _. it)
 
 -- a job that is not out and not over has what it was given
@@ -161,9 +169,9 @@ found_is : (s : ℕ) (jobs : List JobData) (job : JobData) → find_job s jobs �
 found_is s [] job found = absurd (cc)
 found_is s (one ∷ jobs) job found = grind (arith, nat_tests, found_is s jobs job)
 
-fund_on : (x : Gifts) (t : Tenant) (s quanta : ℕ) (job : JobData) → find_job s t.jobs ≡ Some job → Stood x t → GoesOn x (Fund s quanta) (funded t quanta job)
+fund_on : (x : Gifts) (k : ℕ) (t : Tenant) (s quanta : ℕ) (job : JobData) → find_job s t.jobs ≡ Some job → Stood x k t → GoesOn x k (Fund s quanta) (funded t quanta job)
 unfolding funded
-fund_on x t s quanta job found it =
+fund_on x k t s quanta job found it =
     let e : Event = Fund s quanta in
     let new : JobData = record job { phase = Waiting; left = job.left + quanta } in
     let s1 : Step = changed t new (Replied (reply.Line (line_of new))) in
@@ -171,53 +179,53 @@ fund_on x t s quanta job found it =
     let s3 : Step = cond (is_amount quanta) s2 (noted t reply.NoAmount) in
     let s4 : Step = cond (is_ended job.phase) (noted t reply.NoOver) s3 in
     let seq = found_is s t.jobs job found in
-    cond_both (is_out job.phase) (noted t reply.NoBusy) s4 (GoesOn x e) (λ _ _. used_more x t (t.used + 1) it)
-    (λ here. cond_both (is_ended job.phase) (noted t reply.NoOver) s3 (GoesOn x e) (λ _ _. used_more x t (t.used + 1) it)
-    (λ going. cond_both (is_amount quanta) s2 (noted t reply.NoAmount) (GoesOn x e)
-    (λ _. cond_both (nat_le quanta (free t)) s1 (noted t (reply.NoShort (free t))) (GoesOn x e)
+    cond_both (is_out job.phase) (noted t reply.NoBusy) s4 (GoesOn x k e) (λ _ _. used_more x k t (t.used + 1) it)
+    (λ here. cond_both (is_ended job.phase) (noted t reply.NoOver) s3 (GoesOn x k e) (λ _ _. used_more x k t (t.used + 1) it)
+    (λ going. cond_both (is_amount quanta) s2 (noted t reply.NoAmount) (GoesOn x k e)
+    (λ _. cond_both (nat_le quanta (free t)) s1 (noted t (reply.NoShort (free t))) (GoesOn x k e)
     (λ _ _.
     let more : (h : Gift) → Stands h job → Stands (record h { given = h.given + quanta }) new =
     λ h one. let had = stands_there job.phase job.plan job.nodes job.left h.given here going one.has in record { seq = one.seq; plan = one.plan; has = (omega (arith, had.0), had.1) } in
-    subst (λ (n : ℕ). Stood (record x { all = add_gift s quanta x.all }) (record t { used = t.used + 1; jobs = put_job n new t.jobs })) (sym seq)
+    subst (λ (n : ℕ). Stood (record x { all = add_gift s quanta x.all }) k (record t { used = t.used + 1; jobs = put_job n new t.jobs })) (sym seq)
     (record {
       next = it.next;
       jobs = given_more s quanta job new x.all t.jobs found more it.jobs;
       spent = omega (arith, it.spent, nodes_put s job new t.jobs found);
     }))
-    (λ _ _. used_more x t (t.used + 1) it))
-    (λ _ _. used_more x t (t.used + 1) it)))
+    (λ _ _. used_more x k t (t.used + 1) it))
+    (λ _ _. used_more x k t (t.used + 1) it)))
 
-about_on : (x : Gifts) (e : Event) (t : Tenant) (s : ℕ) (found : Option JobData) (f : JobData → Step) → find_job s t.jobs ≡ found → asked e (Replied reply.NoUnknown) ≡ [] → Stood x t
-    → ((job : JobData) → find_job s t.jobs ≡ Some job → GoesOn x e (f job)) → GoesOn x e (about t found f)
-about_on x e t s None f is none it each = λ _. rw none (used_more x t (t.used + 1) it)
-about_on x e t s (Some job) f is none it each = each job is
+about_on : (x : Gifts) (k : ℕ) (e : Event) (t : Tenant) (s : ℕ) (found : Option JobData) (f : JobData → Step) → find_job s t.jobs ≡ found → asked e (Replied reply.NoUnknown) ≡ [] → Stood x k t
+    → ((job : JobData) → find_job s t.jobs ≡ Some job → GoesOn x k e (f job)) → GoesOn x k e (about t found f)
+about_on x k e t s None f is none it each = λ _. rw none (used_more x k t (t.used + 1) it)
+about_on x k e t s (Some job) f is none it each = each job is
 
-command_on : (x : Gifts) (e : Event) (t : Tenant) (s : ℕ) (f : JobData → Step) → asked e (Replied reply.NoUnknown) ≡ [] → asked e (Replied reply.NoRoom) ≡ [] → Stood x t
-    → ((job : JobData) → find_job s t.jobs ≡ Some job → GoesOn x e (f job)) → GoesOn x e (commanded t (about t (find_job s t.jobs) f))
-command_on x e t s f none room it each =
-    cond_both (has_room 1 t) (about t (find_job s t.jobs) f) (unnoted t (Replied reply.NoRoom)) (GoesOn x e)
-    (λ _. about_on x e t s (find_job s t.jobs) f refl none it each) (λ _ _. rw room it)
+command_on : (x : Gifts) (k : ℕ) (e : Event) (t : Tenant) (s : ℕ) (f : JobData → Step) → asked e (Replied reply.NoUnknown) ≡ [] → asked e (Replied reply.NoRoom) ≡ [] → Stood x k t
+    → ((job : JobData) → find_job s t.jobs ≡ Some job → GoesOn x k e (f job)) → GoesOn x k e (commanded t (about t (find_job s t.jobs) f))
+command_on x k e t s f none room it each =
+    cond_both (has_room 1 t) (about t (find_job s t.jobs) f) (unnoted t (Replied reply.NoRoom)) (GoesOn x k e)
+    (λ _. about_on x k e t s (find_job s t.jobs) f refl none it each) (λ _ _. rw room it)
 
-fetch_on : (x : Gifts) (t : Tenant) (s : ℕ) (job : JobData) → Stood x t → GoesOn x (Fetch s) (fetched t job)
+fetch_on : (x : Gifts) (k : ℕ) (t : Tenant) (s : ℕ) (job : JobData) → Stood x k t → GoesOn x k (Fetch s) (fetched t job)
 unfolding fetched
-fetch_on x t s job it =
+fetch_on x k t s job it =
     let best = best_after job.plan job.nodes in
     let told : Reply = reply.Best job.seq best (option_map (makespan job.plan.project) best) (verdict_after job.plan job.nodes) in
-    cond_both (is_out job.phase) (noted t reply.NoBusy) (noted t told) (GoesOn x (Fetch s)) (λ _ _. used_more x t (t.used + 1) it) (λ _ _. used_more x t (t.used + 1) it)
+    cond_both (is_out job.phase) (noted t reply.NoBusy) (noted t told) (GoesOn x k (Fetch s)) (λ _ _. used_more x k t (t.used + 1) it) (λ _ _. used_more x k t (t.used + 1) it)
 
-cancelled_on : (x : Gifts) (t : Tenant) (s : ℕ) (new : Option JobData) → Stood x t → GoesOn x (Cancel s) (cancelled_as t new)
-cancelled_on x t s None it = λ _. used_more x t (t.used + 1) it
-cancelled_on x t s (Some new) it = λ no. absurd (cc)
+cancelled_on : (x : Gifts) (k : ℕ) (t : Tenant) (s : ℕ) (new : Option JobData) → Stood x k t → GoesOn x k (Cancel s) (cancelled_as t new)
+cancelled_on x k t s None it = λ _. used_more x k t (t.used + 1) it
+cancelled_on x k t s (Some new) it = λ no. absurd (cc)
 
-cancel_on : (x : Gifts) (t : Tenant) (s : ℕ) (job : JobData) → Stood x t → GoesOn x (Cancel s) (cancelled t job)
+cancel_on : (x : Gifts) (k : ℕ) (t : Tenant) (s : ℕ) (job : JobData) → Stood x k t → GoesOn x k (Cancel s) (cancelled t job)
 unfolding cancelled
-cancel_on x t s job it = cancelled_on x t s (given_up job job.phase) it
+cancel_on x k t s job it = cancelled_on x k t s (given_up job job.phase) it
 
-forget_on : (x : Gifts) (t : Tenant) (s : ℕ) (job : JobData) → Stood x t → GoesOn x (Forget s) (forgotten t job)
+forget_on : (x : Gifts) (k : ℕ) (t : Tenant) (s : ℕ) (job : JobData) → Stood x k t → GoesOn x k (Forget s) (forgotten t job)
 unfolding forgotten
-forget_on x t s job it =
+forget_on x k t s job it =
     let gone : Step = record { answer = Replied (reply.Forgotten job.seq); after = record t { used = t.used + 1; jobs = drop_job job.seq t.jobs } } in
-    cond_both (is_ended job.phase) gone (noted t reply.NoBusy) (GoesOn x (Forget s)) (λ _ no. absurd (cc)) (λ _ _. used_more x t (t.used + 1) it)
+    cond_both (is_ended job.phase) gone (noted t reply.NoBusy) (GoesOn x k (Forget s)) (λ _ no. absurd (cc)) (λ _ _. used_more x k t (t.used + 1) it)
 
 waiting_stands : (phase : Phase) (plan : Plan) (nodes left given : ℕ) → is_waiting phase ≡ true → StandsIn phase plan nodes left given → (nodes + left ≡ given) × Unclosed plan nodes
 waiting_stands Waiting plan nodes left given w h = h
@@ -227,16 +235,16 @@ waiting_stands Dry plan nodes left given w h = absurd (cc)
 waiting_stands Closed plan nodes left given w h = absurd (cc)
 waiting_stands Cancelled plan nodes left given w h = absurd (cc)
 
-taken_on : (x : Gifts) (t : Tenant) (s slice : ℕ) (found : Option JobData) → find_job s t.jobs ≡ found → Stood x t → GoesOn x (Take s slice) (taken t slice found)
-taken_on x t s slice None is it = λ _. it
-taken_on x t s slice (Some job) is it =
+taken_on : (x : Gifts) (k : ℕ) (t : Tenant) (s slice : ℕ) (found : Option JobData) → find_job s t.jobs ≡ found → Stood x k t → GoesOn x k (Take s slice) (taken t slice found)
+taken_on x k t s slice None is it = λ _. it
+taken_on x k t s slice (Some job) is it =
     let new : JobData = record job { phase = Out slice } in
     let seq = found_is s t.jobs job is in
-    cond_both (is_waiting job.phase && is_slice slice && has_room 2 t) (changed t new (Sent (line_of new))) (unnoted t NoTurn) (GoesOn x (Take s slice))
+    cond_both (is_waiting job.phase && is_slice slice && has_room 2 t) (changed t new (Sent (line_of new))) (unnoted t NoTurn) (GoesOn x k (Take s slice))
     (λ may _.
     let waits = (and_parts (is_waiting job.phase) (is_slice slice) (and_parts (is_waiting job.phase && is_slice slice) (has_room 2 t) may).0).0 in
     let same : (h : Gift) → Stands h job → Stands h new = λ h one. record { seq = one.seq; plan = one.plan; has = waiting_stands job.phase job.plan job.nodes job.left h.given waits one.has } in
-    subst (λ (n : ℕ). Stood x (record t { used = t.used + 1; jobs = put_job n new t.jobs })) (sym seq)
+    subst (λ (n : ℕ). Stood x k (record t { used = t.used + 1; jobs = put_job n new t.jobs })) (sym seq)
     (record { next = it.next; jobs = given_put s job new x.all t.jobs is same it.jobs; spent = omega (arith, it.spent, nodes_put s job new t.jobs is) }))
     (λ _ _. it)
 
@@ -263,32 +271,32 @@ back_stands Dry job ran given may h = absurd (cc)
 back_stands Closed job ran given may h = absurd (cc)
 back_stands Cancelled job ran given may h = absurd (cc)
 
-gave_on : (x : Gifts) (t : Tenant) (s ran : ℕ) (found : Option JobData) → find_job s t.jobs ≡ found → Stood x t → GoesOn x (Give s ran) (gave t ran found)
-gave_on x t s ran None is it = λ _. it
-gave_on x t s ran (Some job) is it =
+gave_on : (x : Gifts) (k : ℕ) (t : Tenant) (s ran : ℕ) (found : Option JobData) → find_job s t.jobs ≡ found → Stood x k t → GoesOn x k (Give s ran) (gave t ran found)
+gave_on x k t s ran None is it = λ _. it
+gave_on x k t s ran (Some job) is it =
     let new : JobData = back ran job in
     let s1 : Step = record { answer = Replied (reply.Ran ran (line_of new)); after = record t { spent = t.spent + ran; used = t.used + 1; jobs = put_job new.seq new t.jobs } } in
     let seq = found_is s t.jobs job is in
-    cond_both (may_have_run ran job job.phase) s1 (unnoted t NoTurn) (GoesOn x (Give s ran))
+    cond_both (may_have_run ran job job.phase) s1 (unnoted t NoTurn) (GoesOn x k (Give s ran))
     (λ may _.
     let same : (h : Gift) → Stands h job → Stands h new = λ h one. record { seq = one.seq; plan = one.plan; has = back_stands job.phase job ran h.given may one.has } in
-    subst (λ (n : ℕ). Stood x (record t { spent = t.spent + ran; used = t.used + 1; jobs = put_job n new t.jobs })) (sym seq)
+    subst (λ (n : ℕ). Stood x k (record t { spent = t.spent + ran; used = t.used + 1; jobs = put_job n new t.jobs })) (sym seq)
     (record { next = it.next; jobs = given_put s job new x.all t.jobs is same it.jobs; spent = omega (arith, it.spent, nodes_put s job new t.jobs is) }))
     (λ _ _. it)
 
-step_on : (x : Gifts) (t : Tenant) (e : Event) → Stood x t → GoesOn x e (step t e)
-step_on x t (Submit plan quanta) it = submit_on x t plan quanta it
-step_on x t (Fund s quanta) it = command_on x (Fund s quanta) t s (funded t quanta) refl refl it (λ job found. fund_on x t s quanta job found it)
-step_on x t (Status s) it =
+step_on : (x : Gifts) (k : ℕ) (t : Tenant) (e : Event) → Stood x k t → GoesOn x k e (step t e)
+step_on x k t (Submit plan quanta) it = submit_on x k t plan quanta it
+step_on x k t (Fund s quanta) it = command_on x k (Fund s quanta) t s (funded t quanta) refl refl it (λ job found. fund_on x k t s quanta job found it)
+step_on x k t (Status s) it =
     let tell : JobData → Step = λ job. noted t (reply.Line (line_of job)) in
-    command_on x (Status s) t s tell refl refl it (λ job found _. used_more x t (t.used + 1) it)
-step_on x t (Fetch s) it = command_on x (Fetch s) t s (fetched t) refl refl it (λ job found. fetch_on x t s job it)
-step_on x t (Cancel s) it = command_on x (Cancel s) t s (cancelled t) refl refl it (λ job found. cancel_on x t s job it)
-step_on x t (Forget s) it = command_on x (Forget s) t s (forgotten t) refl refl it (λ job found. forget_on x t s job it)
-step_on x t Ledger it =
-    cond_both (has_room 1 t) (noted t (reply.Ledger (book t))) (unnoted t (Replied reply.NoRoom)) (GoesOn x Ledger) (λ _ _. used_more x t (t.used + 1) it) (λ _ _. it)
-step_on x t (Take s slice) it = taken_on x t s slice (find_job s t.jobs) refl it
-step_on x t (Give s ran) it = gave_on x t s ran (find_job s t.jobs) refl it
+    command_on x k (Status s) t s tell refl refl it (λ job found _. used_more x k t (t.used + 1) it)
+step_on x k t (Fetch s) it = command_on x k (Fetch s) t s (fetched t) refl refl it (λ job found. fetch_on x k t s job it)
+step_on x k t (Cancel s) it = command_on x k (Cancel s) t s (cancelled t) refl refl it (λ job found. cancel_on x k t s job it)
+step_on x k t (Forget s) it = command_on x k (Forget s) t s (forgotten t) refl refl it (λ job found. forget_on x k t s job it)
+step_on x k t Ledger it =
+    cond_both (has_room 1 t) (noted t (reply.Ledger (book t))) (unnoted t (Replied reply.NoRoom)) (GoesOn x k Ledger) (λ _ _. used_more x k t (t.used + 1) it) (λ _ _. it)
+step_on x k t (Take s slice) it = taken_on x k t s slice (find_job s t.jobs) refl it
+step_on x k t (Give s ran) it = gave_on x k t s ran (find_job s t.jobs) refl it
 
 give_more_on : (x : Gifts) (a b : List Event) → give_on x (a ++ b) ≡ give_on (give_on x a) b
 give_more_on x [] b = refl
@@ -314,21 +322,137 @@ gifts_parts (Ledger ∷ a) b all = absurd (cc)
 gifts_parts (Take s slice ∷ a) b all = absurd (cc)
 gifts_parts (Give s ran ∷ a) b all = absurd (cc)
 
-alone_on : (x : Gifts) (t : Tenant) (events : List Event) → Stood x t → are_gifts (asked_by t events) ≡ true → Stood (give_on x (asked_by t events)) (after_alone t events)
-alone_on x t [] it all = it
-alone_on x t (e ∷ events) it all =
-    let after : Tenant = (step t e).after in
-    let first : List Event = asked e (step t e).answer in
-    let parts = gifts_parts first (asked_by after events) all in
-    let here = step_on x t e it parts.0 in
-    subst (λ (y : Gifts). Stood y (after_alone after events)) (sym (give_more_on x first (asked_by after events))) (alone_on (give_on x first) after events here parts.1)
+-- ---- a purse
+
+-- what a member's jobs have run
+abbrev nodes_of : Member → ℕ
+nodes_of m = nodes_in m.jobs
+
+-- a purse has spent what the jobs of its members have run
+abbrev HasSpent : Purse → Type 0
+HasSpent p = p.spent ≡ sum_by nodes_of p.members
+
+-- what the gifts have made of what is a member's own
+record IsGiven (x : Gifts) (m : Member) : Type 0 where
+  next : m.next ≡ x.next
+  jobs : AreGiven x.all m.jobs
+
+-- a call of the member at a place: the other members have run what the purse has spent beside it
+seat_on : (x : Gifts) (p : Purse) (place : ℕ) (e : Event) → place < length p.members → IsGiven x (own_of (seat p place)) → HasSpent p
+    → let it = step (seat p place) e in are_gifts (asked e it.answer) ≡ true → IsGiven (give_on x (asked e it.answer)) (own_of it.after) × HasSpent (with_seat p place it.after)
+seat_on x p place e l given spent all =
+    let after : Tenant = (step (seat p place) e).after in
+    let k : ℕ = p.spent - nodes_in (seat p place).jobs in
+    let part = get_or-le-sum_by nodes_of p.members place no_member l in
+    let went = step_on x k (seat p place) e (record { next = given.next; jobs = given.jobs; spent = omega (arith, part, spent) }) all in
+    let put = sum_by-set nodes_of p.members place (own_of after) no_member l in
+    (record { next = went.next; jobs = went.jobs }, omega (arith, went.spent, put, part, spent))
+
+-- a tenant has its place in its purse
+seated : (t : ℕ) (w : World) → t < length w.config.tenants → place_in w.config t < length (purse (purse_in w.config t) w).members
+unfolding purse
+seated t w l =
+    let names = purse_names w.config.tenants in
+    let known = place_known names t (named w.config.tenants t l) in
+    let ts : List ℕ = members_of names (purse_of names t) in
+    let counted : length (map (λ u. member u w) ts) ≡ length ts = length-map ts (λ u. member u w) in
+    omega arith
+
+-- ---- along a run
+
+-- the same of each member of a purse, and of the purse
+record AllStood (config : ConfigData) (p : ℕ) (x : ℕ → Gifts) (w : World) : Type 0 where
+  each : AllMembers config p (λ t. IsGiven (x t) (member t w))
+  spent : HasSpent (purse p w)
+
+-- what a call asked for, if it was tenant t's
+abbrev asked_in : ℕ → Call → List Event
+asked_in t c = cond (c.tenant == t) (asked c.event c.answer) []
+
+-- a call, for the caller and its purse,
+own_on : (x : Gifts) (old mid : World) (c : Call) → Steps old c.tenant c.event c.answer mid → IsGiven x (member c.tenant old) → HasSpent (purse (purse_in old.config c.tenant) old)
+    → are_gifts (asked c.event c.answer) ≡ true → IsGiven (give_on x (asked c.event c.answer)) (member c.tenant mid) × HasSpent (purse (purse_in old.config c.tenant) mid)
+own_on x old mid c h given spent all =
+    let t = c.tenant in
+    let p : Purse = purse (purse_in old.config t) old in
+    let place = place_in old.config t in
+    let seen : view t old ≡ seat p place = each_view_is_a_seat old t h.known in
+    let it : Step = step (seat p place) c.event in
+    let had : member t old ≡ own_of (seat p place) = sym (own_seen t old) ∙ ap own_of seen in
+    let answer : c.answer ≡ it.answer = h.answer_is ∙ ap (λ (v : Tenant). (step v c.event).answer) seen in
+    let has : member t mid ≡ own_of it.after = sym (own_seen t mid) ∙ ap own_of h.own ∙ ap (λ (v : Tenant). own_of (step v c.event).after) seen in
+    let purse_is : purse (purse_in old.config t) mid ≡ with_seat p place it.after =
+    purse_after old mid t c.event c.answer h ∙ ap (λ (v : Tenant). with_seat p place (step v c.event).after) seen in
+    let gifts : are_gifts (asked c.event it.answer) ≡ true = ap (λ (a : Answer). are_gifts (asked c.event a)) (sym answer) ∙ all in
+    let went = seat_on x p place c.event (seated t old h.known) (subst (IsGiven x) had given) spent gifts in
+    let own : IsGiven (give_on x (asked c.event it.answer)) (member t mid) = subst (IsGiven (give_on x (asked c.event it.answer))) (sym has) went.0 in
+    (subst (λ (a : Answer). IsGiven (give_on x (asked c.event a)) (member t mid)) (sym answer) own, subst HasSpent (sym purse_is) went.1)
+
+-- and for the members of a purse, whether it is the caller's or another
+call_on : (p : ℕ) (x : ℕ → Gifts) (old mid : World) (c : Call) → Steps old c.tenant c.event c.answer mid → AllMembers old.config p (λ t. are_gifts (asked_in t c) ≡ true)
+    → AllStood old.config p x old → AllStood old.config p (λ t. give_on (x t) (asked_in t c)) mid
+call_on p x old mid c h all it =
+    let t = c.tenant in
+    let gifts = asked c.event c.answer in
+    let own : purse_in old.config t ≡ p → IsGiven (give_on (x t) gifts) (member t mid) × HasSpent (purse p mid) = λ of.
+    let asks : are_gifts gifts ≡ true = ap are_gifts (sym (cond-true (t == t) gifts [] (eq-eqb t t refl))) ∙ all t h.known of in
+    let went = own_on (x t) old mid c h (it.each t h.known of) (subst (λ (q : ℕ). HasSpent (purse q old)) (sym of) it.spent) asks in
+    (went.0, subst (λ (q : ℕ). HasSpent (purse q mid)) of went.1) in
+    record {
+      each = λ u l of. cond_both (t == u) gifts [] (λ (es : List Event). IsGiven (give_on (x u) es) (member u mid))
+          (λ e.
+          let same : t ≡ u = eqb-true t u e in
+          subst (λ (v : ℕ). IsGiven (give_on (x v) gifts) (member v mid)) same (own (ap (purse_in old.config) same ∙ of)).0)
+          (λ e.
+          let differ : u ≢ t = λ is. both_ways (t == u) e (eq-eqb t u (sym is)) in
+          subst (IsGiven (x u)) (sym (h.others u differ)) (it.each u l of));
+      spent = ⊎_elim
+          (λ (e : (purse_in old.config t == p) ≡ true). (own (eqb-true (purse_in old.config t) p e)).1)
+          (λ (e : (purse_in old.config t == p) ≡ false).
+          let differ : p ≢ purse_in old.config t = λ is. both_ways (purse_in old.config t == p) e (eq-eqb (purse_in old.config t) p (sym is)) in
+          subst HasSpent (sym (purse_stays old mid t c.event c.answer h p differ)) it.spent)
+          (cases_Bool (purse_in old.config t == p));
+    }
+
+leads_on : (p : ℕ) (x : ℕ → Gifts) (old new : World) (calls : List Call) → Leads old calls new → AllMembers old.config p (λ t. are_gifts (asked_by t calls) ≡ true)
+    → AllStood old.config p x old → AllStood old.config p (λ t. give_on (x t) (asked_by t calls)) new
+leads_on p x old new [] run all it = subst (AllStood old.config p x) (sym run) it
+leads_on p x old new (c ∷ calls) run all it =
+    let y : ℕ → Gifts = λ t. give_on (x t) (asked_in t c) in
+    let parts : AllMembers old.config p (λ t. (are_gifts (asked_in t c) ≡ true) × (are_gifts (asked_by t calls) ≡ true)) =
+    λ t l of. gifts_parts (asked_in t c) (asked_by t calls) (all t l of) in
+    let here : AllStood old.config p y run.0 = call_on p x old run.0 c run.1 (λ t l of. (parts t l of).0) it in
+    let later : AllStood old.config p (λ t. give_on (y t) (asked_by t calls)) new =
+    subst (λ (cs : ConfigData). AllMembers cs p (λ t. are_gifts (asked_by t calls) ≡ true) → AllStood cs p y run.0 → AllStood cs p (λ t. give_on (y t) (asked_by t calls)) new)
+    run.1.config (leads_on p y run.0 new calls run.2) (λ t l of. (parts t l of).1) here in
+    record {
+      each = λ t l of. subst (λ (g : Gifts). IsGiven g (member t new)) (sym (give_more_on (x t) (asked_in t c) (asked_by t calls))) (later.each t l of);
+      spent = later.spent;
+    }
 
 abbrev no_gifts : Gifts
 no_gifts = record { next = 1; all = [] }
 
-newcomer_stood : (terms : TenantLine) → Stood no_gifts (newcomer terms)
-unfolding newcomer
-newcomer_stood terms = record { next = refl; jobs = tt; spent = refl }
+none_ran : (lines : List TenantLine) → sum_by nodes_of (map new_member lines) ≡ 0
+none_ran [] = refl
+none_ran (line ∷ lines) = omega (arith, sum_by-cons nodes_of (new_member line) (map new_member lines), none_ran lines)
+
+newcomers_spent : (lines : List TenantLine) → HasSpent (newcomers lines)
+unfolding newcomers
+newcomers_spent lines = sym (none_ran lines)
+
+opened_stood : (config : ConfigData) (p : ℕ) → AllStood config p (λ t. no_gifts) (opened config)
+opened_stood config p = record {
+  each = λ t l of. subst (IsGiven no_gifts) (sym (member_opened t config)) (record { next = refl; jobs = tt });
+  spent = subst HasSpent (sym (purse_opened p config)) (newcomers_spent (lines_of config.tenants p));
+}
+
+run_stood : (config : ConfigData) (calls : List Call) (w : World) (p : ℕ) → Run config calls w → AllMembers config p (HasRested calls w)
+    → AllStood config p (λ t. give_on no_gifts (asked_by t calls)) w
+run_stood config calls w p run rested =
+    let gifts : ℕ → Gifts = λ t. give_on no_gifts (asked_by t calls) in
+    subst (λ (c : ConfigData). AllMembers c p (λ t. are_gifts (asked_by t calls) ≡ true) → AllStood c p (λ t. no_gifts) (opened config) → AllStood c p gifts w)
+    (config_opened config) (leads_on p (λ t. no_gifts) (opened config) w calls run) (λ t l of. (rested t l of).gifts) (opened_stood config p)
 
 -- a job at rest, told by what it was given
 abbrev rest_of : Gift → JobData
@@ -370,37 +494,97 @@ jobs_rest (g ∷ gs) [] all rest = absurd all
 jobs_rest (g ∷ gs) (job ∷ jobs) all rest =
     ap (λ (j : JobData). j ∷ jobs) (job_rests g job all.0 rest.0) ∙ ap (λ (js : List JobData). rest_of g ∷ js) (jobs_rest gs jobs all.1 rest.1)
 
-same_ledger : (one other : Tenant) → one.terms ≡ other.terms → one.spent ≡ other.spent → one.jobs ≡ other.jobs → book one ≡ book other
-unfolding book free held
-same_ledger one other terms spent jobs = rw (terms, spent, jobs) refl
+-- ---- the end
+
+abbrev own_jobs : Member → List JobData
+own_jobs m = m.jobs
+
+-- the jobs of a member that asked for these, at rest
+abbrev rests_of : List Event → List JobData
+rests_of events = map rest_of (give_on no_gifts events).all
 
 config_stays : (old new : World) (calls : List Call) → Leads old calls new → new.config ≡ old.config
 config_stays old new [] run = ap (λ (w : World). w.config) run
 config_stays old new (c ∷ calls) run = config_stays run.0 new calls run.2 ∙ run.1.config
 
-run_terms : (config : ConfigData) (calls : List Call) (w : World) (t : ℕ) → Run config calls w → (view t w).terms ≡ terms_in config t
-unfolding view opened
-run_terms config calls w t run = ap (λ (c : ConfigData). terms_in c t) (config_stays (opened config) w calls run)
+run_config : (config : ConfigData) (calls : List Call) (w : World) → Run config calls w → w.config ≡ config
+run_config config calls w run = config_stays (opened config) w calls run ∙ config_opened config
 
-run_stood : (config : ConfigData) (calls : List Call) (w : World) (t : ℕ) → Run config calls w → are_gifts (asked_by (newcomer (terms_in config t)) (own_events t calls)) ≡ true
-    → Stood (give_on no_gifts (asked_by (newcomer (terms_in config t)) (own_events t calls))) (view t w)
-run_stood config calls w t run all =
-    let line = terms_in config t in
-    let gifts = asked_by (newcomer line) (own_events t calls) in
-    subst (λ (v : Tenant). Stood (give_on no_gifts gifts) v) (sym (each_is_alone config calls w run t).1) (alone_on no_gifts (newcomer line) (own_events t calls) (newcomer_stood line) all)
+members_are : (config : ConfigData) (p : ℕ) (w : World) → w.config ≡ config → (purse p w).members ≡ map (λ t. member t w) (members_in config p)
+unfolding purse
+members_are config p w is = ap (λ (c : ConfigData). map (λ t. member t w) (members_in c p)) is
+
+granted_is : (config : ConfigData) (p : ℕ) (w : World) → w.config ≡ config → (purse p w).granted ≡ (opened_purse config p).granted
+unfolding purse newcomers
+granted_is config p w is = ap (λ (c : ConfigData). granted_by (lines_of c.tenants p)) is
+
+-- what is the same of each tenant of a purse that there is, is the same of its members
+among_members : {X : Type 0} (config : ConfigData) (p : ℕ) (g h : ℕ → X) → AllMembers config p (λ t. h t ≡ g t) → map h (members_in config p) ≡ map g (members_in config p)
+unfolding members_of
+among_members config p g h same =
+    let names = purse_names config.tenants in
+    let counted : length names ≡ length config.tenants = length-map config.tenants (λ (line : TenantLine). line.purse) in
+    same_below (λ t. purse_of names t == p) g h 0 (length names) (λ t l passes. same t (omega arith) (eqb-true (purse_of names t) p passes))
+
+-- at the end of a run in which its members rest, a purse has spent what they have run, and each has the jobs that it asked for
+record HasEnded (config : ConfigData) (p : ℕ) (jobs : List (List JobData)) (end : Purse) : Type 0 where
+  granted : end.granted ≡ (opened_purse config p).granted
+  spent : HasSpent end
+  jobs_are : map own_jobs end.members ≡ jobs
+
+run_ends : (config : ConfigData) (calls : List Call) (w : World) (p : ℕ) → Run config calls w → AllMembers config p (HasRested calls w)
+    → HasEnded config p (map rests_of (map (λ t. asked_by t calls) (members_in config p))) (purse p w)
+run_ends config calls w p run rested =
+    let it = run_stood config calls w p run rested in
+    let is = run_config config calls w run in
+    let each : AllMembers config p (λ t. (member t w).jobs ≡ rests_of (asked_by t calls)) = λ t l of.
+    let rests : AreAtRest (member t w).jobs = subst (λ (m : Member). AreAtRest m.jobs) (own_seen t w) (rested t l of).rests in
+    jobs_rest (give_on no_gifts (asked_by t calls)).all (member t w).jobs (it.each t l of).jobs rests in
+    record {
+      granted = granted_is config p w is;
+      spent = it.spent;
+      jobs_are = ap (map own_jobs) (members_are config p w is) ∙ map-map own_jobs (λ t. member t w) (members_in config p)
+          ∙ among_members config p (λ t. rests_of (asked_by t calls)) (λ t. (member t w).jobs) each
+          ∙ sym (map-map rests_of (λ t. asked_by t calls) (members_in config p));
+    }
+
+sum_of_jobs : (f : List JobData → ℕ) (ms : List Member) → sum_by (λ (m : Member). f m.jobs) ms ≡ sum_by f (map own_jobs ms)
+sum_of_jobs f [] = refl
+sum_of_jobs f (m ∷ ms) =
+    let whole = sum_by-cons (λ (other : Member). f other.jobs) m ms in
+    let told = sum_by-cons f m.jobs (map own_jobs ms) in
+    let rest = sum_of_jobs f ms in
+    omega arith
+
+-- what the jobs of all members hold
+held_at : (p : Purse) (place : ℕ) → place < length p.members → held (seat p place) ≡ sum_by held_by (map own_jobs p.members)
+unfolding held
+held_at p place l = held_whole place p.members l ∙ sum_of_jobs held_by p.members
+
+-- two purses whose members have the same jobs, and which have spent what these have run
+alike_seats : (one other : Purse) → one.granted ≡ other.granted → HasSpent one → HasSpent other → map own_jobs one.members ≡ map own_jobs other.members
+    → (place : ℕ) → place < length one.members → AreAlike (seat one place) (seat other place)
+alike_seats one other granted spent spends same place l =
+    let many : length (map own_jobs one.members) ≡ length one.members = length-map one.members own_jobs in
+    let more : length (map own_jobs other.members) ≡ length other.members = length-map other.members own_jobs in
+    let both : length (map own_jobs one.members) ≡ length (map own_jobs other.members) = ap {B = ℕ} length same in
+    let k : place < length other.members = omega arith in
+    let jobs : (seat one place).jobs ≡ (seat other place).jobs =
+    sym (get_or-map own_jobs one.members place no_member [] l)
+    ∙ ap (λ (js : List (List JobData)). get_or js place []) same
+    ∙ get_or-map own_jobs other.members place no_member [] k in
+    let spent_is : one.spent ≡ other.spent =
+    spent ∙ sum_of_jobs nodes_in one.members ∙ ap (sum_by nodes_in) same ∙ sym (sum_of_jobs nodes_in other.members) ∙ sym spends in
+    let held_is : held (seat one place) ≡ held (seat other place) = held_at one place l ∙ ap (sum_by held_by) same ∙ sym (held_at other place k) in
+    record { lines = ap (map line_of) jobs; ledger = same_book (seat one place) (seat other place) granted spent_is held_is }
 
 pub each_ends_alike : EachEndsAlike
-each_ends_alike config elsewhere calls others w x run walk t u terms same all rest rests =
-    let one = run_stood config calls w t run all in
-    let two = run_stood elsewhere others x u walk (ap are_gifts (sym same) ∙ all) in
-    let gifts = give_on no_gifts (asked_by (newcomer (terms_in config t)) (own_events t calls)) in
-    let again = give_on no_gifts (asked_by (newcomer (terms_in elsewhere u)) (own_events u others)) in
-    let gifts_are : gifts ≡ again = ap (give_on no_gifts) same in
-    let jobs_are : (view t w).jobs ≡ (view u x).jobs =
-    jobs_rest gifts.all (view t w).jobs one.jobs rest ∙ ap (λ (g : Gifts). map rest_of g.all) gifts_are ∙ sym (jobs_rest again.all (view u x).jobs two.jobs rests) in
-    let spent_is : (view t w).spent ≡ (view u x).spent = one.spent ∙ ap nodes_in jobs_are ∙ sym two.spent in
-    let terms_are : (view t w).terms ≡ (view u x).terms = run_terms config calls w t run ∙ terms ∙ sym (run_terms elsewhere others x u walk) in
-    record {
-      lines = ap (map line_of) jobs_are;
-      ledger = same_ledger (view t w) (view u x) terms_are spent_is jobs_are;
-    }
+each_ends_alike config elsewhere calls others w x run walk p q begins rested rests asks place l =
+    let one = run_ends config calls w p run rested in
+    let two = run_ends elsewhere others x q walk rests in
+    let jobs = one.jobs_are ∙ ap (map rests_of) asks ∙ sym two.jobs_are in
+    let granted = one.granted ∙ ap (λ (s : Purse). s.granted) begins ∙ sym two.granted in
+    let many : length (map (λ t. member t w) (members_in config p)) ≡ length (members_in config p) = length-map (members_in config p) (λ t. member t w) in
+    let there : length (purse p w).members ≡ length (map (λ t. member t w) (members_in config p)) =
+    ap {B = ℕ} length (members_are config p w (run_config config calls w run)) in
+    alike_seats (purse p w) (purse q x) granted one.spent two.spent jobs place (omega arith)

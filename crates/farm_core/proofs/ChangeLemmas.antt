@@ -7,10 +7,11 @@ use Rattle.farm_core.specs.declared.entry.Event.{Event}
 use Rattle.farm_core.specs.declared.account.Account.{Account}
 use Rattle.farm_core.specs.Tenant.{book, held, held_by, free, find_job, put_job, drop_job}
 use Rattle.farm_core.specs.Step.{Answer, Step, step}
-use Rattle.farm_core.specs.World.{World, terms_in, view, entries_of, is_noted, keys, IsWithout}
+use Rattle.farm_core.specs.World.{World, account_of, member, view, entries_of, is_noted, keys, IsWithout}
+use Rattle.farm_core.specs.Truth.{IsPlanned}
 use Rattle.farm_core.specs.Farm.{IsFarm, AreOf}
 use Rattle.farm_core.proofs.ViewLemmas.{found_own, put_own, put_other, drop_own, drop_other, push_own, push_other}
-use Rattle.farm_core.proofs.MoveLemmas.{IsMove, account_in, spent_in}
+use Rattle.farm_core.proofs.MoveLemmas.{IsMove, known_in, account_in, spent_in}
 use Rattle.farm_core.proofs.FarmLemmas.{running_in}
 use Rattle.farm_core.proofs.RunningLemmas.{held_put, held_drop, held_push, found_seq}
 
@@ -20,7 +21,7 @@ same_book g f h s g' f' h' s' a b c d = rw (a, b, c, d) refl
 
 -- a tenant's own job of that number is the row's
 pub own_job : (w : World) (t s : ℕ) (job : JobData) → find_row t s w.rows ≡ Some job → find_job s (view t w).jobs ≡ Some job
-unfolding view
+unfolding view member
 own_job w t s job found = found_own t s w.rows ∙ found
 
 -- a book after a call, with these jobs: what was granted is the same, and every quantum is in one place
@@ -31,21 +32,21 @@ record IsKeptBook (old new : BookData) (before after : ℕ) : Type 0 where
 
 book_of : (w : World) (t : ℕ) (old new : BookData) (before after : ℕ) (rows : List Row) (account : Account) (used next : ℕ) → old ≡ book (view t w) → IsKeptBook old new before after
     → held_by (jobs_of t rows) + before ≡ held_by (jobs_of t w.rows) + after
-    → new ≡ book (record { terms = terms_in w.config t; spent = new.spent; next = next; used = used; jobs = jobs_of t rows })
-unfolding view book held free
+    → new ≡ book (record (view t w) { spent = new.spent; next = next; used = used; jobs = jobs_of t rows })
+unfolding view member book held free
 book_of w t old new before after rows account used next is kept moved =
-    let granted : new.granted ≡ (terms_in w.config t).quanta = kept.granted ∙ ap (λ (b : BookData). b.granted) is in
-    let held_is : new.held ≡ held_by (jobs_of t rows) = omega (arith, kept.moved, moved, ap (λ (b : BookData). b.held) is) in
-    same_book new.granted new.free new.held new.spent (terms_in w.config t).quanta ((terms_in w.config t).quanta - held_by (jobs_of t rows) - new.spent) (held_by (jobs_of t rows)) new.spent
+    let granted : new.granted ≡ (view t w).granted = kept.granted ∙ ap (λ (b : BookData). b.granted) is in
+    let held_is : new.held ≡ held_by (jobs_of t rows) + (view t w).beside = omega (arith, kept.moved, moved, ap (λ (b : BookData). b.held) is) in
+    same_book new.granted new.free new.held new.spent (view t w).granted ((view t w).granted - (held_by (jobs_of t rows) + (view t w).beside) - new.spent) (held_by (jobs_of t rows) + (view t w).beside) new.spent
     granted (omega (arith, granted, held_is, kept.whole)) held_is refl
 
 -- every quantum of an account is in one place
-pub whole_in : (w : World) (t capacity : ℕ) (account : Account) → IsFarm w capacity → t < length w.config.tenants → account ≡ get_or w.accounts t account
+pub whole_in : (w : World) (t capacity : ℕ) (account : Account) → IsFarm w capacity → t < length w.config.tenants → account ≡ account_of w t
     → account.book.granted ≡ account.book.free + account.book.held + account.book.spent
 unfolding book free
 whole_in w t capacity account farm l is =
     let b = (account_in w t capacity account farm l is).book in
-    rw b (omega (arith, (running_in w t capacity farm).covered))
+    rw b (omega (arith, (running_in w t capacity farm l).covered))
 
 put_whose : (n t s : ℕ) (new : JobData) (rows : List Row) → t < n → AreOf n rows → AreOf n (put_row t s new rows)
 put_whose n t s new [] l all = tt
@@ -102,12 +103,12 @@ push_keys t new (row ∷ rows) = ap {B = List (ℕ × ℕ)} (λ ks. key_of row �
 
 -- a job stands otherwise
 pub changed_moves : (w : World) (t s capacity : ℕ) (account : Account) (job new : JobData) (then : BookData) (event : Event) (answer : Answer)
-    → IsFarm w capacity → t < length w.config.tenants → account ≡ get_or w.accounts t account → find_row t s w.rows ≡ Some job → new.seq ≡ job.seq
+    → IsFarm w capacity → t < length w.config.tenants → account ≡ account_of w t → find_row t s w.rows ≡ Some job → new.seq ≡ job.seq
     → step (view t w) event ≡ record { answer = answer; after = record (view t w) { spent = then.spent; used = (view t w).used + 1; jobs = put_job new.seq new (view t w).jobs } }
     → is_noted answer ≡ true → then.granted ≡ account.book.granted → then.held + job.left ≡ account.book.held + new.left → then.granted ≡ then.free + then.held + then.spent
-    → IsMove w t (put_row t s new w.rows) (record account { book = then; used = account.used + 1 }) event answer
-unfolding view
-changed_moves w t s capacity account job new then event answer farm l is found named steps told granted held_is whole =
+    → IsPlanned event → IsMove w t (put_row t s new w.rows) (record account { book = then; used = account.used + 1 }) event answer
+unfolding view member
+changed_moves w t s capacity account job new then event answer farm l is found named steps told granted held_is whole planned =
     let a = account_in w t capacity account farm l is in
     let own = own_job w t s job found in
     let seq : new.seq ≡ s = named ∙ found_seq s (view t w).jobs job own in
@@ -115,7 +116,8 @@ changed_moves w t s capacity account job new then event answer farm l is found n
     let jobs_are : put_job new.seq new (jobs_of t w.rows) ≡ jobs_of t (put_row t s new w.rows) = ap (λ n. put_job n new (jobs_of t w.rows)) seq ∙ sym rows_are in
     let held_moves : held_by (jobs_of t (put_row t s new w.rows)) + job.left ≡ held_by (jobs_of t w.rows) + new.left = ap (λ js. held_by js + job.left) rows_are ∙ held_put s job new (jobs_of t w.rows) own in
     record {
-      known = omega (arith, farm.count);
+      known = known_in w t capacity farm l;
+      planned = planned;
       told = sym (ap (λ (x : Step). x.answer) steps);
       after = ap (λ (x : Step). x.after) steps ∙ rw (a.next, jobs_are) refl;
       noted = told;
@@ -126,17 +128,17 @@ changed_moves w t s capacity account job new then event answer farm l is found n
       };
       others = λ u differ. put_other u t s new w.rows differ;
       order = inl (put_keys t s new w.rows seq);
-      whose = put_whose (length w.accounts) t s new w.rows (omega (arith, farm.count)) farm.whose;
+      whose = put_whose (length w.numbers) t s new w.rows (omega (arith, farm.count)) farm.whose;
     }
 
 -- a job is kept no longer that holds nothing
 pub dropped_moves : (w : World) (t s capacity : ℕ) (account : Account) (job : JobData) (event : Event) (answer : Answer)
-    → IsFarm w capacity → t < length w.config.tenants → account ≡ get_or w.accounts t account → find_row t s w.rows ≡ Some job → job.left ≡ 0
+    → IsFarm w capacity → t < length w.config.tenants → account ≡ account_of w t → find_row t s w.rows ≡ Some job → job.left ≡ 0
     → step (view t w) event ≡ record { answer = answer; after = record (view t w) { used = (view t w).used + 1; jobs = drop_job job.seq (view t w).jobs } }
-    → is_noted answer ≡ true
+    → is_noted answer ≡ true → IsPlanned event
     → IsMove w t (drop_row t s w.rows) (record account { used = account.used + 1 }) event answer
-unfolding view
-dropped_moves w t s capacity account job event answer farm l is found none steps told =
+unfolding view member
+dropped_moves w t s capacity account job event answer farm l is found none steps told planned =
     let a = account_in w t capacity account farm l is in
     let own = own_job w t s job found in
     let seq : job.seq ≡ s = found_seq s (view t w).jobs job own in
@@ -145,7 +147,8 @@ dropped_moves w t s capacity account job event answer farm l is found none steps
     let jobs_are : drop_job job.seq (jobs_of t w.rows) ≡ jobs_of t (drop_row t s w.rows) = ap (λ n. drop_job n (jobs_of t w.rows)) seq ∙ sym rows_are in
     let held_moves : held_by (jobs_of t (drop_row t s w.rows)) + 0 ≡ held_by (jobs_of t w.rows) + 0 = omega (arith, ap held_by rows_are, held_drop s job (jobs_of t w.rows) own, none) in
     record {
-      known = omega (arith, farm.count);
+      known = known_in w t capacity farm l;
+      planned = planned;
       told = sym (ap (λ (x : Step). x.answer) steps);
       after = ap (λ (x : Step). x.after) steps ∙ rw (spent, a.next, jobs_are) refl;
       noted = told;
@@ -156,24 +159,25 @@ dropped_moves w t s capacity account job event answer farm l is found none steps
       };
       others = λ u differ. drop_other u t s w.rows differ;
       order = inr (inr (drop_keys t s job w.rows found));
-      whose = drop_whose (length w.accounts) t s w.rows farm.whose;
+      whose = drop_whose (length w.numbers) t s w.rows farm.whose;
     }
 
 -- a job more
 pub pushed_moves : (w : World) (t capacity : ℕ) (account : Account) (new : JobData) (then : BookData) (event : Event) (answer : Answer)
-    → IsFarm w capacity → t < length w.config.tenants → account ≡ get_or w.accounts t account
+    → IsFarm w capacity → t < length w.config.tenants → account ≡ account_of w t
     → step (view t w) event ≡ record { answer = answer; after = record (view t w) { used = (view t w).used + 1; next = (view t w).next + 1; jobs = (view t w).jobs ++ new ∷ [] } }
     → is_noted answer ≡ true → then.granted ≡ account.book.granted → then.held ≡ account.book.held + new.left → then.spent ≡ account.book.spent → then.granted ≡ then.free + then.held + then.spent
-    → IsMove w t (w.rows ++ record { tenant = t; job = new } ∷ []) (record { book = then; next = account.next + 1; used = account.used + 1 }) event answer
-unfolding view
-pushed_moves w t capacity account new then event answer farm l is steps told granted held_is spent_is whole =
+    → IsPlanned event → IsMove w t (w.rows ++ record { tenant = t; job = new } ∷ []) (record { book = then; next = account.next + 1; used = account.used + 1 }) event answer
+unfolding view member
+pushed_moves w t capacity account new then event answer farm l is steps told granted held_is spent_is whole planned =
     let a = account_in w t capacity account farm l is in
     let rows_are = push_own t new w.rows in
     let spent : then.spent ≡ (view t w).spent = spent_is ∙ spent_in w t capacity account farm l is in
     let rows : List Row = w.rows ++ record { tenant = t; job = new } ∷ [] in
     let held_moves : held_by (jobs_of t rows) + 0 ≡ held_by (jobs_of t w.rows) + new.left = omega (arith, ap held_by rows_are, held_push new (jobs_of t w.rows)) in
     record {
-      known = omega (arith, farm.count);
+      known = known_in w t capacity farm l;
+      planned = planned;
       told = sym (ap (λ (x : Step). x.answer) steps);
       after = ap (λ (x : Step). x.after) steps ∙ rw (spent, a.next, rows_are) refl;
       noted = told;
@@ -184,5 +188,5 @@ pushed_moves w t capacity account new then event answer farm l is steps told gra
       };
       others = λ u differ. push_other u t new w.rows differ;
       order = inr (inl (new.seq, push_keys t new w.rows));
-      whose = push_whose (length w.accounts) t new w.rows (omega (arith, farm.count)) farm.whose;
+      whose = push_whose (length w.numbers) t new w.rows (omega (arith, farm.count)) farm.whose;
     }

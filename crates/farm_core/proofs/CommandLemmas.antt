@@ -3,6 +3,7 @@ use Rattle.std.proofs.Common.{◌≡◌, ℕ, ◌+◌, ◌*◌, ◌<◌, ◌≤�
 use Rattle.std.specs.Prelude.{option_map, IsTrue, IsFalse, IfSome}
 use Rattle.std.proofs.lemmas.Bool.Decides.{nat_tests}
 use Rattle.tenant_book.specs.Book.{BookData, after_hold, after_free_up}
+use Rattle.mrcpsp.specs.Project.{is_project}
 use Rattle.strategy.specs.declared.plan.Plan.{Plan}
 use Rattle.job_table.specs.Table.{Row, JobData, is_out, is_ended, find_row, put_row, drop_row}
 use Rattle.job_table.specs.Job.{given_up, IsFunded, IsGivenUp}
@@ -14,7 +15,7 @@ use Rattle.farm_core.specs.declared.reply.Line.{Line}
 use Rattle.farm_core.specs.declared.reply.Reply.TheVariants as reply
 use Rattle.farm_core.specs.Tenant.{book, free, held, find_job, line_of}
 use Rattle.farm_core.specs.Step.{Replied, has_room, is_amount}
-use Rattle.farm_core.specs.World.{World, view}
+use Rattle.farm_core.specs.World.{World, account_of, member, view}
 use Rattle.farm_core.specs.Farm.{IsFarm, IsGivenUpTo, owed, owed_in}
 use Rattle.farm_core.proofs.ViewLemmas.{found_own}
 use Rattle.farm_core.proofs.MoveLemmas.{IsMove, account_in, spent_in}
@@ -32,21 +33,21 @@ owed_drop t s [] = omega arith
 owed_drop t s (row ∷ rows) = grind (arith, nat_tests, owed_drop t s rows)
 
 pub own_row : (w : World) (t s : ℕ) (job : JobData) → find_job s (view t w).jobs ≡ Some job → find_row t s w.rows ≡ Some job
-unfolding view
+unfolding view member
 own_row w t s job found = sym (found_own t s w.rows) ∙ found
 
 pub same_job : (a b : JobData) (found : Option JobData) → found ≡ Some a → found ≡ Some b → a ≡ b
 same_job a b found one two = cc
 
-pub forget_moves : (w : World) (t s capacity : ℕ) (account : Account) (line : Line) → IsFarm w capacity → t < length w.config.tenants → account ≡ get_or w.accounts t account
+pub forget_moves : (w : World) (t s capacity : ℕ) (account : Account) (line : Line) → IsFarm w capacity → t < length w.config.tenants → account ≡ account_of w t
     → has_room 1 (view t w) ≡ true → option_map line_of (find_job s (view t w).jobs) ≡ Some line → is_ended line.phase ≡ true
     → IsMove w t (drop_row t s w.rows) (record account { used = account.used + 1 }) (Forget s) (Replied (reply.Forgotten s))
 unfolding line_of
 forget_moves w t s capacity account line farm l is room line_is ended =
     let it = told (view t w) s line line_is in
     let ended_is : is_ended it.job.phase ≡ true = ap (λ (x : Line). is_ended x.phase) it.line_is ∙ ended in
-    let none : it.job.left ≡ 0 = (paid_found (view t w).spent s (view t w).jobs it.job it.found (running_in w t capacity farm).jobs).1 ended_is in
-    dropped_moves w t s capacity account it.job (Forget s) (Replied (reply.Forgotten s)) farm l is (own_row w t s it.job it.found) none (forget_steps (view t w) s it.job room it.found ended_is) refl
+    let none : it.job.left ≡ 0 = (paid_found (view t w).spent s (view t w).jobs it.job it.found (running_in w t capacity farm l).jobs).1 ended_is in
+    dropped_moves w t s capacity account it.job (Forget s) (Replied (reply.Forgotten s)) farm l is (own_row w t s it.job it.found) none (forget_steps (view t w) s it.job room it.found ended_is) refl tt
 
 gone_owed : (job new : JobData) (phase : Phase) → given_up job phase ≡ Some new → owed_in new.phase + 1 ≤ owed_in phase
 gone_owed job new Waiting gone = let same : record job { phase = Cancelled; left = 0 } ≡ new = cc in omega (arith, ap (λ (j : JobData). owed_in j.phase) same)
@@ -61,7 +62,7 @@ pub record IsCancel (w : World) (t s freed : ℕ) (account : Account) (line : Li
   pub moves : IsMove w t rows (record account { book = after_free_up freed account.book; used = account.used + 1 }) (Cancel s) (Replied (reply.Line line))
   pub room : owed rows + 1 ≤ owed w.rows
 
-pub freed_most : (w : World) (t s freed capacity : ℕ) (account : Account) (line : Line) → IsFarm w capacity → t < length w.config.tenants → account ≡ get_or w.accounts t account → IsGivenUpTo (view t w) s freed line
+pub freed_most : (w : World) (t s freed capacity : ℕ) (account : Account) (line : Line) → IsFarm w capacity → t < length w.config.tenants → account ≡ account_of w t → IsGivenUpTo (view t w) s freed line
     → freed ≤ account.book.held
 unfolding book held
 freed_most w t s freed capacity account line farm l is up =
@@ -72,7 +73,7 @@ pub owed_some : (w : World) (t s freed : ℕ) (line : Line) → IsGivenUpTo (vie
 owed_some w t s freed line up =
     omega (arith, gone_owed up.job up.then up.job.phase up.gone, owed_put t s up.job up.then w.rows (own_row w t s up.job up.found))
 
-pub cancel_moves : (w : World) (t s freed capacity : ℕ) (account : Account) (line : Line) (rows : List Row) → IsFarm w capacity → t < length w.config.tenants → account ≡ get_or w.accounts t account
+pub cancel_moves : (w : World) (t s freed capacity : ℕ) (account : Account) (line : Line) (rows : List Row) → IsFarm w capacity → t < length w.config.tenants → account ≡ account_of w t
     → has_room 1 (view t w) ≡ true → IsGivenUpTo (view t w) s freed line → IsGivenUp w.rows t s rows → IsCancel w t s freed account line rows
 cancel_moves w t s freed capacity account line rows farm l is room up did =
     let new : JobData = did.then in
@@ -89,7 +90,7 @@ cancel_moves w t s freed capacity account line rows farm l is room up did =
     let moves : IsMove w t (put_row t s new w.rows) (record account { book = after_free_up freed account.book; used = account.used + 1 }) (Cancel s) (Replied (reply.Line line)) =
     subst (λ (x : Line). IsMove w t (put_row t s new w.rows) (record account { book = after_free_up freed account.book; used = account.used + 1 }) (Cancel s) (Replied (reply.Line x))) line_is
     (changed_moves w t s capacity account up.job new (after_free_up freed account.book) (Cancel s) (Replied (reply.Line (line_of new))) farm l is there (given_up_seq up.job new gone)
-    (rw spent steps) refl refl (omega (arith, left, most)) (omega (arith, whole, most))) in
+    (rw spent steps) refl refl (omega (arith, left, most)) (omega (arith, whole, most)) tt) in
     record {
       moves = subst (λ (rs : List Row). IsMove w t rs (record account { book = after_free_up freed account.book; used = account.used + 1 }) (Cancel s) (Replied (reply.Line line))) (sym did.after) moves;
       room = omega (arith, ap owed did.after, owed_put t s up.job new w.rows there, gone_owed up.job new up.job.phase gone);
@@ -104,7 +105,7 @@ pub put_length : (t s : ℕ) (new : JobData) (rows : List Row) → length (put_r
 put_length t s new [] = refl
 put_length t s new (row ∷ rows) = grind (arith, nat_tests, put_length t s new rows)
 
-pub fund_moves : (w : World) (t s quanta capacity : ℕ) (account : Account) (line : Line) (rows : List Row) → IsFarm w capacity → t < length w.config.tenants → account ≡ get_or w.accounts t account
+pub fund_moves : (w : World) (t s quanta capacity : ℕ) (account : Account) (line : Line) (rows : List Row) → IsFarm w capacity → t < length w.config.tenants → account ≡ account_of w t
     → has_room 1 (view t w) ≡ true → option_map line_of (find_job s (view t w).jobs) ≡ Some line → is_out line.phase ≡ false → is_ended line.phase ≡ false → is_amount quanta ≡ true → quanta ≤ account.book.free
     → IsFunded w.rows t s quanta rows → IsFunding w t s quanta account line rows
 unfolding line_of free book
@@ -125,20 +126,20 @@ fund_moves w t s quanta capacity account line rows farm l is room line_is here g
     let then : Account = record account { book = after_hold quanta account.book; used = account.used + 1 } in
     let moves : IsMove w t (put_row t s new w.rows) then (Fund s quanta) (Replied (reply.Line (line_of new))) =
     changed_moves w t s capacity account it.job new (after_hold quanta account.book) (Fund s quanta) (Replied (reply.Line (line_of new))) farm l is there refl
-    (rw spent steps) refl refl (omega arith) (omega (arith, whole, some)) in
+    (rw spent steps) refl refl (omega arith) (omega (arith, whole, some)) tt in
     record {
       moves = rw (rows_are, ← told_is) moves;
       room = omega (arith, ap owed rows_are, owed-most (put_row t s new w.rows), put_length t s new w.rows);
     }
 
 -- more quanta than are free make no more than a tenant may have
-pub fund_limited : (w : World) (t s quanta capacity : ℕ) (account : Account) (job : JobData) → IsFarm w capacity → t < length w.config.tenants → account ≡ get_or w.accounts t account
-    → find_row t s w.rows ≡ Some job → quanta ≤ account.book.free → (view t w).terms.quanta ≤ 1000000000000 → job.nodes + job.left + quanta ≤ 1000000000000
+pub fund_limited : (w : World) (t s quanta capacity : ℕ) (account : Account) (job : JobData) → IsFarm w capacity → t < length w.config.tenants → account ≡ account_of w t
+    → find_row t s w.rows ≡ Some job → quanta ≤ account.book.free → (view t w).granted ≤ 1000000000000 → job.nodes + job.left + quanta ≤ 1000000000000
 unfolding book free held
 fund_limited w t s quanta capacity account job farm l is found some limited =
     let a = account_in w t capacity account farm l is in
     let own = own_job w t s job found in
-    let running = running_in w t capacity farm in
+    let running = running_in w t capacity farm l in
     omega (arith, (paid_found (view t w).spent s (view t w).jobs job own running.jobs).0, found_held s (view t w).jobs job own, running.covered, ap (λ (b : BookData). b.free) a.book, some, limited)
 
 -- where a job can be given up, it is
@@ -151,40 +152,40 @@ cancel_did w t s freed line rows false up did not =
     let gone = up.gone in
     absurd (cc)
 
-pub free_in : (w : World) (t capacity : ℕ) (account : Account) → IsFarm w capacity → t < length w.config.tenants → account ≡ get_or w.accounts t account → account.book.free ≡ free (view t w)
+pub free_in : (w : World) (t capacity : ℕ) (account : Account) → IsFarm w capacity → t < length w.config.tenants → account ≡ account_of w t → account.book.free ≡ free (view t w)
 unfolding book
 free_in w t capacity account farm l is = ap (λ (b : BookData). b.free) (account_in w t capacity account farm l is).book
 
-pub fund_bound : (w : World) (t s quanta capacity : ℕ) (account : Account) (found : Option JobData) → IsFarm w capacity → t < length w.config.tenants → account ≡ get_or w.accounts t account
-    → find_row t s w.rows ≡ found → quanta ≤ account.book.free → (view t w).terms.quanta ≤ 1000000000000 → IfSome found (λ job. job.nodes + job.left + quanta ≤ 1000000000000)
+pub fund_bound : (w : World) (t s quanta capacity : ℕ) (account : Account) (found : Option JobData) → IsFarm w capacity → t < length w.config.tenants → account ≡ account_of w t
+    → find_row t s w.rows ≡ found → quanta ≤ account.book.free → (view t w).granted ≤ 1000000000000 → IfSome found (λ job. job.nodes + job.left + quanta ≤ 1000000000000)
 fund_bound w t s quanta capacity account None farm l is found some limited = tt
 fund_bound w t s quanta capacity account (Some job) farm l is found some limited = fund_limited w t s quanta capacity account job farm l is found some limited
 
-pub fund_line : (w : World) (t s quanta capacity : ℕ) (account : Account) (line : Line) → IsFarm w capacity → t < length w.config.tenants → account ≡ get_or w.accounts t account
-    → option_map line_of (find_job s (view t w).jobs) ≡ Some line → quanta ≤ account.book.free → (view t w).terms.quanta ≤ 1000000000000 → line.left + quanta ≤ 1000000000000
+pub fund_line : (w : World) (t s quanta capacity : ℕ) (account : Account) (line : Line) → IsFarm w capacity → t < length w.config.tenants → account ≡ account_of w t
+    → option_map line_of (find_job s (view t w).jobs) ≡ Some line → quanta ≤ account.book.free → (view t w).granted ≤ 1000000000000 → line.left + quanta ≤ 1000000000000
 unfolding line_of
 fund_line w t s quanta capacity account line farm l is line_is some limited =
     let it = told (view t w) s line line_is in
     omega (arith, fund_limited w t s quanta capacity account it.job farm l is (own_row w t s it.job it.found) some limited, ap (λ (x : Line). x.left) it.line_is)
 
 -- a job more
-pub submit_moves : (w : World) (t capacity quanta : ℕ) (account : Account) (plan : Plan) → IsFarm w capacity → t < length w.config.tenants → account ≡ get_or w.accounts t account
-    → has_room 1 (view t w) ≡ true → is_amount quanta ≡ true → nat_lt (length (view t w).jobs) (view t w).terms.jobs ≡ true → quanta ≤ account.book.free
+pub submit_moves : (w : World) (t capacity quanta : ℕ) (account : Account) (plan : Plan) → IsFarm w capacity → t < length w.config.tenants → account ≡ account_of w t
+    → has_room 1 (view t w) ≡ true → is_amount quanta ≡ true → nat_lt (length (view t w).jobs) (view t w).terms.jobs ≡ true → quanta ≤ account.book.free → IsTrue (is_project plan.project)
     → let new : JobData = record { seq = account.next; plan = plan; phase = Waiting; nodes = 0; left = quanta } in
     IsMove w t (w.rows ++ record { tenant = t; job = new } ∷ []) (record account { book = after_hold quanta account.book; next = account.next + 1; used = account.used + 1 }) (Submit plan quanta) (Replied (reply.Job account.next))
-submit_moves w t capacity quanta account plan farm l is room amount more some =
+submit_moves w t capacity quanta account plan farm l is room amount more some planned =
     let a = account_in w t capacity account farm l is in
     let free_is = free_in w t capacity account farm l is in
     let steps = submit_steps (view t w) plan quanta room amount more (omega (arith, some, free_is)) in
     let new : JobData = record { seq = account.next; plan = plan; phase = Waiting; nodes = 0; left = quanta } in
     pushed_moves w t capacity account new (after_hold quanta account.book) (Submit plan quanta) (Replied (reply.Job account.next)) farm l is
-    (rw a.next steps) refl refl refl refl (omega (arith, whole_in w t capacity account farm l is, some))
+    (rw a.next steps) refl refl refl refl (omega (arith, whole_in w t capacity account farm l is, some)) planned
 
 pub owed_push : (t : ℕ) (new : JobData) (rows : List Row) → owed (rows ++ record { tenant = t; job = new } ∷ []) ≡ owed rows + owed_in new.phase
 owed_push t new [] = omega arith
 owed_push t new (row ∷ rows) = omega (arith, owed_push t new rows)
 
-pub next_few : (w : World) (t capacity : ℕ) (account : Account) → IsFarm w capacity → t < length w.config.tenants → account ≡ get_or w.accounts t account → account.next ≤ account.used + 1
+pub next_few : (w : World) (t capacity : ℕ) (account : Account) → IsFarm w capacity → t < length w.config.tenants → account ≡ account_of w t → account.next ≤ account.used + 1
 next_few w t capacity account farm l is =
     let a = account_in w t capacity account farm l is in
-    omega (arith, a.next, a.used, (running_in w t capacity farm).few)
+    omega (arith, a.next, a.used, (running_in w t capacity farm l).few)

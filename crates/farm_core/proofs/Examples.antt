@@ -1,5 +1,5 @@
 -- The steps of a tenant alone over three scripts, computed.
-use Rattle.std.proofs.Common.{◌≡◌, ℕ, zero, suc, ◌+◌, ◌<◌, true, false, List, [], ◌∷◌, Option, Some, None, length, refl, ap, ◌∙◌, subst, arith, inl, inr, length-append}
+use Rattle.std.proofs.Common.{◌≡◌, ℕ, zero, suc, ◌+◌, ◌<◌, true, false, List, [], ◌∷◌, Option, Some, None, length, map, refl, ap, ◌∙◌, subst, arith, inl, inr, length-append}
 use Rattle.std.specs.Prelude.{slice_get}
 use Rattle.mrcpsp.specs.Project.{ProjectData, ModeData, size, renewables, nonrenewables, modes, mode_count, successors, duration, request, consumption, capacity, stock, precedes}
 use Rattle.mrcpsp.specs.Schedule.{mode_of, start_of, finish, load, makespan}
@@ -22,10 +22,13 @@ use Rattle.farm_core.specs.declared.entry.Event.{Event}
 use Rattle.farm_core.specs.declared.entry.Event.TheVariants.{Submit, Fund, Status, Fetch, Cancel, Forget, Ledger, Take, Give}
 use Rattle.farm_core.specs.declared.reply.Line.{Line}
 use Rattle.farm_core.specs.declared.reply.Reply.TheVariants as reply
-use Rattle.farm_core.specs.Tenant.{newcomer, held, free, book, kept, line_of, nodes_of_turn}
+use Rattle.std.specs.List.{range_with_len}
+use Rattle.farm_core.specs.Purses.{first_member, purse_of}
+use Rattle.farm_core.specs.Tenant.{newcomers, newcomer, held, free, book, kept, line_of, nodes_of_turn}
 use Rattle.farm_core.specs.Step.{Answer, Replied, Sent, NoTurn, submitted, funded, fetched, cancelled, forgotten, has_room}
 use Rattle.farm_core.specs.Turn.{IsFirstReady}
-use Rattle.farm_core.specs.World.{World, view, KeepsOrder, answers_alone}
+use Rattle.farm_core.specs.World.{World, Asked, member, purse, view, KeepsOrder, answers_alone}
+use Rattle.farm_core.specs.Laws.{answers_by}
 
 -- ---- a project, whose searches are over after three nodes, and what is told
 
@@ -54,7 +57,7 @@ abbrev ledger : ℕ → ℕ → ℕ → ℕ → Answer
 ledger granted free held spent = Replied (reply.Ledger (record { granted = granted; free = free; held = held; spent = spent }))
 
 abbrev terms : ℕ → ℕ → ℕ → TenantLine
-terms quanta jobs entries = record { name = 97 ∷ []; quanta = quanta; jobs = jobs; entries = entries }
+terms quanta jobs entries = record { name = 97 ∷ []; quanta = quanta; jobs = jobs; entries = entries; purse = None }
 
 -- ---- a job that is cancelled while its turn is out, and refusals: 100 quanta, 1 job, 14 entries
 
@@ -79,7 +82,7 @@ cancelling =
     ∷ []
 
 -- after a give that no turn can have made nothing changes, and the last call finds no room
-cancelled_while_out : answers_alone (newcomer (terms 100 1 14)) cancelling ≡
+cancelled_while_out : answers_by (newcomer (terms 100 1 14)) cancelling ≡
     Replied (reply.Job 1)
     ∷ Sent (line 1 (Out 2) 0 6 None Going)
     ∷ Replied reply.NoBusy
@@ -119,7 +122,7 @@ finishing =
     ∷ []
 
 -- the third node places the sink, and the tree is whole; what is left is free again; no number comes twice
-searched_to_the_end : answers_alone (newcomer (terms 10 1 20)) finishing ≡
+searched_to_the_end : answers_by (newcomer (terms 10 1 20)) finishing ≡
     Replied (reply.Job 1)
     ∷ Sent (line 1 (Out 100) 0 9 None Going)
     ∷ Replied (reply.Ran 0 (line 1 Waiting 0 9 None Going))
@@ -154,7 +157,7 @@ running_dry =
     ∷ []
 
 -- with seven entries and a turn out the eighth is the give's
-dry_and_funded : answers_alone (newcomer (terms 3 2 8)) running_dry ≡
+dry_and_funded : answers_by (newcomer (terms 3 2 8)) running_dry ≡
     Replied (reply.Job 1)
     ∷ Sent (line 1 (Out 5) 0 2 None Going)
     ∷ Replied (reply.Ran 2 (line 1 Dry 2 0 None Going))
@@ -170,6 +173,41 @@ dry_and_funded : answers_alone (newcomer (terms 3 2 8)) running_dry ≡
 unfolding newcomer submitted funded fetched cancelled forgotten held free book kept line_of nodes_of_turn best_after is_closed verdict_after pass chosen_at eligible_ones allowed_modes is_allowed_mode placed_from lft duration size modes renewables nonrenewables mode_count successors request consumption capacity stock precedes load shortest least placed_use placed_consumption are_ready fits is_allowed earliest is_eligible is_executable reserve is_affordable schedule_of makespan finish start_of mode_of tail bound
 dry_and_funded = refl
 
+-- ---- two members of one purse of 6 and 4 quanta: each has its own numbers, and what one holds and spends the other has less
+
+abbrev asked : ℕ → Event → Asked
+asked place event = record { place = place; event = event }
+
+abbrev sharing : List Asked
+sharing =
+    asked 0 (Submit (by Tree) 8)
+    ∷ asked 1 Ledger
+    ∷ asked 1 (Submit (by Tree) 3)
+    ∷ asked 0 (Take 1 2)
+    ∷ asked 0 (Give 1 2)
+    ∷ asked 0 (Cancel 1)
+    ∷ asked 1 (Submit (by Tree) 8)
+    ∷ asked 1 Ledger
+    ∷ []
+
+shared_purse : answers_alone (newcomers (terms 6 2 100 ∷ terms 4 2 100 ∷ [])) sharing ≡
+    Replied (reply.Job 1)
+    ∷ ledger 10 2 8 0
+    ∷ Replied (reply.NoShort 2)
+    ∷ Sent (line 1 (Out 2) 0 8 None Going)
+    ∷ Replied (reply.Ran 2 (line 1 Waiting 2 6 None Going))
+    ∷ Replied (reply.Line (line 1 Cancelled 2 0 None Going))
+    ∷ Replied (reply.Job 1)
+    ∷ ledger 10 0 8 2
+    ∷ []
+unfolding newcomers submitted funded fetched cancelled forgotten held free book kept line_of nodes_of_turn best_after is_closed verdict_after tree.best_after tree.is_closed tree.all_visits tree.candidates tree.is_pruned tree.updated tree.visit_one pass chosen_at eligible_ones allowed_modes is_allowed_mode placed_from lft duration size modes renewables nonrenewables mode_count successors request consumption capacity stock precedes load shortest least placed_use placed_consumption last_start are_ready fits is_allowed earliest is_eligible is_executable reserve is_affordable tail schedule_of makespan finish start_of mode_of bound
+shared_purse = refl
+
+-- the purse that tenants share is found by its name, which may be a tenant's; purses are numbered by their first members
+purses_numbered : map (purse_of (None ∷ Some (98 ∷ []) ∷ None ∷ Some (98 ∷ []) ∷ Some (97 ∷ []) ∷ [])) (range_with_len 0 5) ≡ 0 ∷ 1 ∷ 2 ∷ 1 ∷ 3 ∷ []
+unfolding purse_of first_member
+purses_numbered = refl
+
 -- ---- whose turn is next: tenant 0's job came first, but it has one entry left; of tenant 1's three jobs the first is out
 
 abbrev row : ℕ → ℕ → Phase → Row
@@ -180,7 +218,8 @@ queue = record {
   config = record { tenants = terms 100 3 1 ∷ terms 100 3 9 ∷ []; workers = 1; slice = 5 };
   rows = row 0 1 Waiting ∷ row 1 1 (Out 2) ∷ row 1 2 Waiting ∷ row 1 3 Waiting ∷ [];
   journal = [];
-  accounts = [];
+  books = [];
+  numbers = [];
 }
 
 waiting_in_order : waiting_keys queue.rows ≡ (0, 1) ∷ (1, 2) ∷ (1, 3) ∷ []
@@ -199,12 +238,12 @@ abbrev NoneBefore : ℕ → Type 0
 NoneBefore at = (j u n : ℕ) → j < at → slice_get (waiting_keys queue.rows) j ≡ Some (u, n) → has_room 2 (view u queue) ≡ false
 
 none_before : NoneBefore 1
-unfolding tenant_in view kept
+unfolding tenant_in view member purse kept
 none_before zero u n l here = let is : 0 ≡ u = ap tenant_in here in subst (λ v. has_room 2 (view v queue) ≡ false) is refl
 none_before (suc j) u n l here = absurd (omega (arith, l))
 
 second_of_1_is_next : IsFirstReady queue 1 2 5
-unfolding view kept
+unfolding view member purse kept
 second_of_1_is_next = record {
   ready = record {
     job = record { seq = 2; plan = by RuleLft; phase = Waiting; nodes = 0; left = 5 };
@@ -220,7 +259,7 @@ second_of_1_is_next = record {
 }
 
 third_at : (at : ℕ) → slice_get (waiting_keys queue.rows) at ≡ Some (1, 3) → NoneBefore at → ⊥
-unfolding tenant_in number_in view kept
+unfolding tenant_in number_in view member purse kept
 third_at zero here none = let is : 0 ≡ 1 = ap tenant_in here in omega (arith, is)
 third_at (suc zero) here none = let is : 2 ≡ 3 = ap number_in here in omega (arith, is)
 third_at (suc (suc at)) here none = let is : true ≡ false = none 1 1 2 (omega arith) refl in absurd (cc)

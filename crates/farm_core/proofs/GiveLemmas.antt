@@ -18,7 +18,7 @@ use Rattle.farm_core.specs.declared.reply.Line.{Line}
 use Rattle.farm_core.specs.declared.reply.Reply.TheVariants as reply
 use Rattle.farm_core.specs.Tenant.{book, held, find_job, line_of, nodes_of_turn}
 use Rattle.farm_core.specs.Step.{Replied, Sent, NoTurn, is_slice, has_room, may_have_run}
-use Rattle.farm_core.specs.World.{World, view, Follows}
+use Rattle.farm_core.specs.World.{World, account_of, view, Follows}
 use Rattle.farm_core.specs.Farm.{IsFarm, owed, owed_in}
 use Rattle.farm_core.specs.Turn.{IsTurn, IsReady}
 use Rattle.farm_core.proofs.MoveLemmas.{IsMove, account_in, spent_in, stays_follows}
@@ -27,20 +27,21 @@ use Rattle.farm_core.proofs.FarmLemmas.{owed-most}
 use Rattle.farm_core.proofs.StepLemmas.{told, untold, take_none, take_not, take_steps, give_steps}
 use Rattle.farm_core.proofs.ChangeLemmas.{own_job, whole_in, changed_moves}
 use Rattle.farm_core.proofs.CommandLemmas.{own_row, same_job, owed_put, put_length}
-use Rattle.farm_core.proofs.NeedLemmas.{first_from-most, turn_ran}
+use Rattle.farm_core.proofs.PlaceLemmas.{first_from-most}
+use Rattle.farm_core.proofs.NeedLemmas.{turn_ran}
 
 -- a job that is not there, or cannot be taken
-pub take_unknown : (w : World) (t s slice : ℕ) → option_map line_of (find_job s (view t w).jobs) ≡ None → Follows w t (Take s slice) NoTurn w
-take_unknown w t s slice is = stays_follows w t (Take s slice) NoTurn (take_none (view t w) s slice (untold (view t w) s is)) refl
+pub take_unknown : (w : World) (t s slice : ℕ) → t < length w.config.tenants → option_map line_of (find_job s (view t w).jobs) ≡ None → Follows w t (Take s slice) NoTurn w
+take_unknown w t s slice known is = stays_follows w t (Take s slice) NoTurn known (take_none (view t w) s slice (untold (view t w) s is)) refl
 
-pub take_refused : (w : World) (t s slice : ℕ) (line : Line) → option_map line_of (find_job s (view t w).jobs) ≡ Some line → (is_waiting line.phase && is_slice slice && has_room 2 (view t w)) ≡ false
+pub take_refused : (w : World) (t s slice : ℕ) (line : Line) → t < length w.config.tenants → option_map line_of (find_job s (view t w).jobs) ≡ Some line → (is_waiting line.phase && is_slice slice && has_room 2 (view t w)) ≡ false
     → Follows w t (Take s slice) NoTurn w
 unfolding line_of
-take_refused w t s slice line is not =
+take_refused w t s slice line known is not =
     let it = told (view t w) s line is in
     let phase : it.job.phase ≡ line.phase = ap (λ (l : Line). l.phase) it.line_is in
     let not_is : (is_waiting it.job.phase && is_slice slice && has_room 2 (view t w)) ≡ false = ap (λ (p : Phase). is_waiting p && is_slice slice && has_room 2 (view t w)) phase ∙ not in
-    stays_follows w t (Take s slice) NoTurn (take_not (view t w) s slice it.job it.found not_is) refl
+    stays_follows w t (Take s slice) NoTurn known (take_not (view t w) s slice it.job it.found not_is) refl
 
 -- where it can be taken, the job is ready
 pub take_ready : (w : World) (t s slice : ℕ) (line : Line) → t < length w.config.tenants → option_map line_of (find_job s (view t w).jobs) ≡ Some line
@@ -61,7 +62,7 @@ pub record IsGoing (w : World) (t s slice : ℕ) (account : Account) (m : Meanin
   pub moves : IsMove w t rows (record account { book = account.book; used = account.used + 1 }) (Take s slice) (Sent (line_of (record job { phase = Out slice })))
   pub room : owed rows ≤ 2 * length w.rows
 
-pub take_moves : (w : World) (t s slice capacity : ℕ) (account : Account) (line : Line) (m : Meaning) (rows : List Row) → IsFarm w capacity → t < length w.config.tenants → account ≡ get_or w.accounts t account
+pub take_moves : (w : World) (t s slice capacity : ℕ) (account : Account) (line : Line) (m : Meaning) (rows : List Row) → IsFarm w capacity → t < length w.config.tenants → account ≡ account_of w t
     → option_map line_of (find_job s (view t w).jobs) ≡ Some line → (is_waiting line.phase && is_slice slice && has_room 2 (view t w)) ≡ true → IsSent w.rows t s slice m rows → IsGoing w t s slice account m rows
 unfolding line_of
 take_moves w t s slice capacity account line m rows farm l is line_is may did =
@@ -77,7 +78,7 @@ take_moves w t s slice capacity account line m rows farm l is line_is may did =
     let spent = spent_in w t capacity account farm l is in
     let whole = whole_in w t capacity account farm l is in
     let moves : IsMove w t (put_row t s new w.rows) (record account { book = account.book; used = account.used + 1 }) (Take s slice) (Sent (line_of new)) =
-    changed_moves w t s capacity account it.job new account.book (Take s slice) (Sent (line_of new)) farm l is there refl (rw spent steps) refl refl refl whole in
+    changed_moves w t s capacity account it.job new account.book (Take s slice) (Sent (line_of new)) farm l is there refl (rw spent steps) refl refl refl whole tt in
     record {
       job = it.job;
       found = it.found;
@@ -153,7 +154,7 @@ pub record IsGiving (w : World) (t s slice ran : ℕ) (account : Account) (m : M
   pub left_most : (back ran job).left ≤ job.left - ran
   pub freed : job.left - ran - (back ran job).left ≤ account.book.held - ran
 
-pub give_moves : (w : World) (t s slice ran capacity : ℕ) (account : Account) (m : Meaning) (rows : List Row) → IsFarm w capacity → t < length w.config.tenants → account ≡ get_or w.accounts t account
+pub give_moves : (w : World) (t s slice ran capacity : ℕ) (account : Account) (m : Meaning) (rows : List Row) → IsFarm w capacity → t < length w.config.tenants → account ≡ account_of w t
     → IsTurn slice ran m → IsBack w.rows t s slice ran m rows → IsGiving w t s slice ran account m rows
 unfolding book held
 give_moves w t s slice ran capacity account m rows farm l is turn did =
@@ -174,7 +175,7 @@ give_moves w t s slice ran capacity account m rows farm l is turn did =
     let steps = give_steps (view t w) s ran job own may in
     let moves : IsMove w t (put_row t s new w.rows) (record account { book = then; used = account.used + 1 }) (Give s ran) (Replied (reply.Ran ran (line_of new))) =
     changed_moves w t s capacity account job new then (Give s ran) (Replied (reply.Ran ran (line_of new))) farm l is did.found refl (rw spent_is steps) refl refl
-    (omega (arith, most, ran_is.1, left_most)) (omega (arith, whole, spent, freed)) in
+    (omega (arith, most, ran_is.1, left_most)) (omega (arith, whole, spent, freed)) tt in
     record {
       job = job;
       found = did.found;
@@ -216,7 +217,7 @@ pub record IsToldGiving (w : World) (t s slice ran : ℕ) (account : Account) (m
   pub left_most : line.left ≤ before.left - ran
   pub freed : before.left - ran - line.left ≤ account.book.held - ran
 
-pub give_told : (w : World) (t s slice ran capacity : ℕ) (account : Account) (m : Meaning) (rows : List Row) (before line : Line) → IsFarm w capacity → t < length w.config.tenants → account ≡ get_or w.accounts t account
+pub give_told : (w : World) (t s slice ran capacity : ℕ) (account : Account) (m : Meaning) (rows : List Row) (before line : Line) → IsFarm w capacity → t < length w.config.tenants → account ≡ account_of w t
     → IsTurn slice ran m → IsBack w.rows t s slice ran m rows → option_map line_of (find_job s (view t w).jobs) ≡ Some before → ((job : JobData) → find_row t s rows ≡ Some job → line ≡ line_of job)
     → IsToldGiving w t s slice ran account m rows before line
 give_told w t s slice ran capacity account m rows before line farm l is turn did told_before told_after =

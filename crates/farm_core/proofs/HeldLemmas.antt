@@ -1,5 +1,5 @@
 -- What each call does to a turn that is out, and which call makes one.
-use Rattle.std.proofs.Common.{◌≡◌, ◌≢◌, ℕ, ◌+◌, ◌≤◌, min, List, [], ◌∷◌, ◌++◌, length, true, false, cond, ◌&&◌, ◌==◌, nat_le, nat_lt, Option, Some, None, refl, sym, ap, ◌∙◌, subst, arith, ⊎_elim, ◌⊎◌, inl, inr, eq-eqb}
+use Rattle.std.proofs.Common.{◌≡◌, ◌≢◌, ℕ, ◌+◌, ◌≤◌, min, List, [], ◌∷◌, ◌++◌, length, true, false, cond, ◌&&◌, ◌==◌, nat_le, nat_lt, Option, Some, None, refl, sym, ap, ◌∙◌, subst, arith, ⊎_elim, ◌⊎◌, inl, inr, eq-eqb, ◌<◌}
 use Rattle.std.specs.Prelude.{option_map, ⊤}
 use Rattle.std.proofs.lemmas.Bool.{cond_both, cases_eq, eqb-true, and_parts, both_ways}
 use Rattle.std.proofs.lemmas.Bool.Decides.{nat_tests}
@@ -17,12 +17,15 @@ use Rattle.farm_core.specs.declared.entry.Event.TheVariants.{Submit, Fund, Statu
 use Rattle.farm_core.specs.declared.reply.Line.{Line}
 use Rattle.farm_core.specs.declared.reply.Reply.{Reply}
 use Rattle.farm_core.specs.declared.reply.Reply.TheVariants as reply
-use Rattle.farm_core.specs.Tenant.{Tenant, book, free, find_job, put_job, drop_job, line_of, nodes_of_turn, nodes_out_in}
+use Rattle.farm_core.specs.Tenant.{Tenant, Purse, seat, book, free, find_job, put_job, drop_job, line_of, nodes_of_turn, nodes_out_in}
 use Rattle.farm_core.specs.Step.{Replied, Sent, NoTurn, Step, step, has_room, is_amount, is_slice, unnoted, noted, changed, fresh_job, submitted, about, funded, fetched, cancelled_as, cancelled, forgotten, commanded, taken, may_have_run, gave}
-use Rattle.farm_core.specs.World.{World, terms_in, view, events_of, IsReplayed}
+use Rattle.farm_core.specs.Config.{lines_of}
+use Rattle.farm_core.specs.World.{World, purse_in, place_in, opened_purse, view, events_of, after_alone, IsReplayed}
 use Rattle.farm_core.specs.Held.{is_out_of, takes, gives, nodes_out, TakenTurnsAreHeld, TakenJobsWereNotOut, TurnsStayHeld, HeldTurnsAreNoStrangers, HeldTurnsRunTheirNodes, OnlyTakenJobsAreOut, GivenJobsAreNotOut}
 use Rattle.farm_core.proofs.CommandLemmas.{own_row}
-use Rattle.farm_core.proofs.NeedLemmas.{IsNumberOf, AreDistinct, alone_distinct, first_from-most}
+use Rattle.farm_core.proofs.PlaceLemmas.{first_from-most}
+use Rattle.farm_core.proofs.SeatLemmas.{each_view_is_a_seat, steps_of, jobs_stay}
+use Rattle.farm_core.proofs.NeedLemmas.{IsNumberOf, AreDistinct, alone_distinct}
 use Rattle.farm_core.proofs.NextLemmas.{no_job}
 use Rattle.farm_core.proofs.RunningLemmas.{found_seq, out_in, after_back}
 use Rattle.farm_core.proofs.StepLemmas.{given_up_seq}
@@ -318,7 +321,7 @@ turns_stay_held old new t e answer h u s slice m it other =
       };
       best = it.best;
     })
-    (λ (differ : u ≡ t → ⊥). record { job = it.job; found = ap (λ (v : Tenant). find_job s v.jobs) (h.others u differ) ∙ it.found; own = it.own; best = it.best })
+    (λ (differ : u ≡ t → ⊥). record { job = it.job; found = ap (find_job s) (jobs_stay old new t e answer (steps_of old new t e answer h) u differ) ∙ it.found; own = it.own; best = it.best })
     (cases_eq u t)
 
 -- a turn was sent, and not refused
@@ -403,8 +406,12 @@ pub held_turns_run_their_nodes : HeldTurnsRunTheirNodes
 held_turns_run_their_nodes w t s slice m it =
     own_nodes slice m it.job it.own.plan (omega (arith, it.own.nodes)) (omega (arith, it.own.left)) ∙ out_nodes slice it.job it.job.phase it.own.turn ∙ ap nodes_out (sym it.found)
 
-distinct_in : (w : World) → IsReplayed w → (t : ℕ) → AreDistinct (view t w).jobs
-distinct_in w replayed t = subst (λ (v : Tenant). AreDistinct v.jobs) (sym (replayed t)) (alone_distinct (terms_in w.config t) (events_of t w.journal))
+distinct_in : (w : World) → IsReplayed w → (t : ℕ) → t < length w.config.tenants → AreDistinct (view t w).jobs
+distinct_in w replayed t known =
+    let place = place_in w.config t in
+    let seen : view t w ≡ seat (after_alone (opened_purse w.config (purse_in w.config t)) (events_of w.config (purse_in w.config t) w.journal)) place =
+    each_view_is_a_seat w t known ∙ ap (λ (p : Purse). seat p place) (replayed (purse_in w.config t)) in
+    subst (λ (v : Tenant). AreDistinct v.jobs) (sym seen) (alone_distinct (lines_of w.config.tenants (purse_in w.config t)) (events_of w.config (purse_in w.config t) w.journal) place)
 
 pub only_taken_jobs_are_out : OnlyTakenJobsAreOut
 only_taken_jobs_are_out old new t e answer replayed h u s out =
@@ -413,8 +420,8 @@ only_taken_jobs_are_out old new t e answer replayed h u s out =
     let after : is_out_of (find_job s (step (view t old) e).after.jobs) ≡ true = sym (ap (λ k. is_out_of (find_job s (view k new).jobs)) same ∙ ap (λ (v : Tenant). is_out_of (find_job s v.jobs)) h.own) ∙ out in
     ⊎_elim (λ (was : is_out_of (find_job s (view t old).jobs) ≡ true). inl (ap (λ k. is_out_of (find_job s (view k old).jobs)) same ∙ was))
     (λ (now : takes s e ≡ true). inr (sym same, now))
-    ((step_changes s (view t old) e).goes (distinct_in old replayed t) after))
-    (λ (differ : u ≡ t → ⊥). inl (sym (ap (λ (v : Tenant). is_out_of (find_job s v.jobs)) (h.others u differ)) ∙ out))
+    ((step_changes s (view t old) e).goes (distinct_in old replayed t h.known) after))
+    (λ (differ : u ≡ t → ⊥). inl (sym (ap (λ (jobs : List JobData). is_out_of (find_job s jobs)) (jobs_stay old new t e answer (steps_of old new t e answer h) u differ)) ∙ out))
     (cases_eq u t)
 
 -- a turn was given, and not refused

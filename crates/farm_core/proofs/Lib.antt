@@ -1,8 +1,13 @@
 pub mod NameLemmas
+pub mod PlaceLemmas
+pub mod SharingLemmas
+pub mod PursesLemmas
+pub mod SeatLemmas
 pub mod AloneLemmas
 pub mod ReplayLemmas
 pub mod TruthLemmas
 pub mod RunLemmas
+pub mod CountLemmas
 pub mod MadeLemmas
 pub mod NeedLemmas
 pub mod RunningLemmas

@@ -1,34 +1,41 @@
 -- A call that moves the world, and what it keeps.
-use Rattle.std.proofs.Common.{◌≡◌, ◌≢◌, ℕ, zero, suc, ◌+◌, ◌<◌, ◌≤◌, true, false, List, [], ◌∷◌, ◌++◌, length, get_or, set, refl, sym, ap, ◌∙◌, subst, arith, inl, ⊎_elim, length-append}
+use Rattle.std.proofs.Common.{◌≡◌, ◌≢◌, ℕ, zero, suc, ◌+◌, ◌<◌, ◌≤◌, true, false, List, [], ◌∷◌, ◌++◌, length, get_or, set, refl, sym, ap, ◌∙◌, subst, arith, inl, ⊎_elim, length-append, Some}
 use Rattle.std.proofs.lemmas.Bool.{cases_eq, cond-true}
 use Rattle.job_table.specs.Table.{Row, jobs_of}
 use Rattle.farm_core.specs.declared.entry.Entry.{Entry}
 use Rattle.farm_core.specs.declared.entry.Event.{Event}
 use Rattle.farm_core.specs.declared.account.Account.{Account}
 use Rattle.farm_core.specs.declared.reply.Reply.{Reply}
-use Rattle.farm_core.specs.Config.{ConfigData}
+use Rattle.std.specs.Prelude.{slice_get}
+use Rattle.tenant_book.specs.Book.{BookData}
+use Rattle.farm_core.specs.declared.account.Numbers.{Numbers}
+use Rattle.farm_core.specs.Config.{ConfigData, purse_names}
 use Rattle.farm_core.specs.declared.reply.Reply.TheVariants as reply
-use Rattle.farm_core.specs.Tenant.{Tenant, book, held, free}
+use Rattle.farm_core.specs.Tenant.{Tenant, Member, book, held, free}
 use Rattle.farm_core.specs.Step.{Answer, Replied, Step, step, noted, unnoted, has_room}
-use Rattle.farm_core.specs.World.{World, Call, Leads, Run, Steps, opened, terms_in, view, entries_of, is_noted, entry_of, keys, KeepsOrder, Follows, IsOnlyNoted}
+use Rattle.farm_core.specs.World.{World, Call, Leads, Run, Steps, new_numbers, no_book, opened, purse_in, account_of, member, view, entries_of, is_noted, entry_of, keys, KeepsOrder, Follows, IsOnlyNoted}
+use Rattle.farm_core.specs.Truth.{IsPlanned, ArePlanned}
 use Rattle.farm_core.specs.Farm.{IsAccount, IsFarm, IsReached, AreOf, owed, IsReply}
-use Rattle.farm_core.proofs.ViewLemmas.{moved, set_own, set_other, follows_from}
+use Rattle.farm_core.proofs.ViewLemmas.{IsKnown, moved, set_own, set_other, follows_from}
+use Rattle.farm_core.proofs.SharingLemmas.{counted}
+use Rattle.farm_core.proofs.SeatLemmas.{named, steps_of, one_ledger, view_stays}
 use Rattle.farm_core.proofs.ReplayLemmas.{no_more, replayed_on}
 
 -- what tenant t is after the call, if its account and the rows are these
 abbrev pub moved_view : World → ℕ → List Row → Account → Tenant
-moved_view w t rows account = record { terms = terms_in w.config t; spent = account.book.spent; next = account.next; used = length (entries_of t w.journal) + 1; jobs = jobs_of t rows }
+moved_view w t rows account = record (view t w) { spent = account.book.spent; next = account.next; used = length (entries_of t w.journal) + 1; jobs = jobs_of t rows }
 
 -- a call that leaves an entry, and then these rows and this account
 pub record IsMove (w : World) (t : ℕ) (rows : List Row) (account : Account) (event : Event) (answer : Answer) : Type 0 where
-  pub known : t < length w.accounts
+  pub known : IsKnown w t
+  pub planned : IsPlanned event
   pub told : answer ≡ (step (view t w) event).answer
   pub after : (step (view t w) event).after ≡ moved_view w t rows account
   pub noted : is_noted answer ≡ true
   pub told_of : IsAccount (moved_view w t rows account) account
   pub others : (u : ℕ) → u ≢ t → jobs_of u rows ≡ jobs_of u w.rows
   pub order : KeepsOrder t (keys w.rows) (keys rows)
-  pub whose : AreOf (length w.accounts) rows
+  pub whose : AreOf (length w.numbers) rows
 
 abbrev pub one_entry : ℕ → Event → List Entry
 one_entry t event = record { tenant = t; event = event } ∷ []
@@ -43,7 +50,7 @@ move_follows w t rows account event answer move =
     let count : length (entry_of t event answer) ≡ 1 = ap {B = ℕ} length one in
     subst (λ (es : List Entry). Follows w t event answer (moved w t rows account es)) one
     (follows_from w t rows account event answer move.known move.told
-    (move.after ∙ ap (λ n. let it : Tenant = record { terms = terms_in w.config t; spent = account.book.spent; next = account.next; used = length (entries_of t w.journal) + n; jobs = jobs_of t rows } in it) (sym count))
+    (move.after ∙ ap (λ n. let it : Tenant = record (view t w) { spent = account.book.spent; next = account.next; used = length (entries_of t w.journal) + n; jobs = jobs_of t rows } in it) (sym count))
     move.others move.order)
 
 set_length : {A : Type 0} (xs : List A) (t : ℕ) (x : A) → length (set xs t x) ≡ length xs
@@ -56,44 +63,106 @@ leads_more : (old mid new : World) (calls : List Call) (c : Call) → Leads old 
 leads_more old mid new [] c run h = (new, subst (λ (w : World). Steps w c.tenant c.event c.answer new) run h, refl)
 leads_more old mid new (d ∷ calls) c run h = (run.0, run.1, leads_more run.0 mid new calls c run.2 h)
 
-steps_of : (old new : World) (t : ℕ) (event : Event) (answer : Answer) → Follows old t event answer new → Steps old t event answer new
-steps_of old new t event answer h = record { answer_is = h.answer_is; own = h.own; others = h.others; journal = h.journal; config = h.config }
+-- one call more among these
+planned_more : (calls : List Call) (c : Call) → ArePlanned calls → IsPlanned c.event → ArePlanned (calls ++ c ∷ [])
+planned_more calls c all one d among = by calls all among.0 among.1
+  where
+    by : (cs : List Call) → ArePlanned cs → (k : ℕ) → slice_get (cs ++ c ∷ []) k ≡ Some d → IsPlanned d.event
+    by [] every zero there = let same : c ≡ d = cc in subst (λ (x : Call). IsPlanned x.event) same one
+    by [] every (suc k) there = absurd (cc)
+    by (x ∷ cs) every zero there = every d (0, there)
+    by (x ∷ cs) every (suc k) there = by cs (λ e in_rest. every e (suc in_rest.0, in_rest.1)) k there
 
-reached_on : (w new : World) (t : ℕ) (event : Event) (answer : Answer) → IsReached w → Follows w t event answer new → IsReached new
-reached_on w new t event answer it h =
+reached_on : (w new : World) (t : ℕ) (event : Event) (answer : Answer) → IsReached w → IsPlanned event → Follows w t event answer new → IsReached new
+reached_on w new t event answer it planned h =
     let c : Call = record { tenant = t; event = event; answer = answer } in
     record {
       calls = it.calls ++ c ∷ [];
       run = subst (λ (config : ConfigData). Run config (it.calls ++ c ∷ []) new) (sym h.config)
           (leads_more (opened w.config) w new it.calls c it.run (steps_of w new t event answer h));
+      planned = planned_more it.calls c it.planned planned;
     }
+
+-- what the tenants' accounts tell after a move
+account_own : (w : World) (t : ℕ) (rows : List Row) (account : Account) (entries : List Entry) → IsKnown w t → account_of (moved w t rows account entries) t ≡ account
+account_own w t rows account entries it =
+    let numbers : Numbers = record { next = account.next; used = account.used } in
+    let numbers_are = set_own w.numbers t numbers new_numbers it.numbered in
+    let book_is = set_own w.books (purse_in w.config t) account.book no_book it.booked in
+    rw (numbers_are, book_is) refl
+
+account_mate : (w : World) (u t : ℕ) (rows : List Row) (account : Account) (entries : List Entry) → IsKnown w t → u ≢ t → purse_in w.config u ≡ purse_in w.config t
+    → account_of (moved w t rows account entries) u ≡ record (account_of w u) { book = account.book }
+account_mate w u t rows account entries it differ same =
+    let numbers : Numbers = record { next = account.next; used = account.used } in
+    let numbers_are = set_other w.numbers u t numbers new_numbers differ in
+    let book_is = ap (λ p. get_or (set w.books (purse_in w.config t) account.book) p no_book) same ∙ set_own w.books (purse_in w.config t) account.book no_book it.booked in
+    rw (numbers_are, book_is) refl
+
+account_other : (w : World) (u t : ℕ) (rows : List Row) (account : Account) (entries : List Entry) → purse_in w.config u ≢ purse_in w.config t
+    → account_of (moved w t rows account entries) u ≡ account_of w u
+account_other w u t rows account entries differ =
+    let numbers : Numbers = record { next = account.next; used = account.used } in
+    let numbers_are = set_other w.numbers u t numbers new_numbers (λ e. differ (ap (purse_in w.config) e)) in
+    let book_is = set_other w.books (purse_in w.config u) (purse_in w.config t) account.book no_book differ in
+    rw (numbers_are, book_is) refl
+
+-- each tenant's account tells its part after a move of tenant t
+each_account : (w : World) (t : ℕ) (rows : List Row) (account : Account) (event : Event) (answer : Answer) (old : ℕ) → IsFarm w old → IsMove w t rows account event answer
+    → (u : ℕ) → u < length w.config.tenants → IsAccount (view u (moved w t rows account (one_entry t event))) (account_of (moved w t rows account (one_entry t event)) u)
+unfolding view
+each_account w t rows account event answer old farm move u known =
+    let new : World = moved w t rows account (one_entry t event) in
+    let follows = move_follows w t rows account event answer move in
+    let steps = steps_of w new t event answer follows in
+    let own : IsAccount (view t new) account = subst (λ (v : Tenant). IsAccount v account) (sym (follows.own ∙ move.after)) move.told_of in
+    ⊎_elim
+    (λ (same : u ≡ t). subst (λ v. IsAccount (view v new) (account_of new v)) (sym same) (subst (IsAccount (view t new)) (sym (account_own w t rows account (one_entry t event) move.known)) own))
+    (λ (ne : u ≡ t → ⊥).
+    let before = farm.each u (omega (arith, farm.count)) in
+    let m : member u new ≡ member u w = follows.others u ne in
+    ⊎_elim
+    (λ (mates : purse_in w.config u ≡ purse_in w.config t).
+    subst (IsAccount (view u new)) (sym (account_mate w u t rows account (one_entry t event) move.known ne mates))
+    (record {
+      book = own.book ∙ sym (one_ledger t u new move.known.known known mates);
+      next = before.next ∙ sym (ap (λ (x : Member). x.next) m);
+      used = before.used ∙ sym (ap (λ (x : Member). x.used) m);
+    }))
+    (λ (apart : purse_in w.config u ≡ purse_in w.config t → ⊥).
+    subst (IsAccount (view u new)) (sym (account_other w u t rows account (one_entry t event) apart))
+    (subst (λ (v : Tenant). IsAccount v (account_of w u)) (sym (view_stays w new t event answer steps u apart)) before))
+    (cases_eq (purse_in w.config u) (purse_in w.config t)))
+    (cases_eq u t)
 
 pub move_farm : (w : World) (t : ℕ) (rows : List Row) (account : Account) (event : Event) (answer : Answer) (old new : ℕ) → IsFarm w old → IsMove w t rows account event answer
     → length w.journal + 1 + owed rows ≤ new → IsFarm (moved w t rows account (one_entry t event)) new
 move_farm w t rows account event answer old new farm move room =
     let follows = move_follows w t rows account event answer move in
-    let own_view : view t (moved w t rows account (one_entry t event)) ≡ moved_view w t rows account = follows.own ∙ move.after in
+    let after : World = moved w t rows account (one_entry t event) in
+    let numbers : Numbers = record { next = account.next; used = account.used } in
+    let count : length (set w.numbers t numbers) ≡ length w.numbers = set_length w.numbers t numbers in
     record {
-      count = set_length w.accounts t account ∙ farm.count;
-      each = λ u d k.
-          ⊎_elim
-          (λ (same : u ≡ t).
-          subst (λ (v : ℕ). IsAccount (view v (moved w t rows account (one_entry t event))) (get_or (set w.accounts t account) v d)) (sym same)
-          (rw (own_view, set_own w.accounts t account d move.known) move.told_of))
-          (λ (other : u ≡ t → ⊥). rw (follows.others u other, set_other w.accounts u t account d other) (farm.each u d (omega (arith, set_length w.accounts t account))))
-          (cases_eq u t);
+      count = count ∙ farm.count;
+      ledgers = set_length w.books (purse_in w.config t) account.book ∙ farm.ledgers;
+      each = λ u l. each_account w t rows account event answer old farm move u (omega (arith, count, farm.count));
       room = omega (arith, room, length-append w.journal (one_entry t event));
-      replayed = replayed_on w (moved w t rows account (one_entry t event)) t event answer farm.replayed follows;
-      reached = reached_on w (moved w t rows account (one_entry t event)) t event answer farm.reached follows;
-      whose = subst (λ n. AreOf n rows) (sym (set_length w.accounts t account)) move.whose;
-      terms = farm.terms;
+      replayed = replayed_on w after t event answer farm.replayed follows;
+      reached = reached_on w after t event answer farm.reached move.planned follows;
+      whose = subst (λ n. AreOf n rows) (sym count) move.whose;
+      config = farm.config;
     }
 
--- the account of a tenant in the world
-pub account_in : (w : World) (t capacity : ℕ) (account : Account) → IsFarm w capacity → t < length w.config.tenants → account ≡ get_or w.accounts t account → IsAccount (view t w) account
-account_in w t capacity account farm l is = rw is (farm.each t account (omega (arith, farm.count)))
+pub known_in : (w : World) (t capacity : ℕ) → IsFarm w capacity → t < length w.config.tenants → IsKnown w t
+known_in w t capacity farm l =
+    let there = counted (purse_names w.config.tenants) t (named w.config.tenants t l) in
+    record { known = l; numbered = omega (arith, farm.count); booked = omega (arith, farm.ledgers, there) }
 
-pub spent_in : (w : World) (t capacity : ℕ) (account : Account) → IsFarm w capacity → t < length w.config.tenants → account ≡ get_or w.accounts t account → account.book.spent ≡ (view t w).spent
+-- the account of a tenant in the world
+pub account_in : (w : World) (t capacity : ℕ) (account : Account) → IsFarm w capacity → t < length w.config.tenants → account ≡ account_of w t → IsAccount (view t w) account
+account_in w t capacity account farm l is = rw is (farm.each t (omega (arith, farm.count)))
+
+pub spent_in : (w : World) (t capacity : ℕ) (account : Account) → IsFarm w capacity → t < length w.config.tenants → account ≡ account_of w t → account.book.spent ≡ (view t w).spent
 unfolding book
 spent_in w t capacity account farm l is = ap (λ b. b.spent) (account_in w t capacity account farm l is).book
 
@@ -115,26 +184,29 @@ reply_is w t event (reply.NoShort free) new told h = h
 reply_is w t event reply.NoMemory new told h = absurd (cc)
 
 -- a call that changes nothing and leaves no entry
-pub stays_follows : (w : World) (t : ℕ) (event : Event) (answer : Answer) → step (view t w) event ≡ unnoted (view t w) answer → is_noted answer ≡ false → Follows w t event answer w
-stays_follows w t event answer steps told = record {
+pub stays_follows : (w : World) (t : ℕ) (event : Event) (answer : Answer) → t < length w.config.tenants → step (view t w) event ≡ unnoted (view t w) answer → is_noted answer ≡ false → Follows w t event answer w
+stays_follows w t event answer known steps told = record {
+  known = known;
   answer_is = sym (ap (λ (s : Step). s.answer) steps);
   own = sym (ap (λ (s : Step). s.after) steps);
   others = λ u differ. refl;
+  purses = λ q differ. refl;
   order = inl refl;
   journal = rw told (no_more w.journal);
   config = refl;
 }
 
 -- a command that changes nothing but the journal
-pub noted_moves : (w : World) (t capacity : ℕ) (account : Account) (event : Event) (answer : Reply) → IsFarm w capacity → t < length w.config.tenants → account ≡ get_or w.accounts t account
-    → has_room 1 (view t w) ≡ true → IsOnlyNoted (view t w) event answer → IsMove w t w.rows (record account { used = account.used + 1 }) event (Replied answer)
-unfolding view book held free
-noted_moves w t capacity account event answer farm l is room it =
+pub noted_moves : (w : World) (t capacity : ℕ) (account : Account) (event : Event) (answer : Reply) → IsFarm w capacity → t < length w.config.tenants → account ≡ account_of w t
+    → has_room 1 (view t w) ≡ true → IsOnlyNoted (view t w) event answer → IsPlanned event → IsMove w t w.rows (record account { used = account.used + 1 }) event (Replied answer)
+unfolding view member book held free
+noted_moves w t capacity account event answer farm l is room it planned =
     let a = account_in w t capacity account farm l is in
     let spent = spent_in w t capacity account farm l is in
     let steps : step (view t w) event ≡ noted (view t w) answer = it.steps ∙ cond-true (has_room 1 (view t w)) (noted (view t w) answer) (unnoted (view t w) (Replied reply.NoRoom)) room in
     record {
-      known = omega (arith, farm.count);
+      known = known_in w t capacity farm l;
+      planned = planned;
       told = sym (ap (λ (s : Step). s.answer) steps);
       after = ap (λ (s : Step). s.after) steps ∙ rw (spent, a.next) refl;
       noted = it.noted;
@@ -145,12 +217,17 @@ noted_moves w t capacity account event answer farm l is room it =
     }
 
 -- the world after rows, an account and an entry were written
-pub moved_is : (w : World) (config : ConfigData) (rows new_rows : List Row) (journal new_journal : List Entry) (accounts new_accounts : List Account) (t : ℕ) (new : List Row) (account : Account) (event : Event)
-    → (let v : World = record { config = config; rows = rows; journal = journal; accounts = accounts } in v) ≡ w
-    → new_rows ≡ new → new_accounts ≡ set accounts t account → new_journal ≡ journal ++ one_entry t event
-    → (let v : World = record { config = config; rows = new_rows; journal = new_journal; accounts = new_accounts } in v) ≡ moved w t new account (one_entry t event)
-moved_is w config rows new_rows journal new_journal accounts new_accounts t new account event whole rows_are accounts_are journal_is =
-    rw (rows_are, accounts_are, journal_is) (ap (λ (v : World). moved v t new account (one_entry t event)) whole)
+pub moved_is : (w : World) (config : ConfigData) (rows new_rows : List Row) (journal new_journal : List Entry) (books after_books : List BookData) (numbers after_numbers : List Numbers)
+    (t purse : ℕ) (new : List Row) (account : Account) (event : Event)
+    → (let v : World = record { config = config; rows = rows; journal = journal; books = books; numbers = numbers } in v) ≡ w
+    → purse ≡ purse_in w.config t → new_rows ≡ new → after_books ≡ set books purse account.book → after_numbers ≡ set numbers t (record { next = account.next; used = account.used })
+    → new_journal ≡ journal ++ one_entry t event
+    → (let v : World = record { config = config; rows = new_rows; journal = new_journal; books = after_books; numbers = after_numbers } in v) ≡ moved w t new account (one_entry t event)
+moved_is w config rows new_rows journal new_journal books after_books numbers after_numbers t purse new account event whole purse_is rows_are books_are numbers_are journal_is =
+    let v : World = record { config = config; rows = rows; journal = journal; books = books; numbers = numbers } in
+    let same : purse ≡ purse_in config t = purse_is ∙ ap (λ (x : World). purse_in x.config t) (sym whole) in
+    let there : after_books ≡ set books (purse_in config t) account.book = books_are ∙ ap (λ n. set books n account.book) same in
+    rw (rows_are, there, numbers_are, journal_is) (ap (λ (x : World). moved x t new account (one_entry t event)) whole)
 
 -- a call that was written down keeps the farm and follows
 pub written : (w v : World) (t : ℕ) (rows : List Row) (account : Account) (event : Event) (answer : Answer) (old new : ℕ) → IsFarm w old → IsMove w t rows account event answer

@@ -1,7 +1,7 @@
 -- Equal names.
 use Rattle.std.proofs.Common.{◌≡◌, ◌↔◌, ℕ, List, [], ◌∷◌, true, ◌==◌, refl, eq-eqb}
 use Rattle.std.proofs.lemmas.Bool.{and_parts, and_from, eqb-true}
-use Rattle.farm_core.specs.Config.{same_bytes}
+use Rattle.farm_core.specs.Name.{same_bytes}
 
 same_bytes_refl : (xs : List ℕ) → same_bytes xs xs ≡ true
 same_bytes_refl [] = refl

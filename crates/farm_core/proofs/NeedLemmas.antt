@@ -1,5 +1,5 @@
 -- How many nodes a tenant's jobs have run.
-use Rattle.std.proofs.Common.{◌≡◌, ◌≢◌, ℕ, zero, suc, ◌+◌, ◌-◌, ◌<◌, ◌≤◌, min, List, [], ◌∷◌, ◌++◌, length, Bool, true, false, cond, ◌&&◌, ◌||◌, ◌==◌, nat_le, nat_lt, Option, Some, None, refl, sym, ◌∙◌, subst, arith, ⊎_elim, ◌⊎◌, inl, inr, eq-eqb}
+use Rattle.std.proofs.Common.{◌≡◌, ◌≢◌, ℕ, zero, suc, ◌+◌, ◌-◌, ◌<◌, ◌≤◌, min, List, [], ◌∷◌, ◌++◌, length, Bool, true, false, cond, ◌&&◌, ◌||◌, ◌==◌, nat_le, nat_lt, Option, Some, None, refl, sym, ◌∙◌, subst, arith, ⊎_elim, ◌⊎◌, inl, inr, eq-eqb, map, get_or, set, ap}
 use Rattle.std.specs.Prelude.{option_map, ⊤}
 use Rattle.std.proofs.lemmas.Bool.{cond_both, cond-true, cond-false, cases_lt, cases_Bool, eqb-true, or_cases, and_parts, both_ways}
 use Rattle.std.proofs.lemmas.Bool.Decides.{nat_tests}
@@ -16,12 +16,14 @@ use Rattle.farm_core.specs.declared.entry.Event.{Event}
 use Rattle.farm_core.specs.declared.entry.Event.TheVariants.{Submit, Fund, Status, Fetch, Cancel, Forget, Ledger, Take, Give}
 use Rattle.farm_core.specs.declared.reply.Reply.{Reply}
 use Rattle.farm_core.specs.declared.reply.Reply.TheVariants as reply
-use Rattle.farm_core.specs.Tenant.{Tenant, newcomer, book, free, find_job, put_job, drop_job, line_of, nodes_of_turn}
+use Rattle.farm_core.specs.Tenant.{Tenant, Member, Purse, new_member, newcomers, no_member, seat, own_of, with_seat, book, free, find_job, put_job, drop_job, line_of, nodes_of_turn}
 use Rattle.farm_core.specs.Step.{Answer, Replied, Sent, NoTurn, Step, step, has_room, is_amount, is_slice, unnoted, noted, changed, fresh_job, submitted, about, funded, fetched, cancelled_as, cancelled, forgotten, commanded, taken, may_have_run, gave}
 use Rattle.farm_core.specs.declared.config.TenantLine.{TenantLine}
-use Rattle.farm_core.specs.World.{terms_in, view, own_events, after_alone}
+use Rattle.farm_core.specs.Config.{ConfigData}
+use Rattle.farm_core.specs.World.{World, Call, Asked, opened, member, view, Steps, Leads, Run, after_alone}
 use Rattle.farm_core.specs.Need.{given_by, given_to, nodes_for, HasRunItsNodes, NodesAreTheLesser}
-use Rattle.farm_core.proofs.AloneLemmas.{each_is_alone}
+use Rattle.farm_core.proofs.PlaceLemmas.{first_from-most}
+use Rattle.farm_core.proofs.AloneLemmas.{member_opened}
 
 -- the search of a plan is not over before n nodes
 abbrev pub Unclosed : Plan → ℕ → Type 0
@@ -287,10 +289,6 @@ taken_keeps g t s slice (Some job) is kept =
     changes g (Take s slice) t told (t.used + 1) t.spent new (λ n ne. refl) it.2 (omega (arith, had.0), had.1) kept)
     (λ _. stays g (Take s slice) t NoTurn t.used (λ n. refl) kept)
 
-pub first_from-most : (test : ℕ → Bool) (k t : ℕ) → first_from test k t ≤ t + k
-first_from-most test zero t = omega arith
-first_from-most test (suc k) t = cond_both (test t) t (first_from test k (t + 1)) (λ x. x ≤ t + suc k) (λ _. omega arith) (λ _. omega (arith, first_from-most test k (t + 1)))
-
 -- a turn stops where the search is over
 turn_unclosed : (most : ℕ) (job : JobData) (r : ℕ) → r < nodes_of_turn most job → is_closed job.plan (job.nodes + r) ≡ false
 unfolding nodes_of_turn
@@ -383,17 +381,49 @@ same_kept g h t same kept = record {
   later = λ s l. omega (arith, same s, kept.later s l);
 }
 
-alone_keeps : (g : ℕ → ℕ) (t : Tenant) (events : List Event) → IsKept g t → IsKept (λ s. g s + given_to s t events) (after_alone t events)
-alone_keeps g t [] kept = same_kept g (λ s. g s + 0) t (λ s. omega arith) kept
-alone_keeps g t (e ∷ events) kept =
-    let here = step_keeps g t e kept in
-    let after : Tenant = (step t e).after in
-    same_kept (λ s. Given g e (step t e).answer s + given_to s after events) (λ s. g s + (given_by s e (step t e).answer + given_to s after events)) (after_alone after events)
-    (λ s. omega arith) (alone_keeps (Given g e (step t e).answer) after events here)
+-- ---- along a run
 
-newcomer_kept : (terms : TenantLine) → IsKept (λ s. 0) (newcomer terms)
-unfolding newcomer
-newcomer_kept terms = record { jobs = tt; later = λ s l. refl }
+-- it is about a tenant's jobs and its next number alone
+kept_as : (g : ℕ → ℕ) (one other : Tenant) → other.jobs ≡ one.jobs → other.next ≡ one.next → IsKept g one → IsKept g other
+kept_as g one other jobs next kept = record {
+  jobs = rw (next, jobs) kept.jobs;
+  later = λ s l. kept.later s (omega (arith, next));
+}
+
+kept_own : (u : ℕ) (g : ℕ → ℕ) (old mid : World) (c : Call) → c.tenant ≡ u → Steps old c.tenant c.event c.answer mid → IsKept g (view u old) → IsKept (Given g c.event c.answer) (view u mid)
+kept_own u g old mid c eq h kept =
+    let f : Steps old u c.event c.answer mid = subst (λ (n : ℕ). Steps old n c.event c.answer mid) eq h in
+    let stepped : IsKept (Given g c.event c.answer) (step (view u old) c.event).after =
+    subst (λ (a : Answer). IsKept (Given g c.event a) (step (view u old) c.event).after) (sym f.answer_is) (step_keeps g (view u old) c.event kept) in
+    subst (IsKept (Given g c.event c.answer)) (sym f.own) stepped
+
+kept_other : (u : ℕ) (g : ℕ → ℕ) (old mid : World) (c : Call) → u ≢ c.tenant → Steps old c.tenant c.event c.answer mid → IsKept g (view u old) → IsKept g (view u mid)
+unfolding view
+kept_other u g old mid c differ h kept =
+    kept_as g (view u old) (view u mid) (ap (λ (m : Member). m.jobs) (h.others u differ)) (ap (λ (m : Member). m.next) (h.others u differ)) kept
+
+leads_keep : (u : ℕ) (g : ℕ → ℕ) (old new : World) (calls : List Call) → Leads old calls new → IsKept g (view u old) → IsKept (λ s. g s + given_to u calls s) (view u new)
+leads_keep u g old new [] run kept = subst (λ (w : World). IsKept (λ s. g s + 0) (view u w)) (sym run) (same_kept g (λ s. g s + 0) (view u old) (λ s. omega arith) kept)
+leads_keep u g old new (c ∷ calls) run kept =
+    ⊎_elim
+    (λ (e : (c.tenant == u) ≡ true).
+    let own : c.tenant ≡ u = eqb-true c.tenant u e in
+    same_kept (λ s. Given g c.event c.answer s + given_to u calls s) (λ s. g s + given_to u (c ∷ calls) s) (view u new)
+    (λ s. let here = cond-true (c.tenant == u) (given_by s c.event c.answer) 0 e in omega arith)
+    (leads_keep u (Given g c.event c.answer) run.0 new calls run.2 (kept_own u g old run.0 c own run.1 kept)))
+    (λ (e : (c.tenant == u) ≡ false).
+    let other : u ≢ c.tenant = λ (is : u ≡ c.tenant). both_ways (c.tenant == u) e (eq-eqb c.tenant u (sym is)) in
+    same_kept (λ s. g s + given_to u calls s) (λ s. g s + given_to u (c ∷ calls) s) (view u new)
+    (λ s. let here = cond-false (c.tenant == u) (given_by s c.event c.answer) 0 e in omega arith)
+    (leads_keep u g run.0 new calls run.2 (kept_other u g old run.0 c other run.1 kept)))
+    (cases_Bool (c.tenant == u))
+
+opened_kept : (u : ℕ) (config : ConfigData) → IsKept (λ s. 0) (view u (opened config))
+unfolding view
+opened_kept u config =
+    let m = member_opened u config in
+    let jobs : (view u (opened config)).jobs ≡ [] = ap (λ (x : Member). x.jobs) m in
+    record { jobs = rw jobs tt; later = λ s l. refl }
 
 pub first_none : (test : ℕ → Bool) (k t : ℕ) → ((j : ℕ) → t ≤ j → j < t + k → test j ≡ false) → first_from test k t ≡ t + k
 first_none test zero t h = omega arith
@@ -420,15 +450,13 @@ ran_its_nodes g job it ended =
     sym (first_is (is_closed job.plan) (g job.seq) 0 job.nodes (omega arith) (omega (arith, h.0)) h.2 (λ j l m. h.1 j m)))
     ended
 
+pub run_kept : (config : ConfigData) (calls : List Call) (w : World) → Run config calls w → (t : ℕ) → IsKept (given_to t calls) (view t w)
+run_kept config calls w run t =
+    same_kept (λ s. 0 + given_to t calls s) (given_to t calls) (view t w) (λ s. omega arith) (leads_keep t (λ s. 0) (opened config) w calls run (opened_kept t config))
+
 pub nodes_are_the_lesser : NodesAreTheLesser
 nodes_are_the_lesser config calls w run t job has =
-    let line : TenantLine = terms_in config t in
-    let events = own_events t calls in
-    let alone = (each_is_alone config calls w run t).1 in
-    let given : ℕ → ℕ = λ s. given_to s (newcomer line) events in
-    let kept : IsKept given (after_alone (newcomer line) events) = same_kept (λ s. 0 + given_to s (newcomer line) events) given (after_alone (newcomer line) events) (λ s. omega arith) (alone_keeps (λ s. 0) (newcomer line) events (newcomer_kept line)) in
-    let there : IsKept given (view t w) = subst (λ (v : Tenant). IsKept given v) (sym alone) kept in
-    ran_its_nodes given job (found_funded given (view t w).next job.seq (view t w).jobs job has there.jobs).0
+    ran_its_nodes (given_to t calls) job (found_funded (given_to t calls) (view t w).next job.seq (view t w).jobs job has (run_kept config calls w run t).jobs).0
 
 -- a tenant's jobs have different numbers
 abbrev pub AreDistinct : List JobData → Type 0
@@ -439,7 +467,52 @@ distinct_of : (g : ℕ → ℕ) (next : ℕ) (jobs : List JobData) → AreFunded
 distinct_of g next [] all = tt
 distinct_of g next (job ∷ jobs) all = (all.2, distinct_of g next jobs all.3)
 
-pub alone_distinct : (terms : TenantLine) (events : List Event) → AreDistinct (after_alone (newcomer terms) events).jobs
-alone_distinct terms events =
-    let kept = alone_keeps (λ s. 0) (newcomer terms) events (newcomer_kept terms) in
-    distinct_of (λ s. 0 + given_to s (newcomer terms) events) (after_alone (newcomer terms) events).next (after_alone (newcomer terms) events).jobs kept.jobs
+pub run_distinct : (config : ConfigData) (calls : List Call) (w : World) → Run config calls w → (t : ℕ) → AreDistinct (view t w).jobs
+run_distinct config calls w run t = distinct_of (given_to t calls) (view t w).next (view t w).jobs (run_kept config calls w run t).jobs
+
+-- ---- along a purse's calls
+
+-- each member's jobs are kept so, whatever each was given
+abbrev AllKept : Purse → Type 0
+AllKept p = (place : ℕ) → (g : ℕ → ℕ) × IsKept g (seat p place)
+
+set_get : (ms : List Member) (k j : ℕ) (m : Member) → (get_or (set ms k m) j no_member ≡ m) ⊎ (get_or (set ms k m) j no_member ≡ get_or ms j no_member)
+set_get [] k j m = inr refl
+set_get (x ∷ ms) zero zero m = inl refl
+set_get (x ∷ ms) zero (suc j) m = inr refl
+set_get (x ∷ ms) (suc k) zero m = inr refl
+set_get (x ∷ ms) (suc k) (suc j) m = set_get ms k j m
+
+step_all : (p : Purse) (place : ℕ) (e : Event) → AllKept p → AllKept (with_seat p place (step (seat p place) e).after)
+step_all p place e all j =
+    let after : Tenant = (step (seat p place) e).after in
+    let new : Purse = with_seat p place after in
+    ⊎_elim
+    (λ (is : get_or new.members j no_member ≡ own_of after).
+    let had = all place in (
+      Given had.0 e (step (seat p place) e).answer,
+      kept_as (Given had.0 e (step (seat p place) e).answer) after (seat new j) (ap (λ (m : Member). m.jobs) is) (ap (λ (m : Member). m.next) is) (step_keeps had.0 (seat p place) e had.1),
+    ))
+    (λ (is : get_or new.members j no_member ≡ get_or p.members j no_member).
+    let had = all j in
+    (had.0, kept_as had.0 (seat p j) (seat new j) (ap (λ (m : Member). m.jobs) is) (ap (λ (m : Member). m.next) is) had.1))
+    (set_get p.members place j (own_of after))
+
+after_all : (p : Purse) (asked : List Asked) → AllKept p → AllKept (after_alone p asked)
+after_all p [] all = all
+after_all p (a ∷ asked) all = after_all (with_seat p a.place (step (seat p a.place) a.event).after) asked (step_all p a.place a.event all)
+
+no_jobs : (lines : List TenantLine) (place : ℕ) → (get_or (map new_member lines) place no_member).jobs ≡ []
+no_jobs [] place = refl
+no_jobs (line ∷ lines) zero = refl
+no_jobs (line ∷ lines) (suc place) = no_jobs lines place
+
+newcomers_kept : (lines : List TenantLine) → AllKept (newcomers lines)
+unfolding newcomers
+newcomers_kept lines place = (λ s. 0, record { jobs = rw (no_jobs lines place) tt; later = λ s l. refl })
+
+pub alone_distinct : (lines : List TenantLine) (asked : List Asked) (place : ℕ) → AreDistinct (seat (after_alone (newcomers lines) asked) place).jobs
+alone_distinct lines asked place =
+    let p : Purse = after_alone (newcomers lines) asked in
+    let had = after_all (newcomers lines) asked (newcomers_kept lines) place in
+    distinct_of had.0 (seat p place).next (seat p place).jobs had.1.jobs

@@ -4,15 +4,15 @@ use Rattle.std.specs.Prelude.{slice_get}
 use Rattle.std.proofs.lemmas.Bool.{cond_both, cond-true, eqb-true, and_parts}
 use Rattle.job_table.specs.Table.{Row, JobData, is_row, is_waiting, find_row, jobs_of, waiting_keys, AreApart}
 use Rattle.job_table.proofs.WaitingLemmas.{waiting_found}
-use Rattle.farm_core.specs.Tenant.{Tenant, newcomer, find_job}
+use Rattle.farm_core.specs.Tenant.{find_job}
 use Rattle.farm_core.specs.Step.{is_slice, has_room}
-use Rattle.farm_core.specs.World.{World, view, terms_in, events_of, after_alone}
+use Rattle.farm_core.specs.World.{World, member, view}
 use Rattle.farm_core.specs.Farm.{IsFarm, AreOf}
 use Rattle.farm_core.specs.Turn.{IsReady, IsIdle}
 use Rattle.farm_core.proofs.ViewLemmas.{found_own}
 use Rattle.farm_core.proofs.ChangeLemmas.{own_job}
 use Rattle.farm_core.proofs.CommandLemmas.{own_row}
-use Rattle.farm_core.proofs.NeedLemmas.{IsNumberOf, AreDistinct, alone_distinct}
+use Rattle.farm_core.proofs.NeedLemmas.{IsNumberOf, AreDistinct, run_distinct}
 
 tenant_in : Option (ℕ × ℕ) → ℕ
 tenant_in None = 0
@@ -92,13 +92,9 @@ apart_of (row ∷ rows) all =
       apart_of rows (λ t. tail_of t row rows (all t)),
     )
 
-ap_distinct : (a b : List JobData) → a ≡ b → AreDistinct b → AreDistinct a
-ap_distinct a b same all = subst AreDistinct (sym same) all
-
 apart_in : (w : World) (capacity : ℕ) → IsFarm w capacity → AreApart w.rows
-unfolding view
-apart_in w capacity farm =
-    apart_of w.rows (λ t. ap_distinct (view t w).jobs (after_alone (newcomer (terms_in w.config t)) (events_of t w.journal)).jobs (ap (λ (x : Tenant). x.jobs) (farm.replayed t)) (alone_distinct (terms_in w.config t) (events_of t w.journal)))
+unfolding view member
+apart_in w capacity farm = apart_of w.rows (λ t. run_distinct w.config farm.reached.calls w farm.reached.run t)
 
 -- a waiting key whose tenant has entries for a turn
 pub ready_at : (w : World) (capacity i t s slice : ℕ) → IsFarm w capacity → slice_get (waiting_keys w.rows) i ≡ Some (t, s) → is_slice slice ≡ true → has_room 2 (view t w) ≡ true → IsReady w t s slice
@@ -106,7 +102,7 @@ ready_at w capacity i t s slice farm here slice_is room =
     let it = waiting_found w.rows (apart_in w capacity farm) i t s here in
     record {
       job = it.job;
-      known = omega (arith, farm.count, key_known (length w.accounts) w.rows i t s farm.whose here);
+      known = omega (arith, farm.count, key_known (length w.numbers) w.rows i t s farm.whose here);
       found = own_job w t s it.job it.found;
       waits = ap is_waiting it.waits;
       slice_is = slice_is;

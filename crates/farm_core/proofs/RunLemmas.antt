@@ -6,11 +6,12 @@ use Rattle.farm_core.specs.declared.entry.Event.{Event}
 use Rattle.farm_core.specs.declared.entry.Event.TheVariants.{Submit}
 use Rattle.farm_core.specs.declared.reply.Reply.TheVariants as reply
 use Rattle.farm_core.specs.Config.{ConfigData}
-use Rattle.farm_core.specs.Tenant.{Tenant, newcomer}
+use Rattle.farm_core.specs.Tenant.{Tenant, Member}
 use Rattle.farm_core.specs.Step.{Answer, Replied, step}
 use Rattle.farm_core.specs.World.{World, Call, opened, view, Steps, Leads}
 use Rattle.farm_core.specs.Truth.{IsTrueAnswer, IsAmong, WasMade, IsPlanned, EachAnswerIsTrue}
-use Rattle.farm_core.proofs.AloneLemmas.{view_opened}
+use Rattle.farm_core.proofs.AloneLemmas.{member_opened}
+use Rattle.farm_core.proofs.SeatLemmas.{jobs_stay}
 use Rattle.farm_core.proofs.TruthLemmas.{AreKnown, IsGood, Makes, step_good}
 
 -- each tenant's jobs are for plans that these calls have submitted
@@ -35,7 +36,7 @@ stays_known : (all : List Call) (old mid : World) (c : Call) → Knows all old �
 stays_known all old mid c knows h good t =
     ⊎_elim
     (λ (same : t ≡ c.tenant). rw same (subst (λ (v : Tenant). AreKnown (WasMade all c.tenant) v.jobs) (sym h.own) good.jobs))
-    (λ (other : t ≡ c.tenant → ⊥). subst (λ (v : Tenant). AreKnown (WasMade all t) v.jobs) (sym (h.others t other)) (knows t))
+    (λ (other : t ≡ c.tenant → ⊥). subst (AreKnown (WasMade all t)) (sym (jobs_stay old mid c.tenant c.event c.answer h t other)) (knows t))
     (cases_eq t c.tenant)
 
 leads_true : (all : List Call) (old new : World) (calls : List Call) → ((c : Call) → IsAmong calls c → IsAmong all c) → ((c : Call) → IsAmong all c → IsPlanned c.event)
@@ -52,8 +53,8 @@ leads_true all old new (d ∷ calls) within planned knows run (suc k) c there =
     leads_true all run.0 new calls (λ e in_rest. within e (suc in_rest.0, in_rest.1)) planned (stays_known all old run.0 d knows run.1 good) run.2 k c there
 
 knows_opened : (all : List Call) (config : ConfigData) → Knows all (opened config)
-unfolding newcomer
-knows_opened all config t = rw (view_opened t config) tt
+unfolding view
+knows_opened all config t = let none : (view t (opened config)).jobs ≡ [] = ap (λ (m : Member). m.jobs) (member_opened t config) in rw none tt
 
 pub each_answer_is_true : EachAnswerIsTrue
 each_answer_is_true config calls w run planned c among =

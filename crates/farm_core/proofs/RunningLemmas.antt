@@ -1,7 +1,9 @@
 -- What holds of each tenant's part of a farm after any calls.
-use Rattle.std.proofs.Common.{◌≡◌, ℕ, ◌+◌, ◌-◌, ◌≤◌, List, [], ◌∷◌, ◌++◌, length, filter, Bool, true, cond, ◌&&◌, ◌==◌, nat_le, nat_lt, Option, Some, None, refl, sym, ap, ◌∙◌, subst, arith}
+use Rattle.std.proofs.Common.{◌≡◌, ℕ, ◌+◌, ◌-◌, ◌≤◌, List, [], ◌∷◌, ◌++◌, length, filter, Bool, true, cond, ◌&&◌, ◌==◌, nat_le, nat_lt, Option, Some, None, refl, sym, ap, ◌∙◌, subst, arith, zero, suc, ◌<◌, ◌≢◌, map, ⊎_elim, false, sum_by}
 use Rattle.std.specs.Prelude.{option_map, ⊤}
-use Rattle.std.proofs.lemmas.Bool.{cond_both, leb-true, and_parts}
+use Rattle.std.proofs.lemmas.Bool.{cond_both, leb-true, and_parts, cases_eq}
+use Rattle.std.proofs.lemmas.List.Sums.{sum_by-cons}
+use Rattle.tenant_book.specs.Book.{BookData}
 use Rattle.std.proofs.lemmas.Bool.Decides.{nat_tests}
 use Rattle.strategy.specs.Outcome.{best_after, is_closed, verdict_after}
 use Rattle.strategy.specs.declared.plan.Plan.{Plan}
@@ -14,10 +16,14 @@ use Rattle.farm_core.specs.declared.entry.Event.{Event}
 use Rattle.farm_core.specs.declared.entry.Event.TheVariants.{Submit, Fund, Status, Fetch, Cancel, Forget, Ledger, Take, Give}
 use Rattle.farm_core.specs.declared.reply.Reply.{Reply}
 use Rattle.farm_core.specs.declared.reply.Reply.TheVariants as reply
-use Rattle.farm_core.specs.Tenant.{Tenant, newcomer, held, held_by, book, free, kept, find_job, put_job, drop_job, line_of}
+use Rattle.farm_core.specs.Tenant.{Tenant, Member, new_member, newcomers, seated_at, held_beside, held, held_by, book, free, kept, find_job, put_job, drop_job, line_of}
 use Rattle.farm_core.specs.Step.{Answer, Replied, Sent, NoTurn, Step, step, has_room, is_amount, is_slice, unnoted, noted, changed, fresh_job, submitted, about, funded, fetched, cancelled_as, cancelled, forgotten, commanded, taken, may_have_run, gave}
 use Rattle.farm_core.specs.declared.config.TenantLine.{TenantLine}
-use Rattle.farm_core.specs.World.{after_alone}
+use Rattle.farm_core.specs.Config.{ConfigData, lines_of}
+use Rattle.farm_core.specs.World.{World, Call, terms_in, purse_in, place_in, opened, spent_in, member, purse, view, Steps, Leads, Run}
+use Rattle.farm_core.proofs.AloneLemmas.{seen_opened}
+use Rattle.farm_core.proofs.CountLemmas.{step_counted}
+use Rattle.farm_core.proofs.SeatLemmas.{one_ledger, view_stays}
 use Rattle.farm_core.proofs.NeedLemmas.{turn_ran}
 
 -- how many of these have their turn out
@@ -39,7 +45,7 @@ pub record IsRunning (t : Tenant) : Type 0 where
   pub within : t.used + kept t ≤ t.terms.entries
   pub few : t.next ≤ t.used + 1
   pub jobs : ArePaid t.spent t.jobs
-  pub covered : held t + t.spent ≤ t.terms.quanta
+  pub covered : held t + t.spent ≤ t.granted
 
 abbrev Runs : Step → Type 0
 Runs s = IsRunning s.after
@@ -111,7 +117,7 @@ record IsFit (t : Tenant) (job new : JobData) (spent : ℕ) : Type 0 where
   entries : t.used + 1 + kept t + out_in new.phase ≤ t.terms.entries + out_in job.phase
   more : t.spent ≤ spent
   paid : IsPaid spent new
-  covered : held t + new.left + spent ≤ t.terms.quanta + job.left
+  covered : held t + new.left + spent ≤ t.granted + job.left
 
 changed_runs : (t : Tenant) (s : ℕ) (job new : JobData) (spent : ℕ) → find_job s t.jobs ≡ Some job → new.seq ≡ s → IsFit t job new spent → IsRunning t
     → IsRunning (record t { used = t.used + 1; spent = spent; jobs = put_job new.seq new t.jobs })
@@ -291,13 +297,77 @@ step_runs t Ledger it = cond_both (has_room 1 t) (noted t (reply.Ledger (book t)
 step_runs t (Take s slice) it = taken_runs t s slice (find_job s t.jobs) refl it
 step_runs t (Give s ran) it = gave_runs t s ran (find_job s t.jobs) refl it
 
-newcomer_runs : (terms : TenantLine) → IsRunning (newcomer terms)
-unfolding newcomer kept held
-newcomer_runs terms = record { within = omega arith; few = omega arith; jobs = tt; covered = omega arith }
+-- ---- along a run
 
-runs_on : (t : Tenant) (events : List Event) → IsRunning t → IsRunning (after_alone t events)
-runs_on t [] it = it
-runs_on t (e ∷ events) it = runs_on (step t e).after events (step_runs t e it)
+-- each tenant's part is so
+abbrev AllRun : World → Type 0
+AllRun w = (u : ℕ) → u < length w.config.tenants → IsRunning (view u w)
 
-pub alone_runs : (terms : TenantLine) (events : List Event) → IsRunning (after_alone (newcomer terms) events)
-alone_runs terms events = runs_on (newcomer terms) events (newcomer_runs terms)
+ledger_spent : (a b : Tenant) → book a ≡ book b → a.spent ≡ b.spent
+unfolding book
+ledger_spent a b e = ap (λ (x : BookData). x.spent) e
+
+ledger_held : (a b : Tenant) → book a ≡ book b → held a ≡ held b
+unfolding book
+ledger_held a b e = ap (λ (x : BookData). x.held) e
+
+ledger_granted : (a b : Tenant) → book a ≡ book b → a.granted ≡ b.granted
+unfolding book
+ledger_granted a b e = ap (λ (x : BookData). x.granted) e
+
+-- another tenant of the caller's purse sees that more was spent, and no more than was granted
+mate_runs : (old mid : World) (t u : ℕ) (event : Event) (answer : Answer) → u < length old.config.tenants → u ≢ t → purse_in old.config u ≡ purse_in old.config t
+    → Steps old t event answer mid → IsRunning (view u old) → IsRunning (view t mid) → IsRunning (view u mid)
+unfolding view purse kept
+mate_runs old mid t u event answer known differ same h was caller =
+    let m : member u mid ≡ member u old = h.others u differ in
+    let config = h.config in
+    let at : (v : ℕ) → purse_in mid.config v ≡ purse_in old.config v = λ v. ap (λ (c : ConfigData). purse_in c v) config in
+    let one : book (view u mid) ≡ book (view t mid) =
+    one_ledger t u mid (subst (λ (c : ConfigData). t < length c.tenants) (sym config) h.known) (subst (λ (c : ConfigData). u < length c.tenants) (sym config) known) (at u ∙ same ∙ sym (at t)) in
+    let spent_now : (view u mid).spent ≡ (view t mid).spent = ledger_spent (view u mid) (view t mid) one in
+    let spent_was : (view u old).spent ≡ (view t old).spent = ap (λ p. spent_in p old) same in
+    let more : (view t old).spent ≤ (view t mid).spent = subst (λ (v : Tenant). (view t old).spent ≤ v.spent) (sym h.own) (step_counted (view t old) event).spends in
+    record {
+      within = subst (λ (x : Member). x.used + outs x.jobs ≤ x.terms.entries) (sym m) was.within;
+      few = subst (λ (x : Member). x.next ≤ x.used + 1) (sym m) was.few;
+      jobs = paid_more (view u old).spent (view u mid).spent (view u mid).jobs (omega arith) (subst (λ (x : Member). ArePaid (view u old).spent x.jobs) (sym m) was.jobs);
+      covered = omega (arith, caller.covered, ledger_held (view u mid) (view t mid) one, spent_now, ledger_granted (view u mid) (view t mid) one);
+    }
+
+all_run : (old mid : World) (t : ℕ) (event : Event) (answer : Answer) → Steps old t event answer mid → AllRun old → AllRun mid
+all_run old mid t event answer h all u known =
+    let before : u < length old.config.tenants = subst (λ (c : ConfigData). u < length c.tenants) h.config known in
+    let caller : IsRunning (view t mid) = subst IsRunning (sym h.own) (step_runs (view t old) event (all t h.known)) in
+    ⊎_elim
+    (λ (e : u ≡ t). subst (λ n. IsRunning (view n mid)) (sym e) caller)
+    (λ (ne : u ≡ t → ⊥).
+    ⊎_elim
+    (λ (e : purse_in old.config u ≡ purse_in old.config t). mate_runs old mid t u event answer before ne e h (all u before) caller)
+    (λ (no : purse_in old.config u ≡ purse_in old.config t → ⊥). subst IsRunning (sym (view_stays old mid t event answer h u no)) (all u before))
+    (cases_eq (purse_in old.config u) (purse_in old.config t)))
+    (cases_eq u t)
+
+pub no_held : (lines : List TenantLine) (place : ℕ) → held_beside place (map new_member lines) ≡ 0
+no_held [] place = refl
+no_held (line ∷ lines) zero = none lines
+  where
+    none : (ls : List TenantLine) → sum_by (λ (m : Member). held_by m.jobs) (map new_member ls) ≡ 0
+    none [] = refl
+    none (l ∷ ls) = omega (arith, sum_by-cons (λ (m : Member). held_by m.jobs) (new_member l) (map new_member ls), none ls)
+no_held (line ∷ lines) (suc place) = omega (arith, no_held lines place)
+
+seat_runs : (place : ℕ) (lines : List TenantLine) (line : TenantLine) → IsRunning (seated_at place (newcomers lines) (new_member line))
+unfolding newcomers kept held
+seat_runs place lines line = record { within = omega arith; few = omega arith; jobs = tt; covered = omega (arith, no_held lines place) }
+
+opened_runs : (config : ConfigData) → AllRun (opened config)
+opened_runs config u known =
+    subst IsRunning (sym (seen_opened u config)) (seat_runs (place_in config u) (lines_of config.tenants (purse_in config u)) (terms_in config u))
+
+leads_run : (old new : World) (calls : List Call) → Leads old calls new → AllRun old → AllRun new
+leads_run old new [] run all = subst AllRun (sym run) all
+leads_run old new (c ∷ calls) run all = leads_run run.0 new calls run.2 (all_run old run.0 c.tenant c.event c.answer run.1 all)
+
+pub run_runs : (config : ConfigData) (calls : List Call) (w : World) → Run config calls w → AllRun w
+run_runs config calls w run = leads_run (opened config) w calls run (opened_runs config)

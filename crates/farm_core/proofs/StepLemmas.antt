@@ -15,7 +15,7 @@ use Rattle.farm_core.specs.declared.reply.Reply.{Reply}
 use Rattle.farm_core.specs.declared.reply.Reply.TheVariants as reply
 use Rattle.farm_core.specs.Tenant.{Tenant, free, find_job, put_job, drop_job, line_of}
 use Rattle.farm_core.specs.Step.{Step, Replied, Sent, NoTurn, step, has_room, is_amount, is_slice, unnoted, noted, commanded, fresh_job, submitted, funded, fetched, cancelled, forgotten, may_have_run}
-use Rattle.farm_core.specs.World.{World, view, IsOnlyNoted}
+use Rattle.farm_core.specs.World.{World, member, view, IsOnlyNoted}
 use Rattle.farm_core.specs.Farm.{IsFundRefusal, IsGivenUpTo}
 use Rattle.farm_core.proofs.ViewLemmas.{found_own}
 use Rattle.farm_core.proofs.RunningLemmas.{found_seq}
@@ -157,20 +157,20 @@ forget_steps t s job room found ended =
     rw (room, found, ended) (ap (λ n. let it : Step = record { answer = Replied (reply.Forgotten n); after = record t { used = t.used + 1; jobs = drop_job job.seq t.jobs } } in it) seq)
 
 pub fetch_unknown : (w : World) (t s : ℕ) → find_row t s w.rows ≡ None → IsOnlyNoted (view t w) (Fetch s) reply.NoUnknown
-unfolding view
+unfolding view member
 fetch_unknown w t s none =
     let found : find_job s (view t w).jobs ≡ None = found_own t s w.rows ∙ none in
     record { steps = rw found refl; noted = refl }
 
 pub fetch_busy : (w : World) (t s : ℕ) (job : JobData) → find_row t s w.rows ≡ Some job → is_out job.phase ≡ true → IsOnlyNoted (view t w) (Fetch s) reply.NoBusy
-unfolding view fetched
+unfolding view member fetched
 fetch_busy w t s job there out =
     let found : find_job s (view t w).jobs ≡ Some job = found_own t s w.rows ∙ there in
     record { steps = rw (found, out) refl; noted = refl }
 
 pub fetch_told : (w : World) (t s : ℕ) (job : JobData) → find_row t s w.rows ≡ Some job → is_out job.phase ≡ false
     → IsOnlyNoted (view t w) (Fetch s) (reply.Best s (best_after job.plan job.nodes) (option_map (makespan job.plan.project) (best_after job.plan job.nodes)) (verdict_after job.plan job.nodes))
-unfolding view fetched
+unfolding view member fetched
 fetch_told w t s job there here =
     let found : find_job s (view t w).jobs ≡ Some job = found_own t s w.rows ∙ there in
     let seq : job.seq ≡ s = found_seq s (view t w).jobs job found in

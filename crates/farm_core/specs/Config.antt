@@ -1,6 +1,8 @@
 -- What a farm is made for.
-use Rattle.std.specs.Prelude.{ℕ, Bool, true, false, not, ◌&&◌, ◌||◌, ◌==◌, nat_le, List, [], ◌∷◌, length}
-use Rattle.std.specs.List.{list_all}
+use Rattle.std.specs.Prelude.{ℕ, Bool, true, false, not, ◌&&◌, ◌||◌, nat_le, List, [], ◌∷◌, length, map, get_or, Option, None}
+use Rattle.std.specs.List.{list_all, sum_by, range_with_len}
+use Rattle.farm_core.specs.Name.{same_bytes}
+use Rattle.farm_core.specs.Purses.{purses, members_of}
 use Rattle.farm_core.specs.declared.config.TenantLine.{TenantLine}
 
 -- the tenants in the order of their numbers, how many workers there are, and how many nodes their turns have
@@ -16,12 +18,6 @@ is_within least most n = nat_le least n && nat_le n most
 unfoldable pub are_terms : TenantLine → Bool
 are_terms line = nat_le line.quanta 1000000000000 && is_within 1 1000 line.jobs && is_within 1 1000000 line.entries
 
-abbrev pub same_bytes : List ℕ → List ℕ → Bool
-same_bytes [] [] = true
-same_bytes [] (c ∷ cs) = false
-same_bytes (b ∷ bs) [] = false
-same_bytes (b ∷ bs) (c ∷ cs) = (b == c) && same_bytes bs cs
-
 -- one of these has the name
 abbrev pub has_name : List ℕ → List TenantLine → Bool
 has_name name [] = false
@@ -32,8 +28,28 @@ abbrev pub are_distinct : List TenantLine → Bool
 are_distinct [] = true
 are_distinct (line ∷ lines) = not (has_name line.name lines) && are_distinct lines
 
--- 1 to 64 tenants of different names, 1 to 16 workers, and turns of 1 to 1,000,000 nodes
+-- the names of the tenants' purses, where they name one
+abbrev pub purse_names : List TenantLine → List (Option (List ℕ))
+purse_names lines = map (λ (line : TenantLine). line.purse) lines
+
+-- a tenant that is not there has nothing
+abbrev pub no_terms : TenantLine
+no_terms = record { name = []; quanta = 0; jobs = 0; entries = 0; purse = None }
+
+-- the lines of a purse's members, in their order
+abbrev pub lines_of : List TenantLine → ℕ → List TenantLine
+lines_of lines p = map (λ t. get_or lines t no_terms) (members_of (purse_names lines) p)
+
+-- a purse was granted what its members' lines grant
+abbrev pub granted_by : List TenantLine → ℕ
+granted_by lines = sum_by (λ (line : TenantLine). line.quanta) lines
+
+-- no purse was granted more than 10^12 quanta
+abbrev pub are_purses : List TenantLine → Bool
+are_purses lines = list_all (λ p. nat_le (granted_by (lines_of lines p)) 1000000000000) (range_with_len 0 (purses (purse_names lines)))
+
+-- 1 to 64 tenants of different names, purses of at most 10^12 quanta, 1 to 16 workers, and turns of 1 to 1,000,000 nodes
 unfoldable pub is_config : ConfigData → Bool
 is_config c =
-    is_within 1 64 (length c.tenants) && list_all are_terms c.tenants && are_distinct c.tenants
+    is_within 1 64 (length c.tenants) && list_all are_terms c.tenants && are_distinct c.tenants && are_purses c.tenants
     && is_within 1 16 c.workers && is_within 1 1000000 c.slice

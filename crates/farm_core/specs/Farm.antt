@@ -1,6 +1,6 @@
 -- What a farm keeps.
-use Rattle.std.specs.Prelude.{◌≡◌, ℕ, ◌+◌, ◌<◌, ◌≤◌, List, [], ◌∷◌, length, get_or, true, Some, ⊤, IsTrue}
-use Rattle.std.specs.List.{list_all}
+use Rattle.std.specs.Prelude.{◌≡◌, ℕ, ◌+◌, ◌<◌, ◌≤◌, List, [], ◌∷◌, length, map, true, Some, ⊤, IsTrue}
+use Rattle.std.specs.List.{range_with_len}
 use Rattle.job_table.specs.Table.{Row, JobData}
 use Rattle.job_table.specs.Job.{given_up}
 use Rattle.job_table.specs.declared.phase.Phase.{Phase}
@@ -10,10 +10,11 @@ use Rattle.farm_core.specs.declared.entry.Event.{Event}
 use Rattle.farm_core.specs.declared.reply.Line.{Line}
 use Rattle.farm_core.specs.declared.reply.Reply.{Reply}
 use Rattle.farm_core.specs.declared.reply.Reply.TheVariants as reply
-use Rattle.farm_core.specs.Config.{are_terms}
+use Rattle.farm_core.specs.Config.{ConfigData, is_config}
 use Rattle.farm_core.specs.Tenant.{Tenant, book, find_job, line_of}
 use Rattle.farm_core.specs.Step.{Replied, funded, has_room, noted}
-use Rattle.farm_core.specs.World.{World, Call, Run, view, is_noted, Follows, IsReplayed}
+use Rattle.farm_core.specs.World.{World, Call, Run, purse_in, purses_in, account_of, view, is_noted, Follows, IsReplayed}
+use Rattle.farm_core.specs.Truth.{ArePlanned}
 
 -- how many entries may still come of a job without asking for memory: one for its cancel, one for its give
 abbrev pub owed_in : Phase → ℕ
@@ -39,20 +40,27 @@ abbrev pub AreOf : ℕ → List Row → Type 0
 AreOf count [] = ⊤
 AreOf count (row ∷ rows) = (row.tenant < count) × AreOf count rows
 
--- some calls lead to it from the farm in which nothing has happened
+-- some calls lead to it from the farm in which nothing has happened, and what was submitted in them were projects
 pub record IsReached (w : World) : Type 0 where
   pub calls : List Call
   pub run : Run w.config calls w
+  pub planned : ArePlanned calls
 
--- each tenant has its account and is where its entries lead, a run leads to the whole, and the journal has room for all entries that are owed
+-- the number of each tenant's purse
+abbrev pub purse_numbers : ConfigData → List ℕ
+purse_numbers config = map (purse_in config) (range_with_len 0 (length config.tenants))
+
+-- each tenant has its account, each purse is where its entries lead, a run leads to the whole, and the journal has room for all entries that
+-- are owed
 pub record IsFarm (w : World) (capacity : ℕ) : Type 0 where
-  pub count : length w.accounts ≡ length w.config.tenants
-  pub each : (t : ℕ) (d : Account) → t < length w.accounts → IsAccount (view t w) (get_or w.accounts t d)
+  pub count : length w.numbers ≡ length w.config.tenants
+  pub ledgers : length w.books ≡ purses_in w.config
+  pub each : (t : ℕ) → t < length w.numbers → IsAccount (view t w) (account_of w t)
   pub room : length w.journal + owed w.rows ≤ capacity
   pub replayed : IsReplayed w
   pub reached : IsReached w
-  pub whose : AreOf (length w.accounts) w.rows
-  pub terms : IsTrue (list_all are_terms w.config.tenants)
+  pub whose : AreOf (length w.numbers) w.rows
+  pub config : IsTrue (is_config w.config)
 
 -- a call makes its tenant's step with this reply; or the journal has room but there was no memory, and nothing has changed
 abbrev pub IsReply : World → ℕ → Event → Reply → World → Type 0

@@ -1,22 +1,68 @@
--- Why each tenant is alone.
-use Rattle.std.specs.Prelude.{◌≡◌, ℕ, List}
-use Rattle.farm_core.specs.Config.{ConfigData}
-use Rattle.farm_core.specs.Tenant.{newcomer, book}
-use Rattle.farm_core.specs.World.{World, Call, terms_in, view, Run, own_events, own_answers, answers_alone, after_alone}
+-- Why each purse is alone, and what this is for a purse of one tenant.
+use Rattle.std.specs.Prelude.{◌≡◌, ◌⊎◌, ℕ, ◌<◌, ◌==◌, true, List, [], ◌∷◌, length, map, filter, get_or, Option, None}
+use Rattle.farm_core.specs.declared.entry.Event.{Event}
+use Rattle.farm_core.specs.Purses.{is_shared, purse_name, first_member, purse_of, purses, members_of, place_of}
+use Rattle.farm_core.specs.Config.{ConfigData, purse_names}
+use Rattle.farm_core.specs.Tenant.{Tenant, Purse, newcomer, seat, book}
+use Rattle.farm_core.specs.Step.{Answer, step}
+use Rattle.farm_core.specs.World.{World, Call, terms_in, purse_in, place_in, purse, view, Run, own_calls, own_events, own_answers, opened_purse, answers_alone, after_alone}
 
--- in each run, a tenant's answers, and what it has at the end, are those of its own calls alone,
-abbrev pub EachIsAlone : Type 0
-EachIsAlone = (config : ConfigData) (calls : List Call) (w : World) → Run config calls w → (t : ℕ) →
-    (own_answers t calls ≡ answers_alone (newcomer (terms_in config t)) (own_events t calls))
-    × (view t w ≡ after_alone (newcomer (terms_in config t)) (own_events t calls))
+-- tenants are of one purse where they share one by name, and never else; a purse's members are found at their places; purses are
+-- numbered from 0 on, in the order of their first members; and where no one names a purse, each tenant's purse has its number
+pub record PursesAreShared : Type 0 where
+  pub shared : (names : List (Option (List ℕ))) (t u : ℕ) → is_shared (purse_name names t) (purse_name names u) ≡ true → purse_of names t ≡ purse_of names u
+  pub apart : (names : List (Option (List ℕ))) (t u : ℕ) → purse_of names t ≡ purse_of names u → (t ≡ u) ⊎ (is_shared (purse_name names t) (purse_name names u) ≡ true)
+  pub found : (names : List (Option (List ℕ))) (t : ℕ) → t < length names → get_or (members_of names (purse_of names t)) (place_of names t) 0 ≡ t
+  pub counted : (names : List (Option (List ℕ))) (t : ℕ) → t < length names → purse_of names t < purses names
+  pub ordered : (names : List (Option (List ℕ))) (t u : ℕ) → first_member names t ≡ t → first_member names u ≡ u → t < u → purse_of names t < purse_of names u
+  pub plain : (names : List (Option (List ℕ))) → ((t : ℕ) → purse_name names t ≡ None) → (t : ℕ) → purse_of names t ≡ t
 
--- and so two runs that agree in a tenant's terms and own calls give it equal answers and an equal ledger, whoever else
--- uses the farms, and whatever number the tenant has in each
-pub record AreEqualFor (calls others : List Call) (t u : ℕ) (w x : World) : Type 0 where
-  pub answers : own_answers t calls ≡ own_answers u others
-  pub ledger : book (view t w) ≡ book (view u x)
-  pub all : view t w ≡ view u x
+-- in each run, the answers to a purse's members, and what it has at the end, are those of their own calls alone,
+abbrev pub EachPurseIsAlone : Type 0
+EachPurseIsAlone = (config : ConfigData) (calls : List Call) (w : World) → Run config calls w → (p : ℕ) →
+    (own_answers config p calls ≡ answers_alone (opened_purse config p) (own_events config p calls))
+    × (purse p w ≡ after_alone (opened_purse config p) (own_events config p calls))
 
-abbrev pub EachIsIsolated : Type 0
-EachIsIsolated = (config elsewhere : ConfigData) (calls others : List Call) (w x : World) → Run config calls w → Run elsewhere others x →
-    (t u : ℕ) → terms_in config t ≡ terms_in elsewhere u → own_events t calls ≡ own_events u others → AreEqualFor calls others t u w x
+-- and so two runs in which a purse begins alike and its members, in their order, ask for the same, one after another, give them equal
+-- answers and an equal ledger, whoever else uses the farms, and whatever numbers the purse and its members have in each
+pub record AreEqualFor (config elsewhere : ConfigData) (calls others : List Call) (p q : ℕ) (w x : World) : Type 0 where
+  pub answers : own_answers config p calls ≡ own_answers elsewhere q others
+  pub ledgers : (place : ℕ) → book (seat (purse p w) place) ≡ book (seat (purse q x) place)
+  pub all : purse p w ≡ purse q x
+
+abbrev pub EachPurseIsIsolated : Type 0
+EachPurseIsIsolated = (config elsewhere : ConfigData) (calls others : List Call) (w x : World) → Run config calls w → Run elsewhere others x →
+    (p q : ℕ) → opened_purse config p ≡ opened_purse elsewhere q → own_events config p calls ≡ own_events elsewhere q others →
+    AreEqualFor config elsewhere calls others p q w x
+
+-- what a tenant of a run sees is what there is at its place of its purse
+abbrev pub EachViewIsASeat : Type 0
+EachViewIsASeat = (w : World) (t : ℕ) → t < length w.config.tenants → view t w ≡ seat (purse (purse_in w.config t) w) (place_in w.config t)
+
+-- ---- a purse of one tenant
+
+-- no other tenant shares the purse
+abbrev pub IsLone : ConfigData → ℕ → Type 0
+IsLone config t = (u : ℕ) → is_shared (purse_name (purse_names config.tenants) u) (purse_name (purse_names config.tenants) t) ≡ true → u ≡ t
+
+-- the calls of one tenant, in order, without its number, and their answers
+abbrev pub lone_events : ℕ → List Call → List Event
+lone_events t calls = map (λ (c : Call). c.event) (filter (λ (c : Call). c.tenant == t) calls)
+
+abbrev pub lone_answers : ℕ → List Call → List Answer
+lone_answers t calls = map (λ (c : Call). c.answer) (filter (λ (c : Call). c.tenant == t) calls)
+
+-- a tenant alone: its answers and what it has at the end, if no one else used the farm
+abbrev pub answers_by : Tenant → List Event → List Answer
+answers_by t [] = []
+answers_by t (e ∷ events) = (step t e).answer ∷ answers_by (step t e).after events
+
+abbrev pub after_by : Tenant → List Event → Tenant
+after_by t [] = t
+after_by t (e ∷ events) = after_by (step t e).after events
+
+-- in each run, the answers to a tenant with which no other shares a purse, and what it has at the end, are those of its own calls alone
+abbrev pub EachLoneTenantIsAlone : Type 0
+EachLoneTenantIsAlone = (config : ConfigData) (calls : List Call) (w : World) → Run config calls w → (t : ℕ) → t < length config.tenants → IsLone config t →
+    (lone_answers t calls ≡ answers_by (newcomer (terms_in config t)) (lone_events t calls))
+    × (view t w ≡ after_by (newcomer (terms_in config t)) (lone_events t calls))

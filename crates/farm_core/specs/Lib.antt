@@ -1,4 +1,5 @@
 pub mod Name
+pub mod Purses
 pub mod Config
 pub mod Tenant
 pub mod Step

@@ -1,5 +1,5 @@
 -- The names of tenants.
-use Rattle.std.specs.Prelude.{ℕ, Bool, false, ◌&&◌, ◌||◌, nat_le, ◌==◌, List, [], ◌∷◌, length}
+use Rattle.std.specs.Prelude.{ℕ, Bool, true, false, ◌&&◌, ◌||◌, nat_le, ◌==◌, List, [], ◌∷◌, length}
 use Rattle.std.specs.List.{list_all}
 
 -- a lowercase letter, and a byte that may follow one: a lowercase letter, a digit, _ or -
@@ -16,3 +16,9 @@ begins_well (b ∷ bytes) = is_letter b
 -- 1 to 32 bytes, the first a letter
 unfoldable pub is_name : List ℕ → Bool
 is_name bytes = nat_le (length bytes) 32 && (begins_well bytes && list_all is_mark bytes)
+
+abbrev pub same_bytes : List ℕ → List ℕ → Bool
+same_bytes [] [] = true
+same_bytes [] (c ∷ cs) = false
+same_bytes (b ∷ bs) [] = false
+same_bytes (b ∷ bs) (c ∷ cs) = (b == c) && same_bytes bs cs

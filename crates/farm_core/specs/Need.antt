@@ -1,5 +1,5 @@
 -- How many nodes a job runs.
-use Rattle.std.specs.Prelude.{◌≡◌, ℕ, ◌+◌, ◌==◌, ◌⊎◌, ⊤, Bool, true, false, cond, List, [], ◌∷◌, ◌++◌, map, Some}
+use Rattle.std.specs.Prelude.{◌≡◌, ℕ, ◌+◌, ◌<◌, ◌==◌, ◌⊎◌, ⊤, Bool, true, false, cond, List, [], ◌∷◌, ◌++◌, length, map, Some}
 use Rattle.mrcpsp.specs.Numbers.{first_from}
 use Rattle.strategy.specs.Outcome.{is_closed}
 use Rattle.strategy.specs.declared.plan.Plan.{Plan}
@@ -8,10 +8,11 @@ use Rattle.job_table.specs.declared.phase.Phase.TheVariants.{Dry, Closed}
 use Rattle.farm_core.specs.declared.entry.Event.{Event}
 use Rattle.farm_core.specs.declared.entry.Event.TheVariants.{Submit, Fund, Cancel, Forget}
 use Rattle.farm_core.specs.declared.reply.Reply.TheVariants as reply
-use Rattle.farm_core.specs.Config.{ConfigData}
-use Rattle.farm_core.specs.Step.{Answer, Replied, step}
-use Rattle.farm_core.specs.Tenant.{Tenant, newcomer, book, find_job, line_of}
-use Rattle.farm_core.specs.World.{World, Call, Run, terms_in, view, own_events}
+use Rattle.farm_core.specs.Purses.{members_of}
+use Rattle.farm_core.specs.Config.{ConfigData, purse_names}
+use Rattle.farm_core.specs.Step.{Answer, Replied}
+use Rattle.farm_core.specs.Tenant.{Tenant, seat, book, find_job, line_of}
+use Rattle.farm_core.specs.World.{World, Call, Run, purse_in, purse, opened_purse, view}
 
 -- the quanta that a call gave job s: those of the submit that made it, and of each fund that was taken
 abbrev pub given_by : ℕ → Event → Answer → ℕ
@@ -19,10 +20,10 @@ given_by s (Submit plan quanta) (Replied (reply.Job n)) = cond (n == s) quanta 0
 given_by s (Fund n quanta) (Replied (reply.Line line)) = cond (n == s) quanta 0
 given_by s event answer = 0
 
--- the quanta that a tenant alone gave job s over these calls
-abbrev pub given_to : ℕ → Tenant → List Event → ℕ
-given_to s t [] = 0
-given_to s t (e ∷ events) = given_by s e (step t e).answer + given_to s (step t e).after events
+-- the quanta that these calls of tenant t gave job s
+abbrev pub given_to : ℕ → List Call → ℕ → ℕ
+given_to t [] s = 0
+given_to t (c ∷ calls) s = cond (c.tenant == t) (given_by s c.event c.answer) 0 + given_to t calls s
 
 -- the first of 0, 1 .. at which the search of a plan is over, or so many
 unfoldable pub nodes_for : Plan → ℕ → ℕ
@@ -40,7 +41,7 @@ HasJob t job = find_job job.seq t.jobs ≡ Some job
 -- its search needs, whatever turns and slices there were
 abbrev pub NodesAreTheLesser : Type 0
 NodesAreTheLesser = (config : ConfigData) (calls : List Call) (w : World) → Run config calls w → (t : ℕ) (job : JobData) → HasJob (view t w) job →
-    HasRunItsNodes (λ s. given_to s (newcomer (terms_in config t)) (own_events t calls)) job
+    HasRunItsNodes (given_to t calls) job
 
 -- what a call that was accepted asked for, if it was none of status, result and ledger
 abbrev pub asked : Event → Answer → List Event
@@ -50,10 +51,10 @@ asked (Cancel s) (Replied (reply.Line line)) = Cancel s ∷ []
 asked (Forget s) (Replied (reply.Forgotten n)) = Forget s ∷ []
 asked e answer = []
 
--- all that a tenant alone asked for so, over these calls
-abbrev pub asked_by : Tenant → List Event → List Event
+-- all that these calls of tenant t asked for so
+abbrev pub asked_by : ℕ → List Call → List Event
 asked_by t [] = []
-asked_by t (e ∷ events) = asked e (step t e).answer ++ asked_by (step t e).after events
+asked_by t (c ∷ calls) = cond (c.tenant == t) (asked c.event c.answer) [] ++ asked_by t calls
 
 -- submits and funds alone
 abbrev pub are_gifts : List Event → Bool
@@ -67,16 +68,29 @@ abbrev pub AreAtRest : List JobData → Type 0
 AreAtRest [] = ⊤
 AreAtRest (job ∷ jobs) = ((job.phase ≡ Dry) ⊎ (job.phase ≡ Closed)) × AreAtRest jobs
 
--- two tenants of whom the same is told
+abbrev pub members_in : ConfigData → ℕ → List ℕ
+members_in config p = members_of (purse_names config.tenants) p
+
+-- it holds of each member of a purse
+abbrev pub AllMembers : ConfigData → ℕ → (ℕ → Type 0) → Type 0
+AllMembers config p P = (t : ℕ) → t < length config.tenants → purse_in config t ≡ p → P t
+
+-- at the end of these calls a member has been granted submits and funds and asked for nothing else but status, result and ledger, and its
+-- jobs are at rest
+pub record HasRested (calls : List Call) (w : World) (t : ℕ) : Type 0 where
+  pub gifts : are_gifts (asked_by t calls) ≡ true
+  pub rests : AreAtRest (view t w).jobs
+
+-- two members of whom the same is told
 pub record AreAlike (one other : Tenant) : Type 0 where
   pub lines : map line_of one.jobs ≡ map line_of other.jobs
   pub ledger : book one ≡ book other
 
--- two runs in which a tenant has the same terms, was granted the same submits and funds and nothing else but status, result and
--- ledger, and has only dry and closed jobs at the end, end alike for it, whatever turns, slices and refusals came between
+-- two runs in which a purse begins alike, each of its members, in their order, was granted the same submits and funds and nothing else but
+-- status, result and ledger, and has only dry and closed jobs at the end, end alike for its members, whatever turns, slices and refusals came between
 abbrev pub EachEndsAlike : Type 0
 EachEndsAlike = (config elsewhere : ConfigData) (calls others : List Call) (w x : World) → Run config calls w → Run elsewhere others x →
-    (t u : ℕ) → terms_in config t ≡ terms_in elsewhere u →
-    asked_by (newcomer (terms_in config t)) (own_events t calls) ≡ asked_by (newcomer (terms_in elsewhere u)) (own_events u others) →
-    are_gifts (asked_by (newcomer (terms_in config t)) (own_events t calls)) ≡ true →
-    AreAtRest (view t w).jobs → AreAtRest (view u x).jobs → AreAlike (view t w) (view u x)
+    (p q : ℕ) → opened_purse config p ≡ opened_purse elsewhere q →
+    AllMembers config p (HasRested calls w) → AllMembers elsewhere q (HasRested others x) →
+    map (λ t. asked_by t calls) (members_in config p) ≡ map (λ u. asked_by u others) (members_in elsewhere q) →
+    (place : ℕ) → place < length (members_in config p) → AreAlike (seat (purse p w) place) (seat (purse q x) place)

@@ -3,11 +3,11 @@ use Rattle.std.specs.Prelude.{◌≡◌, ℕ, ◌<◌, List, length, map, All, f
 use Rattle.farm_core.specs.declared.entry.Event.{Event}
 use Rattle.farm_core.specs.Config.{ConfigData}
 use Rattle.farm_core.specs.Step.{step}
-use Rattle.farm_core.specs.World.{World, Call, view, Steps, Run, entry_of}
+use Rattle.farm_core.specs.World.{World, Call, purses_in, view, Steps, Run, entry_of}
 
--- there is an account for each tenant
+-- there are numbers for each tenant, and a ledger for each purse
 abbrev pub HasAccounts : World → Type 0
-HasAccounts w = length w.accounts ≡ length w.config.tenants
+HasAccounts w = (length w.numbers ≡ length w.config.tenants) × (length w.books ≡ purses_in w.config)
 
 -- each tenant can ask for anything at any time: there is a farm in which the call was made, answered as its step says
 abbrev pub EachCallCanBeMade : Type 0

@@ -1,5 +1,6 @@
--- One tenant's part of a farm.
-use Rattle.std.specs.Prelude.{ℕ, ◌+◌, ◌-◌, min, cond, ◌==◌, List, [], ◌∷◌, length, filter, Option, Some, None, option_map}
+-- One purse's part of a farm, and one tenant's at it.
+use Rattle.std.specs.Prelude.{ℕ, zero, suc, ◌+◌, ◌-◌, min, cond, ◌==◌, List, [], ◌∷◌, length, map, filter, get_or, set, Option, Some, None, option_map}
+use Rattle.std.specs.List.{sum_by}
 use Rattle.mrcpsp.specs.Numbers.{first_from}
 use Rattle.mrcpsp.specs.Schedule.{makespan}
 use Rattle.strategy.specs.Outcome.{best_after, is_closed, verdict_after}
@@ -9,33 +10,105 @@ use Rattle.job_table.specs.declared.phase.Phase.{Phase}
 use Rattle.job_table.specs.declared.phase.Phase.TheVariants.{Waiting, Out, Leaving, Dry, Closed, Cancelled}
 use Rattle.farm_core.specs.declared.config.TenantLine.{TenantLine}
 use Rattle.farm_core.specs.declared.reply.Line.{Line}
+use Rattle.farm_core.specs.Config.{granted_by}
 
--- its terms, how many quanta it has spent, the number of its next job, how many journal entries it has used, and its
--- jobs in the order in which they came
-pub record Tenant : Type 0 where
-  pub terms : TenantLine
-  pub spent : ℕ
+-- how many jobs are kept for a tenant at most, and how many journal entries it may use
+pub record Terms : Type 0 where
+  pub jobs : ℕ
+  pub entries : ℕ
+
+-- what is a tenant's own: its terms, the number of its next job, how many journal entries it has used, and its jobs in the
+-- order in which they came
+pub record Member : Type 0 where
+  pub terms : Terms
   pub next : ℕ
   pub used : ℕ
   pub jobs : List JobData
 
--- a tenant that has done nothing yet
-unfoldable pub newcomer : TenantLine → Tenant
-newcomer terms = record { terms = terms; spent = 0; next = 1; used = 0; jobs = [] }
+-- a purse: what it was granted and what it has spent, once for all members, and the members
+pub record Purse : Type 0 where
+  pub granted : ℕ
+  pub spent : ℕ
+  pub members : List Member
 
--- what its jobs hold
+-- a tenant at its purse: what is its own, what the purse was granted and has spent, and what the jobs of the other members hold
+pub record Tenant : Type 0 where
+  pub terms : Terms
+  pub granted : ℕ
+  pub spent : ℕ
+  pub beside : ℕ
+  pub next : ℕ
+  pub used : ℕ
+  pub jobs : List JobData
+
+abbrev pub terms_of : TenantLine → Terms
+terms_of line = record { jobs = line.jobs; entries = line.entries }
+
+-- a tenant that has done nothing yet,
+abbrev pub new_member : TenantLine → Member
+new_member line = record { terms = terms_of line; next = 1; used = 0; jobs = [] }
+
+-- and a purse of which no member has
+unfoldable pub newcomers : List TenantLine → Purse
+newcomers lines = record { granted = granted_by lines; spent = 0; members = map new_member lines }
+
+-- a tenant that has done nothing yet, and has its purse for itself
+unfoldable pub newcomer : TenantLine → Tenant
+newcomer line = record { terms = terms_of line; granted = line.quanta; spent = 0; beside = 0; next = 1; used = 0; jobs = [] }
+
+-- what jobs hold
 abbrev pub held_by : List JobData → ℕ
 held_by [] = 0
 held_by (job ∷ jobs) = job.left + held_by jobs
 
+-- what the jobs of all these members hold but of the one at a place
+abbrev pub held_beside : ℕ → List Member → ℕ
+held_beside place [] = 0
+held_beside zero (m ∷ members) = sum_by (λ (other : Member). held_by other.jobs) members
+held_beside (suc place) (m ∷ members) = held_by m.jobs + held_beside place members
+
+-- a member as it stands, at a place of a purse
+abbrev pub seated_at : ℕ → Purse → Member → Tenant
+seated_at place p m = record {
+  terms = m.terms;
+  granted = p.granted;
+  spent = p.spent;
+  beside = held_beside place p.members;
+  next = m.next;
+  used = m.used;
+  jobs = m.jobs;
+}
+
+-- one that is not there may ask for nothing
+abbrev pub no_member : Member
+no_member = record { terms = record { jobs = 0; entries = 0 }; next = 1; used = 0; jobs = [] }
+
+-- the member at a place of a purse,
+abbrev pub seat : Purse → ℕ → Tenant
+seat p place = seated_at place p (get_or p.members place no_member)
+
+abbrev pub own_of : Tenant → Member
+own_of t = record { terms = t.terms; next = t.next; used = t.used; jobs = t.jobs }
+
+-- and the purse once that member stands otherwise
+abbrev pub with_seat : Purse → ℕ → Tenant → Purse
+with_seat p place t = record p { spent = t.spent; members = set p.members place (own_of t) }
+
+-- a tenant's ledger is that of its purse: what the jobs of all members hold, what is free, and what was spent
 unfoldable pub held : Tenant → ℕ
-held t = held_by t.jobs
+held t = held_by t.jobs + t.beside
 
 unfoldable pub free : Tenant → ℕ
-free t = t.terms.quanta - held t - t.spent
+free t = t.granted - held t - t.spent
 
 unfoldable pub book : Tenant → BookData
-book t = record { granted = t.terms.quanta; free = free t; held = held t; spent = t.spent }
+book t = record { granted = t.granted; free = free t; held = held t; spent = t.spent }
+
+-- the ledger of a purse
+unfoldable pub ledger_of : Purse → BookData
+ledger_of p =
+    let holds = sum_by (λ (m : Member). held_by m.jobs) p.members in
+    record { granted = p.granted; free = p.granted - holds - p.spent; held = holds; spent = p.spent }
 
 -- how many journal entries are kept for the gives of turns that are out
 unfoldable pub kept : Tenant → ℕ

@@ -76,7 +76,9 @@ IsPlanned Ledger = ⊤
 IsPlanned (Take s slice) = ⊤
 IsPlanned (Give s ran) = ⊤
 
+abbrev pub ArePlanned : List Call → Type 0
+ArePlanned calls = (c : Call) → IsAmong calls c → IsPlanned c.event
+
 -- in each run of calls, each answer is true of a plan that the tenant has submitted under that number
 abbrev pub EachAnswerIsTrue : Type 0
-EachAnswerIsTrue = (config : ConfigData) (calls : List Call) (w : World) → Run config calls w →
-    ((c : Call) → IsAmong calls c → IsPlanned c.event) → (c : Call) → IsAmong calls c → IsTrueAnswer (WasMade calls c.tenant) c.answer
+EachAnswerIsTrue = (config : ConfigData) (calls : List Call) (w : World) → Run config calls w → ArePlanned calls → (c : Call) → IsAmong calls c → IsTrueAnswer (WasMade calls c.tenant) c.answer

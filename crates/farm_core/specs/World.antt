@@ -1,52 +1,97 @@
--- The farm of all tenants, what one of them sees of it, and whole runs.
-use Rattle.std.specs.Prelude.{Bool, true, false, cond, ◌≡◌, ◌≢◌, ◌⊎◌, ℕ, ◌==◌, List, [], ◌∷◌, ◌++◌, length, map, filter, get_or}
-use Rattle.tenant_book.specs.Book as book
+-- The farm of all tenants, what one of them and what a purse sees of it, and whole runs.
+use Rattle.std.specs.Prelude.{Bool, true, false, cond, ◌≡◌, ◌≢◌, ◌⊎◌, ℕ, ◌<◌, ◌==◌, List, [], ◌∷◌, ◌++◌, length, map, filter, get_or}
+use Rattle.std.specs.List.{range_with_len}
+use Rattle.tenant_book.specs.Book as ledger
 use Rattle.tenant_book.specs.Book.{BookData}
 use Rattle.job_table.specs.Table.{Row, jobs_of}
 use Rattle.farm_core.specs.declared.account.Account.{Account}
+use Rattle.farm_core.specs.declared.account.Numbers.{Numbers}
 use Rattle.farm_core.specs.declared.config.TenantLine.{TenantLine}
 use Rattle.farm_core.specs.declared.entry.Entry.{Entry}
 use Rattle.farm_core.specs.declared.entry.Event.{Event}
 use Rattle.farm_core.specs.declared.reply.Reply.{Reply}
 use Rattle.farm_core.specs.declared.reply.Reply.TheVariants as reply
-use Rattle.farm_core.specs.Config.{ConfigData}
-use Rattle.farm_core.specs.Tenant.{Tenant, newcomer}
+use Rattle.farm_core.specs.Purses.{purse_of, purses, members_of, place_of}
+use Rattle.farm_core.specs.Config.{ConfigData, purse_names, no_terms, lines_of, granted_by}
+use Rattle.farm_core.specs.Tenant.{Tenant, Member, Purse, terms_of, newcomers, seated_at, seat, with_seat}
 use Rattle.farm_core.specs.Step.{Answer, Replied, Sent, NoTurn, step, commanded, noted}
 
--- one table of jobs and one journal for all; an account has a tenant's ledger, the number of its next job, and how many
--- entries are its own
+-- one table of jobs and one journal for all, a ledger for each purse, and for each tenant the number of its next job and how
+-- many entries are its own
 pub record World : Type 0 where
   pub config : ConfigData
   pub rows : List Row
   pub journal : List Entry
-  pub accounts : List Account
+  pub books : List BookData
+  pub numbers : List Numbers
 
-abbrev pub no_terms : TenantLine
-no_terms = record { name = []; quanta = 0; jobs = 0; entries = 0 }
+abbrev pub new_numbers : Numbers
+new_numbers = record { next = 1; used = 0 }
 
-abbrev pub account_of : TenantLine → Account
-account_of terms = record { book = book.opened terms.quanta; next = 1; used = 0 }
+abbrev pub no_book : BookData
+no_book = ledger.opened 0
 
 abbrev pub terms_in : ConfigData → ℕ → TenantLine
 terms_in config t = get_or config.tenants t no_terms
 
+-- the number of a tenant's purse, the tenant's place among its members, and how many purses there are
+abbrev pub purse_in : ConfigData → ℕ → ℕ
+purse_in config t = purse_of (purse_names config.tenants) t
+
+abbrev pub place_in : ConfigData → ℕ → ℕ
+place_in config t = place_of (purse_names config.tenants) t
+
+abbrev pub purses_in : ConfigData → ℕ
+purses_in config = purses (purse_names config.tenants)
+
+-- a ledger for each purse that has spent nothing
+abbrev pub opened_books : ConfigData → List BookData
+opened_books config = map (λ p. ledger.opened (granted_by (lines_of config.tenants p))) (range_with_len 0 (purses_in config))
+
 -- the farm in which nothing has happened
 unfoldable pub opened : ConfigData → World
-opened config = record { config = config; rows = []; journal = []; accounts = map account_of config.tenants }
+opened config = record {
+  config = config;
+  rows = [];
+  journal = [];
+  books = opened_books config;
+  numbers = map (λ (line : TenantLine). new_numbers) config.tenants;
+}
 
 -- what is one tenant's of the journal
 abbrev pub entries_of : ℕ → List Entry → List Entry
 entries_of t journal = filter (λ entry. entry.tenant == t) journal
 
--- what a tenant asked for, entry by entry
-abbrev pub events_of : ℕ → List Entry → List Event
-events_of t journal = map (λ (entry : Entry). entry.event) (entries_of t journal)
+-- what is kept of a tenant beside its jobs: the ledger of its purse, and its own numbers
+abbrev pub account_of : World → ℕ → Account
+account_of w t =
+    let numbers = get_or w.numbers t new_numbers in
+    record { book = get_or w.books (purse_in w.config t) no_book; next = numbers.next; used = numbers.used }
 
--- one tenant's part of the world
+-- what is one tenant's own of the world
+unfoldable pub member : ℕ → World → Member
+member t w =
+    record {
+      terms = terms_of (terms_in w.config t);
+      next = (get_or w.numbers t new_numbers).next;
+      used = length (entries_of t w.journal);
+      jobs = jobs_of t w.rows;
+    }
+
+abbrev pub spent_in : ℕ → World → ℕ
+spent_in p w = (get_or w.books p no_book).spent
+
+-- one purse's part of the world,
+unfoldable pub purse : ℕ → World → Purse
+purse p w = record {
+  granted = granted_by (lines_of w.config.tenants p);
+  spent = spent_in p w;
+  members = map (λ t. member t w) (members_of (purse_names w.config.tenants) p);
+}
+
+-- and one tenant's at its purse
 unfoldable pub view : ℕ → World → Tenant
-view t w =
-    let account = get_or w.accounts t (account_of no_terms) in
-    record { terms = terms_in w.config t; spent = account.book.spent; next = account.next; used = length (entries_of t w.journal); jobs = jobs_of t w.rows }
+view t w = seated_at (place_in w.config t) (purse (purse_in w.config t) w) (member t w)
 
 -- a call that was answered 'no room', 'no memory' or 'no turn' leaves no entry, and any other leaves one
 abbrev pub is_noted : Answer → Bool
@@ -80,19 +125,24 @@ pub record IsWithout (t : ℕ) (old new : List (ℕ × ℕ)) : Type 0 where
 abbrev pub KeepsOrder : ℕ → List (ℕ × ℕ) → List (ℕ × ℕ) → Type 0
 KeepsOrder t old new = (new ≡ old) ⊎ ((seq : ℕ) × (new ≡ old ++ (t, seq) ∷ [])) ⊎ IsWithout t old new
 
--- a call of tenant t makes its own step, and no other tenant's part changes
+-- a call of a tenant makes the step of its place at its purse; what is another tenant's own, and what another purse has spent,
+-- does not change
 pub record Steps (old : World) (t : ℕ) (event : Event) (answer : Answer) (new : World) : Type 0 where
+  pub known : t < length old.config.tenants
   pub answer_is : answer ≡ (step (view t old) event).answer
   pub own : view t new ≡ (step (view t old) event).after
-  pub others : (u : ℕ) → u ≢ t → view u new ≡ view u old
+  pub others : (u : ℕ) → u ≢ t → member u new ≡ member u old
+  pub purses : (p : ℕ) → p ≢ purse_in old.config t → spent_in p new ≡ spent_in p old
   pub journal : new.journal ≡ old.journal ++ entry_of t event answer
   pub config : new.config ≡ old.config
 
 -- the same where no job passes another in the table
 pub record Follows (old : World) (t : ℕ) (event : Event) (answer : Answer) (new : World) : Type 0 where
+  pub known : t < length old.config.tenants
   pub answer_is : answer ≡ (step (view t old) event).answer
   pub own : view t new ≡ (step (view t old) event).after
-  pub others : (u : ℕ) → u ≢ t → view u new ≡ view u old
+  pub others : (u : ℕ) → u ≢ t → member u new ≡ member u old
+  pub purses : (p : ℕ) → p ≢ purse_in old.config t → spent_in p new ≡ spent_in p old
   pub order : KeepsOrder t (keys old.rows) (keys new.rows)
   pub journal : new.journal ≡ old.journal ++ entry_of t event answer
   pub config : new.config ≡ old.config
@@ -112,22 +162,40 @@ Leads old (c ∷ calls) new = (mid : World) × Steps old c.tenant c.event c.answ
 abbrev pub Run : ConfigData → List Call → World → Type 0
 Run config calls new = Leads (opened config) calls new
 
--- the calls of one tenant, in order, without its number, and their answers
-abbrev pub own_events : ℕ → List Call → List Event
-own_events t calls = map (λ (c : Call). c.event) (filter (λ c. c.tenant == t) calls)
+-- ---- one purse's calls
 
-abbrev pub own_answers : ℕ → List Call → List Answer
-own_answers t calls = map (λ (c : Call). c.answer) (filter (λ c. c.tenant == t) calls)
+-- what a purse is asked for: the place of the member that asks, and what it asks for
+pub record Asked : Type 0 where
+  pub place : ℕ
+  pub event : Event
 
--- a tenant alone: its answers and what it has at the end, if no one else used the farm
-abbrev pub answers_alone : Tenant → List Event → List Answer
-answers_alone t [] = []
-answers_alone t (e ∷ events) = (step t e).answer ∷ answers_alone (step t e).after events
+-- the calls of a purse's members, in order, each by its member's place, and their answers
+abbrev pub own_calls : ConfigData → ℕ → List Call → List Call
+own_calls config p calls = filter (λ (c : Call). purse_in config c.tenant == p) calls
 
-abbrev pub after_alone : Tenant → List Event → Tenant
-after_alone t [] = t
-after_alone t (e ∷ events) = after_alone (step t e).after events
+abbrev pub own_events : ConfigData → ℕ → List Call → List Asked
+own_events config p calls = map (λ (c : Call). record { place = place_in config c.tenant; event = c.event }) (own_calls config p calls)
 
--- each tenant's part of the world is where its own entries of the journal lead, from the farm in which nothing has happened
+abbrev pub own_answers : ConfigData → ℕ → List Call → List Answer
+own_answers config p calls = map (λ (c : Call). c.answer) (own_calls config p calls)
+
+-- what a purse's members asked for, entry by entry
+abbrev pub events_of : ConfigData → ℕ → List Entry → List Asked
+events_of config p journal =
+    map (λ (entry : Entry). record { place = place_in config entry.tenant; event = entry.event }) (filter (λ (entry : Entry). purse_in config entry.tenant == p) journal)
+
+-- a purse alone: its members' answers and what it has at the end, if no one else used the farm
+abbrev pub answers_alone : Purse → List Asked → List Answer
+answers_alone p [] = []
+answers_alone p (a ∷ asked) = (step (seat p a.place) a.event).answer ∷ answers_alone (with_seat p a.place (step (seat p a.place) a.event).after) asked
+
+abbrev pub after_alone : Purse → List Asked → Purse
+after_alone p [] = p
+after_alone p (a ∷ asked) = after_alone (with_seat p a.place (step (seat p a.place) a.event).after) asked
+
+abbrev pub opened_purse : ConfigData → ℕ → Purse
+opened_purse config p = newcomers (lines_of config.tenants p)
+
+-- each purse's part of the world is where its own entries of the journal lead, from the farm in which nothing has happened
 abbrev pub IsReplayed : World → Type 0
-IsReplayed w = (t : ℕ) → view t w ≡ after_alone (newcomer (terms_in w.config t)) (events_of t w.journal)
+IsReplayed w = (p : ℕ) → purse p w ≡ after_alone (opened_purse w.config p) (events_of w.config p w.journal)

@@ -1,7 +1,14 @@
 //! What the farm keeps of each tenant beside its jobs.
 use tenant_book::Book;
 
-/// A tenant's ledger, the number of its next job, and how many entries of the journal are its own.
+/// The number of a tenant's next job, and how many entries of the journal are its own.
+#[derive(Clone, Copy, Debug)]
+pub struct Numbers {
+    pub(crate) next: u64,
+    pub(crate) used: u64,
+}
+
+/// The ledger of a tenant's purse, and the tenant's own numbers.
 #[derive(Clone, Copy, Debug)]
 pub struct Account {
     pub(crate) book: Book,

@@ -1,6 +1,7 @@
 //! What tenants ask of the farm.
 ghost use Rattle.std.specs.Prelude.{◌≡◌, ◌<◌, ◌≤◌, ◌+◌, true, false, Some, None, IfOk, IfSome, IfNone, IsTrue, length, option_map, nat_lt};
 ghost use Rattle.std.specs.Option.{option_copied};
+ghost use Rattle.mrcpsp.specs.Project.{is_project};
 ghost use Rattle.job_table.specs.Table.{JobData, is_out, is_ended};
 ghost use Rattle.job_table.specs.Job.{given_up};
 ghost use Rattle.farm_core.specs.declared.reply.Line.{Line};
@@ -34,6 +35,16 @@ fn clone_best(alloc: Global, best: Option<&Schedule>) -> Result<Option<Schedule>
         modes: schedule.modes.clone_in(alloc)?,
         starts: schedule.starts.clone_in(alloc)?,
     }))
+}
+
+/// What a tenant asks for with a plan, or an error where there is no memory for it. A plan's project is one.
+fn submission(alloc: Global, plan: &Plan, quanta: u64) -> Result<Event, AllocError>
+    ensures event { IfOk result (λ event. event ≡ Event.Submit plan.now quanta) }
+    ensures planned { IsTrue (is_project plan.now.project) }
+{
+    // (each of a project's readers tells so)
+    plan.project.activities();
+    Ok(Event::Submit(plan.clone_in(alloc)?, quanta))
 }
 
 /// Why a job in this phase is not given so many quanta.
@@ -115,10 +126,9 @@ impl<J: Strategy> Farm<J> {
         requires { tenant < length self.old.config.tenants }
         ensures { IsReply self.old tenant (Event.Submit plan quanta) result self.new }
     {
-        let Ok(kept) = plan.clone_in(self.alloc) else {
+        let Ok(event) = submission(self.alloc, &plan, quanta) else {
             return self.unanswered(tenant);
         };
-        let event = Event::Submit(kept, quanta);
         if !is_amount(quanta) {
             return self.noted(tenant, event, Reply::NoAmount);
         }
@@ -129,7 +139,7 @@ impl<J: Strategy> Farm<J> {
     }
 
     /// Whether a tenant keeps fewer jobs than it may.
-    #[tactic(auto, unfolding(crate::specs::World::view))]
+    #[tactic(auto, unfolding(crate::specs::World::view, crate::specs::World::member))]
     fn may_keep_more(&self, tenant: u32) -> bool
         requires { tenant < length self.now.config.tenants }
         ensures { result ≡ nat_lt (length (view tenant self.now).jobs) (view tenant self.now).terms.jobs }
@@ -155,6 +165,7 @@ impl<J: Strategy> Farm<J> {
     fn submit_job(&mut self, tenant: u32, event: Event, plan: Plan, quanta: u64, search: J) -> Reply
         requires known { tenant < length self.old.config.tenants }
         requires event { event ≡ Event.Submit plan quanta }
+        requires planned { IsTrue (is_project plan.project) }
         requires amount { is_amount quanta ≡ true }
         requires jobs { nat_lt (length (view tenant self.old).jobs) (view tenant self.old).terms.jobs ≡ true }
         ensures { IsReply self.old tenant (Event.Submit plan quanta) result self.new }
@@ -162,7 +173,8 @@ impl<J: Strategy> Farm<J> {
         if !self.has_room(tenant, 1) {
             return Reply::NoRoom;
         }
-        let mut account = self.accounts[tenant as usize];
+        let purse = self.purse_of(tenant);
+        let mut account = self.account(tenant);
         if let Err(short) = account.book.hold(quanta) {
             return self.noted(tenant, event, Reply::NoShort(short.free));
         }
@@ -179,8 +191,9 @@ impl<J: Strategy> Farm<J> {
             return Reply::NoMemory;
         };
         write_down(
-            &mut self.accounts,
+            &mut self.ledgers,
             &mut self.journal,
+            purse,
             tenant,
             account,
             event,
@@ -244,7 +257,8 @@ impl<J: Strategy> Farm<J> {
         if !self.has_room(tenant, 1) {
             return Reply::NoRoom;
         }
-        let mut account = self.accounts[tenant as usize];
+        let purse = self.purse_of(tenant);
+        let mut account = self.account(tenant);
         let event = Event::Fund(seq, quanta);
         if let Err(short) = account.book.hold(quanta) {
             return self.noted(tenant, event, Reply::NoShort(short.free));
@@ -262,8 +276,9 @@ impl<J: Strategy> Farm<J> {
             ..line
         };
         write_down(
-            &mut self.accounts,
+            &mut self.ledgers,
             &mut self.journal,
+            purse,
             tenant,
             account,
             event,
@@ -299,13 +314,15 @@ impl<J: Strategy> Farm<J> {
         if !self.has_room(tenant, 1) {
             return Reply::NoRoom;
         }
-        let mut account = self.accounts[tenant as usize];
+        let purse = self.purse_of(tenant);
+        let mut account = self.account(tenant);
         account.book.free_up(freed);
         account.used += 1;
         self.jobs.cancel(tenant, seq);
         write_down(
-            &mut self.accounts,
+            &mut self.ledgers,
             &mut self.journal,
+            purse,
             tenant,
             account,
             Event::Cancel(seq),
@@ -339,15 +356,17 @@ impl<J: Strategy> Farm<J> {
         if !self.has_room(tenant, 1) {
             return Reply::NoRoom;
         }
+        let purse = self.purse_of(tenant);
+        let mut account = self.account(tenant);
         let Ok(()) = keep_room(&mut self.journal, self.jobs.len()) else {
             return Reply::NoMemory;
         };
-        let mut account = self.accounts[tenant as usize];
         account.used += 1;
         self.jobs.remove(tenant, seq);
         write_down(
-            &mut self.accounts,
+            &mut self.ledgers,
             &mut self.journal,
+            purse,
             tenant,
             account,
             Event::Forget(seq),

@@ -1,9 +1,11 @@
 //! What a farm is made for.
 ghost use Rattle.std.specs.Prelude.{◌≡◌, ◌↔◌, IsTrue, Some, None, if◌then◌else◌, drop, length, ◌<◌, ◌≤◌, IfOk};
 ghost use Rattle.std.specs.List.{list_all};
-ghost use Rattle.farm_core.specs.Config.{ConfigData, are_terms, has_name, are_distinct, is_config};
+ghost use Rattle.farm_core.specs.Config.{ConfigData, are_terms, has_name, are_distinct, is_config, purse_names, lines_of, granted_by};
+ghost use Rattle.farm_core.specs.Purses.{purse_of, purses};
 
 use crate::Name;
+use crate::purses::{are_purses, granted_to, purse_of, purses};
 use mrcpsp::Sequence;
 use std::alloc::{AllocError, Global};
 use std::marker::Model;
@@ -19,10 +21,12 @@ pub struct TenantLine {
     pub jobs: u64,
     /// How many entries of the journal it may use, 1 to 1,000,000.
     pub entries: u64,
+    /// The name of its purse, where it shares one: the tenants that name the same purse share their quanta.
+    pub purse: Option<Name>,
 }
 
-/// What a farm is made for: 1 to 64 tenants of different names within the limits of their lines, 1 to 16 workers, and
-/// turns of 1 to 1,000,000 nodes.
+/// What a farm is made for: 1 to 64 tenants of different names within the limits of their lines, purses of at most 10^12 quanta,
+/// 1 to 16 workers, and turns of 1 to 1,000,000 nodes.
 #[derive(Debug, Drop)]
 pub struct Config {
     tenants: Sequence<TenantLine>,
@@ -46,11 +50,16 @@ impl TenantLine {
     pub fn copy(&self) -> TenantLine
         ensures { result ≡ self.now }
     {
+        let purse = match &self.purse {
+            Some(name) => Some(name.copy()),
+            None => None,
+        };
         TenantLine {
             name: self.name.copy(),
             quanta: self.quanta,
             jobs: self.jobs,
             entries: self.entries,
+            purse,
         }
     }
 }
@@ -124,6 +133,7 @@ impl Config {
         let holds = (1..=64).contains(&lines.len())
             && are_all_terms(lines)
             && are_distinct(lines)
+            && are_purses(lines)
             && (1..=16).contains(&workers)
             && (1..=1_000_000).contains(&slice);
         if holds {
@@ -158,6 +168,30 @@ impl Config {
         ensures few { length result.now ≤ 64 }
     {
         self.tenants.as_slice()
+    }
+
+    /// How many purses there are: at least 1, and no more than tenants.
+    pub fn purses(&self) -> u32
+        ensures exact { result ≡ purses (purse_names self.now.tenants) }
+        ensures few { result ≤ 64 }
+    {
+        purses(self.tenants())
+    }
+
+    /// The number of a tenant's purse. Purses are numbered from 0 on, in the order of their first members.
+    pub fn purse_of(&self, tenant: u32) -> u32
+        requires { tenant < length self.now.tenants }
+        ensures exact { result ≡ purse_of (purse_names self.now.tenants) tenant }
+        ensures known { result < purses (purse_names self.now.tenants) }
+    {
+        purse_of(self.tenants(), tenant as usize)
+    }
+
+    /// How many quanta a purse was granted: what its members' lines grant together.
+    pub fn granted(&self, purse: u32) -> u64
+        ensures { result ≡ granted_by (lines_of self.now.tenants purse) }
+    {
+        granted_to(self.tenants(), purse)
     }
 
     /// How many workers there are.

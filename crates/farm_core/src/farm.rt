@@ -1,18 +1,27 @@
 //! The farm.
-ghost use Rattle.std.specs.Prelude.{◌≡◌, ◌<◌, ◌≤◌, ◌+◌, ◌++◌, ◌*◌, [], ◌∷◌, IsTrue, true, length, map, option_map, slice_set, IfOk, OnOk};
+ghost use Rattle.std.specs.Prelude.{◌≡◌, ◌<◌, ◌≤◌, ◌+◌, ◌++◌, ◌*◌, [], ◌∷◌, IsTrue, true, length, map, get_or, option_map, slice_set, IfOk, OnOk};
 ghost use Rattle.std.specs.Vec.{vec_len, vec_capacity};
-ghost use Rattle.std.specs.List.{list_all};
-ghost use Rattle.farm_core.specs.Tenant.{book, find_job, line_of};
+ghost use Rattle.farm_core.specs.Tenant.{book, ledger_of, find_job, line_of};
 ghost use Rattle.farm_core.specs.Step.{has_room};
-ghost use Rattle.farm_core.specs.World.{World, view, account_of, opened, IsReplayed, IsOnlyNoted};
-ghost use Rattle.farm_core.specs.Farm.{IsReached, IsReply};
-ghost use Rattle.farm_core.specs.Config.{are_terms};
+ghost use Rattle.farm_core.specs.World.{World, purse, view, account_of, new_numbers, opened, opened_books, purse_in, purses_in, IsReplayed, IsOnlyNoted};
+ghost use Rattle.farm_core.specs.Config.{is_config};
+ghost use Rattle.farm_core.specs.Farm.{IsAccount, IsReached, IsReply, purse_numbers};
+ghost use Rattle.farm_core.specs.Truth.{IsPlanned};
 
-use crate::{Account, Config, Entry, Event, Line, Reply, TenantLine};
+use crate::purses::granted_to;
+use crate::{Account, Config, Entry, Event, Line, Numbers, Reply};
 use job_table::{Job, JobTable};
 use std::alloc::{AllocError, Global};
 use std::marker::Model;
 use tenant_book::Book;
+
+/// The ledgers of all purses, and for each tenant which purse is its own, the number of its next job, and how many entries it has used.
+#[derive(Drop)]
+pub(crate) struct Ledgers {
+    pub(crate) purses: Vec<u32>,
+    pub(crate) books: Vec<Book>,
+    pub(crate) numbers: Vec<Numbers>,
+}
 
 /// All tenants' jobs, their journal and their ledgers. Contracts see a world.
 #[derive(Drop)]
@@ -21,35 +30,56 @@ pub struct Farm<J> {
     pub(crate) config: Config,
     pub(crate) jobs: JobTable<J>,
     pub(crate) journal: Vec<Entry>,
-    pub(crate) accounts: Vec<Account>,
+    pub(crate) ledgers: Ledgers,
 }
 
 impl<J> Model for Farm<J> {
     ghost use Rattle.std.specs.Vec.{vec_capacity};
     ghost use Rattle.farm_core.specs.World.{World};
-    ghost use Rattle.farm_core.specs.Farm.{IsFarm};
+    ghost use Rattle.std.specs.Prelude.{◌≡◌};
+    ghost use Rattle.farm_core.specs.Farm.{IsFarm, purse_numbers};
 
     ghost Value = { World };
 
-    ghost view = { λ f. record { config = f.config; rows = f.jobs; journal = f.journal.items; accounts = f.accounts.items } };
+    ghost view = { λ f. record { config = f.config; rows = f.jobs; journal = f.journal.items; books = f.ledgers.books.items; numbers = f.ledgers.numbers.items } };
 
-    ghost invariant = { λ f. IsFarm (record { config = f.config; rows = f.jobs; journal = f.journal.items; accounts = f.accounts.items }) (vec_capacity f.journal) };
+    ghost invariant = { λ f.
+        IsFarm (record { config = f.config; rows = f.jobs; journal = f.journal.items; books = f.ledgers.books.items; numbers = f.ledgers.numbers.items }) (vec_capacity f.journal)
+        × (f.ledgers.purses.items ≡ purse_numbers f.config) };
 }
 
-/// The account of each tenant that has done nothing yet.
-fn open_accounts(alloc: Global, lines: &[TenantLine]) -> Result<Vec<Account>, AllocError>
-    requires { IsTrue (list_all are_terms lines.now) }
-    ensures { IfOk result (λ accounts. accounts.items ≡ map account_of lines.now) }
+/// The number of each tenant's purse. A configuration keeps its limits.
+fn number_purses(alloc: Global, config: &Config) -> Result<Vec<u32>, AllocError>
+    ensures exact { IfOk result (λ numbers. numbers.items ≡ purse_numbers config.now) }
+    ensures config { IsTrue (is_config config.now) }
 {
-    let mut accounts = Vec::new(alloc);
-    for line in lines {
-        accounts.push(Account {
-            book: Book::new(line.quanta),
-            next: 1,
-            used: 0,
-        })?;
+    let mut purses = Vec::new(alloc);
+    for tenant in 0..config.tenants().len() {
+        purses.push(config.purse_of(tenant as u32))?;
     }
-    Ok(accounts)
+    Ok(purses)
+}
+
+/// The ledger of each purse that has spent nothing yet.
+fn open_books(alloc: Global, config: &Config) -> Result<Vec<Book>, AllocError>
+    ensures { IfOk result (λ books. books.items ≡ opened_books config.now) }
+{
+    let mut books = Vec::new(alloc);
+    for purse in 0..config.purses() {
+        books.push(Book::new(granted_to(config.tenants(), purse)))?;
+    }
+    Ok(books)
+}
+
+/// The numbers of each tenant that has done nothing yet.
+fn open_numbers(alloc: Global, config: &Config) -> Result<Vec<Numbers>, AllocError>
+    ensures { IfOk result (λ numbers. numbers.items ≡ map (λ line. new_numbers) config.now.tenants) }
+{
+    let mut numbers = Vec::new(alloc);
+    for _ in config.tenants() {
+        numbers.push(Numbers { next: 1, used: 0 })?;
+    }
+    Ok(numbers)
 }
 
 /// Keeps room in the journal for one entry more, and for all that may come of so many jobs and one more without asking
@@ -70,19 +100,27 @@ pub(crate) fn keep_room(journal: &mut Vec<Entry>, jobs: usize) -> Result<(), All
 
 /// Writes an entry down, and what its tenant's account tells then.
 pub(crate) fn write_down(
-    accounts: &mut Vec<Account>,
+    ledgers: &mut Ledgers,
     journal: &mut Vec<Entry>,
+    purse: u32,
     tenant: u32,
     account: Account,
     event: Event,
 )
-    requires known { tenant < length accounts.old.items }
+    requires known { tenant < length ledgers.old.numbers.items }
+    requires purse { purse < length ledgers.old.books.items }
     requires room { vec_len journal.old < vec_capacity journal.old }
-    ensures accounts { accounts.new.items ≡ slice_set accounts.old.items tenant account }
+    ensures purses { ledgers.new.purses.items ≡ ledgers.old.purses.items }
+    ensures books { ledgers.new.books.items ≡ slice_set ledgers.old.books.items purse account.book }
+    ensures numbers { ledgers.new.numbers.items ≡ slice_set ledgers.old.numbers.items tenant (record { next = account.next; used = account.used }) }
     ensures journal { journal.new.items ≡ journal.old.items ++ record { tenant = tenant; event = event } ∷ [] }
     ensures capacity { vec_capacity journal.new ≡ vec_capacity journal.old }
 {
-    accounts[tenant as usize] = account;
+    ledgers.books[purse as usize] = account.book;
+    ledgers.numbers[tenant as usize] = Numbers {
+        next: account.next,
+        used: account.used,
+    };
     journal.push_reserved(Entry { tenant, event });
 }
 
@@ -106,13 +144,17 @@ impl<J> Farm<J> {
     pub fn new(alloc: Global, config: &Config) -> Result<Farm<J>, AllocError>
         ensures { IfOk result (λ farm. farm ≡ opened config.now) }
     {
-        let accounts = open_accounts(alloc, config.tenants())?;
+        let ledgers = Ledgers {
+            purses: number_purses(alloc, config)?,
+            books: open_books(alloc, config)?,
+            numbers: open_numbers(alloc, config)?,
+        };
         Ok(Farm {
             alloc,
             config: config.clone_in(alloc)?,
             jobs: JobTable::new(alloc),
             journal: Vec::new(alloc),
-            accounts,
+            ledgers,
         })
     }
 
@@ -124,6 +166,37 @@ impl<J> Farm<J> {
         self.config.tenants().len() as u32
     }
 
+    /// How many purses there are. Leaves no entry.
+    pub fn purses(&self) -> u32
+        ensures exact { result ≡ purses_in self.now.config }
+        ensures few { result ≤ 64 }
+    {
+        self.ledgers.books.len() as u32
+    }
+
+    /// The number of a tenant's purse. Leaves no entry.
+    pub fn purse_of(&self, tenant: u32) -> u32
+        requires { tenant < length self.now.config.tenants }
+        ensures exact { result ≡ purse_in self.now.config tenant }
+        ensures known { result < purses_in self.now.config }
+    {
+        self.ledgers.purses[tenant as usize]
+    }
+
+    /// What is kept of a tenant beside its jobs.
+    pub(crate) fn account(&self, tenant: u32) -> Account
+        requires { tenant < length self.now.config.tenants }
+        ensures exact { result ≡ account_of self.now tenant }
+        ensures told { IsAccount (view tenant self.now) result }
+    {
+        let numbers = self.ledgers.numbers[tenant as usize];
+        Account {
+            book: self.ledgers.books[self.purse_of(tenant) as usize],
+            next: numbers.next,
+            used: numbers.used,
+        }
+    }
+
     /// The entries of all tenants, in the order in which they came. The farm is where they lead, and a run leads to it.
     pub fn journal(&self) -> &[Entry]
         ensures exact { result.now ≡ self.now.journal }
@@ -133,17 +206,24 @@ impl<J> Farm<J> {
         self.journal.as_slice()
     }
 
-    /// A tenant's ledger. Leaves no entry.
+    /// The ledger of a tenant's purse. Leaves no entry.
     pub fn book(&self, tenant: u32) -> Book
         requires { tenant < length self.now.config.tenants }
         ensures { result ≡ book (view tenant self.now) }
     {
-        let account = self.accounts[tenant as usize];
-        account.book
+        self.account(tenant).book
+    }
+
+    /// The ledger of a purse. Leaves no entry.
+    pub fn purse_book(&self, number: u32) -> Book
+        requires { number < purses_in self.now.config }
+        ensures { result ≡ ledger_of (purse number self.now) }
+    {
+        self.ledgers.books[number as usize]
     }
 
     /// What is told of a tenant's job of that number. Leaves no entry.
-    #[tactic(auto, using(crate::proofs::ViewLemmas::found_own), unfolding(crate::specs::World::view))]
+    #[tactic(auto, using(crate::proofs::ViewLemmas::found_own), unfolding(crate::specs::World::view, crate::specs::World::member))]
     pub fn snapshot(&self, tenant: u32, seq: u64) -> Option<Line>
         requires { tenant < length self.now.config.tenants }
         ensures { result ≡ option_map line_of (find_job seq (view tenant self.now).jobs) }
@@ -160,10 +240,10 @@ impl<J> Farm<J> {
         requires few { entries ≤ 2 }
         ensures exact { result ≡ has_room entries (view tenant self.now) }
         ensures few { (view tenant self.now).used ≤ 1000000 }
-        ensures limited { (view tenant self.now).terms.quanta ≤ 1000000000000 }
+        ensures limited { (view tenant self.now).granted ≤ 1000000000000 }
     {
         let limit = self.config.tenants()[tenant as usize].entries;
-        let used = self.accounts[tenant as usize].used;
+        let used = self.account(tenant).used;
         used + self.jobs.out_of(tenant) as u64 + entries <= limit
     }
 
@@ -171,19 +251,22 @@ impl<J> Farm<J> {
     pub(crate) fn noted(&mut self, tenant: u32, event: Event, reply: Reply) -> Reply
         requires known { tenant < length self.old.config.tenants }
         requires step { IsOnlyNoted (view tenant self.old) event reply }
+        requires planned { IsPlanned event }
         ensures { IsReply self.old tenant event result self.new }
     {
         if !self.has_room(tenant, 1) {
             return Reply::NoRoom;
         }
+        let purse = self.purse_of(tenant);
+        let mut account = self.account(tenant);
         let Ok(()) = keep_room(&mut self.journal, self.jobs.len()) else {
             return Reply::NoMemory;
         };
-        let mut account = self.accounts[tenant as usize];
         account.used += 1;
         write_down(
-            &mut self.accounts,
+            &mut self.ledgers,
             &mut self.journal,
+            purse,
             tenant,
             account,
             event,

@@ -1,20 +1,36 @@
 //! Laws of the farm: each is the proved contract of a function that does nothing.
-ghost use Rattle.farm_core.specs.Laws.{EachIsAlone, EachIsIsolated};
+ghost use Rattle.farm_core.specs.Laws.{PursesAreShared, EachPurseIsAlone, EachPurseIsIsolated, EachViewIsASeat, EachLoneTenantIsAlone};
 ghost use Rattle.farm_core.specs.Runs.{EachCallCanBeMade, EachSequenceIsARun, JournalsAreTheCalls};
 ghost use Rattle.farm_core.specs.Truth.{EachAnswerIsTrue};
 ghost use Rattle.farm_core.specs.Need.{NodesAreTheLesser, EachEndsAlike};
 ghost use Rattle.farm_core.specs.Held.{TakenTurnsAreHeld, TurnsStayHeld, HeldTurnsAreNoStrangers, HeldTurnsRunTheirNodes, FarmsAreReplayed, TakenJobsWereNotOut, OnlyTakenJobsAreOut, GivenJobsAreNotOut};
 
-/// In every run of calls of all tenants, the answers to one tenant's calls, and its jobs and ledger at the end, are those
-/// of its own calls alone in a farm that no one else uses.
-pub fn each_tenant_is_alone()
-    ensures { EachIsAlone }
+/// Tenants are of one purse where they name the same one, and never else.
+pub fn purses_are_shared()
+    ensures { PursesAreShared }
 {}
 
-/// Two runs that agree in one tenant's terms and own calls give it equal answers and an equal ledger, whatever the other
-/// tenants do.
-pub fn each_tenant_is_isolated()
-    ensures { EachIsIsolated }
+/// In every run of calls of all tenants, the answers to the calls of one purse's members, and the purse's jobs and ledger at the end, are
+/// those of its members' own calls alone in a farm that no one else uses.
+pub fn each_purse_is_alone()
+    ensures { EachPurseIsAlone }
+{}
+
+/// Two runs in which a purse begins alike and its members ask for the same give them equal answers and an equal ledger, whatever the
+/// other tenants do.
+pub fn each_purse_is_isolated()
+    ensures { EachPurseIsIsolated }
+{}
+
+/// What a tenant of a farm sees is what there is at its place of its purse.
+pub fn each_view_is_a_seat()
+    ensures { EachViewIsASeat }
+{}
+
+/// In every run the answers to a tenant that shares its purse with no other, and its jobs and ledger at the end, are those of its own
+/// calls alone.
+pub fn each_lone_tenant_is_alone()
+    ensures { EachLoneTenantIsAlone }
 {}
 
 /// In every run of calls, each answer about a job is true of the plan that its tenant has submitted under that number:
@@ -30,9 +46,9 @@ pub fn nodes_are_the_lesser()
     ensures { NodesAreTheLesser }
 {}
 
-/// Two runs in which a tenant has the same terms and was granted the same submits and funds, and nothing else but its
-/// status, results and ledger, and at whose end its jobs are all dry or closed, end with the same lines and the same ledger
-/// for it: whatever turns, slices and refusals came between, and whoever else used the farms.
+/// Two runs in which a purse begins alike and each of its members was granted the same submits and funds, and nothing else but
+/// status, results and ledger, and at whose end their jobs are all dry or closed, end with the same lines for each member and the
+/// same ledger: whatever turns, slices and refusals came between, and whoever else used the farms.
 pub fn each_ends_alike()
     ensures { EachEndsAlike }
 {}

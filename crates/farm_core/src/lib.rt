@@ -1,13 +1,15 @@
-//! The farm: one table of jobs and one journal for all tenants, and yet each tenant's replies are those of a farm of its own.
+//! The farm: one table of jobs and one journal for all tenants, and yet each purse's replies are those of a farm of its own.
 //!
-//! Each call of a [`Farm`] answers what the step of its own tenant answers (`specs/Step`), changes that tenant's part as the
-//! step does, and leaves every other tenant's part as it was. Over these steps the laws say what a user is promised: each tenant
-//! is alone, two runs that agree in a tenant's calls agree in its replies, and each answer about a job is true of its plan.
+//! Tenants that name the same purse share its quanta; any other tenant has a purse for itself. Each call of a [`Farm`] answers what
+//! the step of its tenant at its purse answers (`specs/Step`), changes that tenant's part as the step does, and leaves what is another
+//! tenant's own and every other purse as it was. Over these steps the laws say what a user is promised: each purse
+//! is alone, two runs that agree in the calls of a purse's members agree in its replies, and each answer about a job is true of its plan.
 //! A [`Turn`] is a job's search in a worker's hands; it comes back by `give`, or is handed back as a [`Stranger`].
 //!
 //! - `name`, `config`: names of tenants, and what a farm is made for, with its limits.
 //! - `entry`: what the journal keeps.
 //! - `reply`: what the farm answers.
+//! - `purses`: who shares a purse, and how purses are numbered.
 //! - `account`: what is kept of each tenant beside its jobs.
 //! - `farm`: `Farm`: its making, its readers, and a call that changes nothing but the journal.
 //! - `commands`: submit, fund, status, result, cancel, forget, ledger.
@@ -22,10 +24,11 @@ mod entry;
 mod farm;
 pub mod laws;
 mod name;
+mod purses;
 mod reply;
 mod turn;
 
-pub use account::Account;
+pub use account::{Account, Numbers};
 pub use config::{Config, TenantLine};
 pub use entry::{Entry, Event};
 pub use farm::Farm;

@@ -1,8 +1,7 @@
 //! The names of tenants.
 ghost use Rattle.std.specs.Prelude.{◌≡◌, ◌↔◌, Some, None, IsTrue, if◌then◌else◌, length};
 ghost use Rattle.std.specs.List.{list_all};
-ghost use Rattle.farm_core.specs.Name.{is_mark, is_letter, is_name, begins_well};
-ghost use Rattle.farm_core.specs.Config.{same_bytes};
+ghost use Rattle.farm_core.specs.Name.{is_mark, is_letter, is_name, begins_well, same_bytes};
 
 use std::marker::Model;
 

@@ -121,17 +121,19 @@ impl<J: Strategy> Farm<J> {
         if !self.may_take(tenant, line, slice) {
             return Err(NoTurn::None);
         }
+        let purse = self.purse_of(tenant);
+        let mut account = self.account(tenant);
         let Ok(()) = keep_room(&mut self.journal, self.jobs.len()) else {
             return Err(NoTurn::NoMemory);
         };
-        let mut account = self.accounts[tenant as usize];
         account.used += 1;
         let Some(search) = self.jobs.send(tenant, seq, slice) else {
             return Err(NoTurn::NoMemory);
         };
         write_down(
-            &mut self.accounts,
+            &mut self.ledgers,
             &mut self.journal,
+            purse,
             tenant,
             account,
             Event::Take(seq, slice),
@@ -158,6 +160,8 @@ impl<J: Strategy> Farm<J> {
         let Some(before) = self.snapshot(turn.tenant, turn.seq) else {
             return Err(Stranger(turn));
         };
+        let purse = self.purse_of(turn.tenant);
+        let mut account = self.account(turn.tenant);
         let Turn {
             tenant,
             seq,
@@ -175,13 +179,13 @@ impl<J: Strategy> Farm<J> {
             }));
         }
         let line = told_of(&self.jobs, tenant, seq, before);
-        let mut account = self.accounts[tenant as usize];
         account.used += 1;
         account.book.spend(ran);
         account.book.free_up(before.left - ran - line.left);
         write_down(
-            &mut self.accounts,
+            &mut self.ledgers,
             &mut self.journal,
+            purse,
             tenant,
             account,
             Event::Give(seq, ran),

@@ -1,15 +1,15 @@
 -- Legal histories, and the replies in them.
-use Rattle.std.proofs.Common.{◌≡◌, ◌≢◌, ℕ, Bool, true, false, cond, List, [], ◌∷◌, ◌++◌, Option, Some, None, refl, sym, ap, ◌∙◌, subst, arith, append_assoc, append-nil}
-use Rattle.std.proofs.lemmas.Bool.Decides.{nat_tests}
-use Rattle.farm_core.specs.declared.config.TenantLine.{TenantLine}
+use Rattle.std.proofs.Common.{◌≡◌, ◌≢◌, ℕ, Bool, true, false, cond, List, [], ◌∷◌, ◌++◌, Option, Some, None, refl, sym, ap, ◌∙◌, subst, arith, append_assoc, append-nil, eqb}
 use Rattle.farm_core.specs.declared.entry.Entry.{Entry}
 use Rattle.farm_core.specs.declared.entry.Event.{Event}
 use Rattle.farm_core.specs.declared.reply.Reply.{Reply}
 use Rattle.farm_core.specs.declared.reply.Reply.TheVariants as reply
 use Rattle.farm_core.specs.Config.{ConfigData}
-use Rattle.farm_core.specs.Tenant.{Tenant, newcomer}
+use Rattle.farm_core.specs.Tenant.{Purse, seat, with_seat}
 use Rattle.farm_core.specs.Step.{Answer, Replied, step}
-use Rattle.farm_core.specs.World.{opened, terms_in, events_of, is_noted, answers_alone, after_alone}
+use Rattle.farm_core.specs.World.{Asked, opened, purse_in, place_in, opened_purse, events_of, is_noted, answers_alone, after_alone}
+use Rattle.farm_core.proofs.SharingLemmas.{is_eq}
+use Rattle.farm_core.proofs.ReplayLemmas.{asked_in, snoc_hit}
 use Rattle.turn_lock.specs.History as history
 use Rattle.turn_lock.specs.History.{listed, tagged, LegalFrom}
 use Rattle.turn_lock.specs.Plays.{Called}
@@ -28,7 +28,7 @@ run_on config before (e ∷ es) run legal =
 
 no_entries : (config : ConfigData) → AreOfRun config []
 unfolding opened
-no_entries config = record { calls = []; world = opened config; run = refl; journal = refl }
+no_entries config = record { calls = []; world = opened config; run = refl; planned = λ c among. absurd (cc); journal = refl }
 
 pub legal_histories_are_runs : LegalHistoriesAreRuns
 legal_histories_are_runs config log legal = run_on config [] (history.events_of log) (no_entries config) legal
@@ -52,18 +52,19 @@ steps_to config before t event entry (reply.NoShort free) memory is = is
 steps_to config before t event entry reply.NoMemory memory is = absurd (memory refl)
 
 -- the last answer is the step's after all the others
-last_alone : (t : Tenant) (events : List Event) (e : Event) → answers_alone t (events ++ e ∷ []) ≡ answers_alone t events ++ (step (after_alone t events) e).answer ∷ []
-last_alone t [] e = refl
-last_alone t (d ∷ events) e = ap (λ answers. (step t d).answer ∷ answers) (last_alone (step t d).after events e)
+last_alone : (p : Purse) (asked : List Asked) (a : Asked) → answers_alone p (asked ++ a ∷ []) ≡ answers_alone p asked ++ (step (seat (after_alone p asked) a.place) a.event).answer ∷ []
+last_alone p [] a = refl
+last_alone p (d ∷ asked) a =
+    let after : Purse = with_seat p d.place (step (seat p d.place) d.event).after in
+    ap (λ answers. (step (seat p d.place) d.event).answer ∷ answers) (last_alone after asked a)
 
-own_more : (t : ℕ) (event : Event) (journal : List Entry) → events_of t (journal ++ record { tenant = t; event = event } ∷ []) ≡ events_of t journal ++ event ∷ []
-own_more t event [] = grind (arith, nat_tests)
-own_more t event (entry ∷ journal) = grind (arith, nat_tests, own_more t event journal)
-
-own_after : (t : ℕ) (event : Event) (journal : List Entry) (noted : Bool)
-    → events_of t (journal ++ listed (cond {A = Option Entry} noted (Some (record { tenant = t; event = event })) None)) ≡ events_of t journal ++ cond noted (event ∷ []) []
-own_after t event journal true = own_more t event journal
-own_after t event journal false = ap (events_of t) (append-nil journal) ∙ sym (append-nil (events_of t journal))
+own_after : (config : ConfigData) (t : ℕ) (event : Event) (journal : List Entry) (noted : Bool)
+    → let p = purse_in config t in
+    let asked : Asked = record { place = place_in config t; event = event } in
+    events_of config p (journal ++ listed (cond {A = Option Entry} noted (Some (record { tenant = t; event = event })) None)) ≡ events_of config p journal ++ cond noted (asked ∷ []) []
+own_after config t event journal true =
+    snoc_hit (λ (e : Entry). eqb (purse_in config e.tenant) (purse_in config t)) (asked_in config) journal (record { tenant = t; event = event }) (is_eq (purse_in config t) (purse_in config t) refl)
+own_after config t event journal false = ap (events_of config (purse_in config t)) (append-nil journal) ∙ sym (append-nil (events_of config (purse_in config t) journal))
 
 -- what a call leaves in what is seen then
 seen_after : (v w : PoolView) (t : ℕ) (event : Event) (r : Reply) (called : Called Served v (said.Asked t event) (told.Replied r) w)
@@ -74,22 +75,29 @@ seen_after v w t event r called =
 
 pub each_reply_is_alone : EachReplyIsAlone
 each_reply_is_alone v w t event r called memory =
+    let config : ConfigData = called.opening in
     let before : List Entry = history.events_of called.before in
-    let it = steps_to called.opening before t event called.event r memory called.stands.answers in
-    let terms : Tenant = newcomer (terms_in called.opening t) in
+    let it = steps_to config before t event called.event r memory called.stands.answers in
+    let p = purse_in config t in
+    let first : Purse = opened_purse config p in
+    let asked : Asked = record { place = place_in config t; event = event } in
     record {
-      last = last_alone terms (events_of t before) event ∙ ap (λ (a : Answer). answers_alone terms (events_of t before) ++ a ∷ []) (sym it.answer_is);
+      last = last_alone first (events_of config p before) asked ∙ ap (λ (a : Answer). answers_alone first (events_of config p before) ++ a ∷ []) (sym it.answer_is);
       own =
-          ap (events_of t) (seen_after v w t event r called) ∙ ap (λ (e : Option Entry). events_of t (before ++ listed e)) it.entry_is
-          ∙ own_after t event before (is_noted (Replied r));
+          ap (events_of config p) (seen_after v w t event r called) ∙ ap (λ (e : Option Entry). events_of config p (before ++ listed e)) it.entry_is
+          ∙ own_after config t event before (is_noted (Replied r));
     }
 
 replied_same : (r s : Reply) → Replied r ≡ Replied s → r ≡ s
 replied_same r s same = cc same
 
 pub each_reply_is_isolated : EachReplyIsIsolated
-each_reply_is_isolated v w x y t u event r s one two memory other terms own =
+each_reply_is_isolated v w x y t u event r s one two memory other begins places own =
     let a = steps_to one.opening (history.events_of one.before) t event one.event r memory one.stands.answers in
     let b = steps_to two.opening (history.events_of two.before) u event two.event s other two.stands.answers in
-    replied_same r s (a.answer_is ∙ ap (λ (line : TenantLine). (step (after_alone (newcomer line) (own_in t one.before)) event).answer) terms
-    ∙ ap (λ (events : List Event). (step (after_alone (newcomer (terms_in two.opening u)) events) event).answer) own ∙ sym b.answer_is)
+    let mine : List Asked = own_in one.opening (purse_in one.opening t) one.before in
+    let first : Purse = opened_purse two.opening (purse_in two.opening u) in
+    replied_same r s (a.answer_is
+    ∙ ap (λ (p : Purse). (step (seat (after_alone p mine) (place_in one.opening t)) event).answer) begins
+    ∙ ap (λ n. (step (seat (after_alone first mine) n) event).answer) places
+    ∙ ap (λ (asked : List Asked). (step (seat (after_alone first asked) (place_in two.opening u)) event).answer) own ∙ sym b.answer_is)

@@ -10,9 +10,10 @@ use Rattle.farm_core.specs.declared.entry.Event.TheVariants.{Take, Give}
 use Rattle.farm_core.specs.declared.reply.Reply.{Reply}
 use Rattle.farm_core.specs.declared.reply.Reply.TheVariants as reply
 use Rattle.farm_core.specs.Config.{ConfigData}
-use Rattle.farm_core.specs.Tenant.{Tenant, newcomer, find_job, line_of}
+use Rattle.farm_core.specs.Tenant.{Tenant, seat, find_job, line_of}
 use Rattle.farm_core.specs.Step.{Answer, Replied, Sent, step, has_room, is_slice}
-use Rattle.farm_core.specs.World.{terms_in, events_of, after_alone, is_noted, World, Call, Run}
+use Rattle.farm_core.specs.World.{World, Call, Run, purse_in, place_in, opened_purse, events_of, after_alone, is_noted}
+use Rattle.farm_core.specs.Truth.{ArePlanned}
 use Rattle.turn_lock.specs.History.{listed}
 use Rattle.farm_pool.specs.declared.image.TurnImage.{TurnImage}
 use Rattle.farm_pool.specs.declared.image.CallImage.{CallImage}
@@ -20,9 +21,9 @@ use Rattle.farm_pool.specs.declared.image.CallImage.TheVariants as said
 use Rattle.farm_pool.specs.declared.image.AnswerImage.{AnswerImage}
 use Rattle.farm_pool.specs.declared.image.AnswerImage.TheVariants as told
 
--- where a tenant stands after these entries
+-- where a tenant stands at its purse after these entries
 abbrev pub tenant_at : ConfigData → List Entry → ℕ → Tenant
-tenant_at config before t = after_alone (newcomer (terms_in config t)) (events_of t before)
+tenant_at config before t = seat (after_alone (opened_purse config (purse_in config t)) (events_of config (purse_in config t) before)) (place_in config t)
 
 -- the entry of a call, where it leaves one
 abbrev pub entry_if : ℕ → Event → Answer → Option Entry
@@ -60,7 +61,7 @@ pub record IsSentOut (config : ConfigData) (before : List Entry) (slice : ℕ) (
 pub record IsIdleAt (config : ConfigData) (before : List Entry) (slice : ℕ) (entry : Option Entry) : Type 0 where
   pub entry_is : entry ≡ None
   pub none : (is_slice slice ≡ false)
-      ⊎ ((t s : ℕ) (job : JobData) → find_job s (tenant_at config before t).jobs ≡ Some job → is_waiting job.phase ≡ true → has_room 2 (tenant_at config before t) ≡ false)
+      ⊎ ((t s : ℕ) (job : JobData) → t < length config.tenants → find_job s (tenant_at config before t).jobs ≡ Some job → is_waiting job.phase ≡ true → has_room 2 (tenant_at config before t) ≡ false)
 
 -- a turn came back to the job whose it is there
 pub record IsTakenBack (config : ConfigData) (before : List Entry) (i : TurnImage) (entry : Option Entry) (answer : Reply) : Type 0 where
@@ -74,11 +75,12 @@ pub record IsStray (config : ConfigData) (before : List Entry) (i : TurnImage) (
   pub entry_is : entry ≡ None
   pub none : (job : JobData) → find_job i.seq (tenant_at config before i.tenant).jobs ≡ Some job → IsOwn i.tenant i.slice i.ran (meaning_in i) job → ⊥
 
--- these are the entries of a run of the farm
+-- these are the entries of a run of the farm, in which what was submitted were projects
 pub record AreOfRun (config : ConfigData) (entries : List Entry) : Type 0 where
   pub calls : List Call
   pub world : World
   pub run : Run config calls world
+  pub planned : ArePlanned calls
   pub journal : world.journal ≡ entries
 
 -- what a call is answered after these entries, and the entry that it leaves

@@ -7,14 +7,14 @@ pub fn legal_histories_are_runs()
     ensures { LegalHistoriesAreRuns }
 {}
 
-/// In a running pool each tenant's replies are those of its own calls alone, over its entries of the history: whatever other
-/// tenants ask, and whichever workers take turns, at whatever time. A reply that there is no memory is not among them.
+/// In a running pool the replies to the members of each purse are those of their own calls alone, over their entries of the history:
+/// whatever other tenants ask, and whichever workers take turns, at whatever time. A reply that there is no memory is not among them.
 pub fn each_reply_is_alone()
     ensures { EachReplyIsAlone }
 {}
 
-/// Two pools in which a tenant has the same terms give it the same reply to the same call, after the same calls of its own and the same
-/// turns of its jobs, whatever the other tenants do.
+/// Two pools in which a purse begins alike give the member at a place of it the same reply to the same call, after the same calls of the
+/// purse's members and the same turns of their jobs, whatever the other tenants do.
 pub fn each_reply_is_isolated()
     ensures { EachReplyIsIsolated }
 {}

@@ -9,8 +9,8 @@ use Rattle.psplib_mm.specs.Reading.{reading}
 use Rattle.psplib_mm.specs.Text.{words_of, is_same}
 use Rattle.psplib_mm.specs.declared.fault.MmFault.{MmFault}
 use Rattle.strategy.specs.declared.kind.Kind.{Kind}
-use Rattle.farm_core.specs.Config.{ConfigData, same_bytes}
-use Rattle.farm_core.specs.Name.{is_letter, is_mark, begins_well, is_name}
+use Rattle.farm_core.specs.Config.{ConfigData}
+use Rattle.farm_core.specs.Name.{is_letter, is_mark, begins_well, is_name, same_bytes}
 use Rattle.session_lines.specs.declared.line.Head.{Head}
 use Rattle.session_lines.specs.declared.line.Meaning.{Meaning}
 use Rattle.session_lines.specs.declared.line.Meaning.TheVariants.{Blank, Whole, Opens, Long, Bad}

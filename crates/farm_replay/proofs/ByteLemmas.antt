@@ -1,8 +1,8 @@
 -- The lines of an output's bytes are its reply lines, since no reply has a line feed, and so one tenant's bytes are those of its own requests.
-use Rattle.std.proofs.Common.{◌≡◌, ℕ, zero, suc, ◌==◌, ◌&&◌, ◌/◌, ◌%◌, ◌+◌, Bool, true, false, not, cond, filter, List, [], ◌∷◌, ◌++◌, map, Option, Some, None, refl, sym, ap, ◌∙◌, subst, arith, append_assoc}
+use Rattle.std.proofs.Common.{◌≡◌, ℕ, zero, suc, ◌==◌, ◌&&◌, ◌/◌, ◌%◌, ◌+◌, Bool, true, false, not, cond, filter, List, [], ◌∷◌, ◌++◌, map, Option, Some, None, refl, sym, ap, ◌∙◌, subst, arith, append_assoc, ◌||◌}
 use Rattle.std.specs.Prelude.{if◌then◌else◌, codes, decimal}
 use Rattle.std.specs.Fmt.{digits, digits_onto, digit_glyph}
-use Rattle.std.specs.List.{list_all, flat_map}
+use Rattle.std.specs.List.{list_all, list_any, flat_map}
 use Rattle.std.proofs.lemmas.Bool.{and_parts}
 use Rattle.std.proofs.lemmas.Bool.Decides.{nat_tests}
 use Rattle.std.proofs.lemmas.List.Folds.{list_all-append}
@@ -30,9 +30,9 @@ use Rattle.session_lines.specs.ReplyText.{phase_text, verdict_text, best_text, l
 use Rattle.session_lines.specs.Script.{lines_of, onto, requests_of}
 use Rattle.farm_replay.specs.Output.{Parts, Saying, Marked, next, items_of, opening, lines_for, line_text, output_of}
 use Rattle.farm_replay.proofs.BeginLemmas.{IsNamed, AreNamed, name_parts, next_named, script_named, line_begins}
-use Rattle.farm_replay.specs.Isolation.{whose, is_of, own_lines, own_requests}
+use Rattle.farm_replay.specs.Isolation.{whose, is_of, is_members, own_lines, own_requests}
 use Rattle.farm_replay.specs.Begins.{begins_with}
-use Rattle.farm_replay.specs.Bytes.{LinesAreReplies, lines_beginning, EachOutputIsAlone, OutputsAreIsolated}
+use Rattle.farm_replay.specs.Bytes.{LinesAreReplies, AreNamesOf, begins_with_any, lines_beginning, EachOutputIsAlone, OutputsAreIsolated}
 use Rattle.farm_replay.proofs.IsolationLemmas.{each_replays_alone, replays_are_isolated}
 
 -- no byte is a line feed
@@ -192,48 +192,65 @@ all_lines config parts (m ∷ ms) h =
 pub lines_are_replies : LinesAreReplies
 lines_are_replies config script requests is = all_lines config (opening config) requests (subst AreNamed (sym is) (script_named script))
 
--- ---- one tenant's lines among the bytes
+-- ---- one purse's lines among the bytes
 
-own_among : (name : List ℕ) → is_name name ≡ true → (config : ConfigData) (parts : Parts) (ms : List Marked) → AreNamed (items_of ms)
-    → filter (begins_with (who_text (Some name))) (map line_text (lines_for config parts ms)) ≡ map line_text (own_lines name (lines_for config parts ms))
-own_among name ok config parts [] h = refl
-own_among name ok config parts (m ∷ ms) h =
+-- one of these names is whose the line is
+told_by_names : (names : List (List ℕ)) → list_all is_name names ≡ true → (who : Option (List ℕ)) (words : Said) → IsNamed who
+    → begins_with_any names (line_text (record { who = who; said = words })) ≡ list_any (λ name. is_of name who) names
+told_by_names [] ok who words h = refl
+told_by_names (name ∷ names) ok who words h =
+    let parts = and_parts (is_name name) (list_all is_name names) ok in
+    ap (λ b. b || begins_with_any names (line_text (record { who = who; said = words }))) (line_begins name parts.0 who words h)
+    ∙ ap (λ b. is_of name who || b) (told_by_names names parts.1 who words h)
+
+none_told : (names : List (List ℕ)) → list_any (λ name. is_of name None) names ≡ false
+none_told [] = refl
+none_told (name ∷ names) = none_told names
+
+members_told : (config : ConfigData) (p : ℕ) (names : List (List ℕ)) → AreNamesOf config p names → (who : Option (List ℕ)) → list_any (λ name. is_of name who) names ≡ is_members config p who
+members_told config p names are None = none_told names
+members_told config p names are (Some who) = are.exact who
+
+own_among : (config : ConfigData) (p : ℕ) (names : List (List ℕ)) → AreNamesOf config p names → (parts : Parts) (ms : List Marked) → AreNamed (items_of ms)
+    → filter (begins_with_any names) (map line_text (lines_for config parts ms)) ≡ map line_text (own_lines config p (lines_for config parts ms))
+own_among config p names are parts [] h = refl
+own_among config p names are parts (m ∷ ms) h =
     let line : Saying = (next config parts m).line in
     let rest : List Saying = lines_for config (next config parts m).parts ms in
-    let tells : begins_with (who_text (Some name)) (line_text line) ≡ is_of name line.who = line_begins name ok line.who line.said (next_named config parts m h.0) in
-    let more = own_among name ok config (next config parts m).parts ms h.1 in
-    let others : List (List ℕ) = filter (begins_with (who_text (Some name))) (map line_text rest) in
+    let tells : begins_with_any names (line_text line) ≡ is_members config p line.who = told_by_names names are.named line.who line.said (next_named config parts m h.0) ∙ members_told config p names are line.who in
+    let more = own_among config p names are (next config parts m).parts ms h.1 in
+    let others : List (List ℕ) = filter (begins_with_any names) (map line_text rest) in
     ap (λ (b : Bool). cond b (line_text line ∷ others) others) tells
-    ∙ elim (is_of name line.who) as (λ (b : Bool). cond b (line_text line ∷ others) others ≡ map line_text (cond b (line ∷ own_lines name rest) (own_lines name rest))) [
+    ∙ elim (is_members config p line.who) as (λ (b : Bool). cond b (line_text line ∷ others) others ≡ map line_text (cond b (line ∷ own_lines config p rest) (own_lines config p rest))) [
       | true ↦ ap (λ (ls : List (List ℕ)). line_text line ∷ ls) more
       | false ↦ more
     ]
 
-own_named : (name : List ℕ) (ms : List Marked) → AreNamed (items_of ms) → AreNamed (items_of (own_requests name ms))
-own_named name [] h = h
-own_named name (m ∷ ms) h =
-    let rest : List Marked = own_requests name ms in
-    let more = own_named name ms h.1 in
-    elim (is_of name (whose m)) as (λ (b : Bool). AreNamed (items_of (cond b (m ∷ rest) rest))) [
+own_named : (config : ConfigData) (p : ℕ) (ms : List Marked) → AreNamed (items_of ms) → AreNamed (items_of (own_requests config p ms))
+own_named config p [] h = h
+own_named config p (m ∷ ms) h =
+    let rest : List Marked = own_requests config p ms in
+    let more = own_named config p ms h.1 in
+    elim (is_members config p (whose m)) as (λ (b : Bool). AreNamed (items_of (cond b (m ∷ rest) rest))) [
       | true ↦ (h.0, more)
       | false ↦ more
     ]
 
-own_told : (config : ConfigData) (script : List ℕ) (requests : List Marked) → items_of requests ≡ requests_of script → (name : List ℕ) → is_name name ≡ true
-    → lines_beginning name (output_of config requests) ≡ map line_text (own_lines name (lines_for config (opening config) requests))
-own_told config script requests is name ok =
+own_told : (config : ConfigData) (script : List ℕ) (requests : List Marked) → items_of requests ≡ requests_of script → (p : ℕ) (names : List (List ℕ)) → AreNamesOf config p names
+    → lines_beginning names (output_of config requests) ≡ map line_text (own_lines config p (lines_for config (opening config) requests))
+own_told config script requests is p names are =
     let named : AreNamed (items_of requests) = subst AreNamed (sym is) (script_named script) in
-    ap (filter (begins_with (who_text (Some name)))) (lines_are_replies config script requests is) ∙ own_among name ok config (opening config) requests named
+    ap (filter (begins_with_any names)) (lines_are_replies config script requests is) ∙ own_among config p names are (opening config) requests named
 
 pub each_output_is_alone : EachOutputIsAlone
-each_output_is_alone config script requests is name ok =
+each_output_is_alone config script requests is p names are =
     let named : AreNamed (items_of requests) = subst AreNamed (sym is) (script_named script) in
-    own_told config script requests is name ok
-    ∙ ap (map line_text) (each_replays_alone config requests name)
-    ∙ sym (all_lines config (opening config) (own_requests name requests) (own_named name requests named))
+    own_told config script requests is p names are
+    ∙ ap (map line_text) (each_replays_alone config requests p)
+    ∙ sym (all_lines config (opening config) (own_requests config p requests) (own_named config p requests named))
 
 pub outputs_are_isolated : OutputsAreIsolated
-outputs_are_isolated config elsewhere script other requests others is are name ok terms own =
-    own_told config script requests is name ok
-    ∙ ap (map line_text) (replays_are_isolated config elsewhere requests others name terms own)
-    ∙ sym (own_told elsewhere other others are name ok)
+outputs_are_isolated config elsewhere script other requests others is are p q names here there begins seats own =
+    own_told config script requests is p names here
+    ∙ ap (map line_text) (replays_are_isolated config elsewhere requests others p q begins seats own)
+    ∙ sym (own_told elsewhere other others are q names there)

@@ -1,5 +1,5 @@
 -- The turns that a script holds, over the calls of its farm.
-use Rattle.std.proofs.Common.{◌≡◌, ℕ, suc, ◌<◌, ◌+◌, ◌-◌, get_or, take, drop, position, ◌||◌, ◌&&◌, ◌==◌, ◌≤◌, nat_lt, Bool, true, false, cond, List, [], ◌∷◌, ◌++◌, length, Option, Some, None, refl, sym, ap, ◌∙◌, subst, arith, ◌⊎◌, inl, inr, ⊎_elim, append-nil}
+use Rattle.std.proofs.Common.{◌≡◌, ℕ, suc, ◌<◌, ◌+◌, ◌-◌, get_or, take, drop, position, ◌||◌, ◌&&◌, ◌==◌, ◌≤◌, nat_lt, Bool, true, false, cond, List, [], ◌∷◌, ◌++◌, length, Option, Some, None, refl, sym, ap, ◌∙◌, subst, arith, ◌⊎◌, inl, inr, ⊎_elim, append-nil, zero, set, ◌≢◌}
 use Rattle.std.specs.Prelude.{not, option_map}
 use Rattle.std.specs.List.{list_any, position_or_len}
 use Rattle.std.proofs.lemmas.Bool.{cond_both, cases_eq, cases_lt, eqb-true, and_parts, or_parts, both_ways}
@@ -22,13 +22,15 @@ use Rattle.farm_core.specs.declared.reply.Reply.TheVariants as reply
 use Rattle.farm_core.specs.declared.reply.NoTurn.{NoTurn}
 use Rattle.farm_core.specs.declared.reply.NoTurn.TheVariants as no_turn
 use Rattle.farm_core.specs.declared.turn.Turn.{Turn}
-use Rattle.farm_core.specs.Tenant.{Tenant, find_job, put_job, line_of, nodes_out_in}
+use Rattle.farm_core.specs.Tenant.{Tenant, find_job, put_job, line_of, nodes_out_in, Member, Purse, no_member, seat, own_of, with_seat}
 use Rattle.farm_core.specs.Step as calls
 use Rattle.farm_core.specs.Step.{Answer, Replied, Sent, Step, step, has_room, is_slice, unnoted, changed, taken, may_have_run, gave}
 use Rattle.farm_core.specs.Farm.{IsReply}
 use Rattle.farm_core.specs.Turn.{IsTurn, IsTaken, IsNotTaken}
 use Rattle.farm_core.specs.Config.{ConfigData}
-use Rattle.farm_core.specs.World.{World, opened, view, Follows, IsReplayed}
+use Rattle.farm_core.specs.Config.{ConfigData}
+use Rattle.farm_core.specs.World.{World, opened, purse_in, place_in, spent_in, member, purse, view, Follows, IsReplayed}
+use Rattle.farm_core.proofs.SeatLemmas.{each_view_is_a_seat, steps_of, purse_after, purse_stays}
 use Rattle.farm_core.specs.Held.{is_out_of, nodes_out, takes, gives, IsHeld, AreHeld, TakenTurnsAreHeld, TakenJobsWereNotOut, TurnsStayHeld, HeldTurnsAreNoStrangers, HeldTurnsRunTheirNodes, OnlyTakenJobsAreOut, GivenJobsAreNotOut}
 use Rattle.farm_core.proofs.RunningLemmas.{found_seq}
 use Rattle.session_lines.specs.declared.request.What.{What}
@@ -256,32 +258,66 @@ by_reply old t e reply.NoJobs new h = inr h
 by_reply old t e (reply.NoShort free) new h = inr h
 by_reply old t e reply.NoMemory new h = inl (refl, h.0, h.1)
 
-unanswered : (old : World) (t : ℕ) (what : What) → may_need (view t old) what ≡ true → IsTold old t what (said.Reply reply.NoMemory) old
-unanswered old t what may = record {
+-- ---- what is told is its purse's
+
+set_same : (ms : List Member) (place : ℕ) → set ms place (get_or ms place no_member) ≡ ms
+set_same [] place = refl
+set_same (m ∷ ms) zero = refl
+set_same (m ∷ ms) (suc place) = ap (λ (xs : List Member). m ∷ xs) (set_same ms place)
+
+set_twice : (ms : List Member) (place : ℕ) (one other : Member) → set (set ms place one) place other ≡ set ms place other
+set_twice [] place one other = refl
+set_twice (m ∷ ms) zero one other = refl
+set_twice (m ∷ ms) (suc place) one other = ap (λ (xs : List Member). m ∷ xs) (set_twice ms place one other)
+
+-- a purse where a member stands as it did
+seated_same : (p : Purse) (place : ℕ) → with_seat p place (seat p place) ≡ p
+seated_same p place = ap (λ (ms : List Member). let it : Purse = record p { members = ms } in it) (set_same p.members place)
+
+seated_twice : (p : Purse) (place : ℕ) (one other : Tenant) → with_seat (with_seat p place one) place other ≡ with_seat p place other
+seated_twice p place one other = ap (λ (ms : List Member). let it : Purse = record p { spent = other.spent; members = ms } in it) (set_twice p.members place (own_of one) (own_of other))
+
+abbrev purse_at : World → ℕ → Purse
+purse_at w t = purse (purse_in w.config t) w
+
+stands : (w : World) (t : ℕ) → t < length w.config.tenants → purse_at w t ≡ with_seat (purse_at w t) (place_in w.config t) (view t w)
+stands w t known = sym (seated_same (purse_at w t) (place_in w.config t)) ∙ ap (with_seat (purse_at w t) (place_in w.config t)) (sym (each_view_is_a_seat w t known))
+
+pub unanswered : (old : World) (t : ℕ) (what : What) → t < length old.config.tenants → may_need (view t old) what ≡ true → IsTold old t what (said.Reply reply.NoMemory) old
+unanswered old t what known may = record {
   refused = true;
   said = ap (λ b. (cond b (record { said = said.Reply reply.NoMemory; after = view t old }) (told_to (view t old) what)).said) (sym may);
-  own = ap (λ b. (cond b (record { said = said.Reply reply.NoMemory; after = view t old }) (told_to (view t old) what)).after) (sym may);
-  others = λ u other. refl;
+  own = stands old t known
+      ∙ ap (λ b. with_seat (purse_at old t) (place_in old.config t) (cond b (record { said = said.Reply reply.NoMemory; after = view t old }) (told_to (view t old) what)).after) (sym may);
+  others = λ p other. refl;
   config = refl;
 }
+
+-- after a call
+called : (old new : World) (t : ℕ) (e : Event) (answer : Answer) → Follows old t e answer new
+    → purse (purse_in old.config t) new ≡ with_seat (purse_at old t) (place_in old.config t) (step (view t old) e).after
+called old new t e answer f = purse_after old new t e answer (steps_of old new t e answer f)
+
+others_stay : (old new : World) (t : ℕ) (e : Event) (answer : Answer) → Follows old t e answer new → (p : ℕ) → p ≢ purse_in old.config t → purse p new ≡ purse p old
+others_stay old new t e answer f p other = purse_stays old new t e answer (steps_of old new t e answer f) p other
 
 stepped : (old new : World) (t : ℕ) (what : What) (e : Event) (answer : Answer) → told_to (view t old) what ≡ told_by (step (view t old) e) → Follows old t e answer new
     → IsTold old t what (said_for answer) new
 stepped old new t what e answer same f = record {
   refused = false;
   said = ap said_for f.answer_is ∙ ap (λ (it : Told). it.said) (sym same);
-  own = f.own ∙ ap (λ (it : Told). it.after) (sym same);
-  others = f.others;
+  own = called old new t e answer f ∙ ap (λ (it : Told). with_seat (purse_at old t) (place_in old.config t) it.after) (sym same);
+  others = others_stay old new t e answer f;
   config = f.config;
 }
 
 -- a command's reply is what is said
-pub replied : (old new : World) (t : ℕ) (what : What) (e : Event) (answer : Reply) → told_to (view t old) what ≡ told_by (step (view t old) e)
+pub replied : (old new : World) (t : ℕ) (what : What) (e : Event) (answer : Reply) → t < length old.config.tenants → told_to (view t old) what ≡ told_by (step (view t old) e)
     → (answer ≡ reply.NoMemory → has_room 1 (view t old) ≡ true → may_need (view t old) what ≡ true) → IsReply old t e answer new → IsTold old t what (said.Reply answer) new
-replied old new t what e answer same may h =
+replied old new t what e answer known same may h =
     ⊎_elim
     (λ (none : (answer ≡ reply.NoMemory) × (new ≡ old) × (has_room 1 (view t old) ≡ true)).
-    subst (λ a. IsTold old t what (said.Reply a) new) (sym none.0) (subst (λ w. IsTold old t what (said.Reply reply.NoMemory) w) (sym none.1) (unanswered old t what (may none.0 none.2))))
+    subst (λ a. IsTold old t what (said.Reply a) new) (sym none.0) (subst (λ w. IsTold old t what (said.Reply reply.NoMemory) w) (sym none.1) (unanswered old t what known (may none.0 none.2))))
     (λ f. stepped old new t what e (Replied answer) same f)
     (by_reply old t e answer new h)
 
@@ -321,22 +357,34 @@ cancel_needs t s answer accepted none room =
 pub told_taken : (old new : World) (t s slice : ℕ) (line : Line) → Follows old t (Take s slice) (Sent line) new → IsTold old t (what.Take s slice) (said.Reply (reply.Line line)) new
 told_taken old new t s slice line f = stepped old new t (what.Take s slice) (Take s slice) (Sent line) refl f
 
-pub told_untaken : (old new : World) (t s slice : ℕ) (why : NoTurn) → IsNotTaken old t s slice why new → IsTold old t (what.Take s slice) (untaken why) new
-told_untaken old new t s slice no_turn.None f = stepped old new t (what.Take s slice) (Take s slice) calls.NoTurn refl f
-told_untaken old new t s slice no_turn.NoMemory same = subst (λ w. IsTold old t (what.Take s slice) (said.Reply reply.NoMemory) w) (sym same) (unanswered old t (what.Take s slice) refl)
+pub told_untaken : (old new : World) (t s slice : ℕ) (why : NoTurn) → t < length old.config.tenants → IsNotTaken old t s slice why new → IsTold old t (what.Take s slice) (untaken why) new
+told_untaken old new t s slice no_turn.None known f = stepped old new t (what.Take s slice) (Take s slice) calls.NoTurn refl f
+told_untaken old new t s slice no_turn.NoMemory known same = subst (λ w. IsTold old t (what.Take s slice) (said.Reply reply.NoMemory) w) (sym same) (unanswered old t (what.Take s slice) known refl)
 
 -- a whole turn that was not taken
-pub turned_untaken : (old new : World) (t s slice : ℕ) (why : NoTurn) → IsNotTaken old t s slice why new → IsTold old t (what.Turn s slice) (untaken why) new
-turned_untaken old new t s slice no_turn.None f =
+pub turned_untaken : (old new : World) (t s slice : ℕ) (why : NoTurn) → t < length old.config.tenants → IsNotTaken old t s slice why new → IsTold old t (what.Turn s slice) (untaken why) new
+turned_untaken old new t s slice no_turn.None known f =
     let answer : (step (view t old) (Take s slice)).answer ≡ calls.NoTurn = sym f.answer_is in
     record {
       refused = false;
       said = ap (λ a. (turned a (step (view t old) (Take s slice)).after s).said) f.answer_is;
-      own = f.own ∙ ap (λ a. (turned a (step (view t old) (Take s slice)).after s).after) f.answer_is;
-      others = f.others;
+      own = called old new t (Take s slice) calls.NoTurn f
+          ∙ ap (λ a. with_seat (purse_at old t) (place_in old.config t) (turned a (step (view t old) (Take s slice)).after s).after) f.answer_is;
+      others = others_stay old new t (Take s slice) calls.NoTurn f;
       config = f.config;
     }
-turned_untaken old new t s slice no_turn.NoMemory same = subst (λ w. IsTold old t (what.Turn s slice) (said.Reply reply.NoMemory) w) (sym same) (unanswered old t (what.Turn s slice) refl)
+turned_untaken old new t s slice no_turn.NoMemory known same = subst (λ w. IsTold old t (what.Turn s slice) (said.Reply reply.NoMemory) w) (sym same) (unanswered old t (what.Turn s slice) known refl)
+
+-- a purse after a call and a further change of the same tenant
+given_own : (old mid new : World) (t : ℕ) (e : Event) (answer : Answer) (then : Tenant) → Follows old t e answer mid
+    → purse (purse_in mid.config t) new ≡ with_seat (purse_at mid t) (place_in mid.config t) then
+    → purse (purse_in old.config t) new ≡ with_seat (purse_at old t) (place_in old.config t) then
+given_own old mid new t e answer then f own =
+    let place = place_in old.config t in
+    ap (λ (c : ConfigData). purse (purse_in c t) new) (sym f.config) ∙ own
+    ∙ ap (λ (c : ConfigData). with_seat (purse (purse_in c t) mid) (place_in c t) then) f.config
+    ∙ ap (λ (p : Purse). with_seat p place then) (called old mid t e answer f)
+    ∙ seated_twice (purse_at old t) place (step (view t old) e).after then
 
 -- a whole turn that was taken and given back
 pub turned_whole : (old mid new : World) (t s slice : ℕ) (line : Line) (answer : Said) → Follows old t (Take s slice) (Sent line) mid → IsTold mid t (what.Give s) answer new
@@ -348,8 +396,9 @@ turned_whole old mid new t s slice line answer f it =
     record {
       refused = false;
       said = it.said ∙ ap (λ (x : Told). x.said) (back ∙ whole);
-      own = it.own ∙ ap (λ (x : Told). x.after) (back ∙ whole);
-      others = λ u other. it.others u other ∙ f.others u other;
+      own = given_own old mid new t (Take s slice) (Sent line) (told_under it.refused (view t mid) (what.Give s)).after f it.own
+          ∙ ap (λ (x : Told). with_seat (purse_at old t) (place_in old.config t) x.after) (back ∙ whole);
+      others = λ p other. it.others p (λ e. other (e ∙ ap (λ (c : ConfigData). purse_in c t) f.config)) ∙ others_stay old mid t (Take s slice) (Sent line) f p other;
       config = it.config ∙ f.config;
     }
 
@@ -374,8 +423,8 @@ not_out t (Some job) h = quiet job job.phase h
     quiet job Cancelled h = refl
 
 -- no turn of the job is held
-pub told_none : {J : Type 0} (meaning : J → Meaning) (w : World) (t s : ℕ) (turns : List (Turn J)) → IsFloor meaning w turns → has_turn t s turns ≡ false → IsTold w t (what.Give s) said.NoTurn w
-told_none meaning w t s turns floor none =
+pub told_none : {J : Type 0} (meaning : J → Meaning) (w : World) (t s : ℕ) (turns : List (Turn J)) → t < length w.config.tenants → IsFloor meaning w turns → has_turn t s turns ≡ false → IsTold w t (what.Give s) said.NoTurn w
+told_none meaning w t s turns known floor none =
     let quiet : is_out_of (find_job s (view t w).jobs) ≡ false =
     elim (is_out_of (find_job s (view t w).jobs)) as (λ b. is_out_of (find_job s (view t w).jobs) ≡ b → b ≡ false) [
       | true ↦ λ out. absurd (both_ways (has_turn t s turns) none (floor.all t s out))
@@ -385,8 +434,8 @@ told_none meaning w t s turns floor none =
     record {
       refused = false;
       said = ap (λ (x : Told). x.said) (sym same);
-      own = ap (λ (x : Told). x.after) (sym same);
-      others = λ u other. refl;
+      own = stands w t known ∙ ap (λ (x : Told). with_seat (purse_at w t) (place_in w.config t) x.after) (sym same);
+      others = λ p other. refl;
       config = refl;
     }
 
@@ -501,7 +550,7 @@ lacks_turn t s turns h = none_passes (is_turn_of t s) turns (no_place (position_
 -- ---- the first and the last floor
 
 pub floor_opened : {J : Type 0} (meaning : J → Meaning) (config : ConfigData) (w : World) → w ≡ opened config → IsFloor meaning w []
-unfolding opened view
+unfolding opened view member
 floor_opened meaning config w is = record { held = tt; apart = tt; all = λ t s out. absurd (cc (ap (λ v. is_out_of (find_job s (view t v).jobs)) is)) }
 
 -- the last turn of those that are held
@@ -528,15 +577,23 @@ gave_none t (Some job) =
     let s1 : Step = record { answer = Replied (reply.Ran 0 (line_of new)); after = record t { spent = t.spent + 0; used = t.used + 1; jobs = put_job new.seq new t.jobs } } in
     cond_both (may_have_run 0 job job.phase) s1 (unnoted t calls.NoTurn) (λ (it : Step). it.after.spent ≡ t.spent) (λ _. omega arith) (λ _. refl)
 
+spent_is : (w : World) (u : ℕ) → (view u w).spent ≡ spent_in (purse_in w.config u) w
+unfolding view purse
+spent_is w u = refl
+
 -- a turn that is given back unrun spends nothing
 pub given_none : (old new : World) (t s ran : ℕ) (answer : Reply) → ran ≡ 0 → Follows old t (Give s ran) (Replied answer) new → (u : ℕ) → (view u new).spent ≡ (view u old).spent
 given_none old new t s ran answer none f u =
-    ⊎_elim
-    (λ (same : u ≡ t).
-    ap (λ k. (view k new).spent) same ∙ ap (λ (v : Tenant). v.spent) f.own ∙ ap (λ n. (gave (view t old) n (find_job s (view t old).jobs)).after.spent) none
-    ∙ gave_none (view t old) (find_job s (view t old).jobs) ∙ ap (λ k. (view k old).spent) (sym same))
-    (λ (differ : u ≡ t → ⊥). ap (λ (v : Tenant). v.spent) (f.others u differ))
-    (cases_eq u t)
+    let caller : (view t new).spent ≡ (view t old).spent =
+    ap (λ (v : Tenant). v.spent) f.own ∙ ap (λ n. (gave (view t old) n (find_job s (view t old).jobs)).after.spent) none ∙ gave_none (view t old) (find_job s (view t old).jobs) in
+    let moved : (v : ℕ) → spent_in (purse_in new.config v) new ≡ spent_in (purse_in old.config v) new = λ v. ap (λ (c : ConfigData). spent_in (purse_in c v) new) f.config in
+    spent_is new u ∙ moved u
+    ∙ ⊎_elim
+    (λ (same : purse_in old.config u ≡ purse_in old.config t).
+    ap (λ p. spent_in p new) same ∙ sym (moved t) ∙ sym (spent_is new t) ∙ caller ∙ spent_is old t ∙ ap (λ p. spent_in p old) (sym same))
+    (λ (differ : purse_in old.config u ≡ purse_in old.config t → ⊥). f.purses (purse_in old.config u) differ)
+    (cases_eq (purse_in old.config u) (purse_in old.config t))
+    ∙ sym (spent_is old u)
 
 pub unrun_known : {J : Type 0} (meaning : J → Meaning) → HeldTurnsAreNoStrangers → (old : World) (turns rest : List (Turn J)) (x : Turn J) → IsFound meaning old x.tenant x.seq turns rest x
     → IsStrange old.rows x.tenant x.seq x.slice x.ran (meaning x.search) → ⊥

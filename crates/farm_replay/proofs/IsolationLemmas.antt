@@ -1,17 +1,21 @@
--- Why a tenant's lines are those of its own requests.
-use Rattle.std.proofs.Common.{◌≡◌, ℕ, ◌==◌, Bool, true, false, cond, List, [], ◌∷◌, Option, Some, None, refl, sym, ap, ◌∙◌, subst, eq-eqb}
-use Rattle.std.specs.Prelude.{Result, Ok, Err, option_map, ⊤}
+-- Why a purse's lines are those of its members' own requests.
+use Rattle.std.proofs.Common.{◌≡◌, ◌≢◌, ℕ, ◌==◌, Bool, true, false, cond, List, [], ◌∷◌, filter, Option, Some, None, refl, sym, ap, ◌∙◌, subst, eq-eqb, ⊎_elim}
+use Rattle.std.specs.Prelude.{Result, Ok, Err, is_some}
 use Rattle.std.proofs.lemmas.Bool.{eqb-true, both_ways}
 use Rattle.std.proofs.lemmas.List.Quantifiers.{position-Some}
-use Rattle.farm_core.specs.Config.{ConfigData, same_bytes}
+use Rattle.farm_core.specs.Purses.{is_shared, purse_name}
+use Rattle.farm_core.specs.Config.{ConfigData, no_terms, purse_names}
+use Rattle.farm_core.specs.Name.{same_bytes}
 use Rattle.farm_core.proofs.NameLemmas.{same_bytes_is}
-use Rattle.farm_core.specs.Tenant.{newcomer}
-use Rattle.farm_core.specs.World.{terms_in, no_terms}
+use Rattle.farm_core.proofs.SharingLemmas.{apart}
+use Rattle.farm_core.specs.Tenant.{Tenant, Purse, seat, with_seat}
+use Rattle.farm_core.specs.World.{terms_in, purse_in, place_in}
+use Rattle.farm_core.specs.Laws.{IsLone}
 use Rattle.session_lines.specs.declared.request.Request.{Request}
 use Rattle.session_lines.specs.declared.request.LineFault.{LineFault}
 use Rattle.farm_session.specs.Heard.{is_named, number_of}
-use Rattle.farm_replay.specs.Output.{Told, told_under, Parts, opening, Saying, Next, asked, answered, is_answering, unread, unless_unread, Marked, next, lines_for}
-use Rattle.farm_replay.specs.Isolation.{who_in, who_first, whose, is_of, own_lines, own_requests, EachReplaysAlone, ReplaysAreIsolated}
+use Rattle.farm_replay.specs.Output.{Told, told_under, Parts, opening, part_of, with_tenant, Saying, Next, asked, answered, is_answering, unread, unless_unread, Marked, next, lines_for}
+use Rattle.farm_replay.specs.Isolation.{who_in, who_first, whose, is_of, place_if, seat_of, is_members, own_lines, own_requests, EachReplaysAlone, ReplaysAreIsolated, lone_lines, lone_requests, EachLoneReplaysAlone}
 
 -- ---- names
 
@@ -25,90 +29,111 @@ one_name config one other t h k =
     let b = position-Some (is_named other) config.tenants t no_terms k in
     sym (bytes_are (terms_in config t).name one a.1) ∙ bytes_are (terms_in config t).name other b.1
 
--- ---- parts that agree for one tenant, which may have different numbers
-
-abbrev AgreeAt : Option ℕ → Option ℕ → Parts → Parts → Type 0
-AgreeAt None None p q = ⊤
-AgreeAt None (Some v) p q = ⊥
-AgreeAt (Some u) None p q = ⊥
-AgreeAt (Some u) (Some v) p q = p u ≡ q v
-
-agree_left : (t s : Option ℕ) (p p' q : Parts) → ((u : ℕ) → t ≡ Some u → p' u ≡ p u) → AgreeAt t s p q → AgreeAt t s p' q
-agree_left None None p p' q same h = tt
-agree_left None (Some v) p p' q same h = h
-agree_left (Some u) None p p' q same h = h
-agree_left (Some u) (Some v) p p' q same h = same u refl ∙ h
+-- ---- parts that agree for one purse, which may have different numbers
 
 -- the same line, and the parts agree as before
-record IsSame (t s : Option ℕ) (one other : Next) : Type 0 where
+record IsSame (p q : ℕ) (one other : Next) : Type 0 where
   line : one.line ≡ other.line
-  agree : AgreeAt t s one.parts other.parts
+  agree : one.parts p ≡ other.parts q
 
-same_asked : (refused : Bool) (p q : Parts) (request : Request) (t s : Option ℕ) → AgreeAt t s p q → IsSame t s (asked refused p request t) (asked refused q request s)
-same_asked refused p q request None None h = record { line = refl; agree = tt }
-same_asked refused p q request None (Some v) h = absurd h
-same_asked refused p q request (Some u) None h = absurd h
-same_asked refused p q request (Some u) (Some v) h =
-    let same : told_under refused (p u) request.what ≡ told_under refused (q v) request.what = ap (λ x. told_under refused x request.what) h in
+-- a tenant whose place is k of purse p
+record IsSeated (config : ConfigData) (p k t : ℕ) : Type 0 where
+  purse : purse_in config t ≡ p
+  place : place_in config t ≡ k
+
+some_is : (a b : ℕ) → Some a ≡ Some b → a ≡ b
+some_is a b e = cc e
+
+seated : (config : ConfigData) (p k t : ℕ) → place_if config p (Some t) ≡ Some k → IsSeated config p k t
+seated config p k t = by (purse_in config t == p) refl
+  where
+    by : (b : Bool) → (purse_in config t == p) ≡ b → cond b (Some (place_in config t)) None ≡ Some k → IsSeated config p k t
+    by true is h = record { purse = eqb-true (purse_in config t) p is; place = some_is (place_in config t) k h }
+    by false is h = absurd (cc)
+
+-- what is said to it, and its purse then
+own_asked : (config : ConfigData) (refused : Bool) (parts : Parts) (request : Request) (p k t : ℕ) → IsSeated config p k t
+    → let it : Told = told_under refused (seat (parts p) k) request.what in
+    (let n : Next = asked config refused parts request (Some t) in
+    (n.line ≡ record { who = Some request.who; said = it.said }) × (n.parts p ≡ with_seat (parts p) k it.after))
+own_asked config refused parts request p k t at =
+    let said : ℕ → ℕ → Told = λ x y. told_under refused (seat (parts x) y) request.what in
+    let told : said (purse_in config t) (place_in config t) ≡ said p k = ap (λ x. said x (place_in config t)) at.purse ∙ ap (said p) at.place in
+    let first = purse_in config t in (
+      ap (λ (x : Told). let l : Saying = record { who = Some request.who; said = x.said } in l) told,
+      ap (λ b. cond b (with_seat (parts first) (place_in config t) (said first (place_in config t)).after) (parts p)) (eq-eqb p first (sym at.purse))
+          ∙ ap (λ x. with_seat (parts x) (place_in config t) (said x (place_in config t)).after) at.purse
+          ∙ ap (λ y. with_seat (parts p) y (said p y).after) at.place,
+    )
+
+same_asked : (config elsewhere : ConfigData) (refused : Bool) (one other : Parts) (request : Request) (p q : ℕ) (t s k : Option ℕ) → place_if config p t ≡ k → place_if elsewhere q s ≡ k
+    → is_some k ≡ true → one p ≡ other q → IsSame p q (asked config refused one request t) (asked elsewhere refused other request s)
+same_asked config elsewhere refused one other request p q t s None at there own h = absurd (cc)
+same_asked config elsewhere refused one other request p q None s (Some k) at there own h = absurd (cc)
+same_asked config elsewhere refused one other request p q (Some t) None (Some k) at there own h = absurd (cc)
+same_asked config elsewhere refused one other request p q (Some t) (Some s) (Some k) at there own h =
+    let here = own_asked config refused one request p k t (seated config p k t at) in
+    let then = own_asked elsewhere refused other request q k s (seated elsewhere q k s there) in
+    let said : Purse → Told = λ x. told_under refused (seat x k) request.what in
     record {
-      line = ap (λ (x : Told). let l : Saying = record { who = Some request.who; said = x.said } in l) same;
-      agree =
-          ap (λ b. cond b (told_under refused (p u) request.what).after (p u)) (eq-eqb u u refl) ∙ ap (λ (x : Told). x.after) same
-          ∙ sym (ap (λ b. cond b (told_under refused (q v) request.what).after (q v)) (eq-eqb v v refl));
+      line = here.0 ∙ ap (λ (x : Purse). let l : Saying = record { who = Some request.who; said = (said x).said } in l) h ∙ sym then.0;
+      agree = here.1 ∙ ap (λ (x : Purse). with_seat x k (said x).after) h ∙ sym then.1;
     }
 
-same_answered : (config elsewhere : ConfigData) (name : List ℕ) (refused : Bool) (p q : Parts) (answer : Result Request LineFault) → is_of name (who_in answer) ≡ true
-    → AgreeAt (number_of name config) (number_of name elsewhere) p q
-    → IsSame (number_of name config) (number_of name elsewhere) (answered config refused p answer) (answered elsewhere refused q answer)
-same_answered config elsewhere name refused p q (Ok request) own h =
-    subst (λ n. IsSame (number_of name config) (number_of name elsewhere) (asked refused p request (number_of n config)) (asked refused q request (number_of n elsewhere)))
-    (sym (bytes_are request.who name own)) (same_asked refused p q request (number_of name config) (number_of name elsewhere) h)
-same_answered config elsewhere name refused p q (Err fault) own h = record { line = refl; agree = h }
+abbrev SameSeats : ConfigData → ConfigData → ℕ → ℕ → Type 0
+SameSeats config elsewhere p q = (who : List ℕ) → seat_of config p who ≡ seat_of elsewhere q who
 
-same_next : (config elsewhere : ConfigData) (name : List ℕ) (p q : Parts) (m : Marked) → is_of name (whose m) ≡ true → AgreeAt (number_of name config) (number_of name elsewhere) p q
-    → IsSame (number_of name config) (number_of name elsewhere) (next config p m) (next elsewhere q m)
-same_next config elsewhere name p q m own h = by (unread m.refused m.item.submits) own
+same_answered : (config elsewhere : ConfigData) (refused : Bool) (one other : Parts) (p q : ℕ) → SameSeats config elsewhere p q → (answer : Result Request LineFault)
+    → is_members config p (who_in answer) ≡ true → one p ≡ other q → IsSame p q (answered config refused one answer) (answered elsewhere refused other answer)
+same_answered config elsewhere refused one other p q seats (Ok request) own h =
+    same_asked config elsewhere refused one other request p q (number_of request.who config) (number_of request.who elsewhere) (seat_of config p request.who) refl (sym (seats request.who)) own h
+same_answered config elsewhere refused one other p q seats (Err fault) own h = record { line = refl; agree = h }
+
+same_next : (config elsewhere : ConfigData) (one other : Parts) (p q : ℕ) → SameSeats config elsewhere p q → (m : Marked) → is_members config p (whose m) ≡ true → one p ≡ other q
+    → IsSame p q (next config one m) (next elsewhere other m)
+same_next config elsewhere one other p q seats m own h = by (unread m.refused m.item.submits) own
   where
-    by : (submits : Option (List ℕ)) → is_of name (who_first submits (who_in m.item.answer)) ≡ true
-        → IsSame (number_of name config) (number_of name elsewhere) (unless_unread submits p (answered config (is_answering m.refused) p m.item.answer))
-        (unless_unread submits q (answered elsewhere (is_answering m.refused) q m.item.answer))
-    by None o = same_answered config elsewhere name (is_answering m.refused) p q m.item.answer o h
+    by : (submits : Option (List ℕ)) → is_members config p (who_first submits (who_in m.item.answer)) ≡ true
+        → IsSame p q (unless_unread submits one (answered config (is_answering m.refused) one m.item.answer))
+        (unless_unread submits other (answered elsewhere (is_answering m.refused) other m.item.answer))
+    by None o = same_answered config elsewhere (is_answering m.refused) one other p q seats m.item.answer o h
     by (Some who) o = record { line = refl; agree = h }
 
--- another's request leaves the tenant's part as it is
-apart_asked : (config : ConfigData) (name : List ℕ) (refused : Bool) (p : Parts) (request : Request) (t : Option ℕ) → number_of request.who config ≡ t → same_bytes request.who name ≡ false
-    → (u : ℕ) → number_of name config ≡ Some u → (asked refused p request t).parts u ≡ p u
-apart_asked config name refused p request None at other u own = refl
-apart_asked config name refused p request (Some t) at other u own =
-    ap (λ b. cond b (told_under refused (p t) request.what).after (p u))
-    (elim (u == t) as (λ b. (u == t) ≡ b → b ≡ false) [
+-- another's request leaves the purse as it is
+apart_asked : (config : ConfigData) (refused : Bool) (parts : Parts) (request : Request) (p : ℕ) (t : Option ℕ) → is_some (place_if config p t) ≡ false → (asked config refused parts request t).parts p ≡ parts p
+apart_asked config refused parts request p None other = refl
+apart_asked config refused parts request p (Some t) other =
+    let first = purse_in config t in
+    let then : Purse = with_seat (parts first) (place_in config t) (told_under refused (part_of config parts t) request.what).after in
+    ap (λ b. cond b then (parts p))
+    (elim (p == first) as (λ b. (p == first) ≡ b → b ≡ false) [
       | true ↦ λ e.
-          let same : request.who ≡ name = one_name config request.who name u (at ∙ ap (λ k. Some k) (sym (eqb-true u t e))) own in
-          absurd (both_ways (same_bytes request.who name) other ((same_bytes_is request.who name).1 same))
+          let seat_is : is_some (place_if config p (Some t)) ≡ true = ap (λ b. is_some (cond b (Some (place_in config t)) None)) (eq-eqb first p (sym (eqb-true p first e))) in
+          absurd (both_ways (is_some (place_if config p (Some t))) other seat_is)
       | false ↦ λ _. refl
     ] refl)
 
-apart_answered : (config : ConfigData) (name : List ℕ) (refused : Bool) (p : Parts) (answer : Result Request LineFault) → is_of name (who_in answer) ≡ false
-    → (u : ℕ) → number_of name config ≡ Some u → (answered config refused p answer).parts u ≡ p u
-apart_answered config name refused p (Ok request) other u own = apart_asked config name refused p request (number_of request.who config) refl other u own
-apart_answered config name refused p (Err fault) other u own = refl
+apart_answered : (config : ConfigData) (refused : Bool) (parts : Parts) (p : ℕ) (answer : Result Request LineFault) → is_members config p (who_in answer) ≡ false
+    → (answered config refused parts answer).parts p ≡ parts p
+apart_answered config refused parts p (Ok request) other = apart_asked config refused parts request p (number_of request.who config) other
+apart_answered config refused parts p (Err fault) other = refl
 
-apart_next : (config : ConfigData) (name : List ℕ) (p : Parts) (m : Marked) → is_of name (whose m) ≡ false → (u : ℕ) → number_of name config ≡ Some u → (next config p m).parts u ≡ p u
-apart_next config name p m other u own = by (unread m.refused m.item.submits) other
+apart_next : (config : ConfigData) (parts : Parts) (p : ℕ) (m : Marked) → is_members config p (whose m) ≡ false → (next config parts m).parts p ≡ parts p
+apart_next config parts p m other = by (unread m.refused m.item.submits) other
   where
-    by : (submits : Option (List ℕ)) → is_of name (who_first submits (who_in m.item.answer)) ≡ false
-        → (unless_unread submits p (answered config (is_answering m.refused) p m.item.answer)).parts u ≡ p u
-    by None o = apart_answered config name (is_answering m.refused) p m.item.answer o u own
+    by : (submits : Option (List ℕ)) → is_members config p (who_first submits (who_in m.item.answer)) ≡ false
+        → (unless_unread submits parts (answered config (is_answering m.refused) parts m.item.answer)).parts p ≡ parts p
+    by None o = apart_answered config (is_answering m.refused) parts p m.item.answer o
     by (Some who) o = refl
 
 -- ---- lines
 
-asked_who : (refused : Bool) (p : Parts) (request : Request) (t : Option ℕ) → (asked refused p request t).line.who ≡ Some request.who
-asked_who refused p request None = refl
-asked_who refused p request (Some t) = refl
+asked_who : (config : ConfigData) (refused : Bool) (p : Parts) (request : Request) (t : Option ℕ) → (asked config refused p request t).line.who ≡ Some request.who
+asked_who config refused p request None = refl
+asked_who config refused p request (Some t) = refl
 
 answered_who : (config : ConfigData) (refused : Bool) (p : Parts) (answer : Result Request LineFault) → (answered config refused p answer).line.who ≡ who_in answer
-answered_who config refused p (Ok request) = asked_who refused p request (number_of request.who config)
+answered_who config refused p (Ok request) = asked_who config refused p request (number_of request.who config)
 answered_who config refused p (Err fault) = refl
 
 pub next_who : (config : ConfigData) (p : Parts) (m : Marked) → (next config p m).line.who ≡ whose m
@@ -118,38 +143,68 @@ next_who config p m = by (unread m.refused m.item.submits)
     by None = answered_who config (is_answering m.refused) p m.item.answer
     by (Some who) = refl
 
-own_by : (config elsewhere : ConfigData) (name : List ℕ) (p q : Parts) (requests : List Marked) → AgreeAt (number_of name config) (number_of name elsewhere) p q
-    → own_lines name (lines_for config p requests) ≡ lines_for elsewhere q (own_requests name requests)
-own_by config elsewhere name p q [] h = refl
-own_by config elsewhere name p q (m ∷ ms) h =
-    let line = (next config p m).line in
-    let rest = lines_for config (next config p m).parts ms in
-    ap (λ w. cond (is_of name w) (line ∷ own_lines name rest) (own_lines name rest)) (next_who config p m)
-    ∙ elim (is_of name (whose m)) as (λ b. is_of name (whose m) ≡ b → cond b (line ∷ own_lines name rest) (own_lines name rest) ≡ lines_for elsewhere q (cond b (m ∷ own_requests name ms) (own_requests name ms))) [
+own_by : (config elsewhere : ConfigData) (one other : Parts) (p q : ℕ) → SameSeats config elsewhere p q → (requests : List Marked) → one p ≡ other q
+    → own_lines config p (lines_for config one requests) ≡ lines_for elsewhere other (own_requests config p requests)
+own_by config elsewhere one other p q seats [] h = refl
+own_by config elsewhere one other p q seats (m ∷ ms) h =
+    let line = (next config one m).line in
+    let rest = lines_for config (next config one m).parts ms in
+    ap (λ w. cond (is_members config p w) (line ∷ own_lines config p rest) (own_lines config p rest)) (next_who config one m)
+    ∙ elim (is_members config p (whose m)) as (λ b. is_members config p (whose m) ≡ b
+    → cond b (line ∷ own_lines config p rest) (own_lines config p rest) ≡ lines_for elsewhere other (cond b (m ∷ own_requests config p ms) (own_requests config p ms))) [
       | true ↦ λ own.
-          let same = same_next config elsewhere name p q m own h in
-          ap (λ l. l ∷ own_lines name rest) same.line
-          ∙ ap (λ ls. (next elsewhere q m).line ∷ ls) (own_by config elsewhere name (next config p m).parts (next elsewhere q m).parts ms same.agree)
-      | false ↦ λ other.
-          own_by config elsewhere name (next config p m).parts q ms
-          (agree_left (number_of name config) (number_of name elsewhere) p (next config p m).parts q (apart_next config name p m other) h)
+          let same = same_next config elsewhere one other p q seats m own h in
+          ap (λ l. l ∷ own_lines config p rest) same.line
+          ∙ ap (λ ls. (next elsewhere other m).line ∷ ls) (own_by config elsewhere (next config one m).parts (next elsewhere other m).parts p q seats ms same.agree)
+      | false ↦ λ apart. own_by config elsewhere (next config one m).parts other p q seats ms (apart_next config one p m apart ∙ h)
     ] refl
 
-agree_same : (t : Option ℕ) (p : Parts) → AgreeAt t t p p
-agree_same None p = tt
-agree_same (Some u) p = refl
-
 pub each_replays_alone : EachReplaysAlone
-each_replays_alone config requests name = own_by config config name (opening config) (opening config) requests (agree_same (number_of name config) (opening config))
-
-agree_opening : (config elsewhere : ConfigData) (t s : Option ℕ) → option_map (terms_in config) t ≡ option_map (terms_in elsewhere) s → AgreeAt t s (opening config) (opening elsewhere)
-agree_opening config elsewhere None None h = tt
-agree_opening config elsewhere None (Some v) h = absurd (cc)
-agree_opening config elsewhere (Some u) None h = absurd (cc)
-agree_opening config elsewhere (Some u) (Some v) h = let same : terms_in config u ≡ terms_in elsewhere v = cc in ap newcomer same
+each_replays_alone config requests p = own_by config config (opening config) (opening config) p p (λ who. refl) requests refl
 
 pub replays_are_isolated : ReplaysAreIsolated
-replays_are_isolated config elsewhere requests others name terms own =
-    own_by config elsewhere name (opening config) (opening elsewhere) requests (agree_opening config elsewhere (number_of name config) (number_of name elsewhere) terms)
+replays_are_isolated config elsewhere requests others p q begins seats own =
+    own_by config elsewhere (opening config) (opening elsewhere) p q seats requests begins
     ∙ ap (lines_for elsewhere (opening elsewhere)) own
-    ∙ sym (each_replays_alone elsewhere others name)
+    ∙ sym (each_replays_alone elsewhere others q)
+
+-- ---- a tenant that has its purse for itself
+
+-- its purse's only name is its own
+lone_name : (config : ConfigData) (name who : List ℕ) (t : ℕ) → number_of name config ≡ Some t → IsLone config t → is_members config (purse_in config t) (Some who) ≡ same_bytes who name
+lone_name config name who t at lone = by (number_of who config) refl (same_bytes who name) refl
+  where
+    by : (found : Option ℕ) → number_of who config ≡ found → (same : Bool) → same_bytes who name ≡ same → is_some (place_if config (purse_in config t) found) ≡ same
+    by None is true same =
+        let none : None ≡ Some t = sym is ∙ ap (λ n. number_of n config) (bytes_are who name same) ∙ at in absurd (cc)
+    by None is false same = refl
+    by (Some u) is true same =
+        let here : Some u ≡ Some t = sym is ∙ ap (λ n. number_of n config) (bytes_are who name same) ∙ at in
+        let tenant : u ≡ t = some_is u t here in
+        ap (λ b. is_some (cond b (Some (place_in config u)) None)) (eq-eqb (purse_in config u) (purse_in config t) (ap (purse_in config) tenant))
+    by (Some u) is false same =
+        ap (λ b. is_some (cond b (Some (place_in config u)) None))
+        (elim (purse_in config u == purse_in config t) as (λ b. (purse_in config u == purse_in config t) ≡ b → b ≡ false) [
+          | true ↦ λ e.
+              let names = purse_names config.tenants in
+              let tenant : u ≡ t = ⊎_elim (λ (d : u ≡ t). d) (λ (d : is_shared (purse_name names u) (purse_name names t) ≡ true). lone u d) (apart names u t (eqb-true (purse_in config u) (purse_in config t) e)) in
+              let one : who ≡ name = one_name config who name t (is ∙ ap (λ n. Some n) tenant) at in
+              absurd (both_ways (same_bytes who name) same ((same_bytes_is who name).1 one))
+          | false ↦ λ _. refl
+        ] refl)
+
+lone_is : (config : ConfigData) (name : List ℕ) (t : ℕ) → number_of name config ≡ Some t → IsLone config t → (who : Option (List ℕ)) → is_of name who ≡ is_members config (purse_in config t) who
+lone_is config name t at lone None = refl
+lone_is config name t at lone (Some who) = sym (lone_name config name who t at lone)
+
+same_filter : {A : Type 0} (f g : A → Bool) (xs : List A) → ((x : A) → f x ≡ g x) → filter f xs ≡ filter g xs
+same_filter f g [] same = refl
+same_filter {A} f g (x ∷ xs) same = ap (λ (b : Bool). cond b (x ∷ filter f xs) (filter f xs)) (same x) ∙ ap (λ (ys : List A). cond (g x) (x ∷ ys) ys) (same_filter f g xs same)
+
+pub each_lone_replays_alone : EachLoneReplaysAlone
+each_lone_replays_alone config requests name t at lone =
+    let p = purse_in config t in
+    let is = lone_is config name t at lone in
+    same_filter (λ (line : Saying). is_of name line.who) (λ (line : Saying). is_members config p line.who) (lines_for config (opening config) requests) (λ line. is line.who)
+    ∙ each_replays_alone config requests p
+    ∙ ap (lines_for config (opening config)) (sym (same_filter (λ (m : Marked). is_of name (whose m)) (λ (m : Marked). is_members config p (whose m)) requests (λ m. is (whose m))))

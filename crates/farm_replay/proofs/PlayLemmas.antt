@@ -1,5 +1,5 @@
 -- How a replay goes on from request to request.
-use Rattle.std.proofs.Common.{◌≡◌, ◌≢◌, ℕ, ◌+◌, ◌≤◌, ◌==◌, Bool, true, false, cond, List, [], ◌∷◌, ◌++◌, length, Option, Some, None, refl, sym, ap, ◌∙◌, subst, arith, ⊎_elim, eq-eqb, append_assoc, append-nil, length-append}
+use Rattle.std.proofs.Common.{◌≡◌, ◌≢◌, ℕ, ◌+◌, ◌≤◌, ◌==◌, Bool, true, false, cond, List, [], ◌∷◌, ◌++◌, length, Option, Some, None, refl, sym, ap, ◌∙◌, subst, arith, ⊎_elim, eq-eqb, append_assoc, append-nil, length-append, ◌<◌}
 use Rattle.std.specs.Prelude.{Result, Ok, Err, IfSome, IfErr, OnOk, ⊤}
 use Rattle.std.specs.List.{flat_map}
 use Rattle.std.specs.Io.KnownBytes.{Keeps, Appends}
@@ -10,7 +10,10 @@ use Rattle.psplib_mm.specs.declared.fault.MmFault.{MmFault}
 use Rattle.psplib_mm.specs.declared.fault.MmFault.TheVariants as file
 use Rattle.farm_core.specs.declared.reply.Reply.TheVariants as reply
 use Rattle.farm_core.specs.Config.{ConfigData}
-use Rattle.farm_core.specs.World.{World, opened, view}
+use Rattle.farm_core.specs.Tenant.{Tenant, Purse, seat, with_seat}
+use Rattle.farm_core.specs.World.{World, opened, purse_in, place_in, purse, view}
+use Rattle.farm_core.proofs.SeatLemmas.{each_view_is_a_seat}
+use Rattle.farm_replay.proofs.CounterLemmas.{known_number}
 use Rattle.farm_core.specs.Held.{FarmsAreReplayed}
 use Rattle.session_lines.specs.declared.request.Request.{Request}
 use Rattle.session_lines.specs.declared.request.What.{What}
@@ -25,7 +28,7 @@ use Rattle.session_lines.specs.Script.{Item, lines_of, first, first_of, requests
 use Rattle.farm_replay.specs.declared.script.ReplayFault.{ReplayFault}
 use Rattle.farm_replay.specs.declared.script.ReplayFault.TheVariants as fault
 use Rattle.farm_session.specs.declared.heard.Heard.TheVariants as heard
-use Rattle.farm_replay.specs.Output.{Told, told_under, Parts, opening, with_part, Saying, Next, asked, Refused, Nowhere, Reading, Answering, Marked, next, lines_for, parts_after, line_text, output_of, items_of, IsWritten, IsCutBy, IsCutOff}
+use Rattle.farm_replay.specs.Output.{Told, told_under, Parts, opening, part_of, with_tenant, Saying, Next, asked, Refused, Nowhere, Reading, Answering, Marked, next, lines_for, parts_after, line_text, output_of, items_of, IsWritten, IsCutBy, IsCutOff}
 use Rattle.farm_session.specs.Heard.{number_of, heard_for, heard_of}
 use Rattle.farm_replay.specs.Replay.{GoesOn}
 use Rattle.farm_replay.specs.Floor.{IsTold}
@@ -97,7 +100,8 @@ output_more config ms m =
 pub record IsPlayed (config : ConfigData) (xs ys : List ℕ) (old new : Option (List ℕ)) (count : ℕ) (w : World) : Type 0 where
   pub requests : List Marked
   pub number : length requests ≡ count
-  pub parts : (t : ℕ) → view t w ≡ parts_after config (opening config) requests t
+  pub of_config : w.config ≡ config
+  pub parts : (p : ℕ) → purse p w ≡ parts_after config (opening config) requests p
   pub written : Appends old new (output_of config requests)
   pub reads : requests_of xs ≡ items_of requests ++ requests_of ys
 
@@ -111,14 +115,16 @@ reads_next turns m ys zs it = turns ys ∙ ap from_first it.cut
 -- its line is this, and the farm is where it leads
 pub record IsAnsweredBy (config : ConfigData) (parts : Parts) (m : Marked) (line : Saying) (w : World) : Type 0 where
   pub says : (next config parts m).line ≡ line
-  pub leads : (t : ℕ) → view t w ≡ (next config parts m).parts t
+  pub of_config : w.config ≡ config
+  pub leads : (p : ℕ) → purse p w ≡ (next config parts m).parts p
 
 play_on : EachInTurn → (config : ConfigData) (xs ys zs : List ℕ) (old mid new : Option (List ℕ)) (count : ℕ) (w w' : World) (line : Saying) (it : IsPlayed config xs ys old mid count w) (m : Marked)
     → IsNext m ys zs → IsAnsweredBy config (parts_after config (opening config) it.requests) m line w' → Appends mid new (line_text line) → IsPlayed config xs zs old new (count + 1) w'
 play_on turns config xs ys zs old mid new count w w' line it m n by written = record {
   requests = it.requests ++ m ∷ [];
   number = omega (arith, it.number, length-append it.requests (m ∷ []));
-  parts = λ t. by.leads t ∙ ap (λ (p : Parts). p t) (sym (parts_more config (opening config) it.requests m));
+  of_config = by.of_config;
+  parts = λ p. by.leads p ∙ ap (λ (parts : Parts). parts p) (sym (parts_more config (opening config) it.requests m));
   written = subst (Appends old new) (ap (λ l. output_of config it.requests ++ line_text l) (sym by.says) ∙ output_more config it.requests m)
       (appends_on old mid new (output_of config it.requests) (line_text line) it.written written);
   reads = it.reads ∙ ap (λ l. items_of it.requests ++ l) (reads_next turns m ys zs n) ∙ items_more it.requests m (requests_of zs);
@@ -218,7 +224,7 @@ settled_request : (config : ConfigData) (most : ℕ) (request : Request) (who : 
     → IsSettled config (record { who = who; said = words }) ys zs
 settled_request config most request who words None at is ys zs it =
     settled_by config most (Ok request) (record { who = who; said = words }) Nowhere ys zs it
-    (λ parts. ap (answered config false parts) it.answers ∙ ap (asked false parts request) at ∙ same_line who words (Some request.who) said.NoTenant parts is)
+    (λ parts. ap (answered config false parts) it.answers ∙ ap (asked config false parts request) at ∙ same_line who words (Some request.who) said.NoTenant parts is)
 settled_request config most request who words (Some t) at is ys zs it = absurd (cc)
 
 told_takes : (config : ConfigData) (most : ℕ) (old new : Option (List ℕ)) (answer : Result Request LineFault) (who : Option (List ℕ)) (words : Said) → heard.Told who words ≡ heard_of config answer
@@ -299,22 +305,22 @@ over_takes turns config most old new (Err (NoMemory w)) is h = absurd (cc)
 abbrev pub Played : ConfigData → Option (List ℕ) → Option (List ℕ) → Option (List ℕ) → Option (List ℕ) → ℕ → World → Type 0
 Played config first now old new count w = Goes first now (λ xs ys. IsPlayed config xs ys old new count w)
 
-pub play_begins : (config : ConfigData) (a old : Option (List ℕ)) (w : World) → ((t : ℕ) → view t w ≡ opening config t) → Played config a a old old 0 w
-play_begins config a old w parts =
-    goes_same a (λ xs ys. IsPlayed config xs ys old old 0 w) (λ xs. record { requests = []; number = refl; parts = parts; written = appends_none old; reads = refl })
+pub play_begins : (config : ConfigData) (a old : Option (List ℕ)) (w : World) → w.config ≡ config → ((p : ℕ) → purse p w ≡ opening config p) → Played config a a old old 0 w
+play_begins config a old w is parts =
+    goes_same a (λ xs ys. IsPlayed config xs ys old old 0 w) (λ xs. record { requests = []; number = refl; of_config = is; parts = parts; written = appends_none old; reads = refl })
 
 -- what was written is sent on its way, and the same bytes are left to be read
 pub played_sent : (config : ConfigData) (a b c old mid new : Option (List ℕ)) (count : ℕ) (w : World) → c ≡ b → Keeps mid new → Played config a b old mid count w → Played config a c old new count w
 played_sent config a b c old mid new count w same kept played =
     subst (λ r. Played config a r old new count w) (sym same)
     (goes_to a b (λ xs ys. IsPlayed config xs ys old mid count w) (λ xs ys. IsPlayed config xs ys old new count w) played
-    (λ xs ys it. record { requests = it.requests; number = it.number; parts = it.parts; written = appends_kept old mid new (output_of config it.requests) it.written kept; reads = it.reads }))
+    (λ xs ys it. record { requests = it.requests; number = it.number; of_config = it.of_config; parts = it.parts; written = appends_kept old mid new (output_of config it.requests) it.written kept; reads = it.reads }))
 
 answered_settled : (config : ConfigData) (xs ys zs : List ℕ) (old mid : Option (List ℕ)) (count : ℕ) (w : World) (line : Saying) (it : IsPlayed config xs ys old mid count w) (s : IsSettled config line ys zs)
     → IsAnsweredBy config (parts_after config (opening config) it.requests) s.request line w
 answered_settled config xs ys zs old mid count w line it s =
     let is = s.next_is (parts_after config (opening config) it.requests) in
-    record { says = ap (λ (n : Next). n.line) is; leads = λ t. it.parts t ∙ ap (λ (n : Next). n.parts t) (sym is) }
+    record { says = ap (λ (n : Next). n.line) is; of_config = it.of_config; leads = λ p. it.parts p ∙ ap (λ (n : Next). n.parts p) (sym is) }
 
 pub settled_on : EachInTurn → (config : ConfigData) (a b c old mid new : Option (List ℕ)) (count : ℕ) (w : World) (answer : Result Request LineFault) (who : Option (List ℕ)) (words : Said)
     → heard.Told who words ≡ heard_of config answer → Takes 100000000 None b c answer → Played config a b old mid count w → Appends mid new (reply_line who words) → Played config a c old new (count + 1) w
@@ -339,21 +345,37 @@ marked false = Nowhere
 
 next_asked : (config : ConfigData) (parts : Parts) (item : Item) (t : ℕ) (who : List ℕ) (what : What) (refused : Bool) → item.answer ≡ Ok (record { who = who; what = what }) → number_of who config ≡ Some t
     → next config parts (record { item = item; refused = marked refused })
-    ≡ record { line = record { who = Some who; said = (told_under refused (parts t) what).said }; parts = with_part parts t (told_under refused (parts t) what).after }
-next_asked config parts item t who what true is at = ap (answered config true parts) is ∙ ap (asked true parts (record { who = who; what = what })) at
-next_asked config parts item t who what false is at = ap (answered config false parts) is ∙ ap (asked false parts (record { who = who; what = what })) at
+    ≡ record {
+      line = record { who = Some who; said = (told_under refused (part_of config parts t) what).said };
+      parts = with_tenant config parts t (told_under refused (part_of config parts t) what).after;
+    }
+next_asked config parts item t who what true is at = ap (answered config true parts) is ∙ ap (asked config true parts (record { who = who; what = what })) at
+next_asked config parts item t who what false is at = ap (answered config false parts) is ∙ ap (asked config false parts (record { who = who; what = what })) at
 
 not_same : (u t : ℕ) → u ≢ t → (u == t) ≡ false
 not_same u t d = elim (u == t) as (λ b. (u == t) ≡ b → b ≡ false) [ true ↦ λ e. absurd (d (eqb-true u t e)) | false ↦ λ _. refl ] refl
 
-leads_to : (config : ConfigData) (parts : Parts) (w w' : World) (t : ℕ) (what : What) (refused : Bool) → told_under refused (view t w) what ≡ told_under refused (parts t) what
-    → view t w' ≡ (told_under refused (view t w) what).after → ((u : ℕ) → u ≢ t → view u w' ≡ view u w) → ((u : ℕ) → view u w ≡ parts u)
-    → (u : ℕ) → view u w' ≡ with_part parts t (told_under refused (parts t) what).after u
-leads_to config parts w w' t what refused same own others is u =
+-- a tenant of the farm stands where its part does
+view_is : (config : ConfigData) (parts : Parts) (w : World) (t : ℕ) → w.config ≡ config → t < length config.tenants → ((p : ℕ) → purse p w ≡ parts p) → view t w ≡ part_of config parts t
+view_is config parts w t is known at =
+    each_view_is_a_seat w t (subst (λ (c : ConfigData). t < length c.tenants) (sym is) known)
+    ∙ ap (λ (c : ConfigData). seat (purse (purse_in c t) w) (place_in c t)) is
+    ∙ ap (λ (p : Purse). seat p (place_in config t)) (at (purse_in config t))
+
+leads_to : (config : ConfigData) (parts : Parts) (w w' : World) (t : ℕ) (new : Tenant) → w.config ≡ config
+    → purse (purse_in w.config t) w' ≡ with_seat (purse (purse_in w.config t) w) (place_in w.config t) new
+    → ((p : ℕ) → p ≢ purse_in w.config t → purse p w' ≡ purse p w) → ((p : ℕ) → purse p w ≡ parts p)
+    → (q : ℕ) → purse q w' ≡ with_tenant config parts t new q
+leads_to config parts w w' t new is own others at q =
+    let p = purse_in config t in
+    let mine : purse p w' ≡ with_seat (parts p) (place_in config t) new =
+    ap (λ (c : ConfigData). purse (purse_in c t) w') (sym is) ∙ own ∙ ap (λ (c : ConfigData). with_seat (purse (purse_in c t) w) (place_in c t) new) is
+    ∙ ap (λ (x : Purse). with_seat x (place_in config t) new) (at p) in
+    let then : Purse = with_seat (parts p) (place_in config t) new in
     ⊎_elim
-    (λ (e : u ≡ t). ap (λ k. view k w') e ∙ own ∙ ap (λ (x : Told). x.after) same ∙ ap (λ b. cond b (told_under refused (parts t) what).after (parts u)) (sym (eq-eqb u t e)))
-    (λ (d : u ≡ t → ⊥). others u d ∙ is u ∙ ap (λ b. cond b (told_under refused (parts t) what).after (parts u)) (sym (not_same u t d)))
-    (cases_eq u t)
+    (λ (e : q ≡ p). ap (λ k. purse k w') e ∙ mine ∙ ap (λ b. cond b then (parts q)) (sym (eq-eqb q p e)))
+    (λ (d : q ≡ p → ⊥). others q (λ e. d (e ∙ ap (λ (c : ConfigData). purse_in c t) is)) ∙ at q ∙ ap (λ b. cond b then (parts q)) (sym (not_same q p d)))
+    (cases_eq q p)
 
 answered_asked : (config : ConfigData) (xs ys zs : List ℕ) (old mid : Option (List ℕ)) (count : ℕ) (w w' : World) (t : ℕ) (who : List ℕ) (what : What) (words : Said) (it : IsPlayed config xs ys old mid count w)
     (s : IsAsked config t who what ys zs) (h : IsTold w t what words w')
@@ -361,10 +383,13 @@ answered_asked : (config : ConfigData) (xs ys zs : List ℕ) (old mid : Option (
 answered_asked config xs ys zs old mid count w w' t who what words it s h =
     let parts : Parts = parts_after config (opening config) it.requests in
     let is = next_asked config parts s.item t who what h.refused s.answer_is s.number in
-    let same : told_under h.refused (view t w) what ≡ told_under h.refused (parts t) what = ap (λ v. told_under h.refused v what) (it.parts t) in
+    let known : t < length config.tenants = known_number who config t s.number in
+    let same : told_under h.refused (view t w) what ≡ told_under h.refused (part_of config parts t) what = ap (λ v. told_under h.refused v what) (view_is config parts w t it.of_config known it.parts) in
     record {
       says = ap (λ (n : Next). n.line) is ∙ ap (λ v. let l : Saying = record { who = Some who; said = v } in l) (sym (h.said ∙ ap (λ (x : Told). x.said) same));
-      leads = λ u. leads_to config parts w w' t what h.refused same h.own h.others it.parts u ∙ ap (λ (n : Next). n.parts u) (sym is);
+      of_config = h.config ∙ it.of_config;
+      leads = λ q. leads_to config parts w w' t (told_under h.refused (view t w) what).after it.of_config h.own h.others it.parts q
+          ∙ ap (λ (x : Told). with_tenant config parts t x.after q) same ∙ ap (λ (n : Next). n.parts q) (sym is);
     }
 
 pub asked_on : EachInTurn → (config : ConfigData) (a b c old mid new : Option (List ℕ)) (count : ℕ) (w w' : World) (answer : Result Request LineFault) (t : ℕ) (who : List ℕ) (what : What) (words : Said)
@@ -436,7 +461,7 @@ pub play_cut : (config : ConfigData) (a b old new : Option (List ℕ)) (w : Worl
 play_cut config a b old new w (Ok u) played stops = tt
 play_cut config a b old new w (Err why) played stops = play_stops config a b old new w why played stops
 
--- in a new farm each tenant has done nothing yet
-pub begun : (config : ConfigData) (w : World) → FarmsAreReplayed → w ≡ opened config → (t : ℕ) → view t w ≡ opening config t
+-- in a new farm no purse has done anything yet
+pub begun : (config : ConfigData) (w : World) → FarmsAreReplayed → w ≡ opened config → (p : ℕ) → purse p w ≡ opening config p
 unfolding opened
-begun config w replayed is t = ap (view t) is ∙ replayed.made config t
+begun config w replayed is p = ap (purse p) is ∙ replayed.made config p

@@ -1,5 +1,5 @@
 -- Each line of a script's output is true.
-use Rattle.std.proofs.Common.{◌≡◌, ℕ, ◌==◌, Bool, true, false, cond, ◌&&◌, List, [], ◌∷◌, ◌++◌, Option, Some, None, refl, sym, ap, ◌∙◌, subst, ⊎_elim, eq-eqb, append_assoc, append-nil}
+use Rattle.std.proofs.Common.{◌≡◌, ℕ, ◌==◌, Bool, true, false, cond, ◌&&◌, List, [], ◌∷◌, ◌++◌, Option, Some, None, refl, sym, ap, ◌∙◌, subst, ⊎_elim, eq-eqb, append_assoc, append-nil, zero, suc, set, get_or, map, ◌<◌, length, ◌≢◌, ◌⊎◌, inl, inr}
 use Rattle.std.specs.Prelude.{Result, Ok, Err, ⊤}
 use Rattle.std.proofs.lemmas.Bool.{cases_eq, eqb-true}
 use Rattle.psplib_mm.specs.Laws.{ReadingGivesProjects}
@@ -9,8 +9,13 @@ use Rattle.mrcpsp.specs.Project.{ProjectData}
 use Rattle.farm_core.specs.declared.entry.Event.{Event}
 use Rattle.farm_core.specs.declared.entry.Event.TheVariants as event
 use Rattle.farm_core.specs.declared.reply.Reply.TheVariants as reply
-use Rattle.farm_core.specs.Config.{ConfigData}
-use Rattle.farm_core.specs.Tenant.{Tenant, newcomer, find_job}
+use Rattle.farm_core.specs.Config.{ConfigData, purse_names, lines_of}
+use Rattle.farm_core.specs.Tenant.{Tenant, find_job, Member, Purse, no_member, new_member, newcomers, seat, own_of, with_seat}
+use Rattle.farm_core.specs.declared.config.TenantLine.{TenantLine}
+use Rattle.farm_core.specs.Purses.{members_of}
+use Rattle.farm_core.specs.World.{purse_in, place_in}
+use Rattle.farm_core.proofs.SeatLemmas.{named, found_at}
+use Rattle.farm_replay.proofs.CounterLemmas.{known_number}
 use Rattle.farm_core.specs.Step as calls
 use Rattle.farm_core.specs.Step.{Answer, Replied, Sent, Step, step}
 use Rattle.farm_core.specs.Held.{nodes_out}
@@ -23,7 +28,7 @@ use Rattle.session_lines.specs.declared.request.LineFault.{LineFault}
 use Rattle.session_lines.specs.declared.request.LineFault.TheVariants.{Eof, Read, TooLong, Syntax, File, NoMemory}
 use Rattle.session_lines.specs.declared.said.Said.TheVariants as said
 use Rattle.farm_session.specs.Heard.{number_of}
-use Rattle.farm_replay.specs.Output.{Told, said_for, told_by, given_back, turned, told_to, may_need, told_under, Parts, opening, with_part, Next, asked, said_to, answered, is_answering, unread, unless_unread, Marked, next, parts_after}
+use Rattle.farm_replay.specs.Output.{Told, said_for, told_by, given_back, turned, told_to, may_need, told_under, Parts, opening, Next, asked, said_to, answered, is_answering, unread, unless_unread, Marked, next, parts_after, part_of, with_tenant}
 use Rattle.farm_replay.proofs.PlayLemmas.{parts_more}
 use Rattle.farm_replay.proofs.PlannedLemmas.{IsPlannedWhat, IsPlannedRequest, ArePlanned, script_planned}
 use Rattle.farm_replay.specs.Truth.{IsTrueSaid, WasSubmitted, EachLineIsTrue}
@@ -88,35 +93,82 @@ under_good made t what refused known planned new =
 
 -- ---- all tenants
 
-abbrev AreAllKnown : (ℕ → Made) → Parts → Type 0
-AreAllKnown made parts = (u : ℕ) → AreKnown (made u) (parts u).jobs
+-- what each tenant's jobs are for is known
+abbrev AreAllKnown : ConfigData → (ℕ → Made) → Parts → Type 0
+AreAllKnown config made parts = (u : ℕ) → u < length config.tenants → AreKnown (made u) (part_of config parts u).jobs
 
-record IsGoodNext (made : ℕ → Made) (owner : Option ℕ) (n : Next) : Type 0 where
+record IsGoodNext (config : ConfigData) (made : ℕ → Made) (owner : Option ℕ) (n : Next) : Type 0 where
   said : (t : ℕ) → owner ≡ Some t → IsTrueSaid (made t) n.line.said
-  jobs : AreAllKnown made n.parts
+  jobs : AreAllKnown config made n.parts
 
-quiet_good : (made : ℕ → Made) (owner : Option ℕ) (n : Next) → ((t : ℕ) → IsTrueSaid (made t) n.line.said) → AreAllKnown made n.parts → IsGoodNext made owner n
-quiet_good made owner n true_line known = record { said = λ t is. true_line t; jobs = known }
+quiet_good : (config : ConfigData) (made : ℕ → Made) (owner : Option ℕ) (n : Next) → ((t : ℕ) → IsTrueSaid (made t) n.line.said) → AreAllKnown config made n.parts → IsGoodNext config made owner n
+quiet_good config made owner n true_line known = record { said = λ t is. true_line t; jobs = known }
 
-asked_good : (made : ℕ → Made) (refused : Bool) (parts : Parts) (request : Request) (owner : Option ℕ) → AreAllKnown made parts → IsPlannedWhat request.what
-    → ((t : ℕ) → owner ≡ Some t → (refused && may_need (parts t) request.what) ≡ false → IsMade (made t) (parts t) request.what) → IsGoodNext made owner (asked refused parts request owner)
-asked_good made refused parts request None known planned new = quiet_good made None (asked refused parts request None) (λ t. tt) known
-asked_good made refused parts request (Some t) known planned new =
-    let it : Told = told_under refused (parts t) request.what in
-    let good = under_good (made t) (parts t) request.what refused (known t) planned (new t refl) in
-    record {
-      said = λ u is. let same : t ≡ u = cc in subst (λ k. IsTrueSaid (made k) it.said) same good.said;
-      jobs = λ u.
-          ⊎_elim
-          (λ (e : u ≡ t).
-          subst (λ k. AreKnown (made k) (with_part parts t it.after k).jobs) (sym e)
-          (subst (λ b. AreKnown (made t) (cond b it.after (parts t)).jobs) (sym (eq-eqb t t refl)) good.jobs))
-          (λ (d : u ≡ t → ⊥). subst (λ b. AreKnown (made u) (cond b it.after (parts u)).jobs) (sym (not_same u t d)) (known u))
-          (cases_eq u t);
-    }
+set_get : (ms : List Member) (k j : ℕ) (m : Member) → (get_or (set ms k m) j no_member ≡ m) ⊎ (get_or (set ms k m) j no_member ≡ get_or ms j no_member)
+set_get [] k j m = inr refl
+set_get (x ∷ ms) zero zero m = inl refl
+set_get (x ∷ ms) zero (suc j) m = inr refl
+set_get (x ∷ ms) (suc k) zero m = inr refl
+set_get (x ∷ ms) (suc k) (suc j) m = set_get ms k j m
+
+set_apart : (ms : List Member) (k j : ℕ) (m : Member) → j ≢ k → get_or (set ms k m) j no_member ≡ get_or ms j no_member
+set_apart [] k j m ne = refl
+set_apart (x ∷ ms) zero zero m ne = absurd (ne refl)
+set_apart (x ∷ ms) zero (suc j) m ne = refl
+set_apart (x ∷ ms) (suc k) zero m ne = refl
+set_apart (x ∷ ms) (suc k) (suc j) m ne = set_apart ms k j m (λ e. ne (ap suc e))
+
+-- two members of one purse have different places
+places_differ : (config : ConfigData) (t u : ℕ) → t < length config.tenants → u < length config.tenants → purse_in config u ≡ purse_in config t → u ≢ t → place_in config u ≢ place_in config t
+places_differ config t u known also same ne e =
+    let names = purse_names config.tenants in
+    let here = found_at names t (named config.tenants t known) in
+    let there = found_at names u (named config.tenants u also) in
+    ne (sym there ∙ ap (λ p. get_or (members_of names p) (place_in config u) 0) same ∙ ap (λ k. get_or (members_of names (purse_in config t)) k 0) e ∙ here)
+
+parts_good : (config : ConfigData) (made : ℕ → Made) (parts : Parts) (t : ℕ) (new : Tenant) → t < length config.tenants → AreAllKnown config made parts → AreKnown (made t) new.jobs
+    → AreAllKnown config made (with_tenant config parts t new)
+parts_good config made parts t new known all good u also =
+    let p = purse_in config t in
+    let q = purse_in config u in
+    let place = place_in config t in
+    let then : Purse = with_seat (parts p) place new in
+    ⊎_elim
+    (λ (same : q ≡ p).
+    let here : with_tenant config parts t new q ≡ then = ap (λ b. cond b then (parts q)) (eq-eqb q p same) in
+    let old : parts p ≡ parts q = ap parts (sym same) in
+    subst (λ (x : Purse). AreKnown (made u) (seat x (place_in config u)).jobs) (sym here)
+    (⊎_elim
+    (λ (e : u ≡ t).
+    ⊎_elim
+    (λ (is : get_or then.members (place_in config u) no_member ≡ own_of new). subst (λ (m : Member). AreKnown (made u) m.jobs) (sym is) (subst (λ k. AreKnown (made k) new.jobs) (sym e) good))
+    (λ (is : get_or then.members (place_in config u) no_member ≡ get_or (parts p).members (place_in config u) no_member).
+    subst (λ (m : Member). AreKnown (made u) m.jobs) (sym is) (subst (λ (x : Purse). AreKnown (made u) (seat x (place_in config u)).jobs) (sym old) (all u also)))
+    (set_get (parts p).members place (place_in config u) (own_of new)))
+    (λ (d : u ≡ t → ⊥).
+    subst (λ (m : Member). AreKnown (made u) m.jobs) (sym (set_apart (parts p).members place (place_in config u) (own_of new) (places_differ config t u known also same d)))
+    (subst (λ (x : Purse). AreKnown (made u) (seat x (place_in config u)).jobs) (sym old) (all u also)))
+    (cases_eq u t)))
+    (λ (differ : q ≡ p → ⊥).
+    let here : with_tenant config parts t new q ≡ parts q = ap (λ b. cond b then (parts q)) (not_same q p differ) in
+    subst (λ (x : Purse). AreKnown (made u) (seat x (place_in config u)).jobs) (sym here) (all u also))
+    (cases_eq q p)
   where
     not_same : (u t : ℕ) → (u ≡ t → ⊥) → (u == t) ≡ false
     not_same u t d = elim (u == t) as (λ b. (u == t) ≡ b → b ≡ false) [ true ↦ λ e. absurd (d (eqb-true u t e)) | false ↦ λ _. refl ] refl
+
+asked_good : (config : ConfigData) (made : ℕ → Made) (refused : Bool) (parts : Parts) (request : Request) (owner : Option ℕ) → ((t : ℕ) → owner ≡ Some t → t < length config.tenants)
+    → AreAllKnown config made parts → IsPlannedWhat request.what
+    → ((t : ℕ) → owner ≡ Some t → (refused && may_need (part_of config parts t) request.what) ≡ false → IsMade (made t) (part_of config parts t) request.what)
+    → IsGoodNext config made owner (asked config refused parts request owner)
+asked_good config made refused parts request None there known planned new = quiet_good config made None (asked config refused parts request None) (λ t. tt) known
+asked_good config made refused parts request (Some t) there known planned new =
+    let it : Told = told_under refused (part_of config parts t) request.what in
+    let good = under_good (made t) (part_of config parts t) request.what refused (known t (there t refl)) planned (new t refl) in
+    record {
+      said = λ u is. let same : t ≡ u = cc in subst (λ k. IsTrueSaid (made k) it.said) same good.said;
+      jobs = parts_good config made parts t it.after (there t refl) known good.jobs;
+    }
 
 abbrev owner_of : ConfigData → Result Request LineFault → Option ℕ
 owner_of config (Ok request) = number_of request.who config
@@ -125,7 +177,7 @@ owner_of config (Err fault) = None
 -- what a request makes is known
 abbrev NewAt : (ℕ → Made) → ConfigData → Bool → Parts → Result Request LineFault → Type 0
 NewAt made config refused parts (Ok request) =
-    (t : ℕ) → number_of request.who config ≡ Some t → (refused && may_need (parts t) request.what) ≡ false → IsMade (made t) (parts t) request.what
+    (t : ℕ) → number_of request.who config ≡ Some t → (refused && may_need (part_of config parts t) request.what) ≡ false → IsMade (made t) (part_of config parts t) request.what
 NewAt made config refused parts (Err fault) = ⊤
 
 fault_true : (made : Made) (why : LineFault) → IsTrueSaid made (said_to why).said
@@ -136,21 +188,26 @@ fault_true made (Syntax who) = tt
 fault_true made (File who f) = tt
 fault_true made (NoMemory who) = tt
 
-answered_good : (made : ℕ → Made) (config : ConfigData) (refused : Bool) (parts : Parts) (answer : Result Request LineFault) → AreAllKnown made parts → IsPlannedRequest answer
-    → NewAt made config refused parts answer → IsGoodNext made (owner_of config answer) (answered config refused parts answer)
-answered_good made config refused parts (Ok request) known planned new = asked_good made refused parts request (number_of request.who config) known planned new
-answered_good made config refused parts (Err why) known planned new = quiet_good made None (answered config refused parts (Err why)) (λ t. fault_true (made t) why) known
+answered_good : (made : ℕ → Made) (config : ConfigData) (refused : Bool) (parts : Parts) (answer : Result Request LineFault) → AreAllKnown config made parts → IsPlannedRequest answer
+    → NewAt made config refused parts answer → IsGoodNext config made (owner_of config answer) (answered config refused parts answer)
+answered_good made config refused parts (Ok request) known planned new = asked_good config made refused parts request (number_of request.who config) (λ t at. known_number request.who config t at) known planned new
+answered_good made config refused parts (Err why) known planned new = quiet_good config made None (answered config refused parts (Err why)) (λ t. fault_true (made t) why) known
 
-next_good : (made : ℕ → Made) (config : ConfigData) (parts : Parts) (m : Marked) → AreAllKnown made parts → IsPlannedRequest m.item.answer
-    → (unread m.refused m.item.submits ≡ None → NewAt made config (is_answering m.refused) parts m.item.answer) → IsGoodNext made (owner_of config m.item.answer) (next config parts m)
+next_good : (made : ℕ → Made) (config : ConfigData) (parts : Parts) (m : Marked) → AreAllKnown config made parts → IsPlannedRequest m.item.answer
+    → (unread m.refused m.item.submits ≡ None → NewAt made config (is_answering m.refused) parts m.item.answer) → IsGoodNext config made (owner_of config m.item.answer) (next config parts m)
 next_good made config parts m known planned new = by (unread m.refused m.item.submits) new
   where
     by : (submits : Option (List ℕ)) → (submits ≡ None → NewAt made config (is_answering m.refused) parts m.item.answer)
-        → IsGoodNext made (owner_of config m.item.answer) (unless_unread submits parts (answered config (is_answering m.refused) parts m.item.answer))
+        → IsGoodNext config made (owner_of config m.item.answer) (unless_unread submits parts (answered config (is_answering m.refused) parts m.item.answer))
     by None n = answered_good made config (is_answering m.refused) parts m.item.answer known planned (n refl)
-    by (Some who) n = quiet_good made (owner_of config m.item.answer) (unless_unread (Some who) parts (answered config (is_answering m.refused) parts m.item.answer)) (λ t. tt) known
+    by (Some who) n = quiet_good config made (owner_of config m.item.answer) (unless_unread (Some who) parts (answered config (is_answering m.refused) parts m.item.answer)) (λ t. tt) known
 
 -- ---- a whole script
+
+no_jobs : (lines : List TenantLine) (place : ℕ) → (get_or (map new_member lines) place no_member).jobs ≡ []
+no_jobs [] place = refl
+no_jobs (line ∷ lines) zero = refl
+no_jobs (line ∷ lines) (suc place) = no_jobs lines place
 
 module _ (config : ConfigData) (all : List Marked) where
   made_in : ℕ → Made
@@ -160,21 +217,21 @@ module _ (config : ConfigData) (all : List Marked) where
   after done = parts_after config (opening config) done
 
   says_job : (parts : Parts) (m : Marked) (who : List ℕ) (kind : Kind) (quanta : ℕ) (project : ProjectData) (t s : ℕ) → m.item.answer ≡ Ok (record { who = who; what = Submit kind quanta project })
-      → unread m.refused m.item.submits ≡ None → number_of who config ≡ Some t → (is_answering m.refused && may_need (parts t) (Submit kind quanta project)) ≡ false
-      → (step (parts t) (event.Submit (record { project = project; kind = kind }) quanta)).answer ≡ Replied (reply.Job s) → said.Reply (reply.Job s) ≡ (next config parts m).line.said
+      → unread m.refused m.item.submits ≡ None → number_of who config ≡ Some t → (is_answering m.refused && may_need (part_of config parts t) (Submit kind quanta project)) ≡ false
+      → (step (part_of config parts t) (event.Submit (record { project = project; kind = kind }) quanta)).answer ≡ Replied (reply.Job s) → said.Reply (reply.Job s) ≡ (next config parts m).line.said
   says_job parts m who kind quanta project t s asks none number kept told =
       let plan : Plan = record { project = project; kind = kind } in
       let request : Request = record { who = who; what = Submit kind quanta project } in
       let r : Bool = is_answering m.refused in
       ap said_for (sym told)
-      ∙ ap (λ b. (cond b (let it : Told = record { said = said.Reply reply.NoMemory; after = parts t } in it) (told_to (parts t) (Submit kind quanta project))).said) (sym kept)
-      ∙ ap (λ n. (asked r parts request n).line.said) (sym number)
+      ∙ ap (λ b. (cond b (let it : Told = record { said = said.Reply reply.NoMemory; after = part_of config parts t } in it) (told_to (part_of config parts t) (Submit kind quanta project))).said) (sym kept)
+      ∙ ap (λ n. (asked config r parts request n).line.said) (sym number)
       ∙ ap (λ a. (answered config r parts a).line.said) (sym asks)
       ∙ ap (λ u. (unless_unread u parts (answered config r parts m.item.answer)).line.said) (sym none)
 
   new_by : (before : List Marked) (m : Marked) (behind : List Marked) → all ≡ before ++ m ∷ behind → (who : List ℕ) (what : What) → m.item.answer ≡ Ok (record { who = who; what = what })
-      → unread m.refused m.item.submits ≡ None → (t : ℕ) → number_of who config ≡ Some t → (is_answering m.refused && may_need (after before t) what) ≡ false
-      → IsMade (made_in t) (after before t) what
+      → unread m.refused m.item.submits ≡ None → (t : ℕ) → number_of who config ≡ Some t → (is_answering m.refused && may_need (part_of config (after before) t) what) ≡ false
+      → IsMade (made_in t) (part_of config (after before) t) what
   unfolding made_in after
   new_by before m behind whole who (Submit kind quanta project) asks none t number kept = λ s told. (
     quanta,
@@ -204,22 +261,22 @@ module _ (config : ConfigData) (all : List Marked) where
   new_at before m behind whole none (Ok request) is = λ t number kept. new_by before m behind whole request.who request.what is none t number kept
   new_at before m behind whole none (Err why) is = tt
 
-  good_at : (before : List Marked) (m : Marked) (behind : List Marked) → all ≡ before ++ m ∷ behind → AreAllKnown made_in (after before) → IsPlannedRequest m.item.answer
-      → IsGoodNext made_in (owner_of config m.item.answer) (next config (after before) m)
+  good_at : (before : List Marked) (m : Marked) (behind : List Marked) → all ≡ before ++ m ∷ behind → AreAllKnown config made_in (after before) → IsPlannedRequest m.item.answer
+      → IsGoodNext config made_in (owner_of config m.item.answer) (next config (after before) m)
   good_at before m behind whole known planned = next_good made_in config (after before) m known planned (λ none. new_at before m behind whole none m.item.answer refl)
 
-  known_on : (done todo behind : List Marked) → all ≡ done ++ (todo ++ behind) → ArePlanned todo → AreAllKnown made_in (after done) → AreAllKnown made_in (after (done ++ todo))
+  known_on : (done todo behind : List Marked) → all ≡ done ++ (todo ++ behind) → ArePlanned todo → AreAllKnown config made_in (after done) → AreAllKnown config made_in (after (done ++ todo))
   unfolding after
-  known_on done [] behind whole planned known = subst (λ l. AreAllKnown made_in (after l)) (sym (append-nil done)) known
+  known_on done [] behind whole planned known = subst (λ l. AreAllKnown config made_in (after l)) (sym (append-nil done)) known
   known_on done (m ∷ ms) behind whole planned known =
       let good = good_at done m (ms ++ behind) whole known planned.0 in
-      let more : AreAllKnown made_in (after (done ++ m ∷ [])) = subst (AreAllKnown made_in) (sym (parts_more config (opening config) done m)) good.jobs in
-      subst (λ l. AreAllKnown made_in (after l)) (append_assoc done (m ∷ []) ms)
+      let more : AreAllKnown config made_in (after (done ++ m ∷ [])) = subst (AreAllKnown config made_in) (sym (parts_more config (opening config) done m)) good.jobs in
+      subst (λ l. AreAllKnown config made_in (after l)) (append_assoc done (m ∷ []) ms)
       (known_on (done ++ m ∷ []) ms behind (whole ∙ sym (append_assoc done (m ∷ []) (ms ++ behind))) planned.1 more)
 
-  none_known : AreAllKnown made_in (after [])
-  unfolding after newcomer
-  none_known u = tt
+  none_known : AreAllKnown config made_in (after [])
+  unfolding after newcomers
+  none_known u known = rw (no_jobs (lines_of config.tenants (purse_in config u)) (place_in config u)) tt
 
 planned_parts : (xs ys : List Marked) → ArePlanned (xs ++ ys) → ArePlanned xs × ArePlanned ys
 planned_parts [] ys h = (tt, h)

@@ -1,11 +1,13 @@
--- The output of a script as bytes: its lines, and those of one tenant.
-use Rattle.std.specs.Prelude.{◌≡◌, ℕ, true, List, filter, map, Some}
+-- The output of a script as bytes: its lines, and those of one purse.
+use Rattle.std.specs.Prelude.{◌≡◌, ℕ, Bool, true, List, filter, map, Some}
+use Rattle.std.specs.List.{list_all, list_any}
 use Rattle.farm_core.specs.Config.{ConfigData}
-use Rattle.farm_core.specs.Name.{is_name}
+use Rattle.farm_core.specs.Name.{is_name, same_bytes}
+use Rattle.farm_core.specs.World.{opened_purse}
 use Rattle.session_lines.specs.ReplyText.{who_text}
 use Rattle.session_lines.specs.Script.{lines_of, requests_of}
 use Rattle.farm_replay.specs.Output.{Marked, items_of, opening, lines_for, line_text, output_of}
-use Rattle.farm_replay.specs.Isolation.{own_requests, terms_of}
+use Rattle.farm_replay.specs.Isolation.{seat_of, is_members, own_requests}
 use Rattle.farm_replay.specs.Begins.{begins_with}
 
 -- in the output of a script, whatever memory was refused, the lines of the bytes are those that answer its requests, one for each
@@ -13,19 +15,30 @@ abbrev pub LinesAreReplies : Type 0
 LinesAreReplies = (config : ConfigData) (script : List ℕ) (requests : List Marked) → items_of requests ≡ requests_of script →
     lines_of (output_of config requests) ≡ map line_text (lines_for config (opening config) requests)
 
--- the lines of these bytes that begin with `@`, the name and a space
-abbrev pub lines_beginning : List ℕ → List ℕ → List (List ℕ)
-lines_beginning name bytes = filter (begins_with (who_text (Some name))) (lines_of bytes)
+-- these are the names of a purse's members
+pub record AreNamesOf (config : ConfigData) (p : ℕ) (names : List (List ℕ)) : Type 0 where
+  pub named : list_all is_name names ≡ true
+  pub exact : (who : List ℕ) → list_any (λ name. same_bytes who name) names ≡ is_members config p (Some who)
 
--- those of the output of a script are the lines of the output of that tenant's requests alone
+-- the lines of these bytes that begin with `@`, one of the names and a space
+abbrev pub begins_with_any : List (List ℕ) → List ℕ → Bool
+begins_with_any names line = list_any (λ name. begins_with (who_text (Some name)) line) names
+
+abbrev pub lines_beginning : List (List ℕ) → List ℕ → List (List ℕ)
+lines_beginning names bytes = filter (begins_with_any names) (lines_of bytes)
+
+-- those of the output of a script are the lines of the output of the purse's requests alone
 abbrev pub EachOutputIsAlone : Type 0
 EachOutputIsAlone = (config : ConfigData) (script : List ℕ) (requests : List Marked) → items_of requests ≡ requests_of script →
-    (name : List ℕ) → is_name name ≡ true →
-    lines_beginning name (output_of config requests) ≡ lines_of (output_of config (own_requests name requests))
+    (p : ℕ) (names : List (List ℕ)) → AreNamesOf config p names →
+    lines_beginning names (output_of config requests) ≡ lines_of (output_of config (own_requests config p requests))
 
--- and so they are the same in the outputs of two scripts that agree in the tenant's line of the configuration and in its own requests
+-- and so they are the same in the outputs of two scripts in which the purse begins alike, has members of the same names at the same places,
+-- and these ask for the same
 abbrev pub OutputsAreIsolated : Type 0
 OutputsAreIsolated = (config elsewhere : ConfigData) (script other : List ℕ) (requests others : List Marked) →
-    items_of requests ≡ requests_of script → items_of others ≡ requests_of other → (name : List ℕ) → is_name name ≡ true →
-    terms_of name config ≡ terms_of name elsewhere → own_requests name requests ≡ own_requests name others →
-    lines_beginning name (output_of config requests) ≡ lines_beginning name (output_of elsewhere others)
+    items_of requests ≡ requests_of script → items_of others ≡ requests_of other →
+    (p q : ℕ) (names : List (List ℕ)) → AreNamesOf config p names → AreNamesOf elsewhere q names →
+    opened_purse config p ≡ opened_purse elsewhere q → ((who : List ℕ) → seat_of config p who ≡ seat_of elsewhere q who) →
+    own_requests config p requests ≡ own_requests elsewhere q others →
+    lines_beginning names (output_of config requests) ≡ lines_beginning names (output_of elsewhere others)

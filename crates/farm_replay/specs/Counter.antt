@@ -1,21 +1,22 @@
--- The tills of a script's tenants.
-use Rattle.std.specs.Prelude.{ℕ, ◌+◌, List, [], ◌∷◌}
+-- The tills of a script's purses.
+use Rattle.std.specs.Prelude.{ℕ, List, map}
+use Rattle.std.specs.List.{range_with_len}
 use Rattle.quanta_till.specs.Till.{TillValue}
-use Rattle.farm_core.specs.declared.config.TenantLine.{TenantLine}
-use Rattle.farm_core.specs.Config.{ConfigData}
+use Rattle.farm_core.specs.Config.{ConfigData, lines_of, granted_by}
+use Rattle.farm_core.specs.World.{purses_in}
 
--- a till: whose it is, and the quanta that it was opened with
+-- a till: of which purse it is, and the quanta that it was opened with
 pub record CounterData : Type 0 where
-  pub tenant : ℕ
+  pub purse : ℕ
   pub granted : ℕ
 
 abbrev pub counter_of : TillValue → CounterData
-counter_of till = record { tenant = till.tenant; granted = till.granted }
+counter_of till = record { purse = till.purse; granted = till.granted }
 
--- one for each of these tenants, which are numbered from n on, opened with its quanta
-abbrev pub counters_from : ℕ → List TenantLine → List CounterData
-counters_from n [] = []
-counters_from n (line ∷ lines) = record { tenant = n; granted = line.quanta } ∷ counters_from (n + 1) lines
+-- that of a purse, opened with what its members' lines grant
+abbrev pub counter_for : ConfigData → ℕ → CounterData
+counter_for config p = record { purse = p; granted = granted_by (lines_of config.tenants p) }
 
+-- one for each purse, in the order of their numbers
 abbrev pub counters_of : ConfigData → List CounterData
-counters_of config = counters_from 0 config.tenants
+counters_of config = map (counter_for config) (range_with_len 0 (purses_in config))

@@ -6,8 +6,8 @@ use Rattle.farm_core.specs.declared.turn.Turn.{Turn}
 use Rattle.farm_core.specs.declared.reply.Reply.TheVariants as reply
 use Rattle.farm_core.specs.declared.reply.NoTurn.{NoTurn}
 use Rattle.farm_core.specs.declared.reply.NoTurn.TheVariants as no_turn
-use Rattle.farm_core.specs.Tenant.{find_job}
-use Rattle.farm_core.specs.World.{World, view}
+use Rattle.farm_core.specs.Tenant.{find_job, with_seat}
+use Rattle.farm_core.specs.World.{World, view, purse_in, place_in, purse}
 use Rattle.farm_core.specs.Held.{AreHeld, is_out_of}
 use Rattle.session_lines.specs.declared.request.What.{What}
 use Rattle.session_lines.specs.declared.said.Said.{Said}
@@ -32,12 +32,12 @@ pub record IsFloor {J : Type 0} (meaning : J → Meaning) (w : World) (turns : L
   pub apart : AreApart turns
   pub all : (t s : ℕ) → is_out_of (find_job s (view t w).jobs) ≡ true → has_turn t s turns ≡ true
 
--- a tenant's request was answered, whether or not memory was refused, and nothing changed for the other tenants
+-- a tenant's request was answered, whether or not memory was refused: its purse stands as after that, and nothing changed for the other purses
 pub record IsTold (old : World) (t : ℕ) (what : What) (answer : Said) (new : World) : Type 0 where
   pub refused : Bool
   pub said : answer ≡ (told_under refused (view t old) what).said
-  pub own : view t new ≡ (told_under refused (view t old) what).after
-  pub others : (u : ℕ) → u ≢ t → view u new ≡ view u old
+  pub own : purse (purse_in old.config t) new ≡ with_seat (purse (purse_in old.config t) old) (place_in old.config t) (told_under refused (view t old) what).after
+  pub others : (p : ℕ) → p ≢ purse_in old.config t → purse p new ≡ purse p old
   pub config : new.config ≡ old.config
 
 -- what is said where no turn was taken

@@ -1,8 +1,9 @@
--- One tenant's lines in the output of a script.
-use Rattle.std.specs.Prelude.{◌≡◌, ℕ, Bool, false, List, filter, Option, Some, None, option_map, Result, Ok, Err}
-use Rattle.farm_core.specs.declared.config.TenantLine.{TenantLine}
-use Rattle.farm_core.specs.Config.{ConfigData, same_bytes}
-use Rattle.farm_core.specs.World.{terms_in}
+-- One purse's lines in the output of a script.
+use Rattle.std.specs.Prelude.{◌≡◌, ℕ, ◌==◌, Bool, false, cond, List, filter, Option, Some, None, is_some, Result, Ok, Err}
+use Rattle.farm_core.specs.Config.{ConfigData}
+use Rattle.farm_core.specs.Name.{same_bytes}
+use Rattle.farm_core.specs.World.{purse_in, place_in, opened_purse}
+use Rattle.farm_core.specs.Laws.{IsLone}
 use Rattle.session_lines.specs.declared.request.Request.{Request}
 use Rattle.session_lines.specs.declared.request.LineFault.{LineFault}
 use Rattle.farm_session.specs.Heard.{number_of}
@@ -24,24 +25,48 @@ abbrev pub is_of : List ℕ → Option (List ℕ) → Bool
 is_of name None = false
 is_of name (Some who) = same_bytes who name
 
--- the lines that begin with a tenant's name, and the requests that they answer
-abbrev pub own_lines : List ℕ → List Saying → List Saying
-own_lines name lines = filter (λ (line : Saying). is_of name line.who) lines
+-- the place of the member of that name, if it is one of the purse
+abbrev pub place_if : ConfigData → ℕ → Option ℕ → Option ℕ
+place_if config p None = None
+place_if config p (Some t) = cond (purse_in config t == p) (Some (place_in config t)) None
 
-abbrev pub own_requests : List ℕ → List Marked → List Marked
-own_requests name requests = filter (λ (m : Marked). is_of name (whose m)) requests
+abbrev pub seat_of : ConfigData → ℕ → List ℕ → Option ℕ
+seat_of config p who = place_if config p (number_of who config)
 
--- the lines that a tenant reads are those of its own requests alone
+-- the name is that of a member of the purse
+abbrev pub is_members : ConfigData → ℕ → Option (List ℕ) → Bool
+is_members config p None = false
+is_members config p (Some who) = is_some (seat_of config p who)
+
+-- the lines that begin with the name of a member of a purse, and the requests that they answer
+abbrev pub own_lines : ConfigData → ℕ → List Saying → List Saying
+own_lines config p lines = filter (λ (line : Saying). is_members config p line.who) lines
+
+abbrev pub own_requests : ConfigData → ℕ → List Marked → List Marked
+own_requests config p requests = filter (λ (m : Marked). is_members config p (whose m)) requests
+
+-- the lines that a purse's members read are those of their own requests alone
 abbrev pub EachReplaysAlone : Type 0
-EachReplaysAlone = (config : ConfigData) (requests : List Marked) (name : List ℕ) →
-    own_lines name (lines_for config (opening config) requests) ≡ lines_for config (opening config) (own_requests name requests)
+EachReplaysAlone = (config : ConfigData) (requests : List Marked) (p : ℕ) →
+    own_lines config p (lines_for config (opening config) requests) ≡ lines_for config (opening config) (own_requests config p requests)
 
--- a tenant's line of the configuration, if there is one
-abbrev pub terms_of : List ℕ → ConfigData → Option TenantLine
-terms_of name config = option_map (terms_in config) (number_of name config)
-
--- two replays that agree in a tenant's line of the configuration and in its own requests tell it the same, whatever the other tenants do
+-- two replays in which a purse begins alike, has members of the same names at the same places, and these ask for the same, tell them the same,
+-- whatever the other tenants do
 abbrev pub ReplaysAreIsolated : Type 0
-ReplaysAreIsolated = (config elsewhere : ConfigData) (requests others : List Marked) (name : List ℕ) →
-    terms_of name config ≡ terms_of name elsewhere → own_requests name requests ≡ own_requests name others →
-    own_lines name (lines_for config (opening config) requests) ≡ own_lines name (lines_for elsewhere (opening elsewhere) others)
+ReplaysAreIsolated = (config elsewhere : ConfigData) (requests others : List Marked) (p q : ℕ) →
+    opened_purse config p ≡ opened_purse elsewhere q → ((who : List ℕ) → seat_of config p who ≡ seat_of elsewhere q who) →
+    own_requests config p requests ≡ own_requests elsewhere q others →
+    own_lines config p (lines_for config (opening config) requests) ≡ own_lines elsewhere q (lines_for elsewhere (opening elsewhere) others)
+
+-- ---- a tenant that has its purse for itself
+
+abbrev pub lone_lines : List ℕ → List Saying → List Saying
+lone_lines name lines = filter (λ (line : Saying). is_of name line.who) lines
+
+abbrev pub lone_requests : List ℕ → List Marked → List Marked
+lone_requests name requests = filter (λ (m : Marked). is_of name (whose m)) requests
+
+-- the lines that it reads are those of its own requests alone
+abbrev pub EachLoneReplaysAlone : Type 0
+EachLoneReplaysAlone = (config : ConfigData) (requests : List Marked) (name : List ℕ) (t : ℕ) → number_of name config ≡ Some t → IsLone config t →
+    lone_lines name (lines_for config (opening config) requests) ≡ lines_for config (opening config) (lone_requests name requests)

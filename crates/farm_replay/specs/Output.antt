@@ -5,10 +5,10 @@ use Rattle.std.specs.List.{flat_map}
 use Rattle.farm_core.specs.declared.entry.Event.TheVariants as event
 use Rattle.farm_core.specs.declared.reply.Reply.TheVariants as reply
 use Rattle.farm_core.specs.Config.{ConfigData}
-use Rattle.farm_core.specs.Tenant.{Tenant, newcomer, find_job}
+use Rattle.farm_core.specs.Tenant.{Tenant, Purse, seat, with_seat, find_job}
 use Rattle.farm_core.specs.Step as step
 use Rattle.farm_core.specs.Step.{Step, Answer, Replied, Sent, step, has_room}
-use Rattle.farm_core.specs.World.{terms_in}
+use Rattle.farm_core.specs.World.{purse_in, place_in, opened_purse}
 use Rattle.farm_core.specs.Held.{nodes_out}
 use Rattle.session_lines.specs.declared.request.Request.{Request}
 use Rattle.session_lines.specs.declared.request.What.{What}
@@ -79,33 +79,41 @@ may_need t what = has_room 1 t
 abbrev pub told_under : Bool → Tenant → What → Told
 told_under refused t what = cond (refused && may_need t what) (record { said = said.Reply reply.NoMemory; after = t }) (told_to t what)
 
--- ---- all tenants
+-- ---- all purses
 
--- each tenant's part of the farm, by its number
+-- each purse's part of the farm, by its number
 abbrev pub Parts : Type 0
-Parts = ℕ → Tenant
+Parts = ℕ → Purse
 
 abbrev pub opening : ConfigData → Parts
-opening config t = newcomer (terms_in config t)
+opening config p = opened_purse config p
 
-abbrev pub with_part : Parts → ℕ → Tenant → Parts
-with_part parts t new u = cond (u == t) new (parts u)
+abbrev pub with_part : Parts → ℕ → Purse → Parts
+with_part parts p new q = cond (q == p) new (parts q)
+
+-- where a tenant stands at its purse
+abbrev pub part_of : ConfigData → Parts → ℕ → Tenant
+part_of config parts t = seat (parts (purse_in config t)) (place_in config t)
+
+-- the parts once it stands otherwise
+abbrev pub with_tenant : ConfigData → Parts → ℕ → Tenant → Parts
+with_tenant config parts t new = with_part parts (purse_in config t) (with_seat (parts (purse_in config t)) (place_in config t) new)
 
 -- a reply line: whose it is, where that is known, and what is said
 pub record Saying : Type 0 where
   pub who : Option (List ℕ)
   pub said : Said
 
--- the line that answers a request, and the tenants' parts then
+-- the line that answers a request, and the purses' parts then
 pub record Next : Type 0 where
   pub line : Saying
   pub parts : Parts
 
-abbrev pub asked : Bool → Parts → Request → Option ℕ → Next
-asked refused parts request None = record { line = record { who = Some request.who; said = said.NoTenant }; parts = parts }
-asked refused parts request (Some t) =
-    let it : Told = told_under refused (parts t) request.what in
-    record { line = record { who = Some request.who; said = it.said }; parts = with_part parts t it.after }
+abbrev pub asked : ConfigData → Bool → Parts → Request → Option ℕ → Next
+asked config refused parts request None = record { line = record { who = Some request.who; said = said.NoTenant }; parts = parts }
+asked config refused parts request (Some t) =
+    let it : Told = told_under refused (part_of config parts t) request.what in
+    record { line = record { who = Some request.who; said = it.said }; parts = with_tenant config parts t it.after }
 
 -- what is said where bytes are no request; the end of the script and a failed read are no request's
 abbrev pub said_to : LineFault → Saying
@@ -117,7 +125,7 @@ said_to (File who fault) = record { who = Some who; said = said.File fault }
 said_to (NoMemory who) = record { who = Some who; said = said.Reply reply.NoMemory }
 
 abbrev pub answered : ConfigData → Bool → Parts → Result Request LineFault → Next
-answered config refused parts (Ok request) = asked refused parts request (number_of request.who config)
+answered config refused parts (Ok request) = asked config refused parts request (number_of request.who config)
 answered config refused parts (Err fault) = record { line = said_to fault; parts = parts }
 
 -- where memory was refused that a request needed: nowhere, for the text of a submit and its project, or for its answer
@@ -150,7 +158,7 @@ pub record Marked : Type 0 where
 abbrev pub next : ConfigData → Parts → Marked → Next
 next config parts m = unless_unread (unread m.refused m.item.submits) parts (answered config (is_answering m.refused) parts m.item.answer)
 
--- the lines that answer these requests, one after another, and the tenants' parts at their end
+-- the lines that answer these requests, one after another, and the purses' parts at their end
 abbrev pub lines_for : ConfigData → Parts → List Marked → List Saying
 lines_for config parts [] = []
 lines_for config parts (m ∷ ms) = (next config parts m).line ∷ lines_for config (next config parts m).parts ms

@@ -1,6 +1,6 @@
 -- Which replies refuse a request.
 use Rattle.std.specs.Prelude.{Bool, take, codes}
-use Rattle.farm_core.specs.Config.{same_bytes}
+use Rattle.farm_core.specs.Name.{same_bytes}
 use Rattle.session_lines.specs.declared.said.Said.{Said}
 use Rattle.session_lines.specs.ReplyText.{said_text}
 

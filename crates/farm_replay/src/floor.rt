@@ -2,11 +2,12 @@
 ghost use Rattle.std.specs.Prelude.{◌≡◌, ◌≢◌, ℕ, ◌<◌, ◌-◌, [], length, position, false, IfOk, IfErr, IfSome};
 ghost use Rattle.quanta_till.specs.Lease.{empty_lease};
 ghost use Rattle.farm_core.specs.Tenant.{find_job};
-ghost use Rattle.farm_core.specs.World.{World, opened, terms_in, view, IsReplayed, Follows};
+ghost use Rattle.farm_core.specs.World.{World, opened, purse_in, view, IsReplayed, Follows};
 ghost use Rattle.farm_core.specs.Step.{Sent};
 ghost use Rattle.farm_core.specs.Turn.{IsNotTaken};
 ghost use Rattle.farm_core.specs.Held.{is_out_of, TakenTurnsAreHeld, TakenJobsWereNotOut, TurnsStayHeld, HeldTurnsAreNoStrangers, HeldTurnsRunTheirNodes, OnlyTakenJobsAreOut, GivenJobsAreNotOut};
 ghost use Rattle.session_lines.specs.declared.request.What.TheVariants as what;
+ghost use Rattle.farm_replay.specs.Counter.{counter_of, counter_for};
 ghost use Rattle.farm_replay.specs.Floor.{IsFloor, IsTold, is_turn_of, untaken};
 
 use crate::counter::Counter;
@@ -41,12 +42,12 @@ fn untaken(why: NoTurn) -> Said
     }
 }
 
-/// A plan with a lease of the tenant's till, of which nothing was drawn. There is nothing where there is no memory for it.
-fn ready_for(alloc: Global, counter: &mut Counter, plan: &Plan) -> Option<Ready>
+/// A plan with a tenant's lease of its purse's till, of which nothing was drawn. There is nothing where there is no memory for it.
+fn ready_for(alloc: Global, counter: &mut Counter, tenant: u32, plan: &Plan) -> Option<Ready>
     ensures counter { counter.new ≡ counter.old }
-    ensures made { IfSome result (λ ready. ready ≡ record { plan = plan.now; lease = empty_lease counter.old }) }
+    ensures made { IfSome result (λ ready. ready ≡ record { plan = plan.now; lease = empty_lease counter.old tenant }) }
 {
-    let lease = counter.lease().ok()?;
+    let lease = counter.lease(tenant).ok()?;
     Ready::of(alloc, lease, plan)
 }
 
@@ -95,8 +96,7 @@ impl<J: Strategy> Floor<J> {
         make: &M,
     ) -> Said
         requires known { tenant < length self.old.farm.config.tenants }
-        requires counter { counter.old.tenant ≡ tenant }
-        requires granted { counter.old.granted ≡ (terms_in self.old.farm.config tenant).quanta }
+        requires counter { counter_of counter.old ≡ counter_for self.old.farm.config (purse_in self.old.farm.config tenant) }
         requires make { M.IsAlwaysCallable make.now }
         requires floor { IsFloor J.meaning self.old.farm self.old.held.items }
         ensures counter { counter.new ≡ counter.old }
@@ -104,7 +104,7 @@ impl<J: Strategy> Floor<J> {
         ensures floor { IsFloor J.meaning self.new.farm self.new.held.items }
     {
         know_turns(&self.farm);
-        let Some(ready) = ready_for(alloc, counter, &plan) else {
+        let Some(ready) = ready_for(alloc, counter, tenant, &plan) else {
             return Said::Reply(Reply::NoMemory);
         };
         let Some(search) = make(ready) else {
@@ -191,8 +191,7 @@ impl<J: Strategy> Floor<J> {
         make: &M,
     ) -> Said
         requires known { tenant < length self.old.farm.config.tenants }
-        requires counter { counter.old.tenant ≡ tenant }
-        requires granted { counter.old.granted ≡ (terms_in self.old.farm.config tenant).quanta }
+        requires counter { counter_of counter.old ≡ counter_for self.old.farm.config (purse_in self.old.farm.config tenant) }
         requires make { M.IsAlwaysCallable make.now }
         requires floor { IsFloor J.meaning self.old.farm self.old.held.items }
         ensures counter { counter.new ≡ counter.old }

@@ -112,7 +112,8 @@ fn play<J: Strategy, R: Read, W: Write, M: Fn(Ready) -> Option<J>>(
                 if let Err(fault) = send_before_nodes(&asked, writer) {
                     return Err(fault);
                 }
-                let counter = &mut counters[tenant as usize];
+                let purse = config.purse_of(tenant);
+                let counter = &mut counters[purse as usize];
                 let said = floor.answer(alloc, counter, tenant, asked, make);
                 notes.add(script.line(), script.is_doubtful(), &said);
                 if let Err(fault) = tell(writer, Some(who), said) {

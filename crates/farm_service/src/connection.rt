@@ -1,6 +1,8 @@
 //! One connection.
-ghost use Rattle.std.specs.Prelude.{◌≡◌, ◌<◌, length};
+ghost use Rattle.std.specs.Prelude.{◌≡◌, ◌<◌, length, Some, IfSome};
+ghost use Rattle.quanta_till.specs.Lease.{empty_lease};
 ghost use Rattle.farm_service.specs.Known.{IsKnown};
+ghost use Rattle.farm_service.specs.Tills.{AreTillsOf, IsTillOf};
 
 use crate::lobby::Lobby;
 use crate::shared::{Asked, Shared};
@@ -29,20 +31,24 @@ fn heard(config: &Config, read: Result<Request, LineFault>) -> Heard
     }
 }
 
-/// A job's search, made for a plan with a lease of the tenant's till. There is nothing where there is no memory for it.
+/// A job's search, made for a plan with a tenant's lease of its purse's till. There is nothing where there is no memory for it.
 fn search_of<J, M: Fn(Ready) -> Option<J>>(
     alloc: Global,
     branch: &mut Branch<'_>,
+    tenant: u32,
     plan: &Plan,
     make: &M,
 ) -> Option<J>
     requires { M.IsAlwaysCallable make.now }
+    ensures made { IfSome result (λ search. M.post make.now (record { plan = plan.now; lease = empty_lease branch.old tenant }) (Some search)) }
+    ensures kept { branch.new ≡ branch.old }
 {
-    let lease = branch.lease().ok()?;
+    let lease = branch.lease(tenant).ok()?;
     make(Ready::of(alloc, lease, plan)?)
 }
 
-/// Submits a tenant's job, and rings the lobby's bell, since the job may wait. There is no memory for it where its search is not made.
+/// Submits a tenant's job, whose lease is of the till of the tenant's purse, and rings the lobby's bell, since the job may wait.
+/// There is no memory for it where its search is not made.
 fn submit<D: Shared, R: Wait, M: Fn(Ready) -> Option<D::Search>>(
     rt: &R,
     alloc: Global,
@@ -57,10 +63,12 @@ fn submit<D: Shared, R: Wait, M: Fn(Ready) -> Option<D::Search>>(
 ) -> Reply
     requires own { D.owns shared.now token.old }
     requires known { tenant < length (D.config shared.now).tenants }
+    requires till { IsTillOf (D.config shared.now) tenant branch.old }
     requires make { M.IsAlwaysCallable make.now }
-    ensures { D.owns shared.now token.new }
+    ensures own { D.owns shared.now token.new }
+    ensures kept { branch.new ≡ branch.old }
 {
-    match search_of(alloc, branch, &plan, make) {
+    match search_of(alloc, branch, tenant, &plan, make) {
         Some(search) => {
             let reply = shared.submit(rt, token, tenant, plan, quanta, search);
             lobby.ring(rt);
@@ -97,8 +105,10 @@ fn answer<D: Shared, R: Wait, M: Fn(Ready) -> Option<D::Search>>(
 ) -> Said
     requires own { D.owns shared.now token.old }
     requires known { tenant < length (D.config shared.now).tenants }
+    requires till { IsTillOf (D.config shared.now) tenant branch.old }
     requires make { M.IsAlwaysCallable make.now }
-    ensures { D.owns shared.now token.new }
+    ensures own { D.owns shared.now token.new }
+    ensures kept { branch.new ≡ branch.old }
 {
     if let What::Submit {
         kind,
@@ -137,6 +147,7 @@ pub(crate) fn session<D: Shared, R: Wait, S: Read + Write, M: Fn(Ready) -> Optio
 )
     requires own { D.owns shared.now token.old }
     requires config { D.config shared.now ≡ config.now }
+    requires tills { AreTillsOf config.now branches.old }
     requires make { M.IsAlwaysCallable make.now }
     ensures { D.owns shared.now token.new }
 {
@@ -145,9 +156,8 @@ pub(crate) fn session<D: Shared, R: Wait, S: Read + Write, M: Fn(Ready) -> Optio
             Heard::Over | Heard::Broken => break,
             Heard::Told(who, said) => write_reply(wire, who, &said),
             Heard::Asked(tenant, who, asked) => {
-                let Some(branch) = branches.get_mut(tenant as usize) else {
-                    break;
-                };
+                let purse = config.purse_of(tenant);
+                let branch = &mut branches[purse as usize];
                 let said = answer(rt, alloc, shared, token, lobby, branch, tenant, asked, make);
                 write_reply(wire, Some(who), &said)
             }

@@ -5,7 +5,7 @@
 //!
 //! - `service`: `serve`, its threads and its end.
 //! - `connection`: the requests of one connection.
-//! - `tills`: the tenants' tills, and a connection's desks at them.
+//! - `tills`: the purses' tills, and a connection's desks at them.
 //! - `lobby`: when workers rest, and when they go home.
 //! - `shared`: the pool, as the threads see it.
 //! - `wire`: a connection whose replies leave before it waits.

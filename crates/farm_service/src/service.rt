@@ -1,6 +1,10 @@
 //! A farm that answers requests over connections.
-ghost use Rattle.std.specs.Prelude.{◌≡◌, length, map, None, OnOk};
+ghost use Rattle.std.specs.Prelude.{◌≡◌, All, length, map, None, IfOk, OnOk};
+ghost use Rattle.farm_core.specs.Config.{ConfigData};
+ghost use Rattle.farm_core.specs.World.{purses_in};
 ghost use Rattle.farm_pool.specs.Settle.{books_of, words_at, AreLoaded, AreSeated, first_unsettled};
+ghost use Rattle.farm_service.specs.Part.{IsAtTills};
+ghost use Rattle.farm_service.specs.Tills.{AreTillsOf};
 
 use crate::connection::session;
 use crate::lobby::{Lobby, Nobody, Seat};
@@ -57,6 +61,7 @@ fn welcome<D: Shared, R: Wait, M: Fn(Ready) -> Option<D::Search>>(
 )
     requires own { D.owns shared.now token.old }
     requires config { D.config shared.now ≡ config.now }
+    requires tills { AreTillsOf config.now own.items }
     requires make { M.IsAlwaysCallable make.now }
     ensures { D.owns shared.now token.new }
 {
@@ -88,6 +93,7 @@ fn take_part<D: Shared, R: Wait + Clock, M: Fn(Ready) -> Option<D::Search>>(
 ) -> D::Token
     requires own { D.owns shared.now token }
     requires config { D.config shared.now ≡ config.now }
+    requires tills { IsAtTills config.now part }
     requires make { M.IsAlwaysCallable make.now }
     ensures { D.owns shared.now result }
 {
@@ -104,12 +110,16 @@ fn take_part<D: Shared, R: Wait + Clock, M: Fn(Ready) -> Option<D::Search>>(
     token
 }
 
-/// The next part: the workers come first, and then each client once it is accepted.
+/// The next part: the workers come first, and then each client once it is accepted. A client gets one of the places, which stay tills of
+/// the configuration of which they were.
 fn next_part<'a>(
     listener: &TcpListener,
     is_worker: bool,
     places: &mut Vec<Vec<Branch<'a>>>,
-) -> Result<Part<'a>, ServeFault> {
+) -> Result<Part<'a>, ServeFault>
+    ensures left { (config : ConfigData) → All (λ own. AreTillsOf config own.items) places.old.items → All (λ own. AreTillsOf config own.items) places.new.items }
+    ensures own { (config : ConfigData) → All (λ own. AreTillsOf config own.items) places.old.items → IfOk result (IsAtTills config) }
+{
     if is_worker {
         return Ok(Part::Worker);
     }
@@ -137,6 +147,7 @@ fn attend<
 ) -> Option<ServeFault>
     requires own { D.owns shared.now token.old }
     requires config { D.config shared.now ≡ config.now }
+    requires tills { All (λ own. AreTillsOf config.now own.items) places.items }
     requires make { M.IsAlwaysCallable make.now }
     ensures { D.owns shared.now token.new }
 {
@@ -149,7 +160,7 @@ fn attend<
         thread::scope_env(),
         rt,
         move |scope| -> (D::Token, Option<ServeFault>)
-            requires { D.owns shared.now mine × (D.config shared.now ≡ config.now) × M.IsAlwaysCallable make.now }
+            requires { D.owns shared.now mine × (D.config shared.now ≡ config.now) × All (λ own. AreTillsOf config.now own.items) places.items × M.IsAlwaysCallable make.now }
             ensures { D.owns shared.entry.now result.0 }
         {
             let (mut mine, mut places) = (mine, places);
@@ -168,7 +179,7 @@ fn attend<
                 let spawned = scope.spawn_with(
                     promise_of(shared),
                     move || -> D::Token
-                        requires { D.owns shared.now theirs × (D.config shared.now ≡ config.now) × M.IsAlwaysCallable make.now }
+                        requires { D.owns shared.now theirs × (D.config shared.now ≡ config.now) × IsAtTills config.now part × M.IsAlwaysCallable make.now }
                         ensures { D.owns shared.entry.now result }
                     { take_part(rt, alloc, config, shared, theirs, lobby, part, make) },
                 );
@@ -239,7 +250,7 @@ fn settle<J: Strategy>(
     tills: &[Till],
     desks: &mut [Desk],
 ) -> Result<Settled, ServeFault>
-    requires tills { length tills.now ≡ length farm.config.tenants }
+    requires tills { length tills.now ≡ purses_in farm.config }
     requires seated { AreSeated tills.now desks.old }
     ensures loaded { AreLoaded desks.old desks.new }
     ensures settled { OnOk result (first_unsettled (books_of farm) (map words_at desks.new) ≡ None) }

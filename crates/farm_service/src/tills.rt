@@ -1,14 +1,16 @@
-//! The tills of a service's tenants, and a connection's desks at them.
-ghost use Rattle.std.specs.Prelude.{◌≡◌, length, IfOk};
+//! The tills of a service's purses, and a connection's desks at them.
+ghost use Rattle.std.specs.Prelude.{◌≡◌, All, length, IfOk};
 ghost use Rattle.quanta_till.specs.Lease.{empty_lease};
+ghost use Rattle.farm_core.specs.World.{purses_in};
 ghost use Rattle.farm_pool.specs.Settle.{AreSeated};
+ghost use Rattle.farm_service.specs.Tills.{AreTillsOf};
 
 use farm_core::Config;
 use quanta_till::{Desk, Lease, Till};
 use std::alloc::{AllocError, Global};
 use std::marker::Model;
 
-/// A tenant's till, and a desk at which leases of it are made.
+/// A purse's till, and a desk at which leases of it are made. Contracts see the till.
 #[derive(Drop)]
 pub(crate) struct Branch<'a> {
     till: &'a Till,
@@ -27,28 +29,28 @@ impl<'a> Model for Branch<'a> {
 }
 
 impl<'a> Branch<'a> {
-    /// A lease of this till, of which nothing was drawn.
-    pub(crate) fn lease(&mut self) -> Result<Lease, AllocError>
-        ensures made { IfOk result (λ lease. lease ≡ empty_lease self.old) }
+    /// A lease of this till for a tenant, of which nothing was drawn.
+    pub(crate) fn lease(&mut self, tenant: u32) -> Result<Lease, AllocError>
+        ensures made { IfOk result (λ lease. lease ≡ empty_lease self.old tenant) }
         ensures kept { self.new ≡ self.old }
     {
-        self.till.lease(&mut self.desk)
+        self.till.lease(&mut self.desk, tenant)
     }
 }
 
-/// A till of each tenant, opened with the quanta that it was granted, and its first desk.
+/// A till of each purse, in the order of their numbers, opened with the quanta that it was granted, and its first desk.
 pub(crate) fn open_tills(
     alloc: Global,
     config: &Config,
 ) -> Result<(Vec<Till>, Vec<Desk>), AllocError>
-    ensures count { IfOk result (λ made. length made.0.items ≡ length config.now.tenants) }
+    ensures tills { IfOk result (λ made. AreTillsOf config.now made.0.items) }
+    ensures count { IfOk result (λ made. length made.0.items ≡ purses_in config.now) }
     ensures seated { IfOk result (λ made. AreSeated made.0.items made.1.items) }
 {
     let mut tills = Vec::new(alloc);
     let mut desks = Vec::new(alloc);
-    let lines = config.tenants();
-    for tenant in 0..lines.len() {
-        let (till, desk) = Till::new(alloc, tenant as u32, lines[tenant].quanta)?;
+    for purse in 0..config.purses() {
+        let (till, desk) = Till::new(alloc, purse, config.granted(purse))?;
         tills.push(till)?;
         desks.push(desk)?;
     }
@@ -63,7 +65,7 @@ pub(crate) fn branches<'a>(
 ) -> Result<Vec<Branch<'a>>, AllocError>
     requires { AreSeated tills.now desks.old }
     ensures seated { AreSeated tills.entry.now desks.new }
-    ensures count { IfOk result (λ branches. length branches.items ≡ length tills.entry.now) }
+    ensures tills { IfOk result (λ branches. branches.items ≡ tills.entry.now) }
 {
     let mut branches = Vec::new(alloc);
     for (i, till) in tills.iter().enumerate() {
@@ -81,7 +83,8 @@ pub(crate) fn places<'a>(
     count: u64,
 ) -> Result<Vec<Vec<Branch<'a>>>, AllocError>
     requires { AreSeated tills.now desks.old }
-    ensures { AreSeated tills.entry.now desks.new }
+    ensures seated { AreSeated tills.entry.now desks.new }
+    ensures tills { IfOk result (λ places. All (λ own. own.items ≡ tills.entry.now) places.items) }
 {
     let mut places = Vec::new(alloc);
     for _ in 0..count {

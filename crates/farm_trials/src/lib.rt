@@ -9,6 +9,7 @@
 //! - `play`: a script is played on a farm of its own.
 //! - `ready`: the searches of a script's submits.
 //! - `scripts`: the worked scripts.
+//! - `shared`: two tenants of one purse, and a third one beside them.
 //! - `strangers`: turns of one farm at another one, and the next turn of any tenant.
 //! - `tests`: the trials.
 #![tactic(auto)]
@@ -29,6 +30,8 @@ mod play;
 mod ready;
 #[cfg(test)]
 mod scripts;
+#[cfg(test)]
+mod shared;
 #[cfg(test)]
 mod strangers;
 #[cfg(test)]

@@ -19,6 +19,7 @@ fn is_config(
             quanta,
             jobs,
             entries,
+            purse: None,
         })?;
     }
     Ok(Config::new(Sequence::from(lines), workers, slice).is_some())

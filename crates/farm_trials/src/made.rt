@@ -195,7 +195,7 @@ pub(crate) fn sample_of(
     }
 }
 
-/// A till and its desk.
+/// A purse's till and its desk.
 #[derive(Drop)]
 pub(crate) struct Purse {
     till: Till,
@@ -204,17 +204,17 @@ pub(crate) struct Purse {
 }
 
 impl Purse {
-    /// A tenant's till with so many quanta, and its first desk.
-    pub(crate) fn new(alloc: Global, tenant: u32, granted: u64) -> Result<Purse, AllocError> {
-        let (till, desk) = Till::new(alloc, tenant, granted)?;
+    /// The till of the purse of that number with so many quanta, and its first desk.
+    pub(crate) fn new(alloc: Global, number: u32, granted: u64) -> Result<Purse, AllocError> {
+        let (till, desk) = Till::new(alloc, number, granted)?;
         Ok(Purse { till, desk })
     }
 
-    /// An empty lease.
-    pub(crate) fn lease(&mut self) -> Result<Lease, AllocError>
+    /// An empty lease for a tenant.
+    pub(crate) fn lease(&mut self, tenant: u32) -> Result<Lease, AllocError>
         ensures { IfOk result IsEmpty }
     {
-        self.till.lease(&mut self.desk)
+        self.till.lease(&mut self.desk, tenant)
     }
 
     /// The words POOL, SPENT and GRANTED.
@@ -224,19 +224,31 @@ impl Purse {
     }
 }
 
-/// The tills of a, with 100 quanta, and of b, with 10.
+/// The tills of two purses.
 #[derive(Drop)]
 pub(crate) struct Purses {
     first: Purse,
     second: Purse,
+    /// How many tenants the first one has: those of the least numbers.
+    members: u32,
 }
 
 impl Purses {
-    /// The tills with all their quanta.
+    /// The tills of a, with 100 quanta, and of b, with 10.
     pub(crate) fn new(alloc: Global) -> Result<Purses, AllocError> {
         Ok(Purses {
             first: Purse::new(alloc, 0, 100)?,
             second: Purse::new(alloc, 1, 10)?,
+            members: 1,
+        })
+    }
+
+    /// The tills of the purse that a and b share, with 10 quanta, and of c, with 10.
+    pub(crate) fn shared(alloc: Global) -> Result<Purses, AllocError> {
+        Ok(Purses {
+            first: Purse::new(alloc, 0, 10)?,
+            second: Purse::new(alloc, 1, 10)?,
+            members: 2,
         })
     }
 
@@ -244,19 +256,19 @@ impl Purses {
     pub(crate) fn lease_of(&mut self, tenant: u32) -> Result<Lease, AllocError>
         ensures { IfOk result IsEmpty }
     {
-        if tenant == 0 {
-            return self.first.lease();
+        if tenant < self.members {
+            return self.first.lease(tenant);
         }
-        self.second.lease()
+        self.second.lease(tenant)
     }
 
-    /// The words of a's till and of b's.
+    /// The words of the first till and of the second.
     pub(crate) fn words(&mut self) -> [[u64; 3]; 2] {
         [self.first.words(), self.second.words()]
     }
 }
 
-/// The line of a tenant who may keep two jobs.
+/// The line of a tenant who may keep two jobs, and has a purse of its own.
 fn line_of(name: &str, quanta: u64, entries: u64) -> Result<TenantLine, Fail> {
     let name = Name::new(name.as_bytes()).ok_or("a name")?;
     Ok(TenantLine {
@@ -264,6 +276,7 @@ fn line_of(name: &str, quanta: u64, entries: u64) -> Result<TenantLine, Fail> {
         quanta,
         jobs: 2,
         entries,
+        purse: None,
     })
 }
 
@@ -273,5 +286,22 @@ pub(crate) fn config_of(alloc: Global, entries: u64) -> Result<Config, Fail> {
     let mut lines = Vec::new(alloc);
     lines.push(line_of("a", 100, entries)?)?;
     lines.push(line_of("b", 10, 100)?)?;
+    Ok(Config::new(Sequence::from(lines), 2, 2).ok_or("within the limits")?)
+}
+
+/// The line of a tenant in the purse p, with 100 entries of the journal.
+fn in_purse(name: &str, quanta: u64) -> Result<TenantLine, Fail> {
+    let line = line_of(name, quanta, 100)?;
+    let purse = Name::new(b"p");
+    Ok(TenantLine { purse, ..line })
+}
+
+/// Tenants a with 6 quanta and b with 4 in the purse p, and c with 10 in its own, each with 100 entries of the journal; two
+/// workers, and turns of 2 nodes.
+pub(crate) fn shared_config(alloc: Global) -> Result<Config, Fail> {
+    let mut lines = Vec::new(alloc);
+    lines.push(in_purse("a", 6)?)?;
+    lines.push(in_purse("b", 4)?)?;
+    lines.push(line_of("c", 10, 100)?)?;
     Ok(Config::new(Sequence::from(lines), 2, 2).ok_or("within the limits")?)
 }

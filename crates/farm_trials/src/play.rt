@@ -102,7 +102,7 @@ fn make<J: Strategy>(
 }
 
 /// Makes the calls one after another, and compares each answer. A turn that is held in the end is given back as it is.
-fn play_all<J: Strategy>(
+pub(crate) fn play_all<J: Strategy>(
     rt: &impl Abort,
     farm: &mut Farm<J>,
     mut ready: Vec<Ready<J>>,
@@ -164,7 +164,11 @@ fn compare_journal<J>(rt: &impl Abort, farm: &Farm<J>, tenant: u32, entries: &[N
 }
 
 /// The submits of a script, the last one first, and where memory may be scarce each of them twice.
-fn submits_of(alloc: Global, manner: Manner, steps: &[Step]) -> Result<Vec<Wanted>, AllocError> {
+pub(crate) fn submits_of(
+    alloc: Global,
+    manner: Manner,
+    steps: &[Step],
+) -> Result<Vec<Wanted>, AllocError> {
     let mut submits = Vec::new(alloc);
     for step in steps.iter().rev() {
         if let Step(tenant, Call::Submit(kind, _, text), _) = *step {

@@ -40,7 +40,7 @@ h
 3 1
 ";
 
-/// A till and its desk.
+/// A purse's till and its desk.
 #[derive(Drop)]
 pub(crate) struct Purse {
     till: Till,
@@ -49,21 +49,21 @@ pub(crate) struct Purse {
 }
 
 impl Purse {
-    /// A tenant's till with so many quanta, and its first desk.
-    pub(crate) fn new(alloc: Global, tenant: u32, granted: u64) -> Result<Purse, AllocError> {
-        let (till, desk) = Till::new(alloc, tenant, granted)?;
+    /// The till of the purse of that number with so many quanta, and its first desk.
+    pub(crate) fn new(alloc: Global, number: u32, granted: u64) -> Result<Purse, AllocError> {
+        let (till, desk) = Till::new(alloc, number, granted)?;
         Ok(Purse { till, desk })
     }
 
-    /// An empty lease.
-    fn lease(&mut self) -> Result<Lease, AllocError>
+    /// An empty lease for a tenant.
+    fn lease(&mut self, tenant: u32) -> Result<Lease, AllocError>
         ensures { IfOk result IsEmpty }
     {
-        self.till.lease(&mut self.desk)
+        self.till.lease(&mut self.desk, tenant)
     }
 }
 
-/// A tenant's line, with 2 jobs.
+/// A tenant's line, with 2 jobs and a purse of its own.
 fn line_of(name: &str, quanta: u64, entries: u64) -> Result<TenantLine, Fail> {
     let name = Name::new(name.as_bytes()).ok_or("a name")?;
     Ok(TenantLine {
@@ -71,6 +71,7 @@ fn line_of(name: &str, quanta: u64, entries: u64) -> Result<TenantLine, Fail> {
         quanta,
         jobs: 2,
         entries,
+        purse: None,
     })
 }
 
@@ -79,6 +80,21 @@ pub(crate) fn config_of(alloc: Global, entries: u64) -> Result<Config, Fail> {
     let mut lines = Vec::new(alloc);
     lines.push(line_of("a", 100, entries)?)?;
     lines.push(line_of("b", 10, 100)?)?;
+    Ok(Config::new(Sequence::from(lines), 2, 2).ok_or("within the limits")?)
+}
+
+/// The line of a tenant in the purse p, with 100 entries of the journal.
+fn in_purse(name: &str, quanta: u64) -> Result<TenantLine, Fail> {
+    let line = line_of(name, quanta, 100)?;
+    let purse = Name::new(b"p");
+    Ok(TenantLine { purse, ..line })
+}
+
+/// Tenants a, of 6 quanta, and b, of 14, in the purse p, each of 100 entries; 2 workers and a slice of 2.
+pub(crate) fn shared_config(alloc: Global) -> Result<Config, Fail> {
+    let mut lines = Vec::new(alloc);
+    lines.push(in_purse("a", 6)?)?;
+    lines.push(in_purse("b", 14)?)?;
     Ok(Config::new(Sequence::from(lines), 2, 2).ok_or("within the limits")?)
 }
 
@@ -101,9 +117,13 @@ fn plan_of(alloc: Global, kind: Kind) -> Result<Plan, Fail>
     Ok(Plan { project, kind })
 }
 
-/// The diamond's tree, and its plan.
-pub(crate) fn tree_of(alloc: Global, purse: &mut Purse) -> Result<(Plan, TreeSearch), Fail> {
-    let lease = purse.lease()?;
+/// The diamond's tree for a tenant, and its plan.
+pub(crate) fn tree_of(
+    alloc: Global,
+    purse: &mut Purse,
+    tenant: u32,
+) -> Result<(Plan, TreeSearch), Fail> {
+    let lease = purse.lease(tenant)?;
     let searched = plan_of(alloc, Kind::Tree)?;
     let plan = plan_of(alloc, Kind::Tree)?;
     match TreeSearch::new(alloc, searched, lease) {
@@ -112,13 +132,14 @@ pub(crate) fn tree_of(alloc: Global, purse: &mut Purse) -> Result<(Plan, TreeSea
     }
 }
 
-/// The diamond's pass by a rule, whose first node waits at a meeting, and its plan.
+/// The diamond's pass by a rule for a tenant, whose first node waits at a meeting, and its plan.
 pub(crate) fn patient_of(
     alloc: Global,
     purse: &mut Purse,
+    tenant: u32,
     meeting: Arc<Meeting, Global>,
 ) -> Result<(Plan, Patient), Fail> {
-    let lease = purse.lease()?;
+    let lease = purse.lease(tenant)?;
     let searched = plan_of(alloc, Kind::RuleSpt)?;
     let plan = plan_of(alloc, Kind::RuleSpt)?;
     match RuleSearch::new(alloc, searched, lease) {
@@ -127,17 +148,31 @@ pub(crate) fn patient_of(
     }
 }
 
-/// How a farm of two tenants is settled with their purses.
+/// How a farm of two purses is settled with them.
 #[tactic(auto, using(crate::proofs::SeatLemmas::two_seated))]
 pub(crate) fn settle(
     farm: Farm<Box<dyn Strategy>>,
     first: Purse,
     second: Purse,
 ) -> Option<Result<Settled, Unsettled>> {
-    if farm.tenants() != 2 {
+    if farm.purses() != 2 {
         return None;
     }
     let tills = [first.till, second.till];
     let mut desks = [first.desk, second.desk];
+    Some(finish(farm, &tills, &mut desks))
+}
+
+/// How a farm of one purse is settled with it.
+#[tactic(auto, using(crate::proofs::SeatLemmas::one_seated))]
+pub(crate) fn settle_shared(
+    farm: Farm<Box<dyn Strategy>>,
+    purse: Purse,
+) -> Option<Result<Settled, Unsettled>> {
+    if farm.purses() != 1 {
+        return None;
+    }
+    let tills = [purse.till];
+    let mut desks = [purse.desk];
     Some(finish(farm, &tills, &mut desks))
 }

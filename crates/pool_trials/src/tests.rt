@@ -1,7 +1,9 @@
 //! The trials.
 use crate::crew::{work_both, work_while_cancelled};
 use crate::gates::{Meeting, Open, Pair};
-use crate::made::{Purse, config_of, patient_of, pool_of, settle, tree_of};
+use crate::made::{
+    Purse, config_of, patient_of, pool_of, settle, settle_shared, shared_config, tree_of,
+};
 use farm_core::{Line, Reply};
 use farm_pool::{Command, Settled, Unsettled, WorkEnd};
 use job_table::Phase;
@@ -68,7 +70,7 @@ fn two_workers_of_two_tenants_settle(rt: HostRuntime) -> Result<(), Fail> {
     let (pool, mut pass) = pool_of(rt.alloc(), &config).ok_or("a pool")?;
     let mut a = Purse::new(rt.alloc(), A, 100)?;
     let mut b = Purse::new(rt.alloc(), B, 10)?;
-    let (plan, search) = tree_of(rt.alloc(), &mut a)?;
+    let (plan, search) = tree_of(rt.alloc(), &mut a, A)?;
     let search: Box<dyn Strategy> = Box::new(rt.alloc(), search)?;
     pool.call(
         &rt,
@@ -80,7 +82,7 @@ fn two_workers_of_two_tenants_settle(rt: HostRuntime) -> Result<(), Fail> {
             search,
         },
     );
-    let (plan, search) = tree_of(rt.alloc(), &mut b)?;
+    let (plan, search) = tree_of(rt.alloc(), &mut b, B)?;
     let search: Box<dyn Strategy> = Box::new(rt.alloc(), search)?;
     pool.call(
         &rt,
@@ -107,7 +109,7 @@ fn two_turns_run_at_once(rt: HostRuntime) -> Result<(), Fail> {
     let (pool, mut pass) = pool_of(rt.alloc(), &config).ok_or("a pool")?;
     let mut a = Purse::new(rt.alloc(), A, 100)?;
     let mut b = Purse::new(rt.alloc(), B, 10)?;
-    let (plan, search) = tree_of(rt.alloc(), &mut a)?;
+    let (plan, search) = tree_of(rt.alloc(), &mut a, A)?;
     let search: Box<dyn Strategy> = Box::new(rt.alloc(), search)?;
     pool.call(
         &rt,
@@ -119,7 +121,7 @@ fn two_turns_run_at_once(rt: HostRuntime) -> Result<(), Fail> {
             search,
         },
     );
-    let (plan, search) = tree_of(rt.alloc(), &mut b)?;
+    let (plan, search) = tree_of(rt.alloc(), &mut b, B)?;
     let search: Box<dyn Strategy> = Box::new(rt.alloc(), search)?;
     pool.call(
         &rt,
@@ -150,7 +152,7 @@ fn two_searches_run_at_once(rt: HostRuntime) -> Result<(), Fail> {
     let mut b = Purse::new(rt.alloc(), B, 10)?;
     let meeting = Arc::new(rt.alloc(), Meeting::new())?;
     let (one, two) = (meeting.clone()?, meeting.clone()?);
-    let (plan, search) = patient_of(rt.alloc(), &mut a, one)?;
+    let (plan, search) = patient_of(rt.alloc(), &mut a, A, one)?;
     let search: Box<dyn Strategy> = Box::new(rt.alloc(), search)?;
     pool.call(
         &rt,
@@ -162,7 +164,7 @@ fn two_searches_run_at_once(rt: HostRuntime) -> Result<(), Fail> {
             search,
         },
     );
-    let (plan, search) = patient_of(rt.alloc(), &mut b, two)?;
+    let (plan, search) = patient_of(rt.alloc(), &mut b, B, two)?;
     let search: Box<dyn Strategy> = Box::new(rt.alloc(), search)?;
     pool.call(
         &rt,
@@ -183,13 +185,52 @@ fn two_searches_run_at_once(rt: HostRuntime) -> Result<(), Fail> {
     Ok(())
 }
 
+// Of the 20 quanta that a and b share, a, who brings 6, holds 16 and uses 9 in five turns; b holds 4 and uses them in two.
+#[test]
+fn two_workers_of_one_purse_settle(rt: HostRuntime) -> Result<(), Fail> {
+    let config = shared_config(rt.alloc())?;
+    let (pool, mut pass) = pool_of(rt.alloc(), &config).ok_or("a pool")?;
+    let mut purse = Purse::new(rt.alloc(), 0, 20)?;
+    let (plan, search) = tree_of(rt.alloc(), &mut purse, A)?;
+    let search: Box<dyn Strategy> = Box::new(rt.alloc(), search)?;
+    pool.call(
+        &rt,
+        &mut pass,
+        A,
+        Command::Submit {
+            plan,
+            quanta: 16,
+            search,
+        },
+    );
+    let (plan, search) = tree_of(rt.alloc(), &mut purse, B)?;
+    let search: Box<dyn Strategy> = Box::new(rt.alloc(), search)?;
+    pool.call(
+        &rt,
+        &mut pass,
+        B,
+        Command::Submit {
+            plan,
+            quanta: 4,
+            search,
+        },
+    );
+    let (one, two) = work_both(&rt, &pool, &mut pass, &Open);
+    assert!(rt; one.turns.saturating_add(two.turns) == 7);
+    assert!(rt; is_closed(&pool.call(&rt, &mut pass, A, Command::Status(1))));
+    assert!(rt; is_ledger(&pool.call(&rt, &mut pass, B, Command::Ledger), 20, 7, 0, 13));
+    let farm = pool.close(pass).ok_or("a farm")?;
+    assert!(rt; settle_shared(farm, purse) == Some(Ok(Settled)));
+    Ok(())
+}
+
 // Nine nodes in turns of two: four whole ones and a last one of one node.
 #[test]
 fn each_turn_is_counted_once(rt: HostRuntime) -> Result<(), Fail> {
     let config = config_of(rt.alloc(), 100)?;
     let (pool, mut pass) = pool_of(rt.alloc(), &config).ok_or("a pool")?;
     let mut a = Purse::new(rt.alloc(), A, 100)?;
-    let (plan, search) = tree_of(rt.alloc(), &mut a)?;
+    let (plan, search) = tree_of(rt.alloc(), &mut a, A)?;
     let search: Box<dyn Strategy> = Box::new(rt.alloc(), search)?;
     pool.call(
         &rt,
@@ -215,7 +256,7 @@ fn no_entries_for_a_turn(rt: HostRuntime) -> Result<(), Fail> {
     let (pool, mut pass) = pool_of(rt.alloc(), &config).ok_or("a pool")?;
     let mut a = Purse::new(rt.alloc(), A, 100)?;
     let b = Purse::new(rt.alloc(), B, 10)?;
-    let (plan, search) = tree_of(rt.alloc(), &mut a)?;
+    let (plan, search) = tree_of(rt.alloc(), &mut a, A)?;
     let search: Box<dyn Strategy> = Box::new(rt.alloc(), search)?;
     pool.call(
         &rt,
@@ -239,7 +280,7 @@ fn no_worker(rt: HostRuntime) -> Result<(), Fail> {
     let (pool, mut pass) = pool_of(rt.alloc(), &config).ok_or("a pool")?;
     let mut a = Purse::new(rt.alloc(), A, 100)?;
     let b = Purse::new(rt.alloc(), B, 10)?;
-    let (plan, search) = tree_of(rt.alloc(), &mut a)?;
+    let (plan, search) = tree_of(rt.alloc(), &mut a, A)?;
     let search: Box<dyn Strategy> = Box::new(rt.alloc(), search)?;
     pool.call(
         &rt,
@@ -263,7 +304,7 @@ fn a_second_pass_sees_the_first_ones_job(rt: HostRuntime) -> Result<(), Fail> {
     let mut second = pool.split_pass(&mut first);
     let mut a = Purse::new(rt.alloc(), A, 100)?;
     let b = Purse::new(rt.alloc(), B, 10)?;
-    let (plan, search) = tree_of(rt.alloc(), &mut a)?;
+    let (plan, search) = tree_of(rt.alloc(), &mut a, A)?;
     let search: Box<dyn Strategy> = Box::new(rt.alloc(), search)?;
     let job = pool.call(
         &rt,

@@ -7,7 +7,7 @@ use Rattle.atomic_table.specs.Seated.{TableId}
 pub record DeskValue : Type 0 where
   pub id : TableId
   pub number : ℕ
-  pub tenant : ℕ
+  pub purse : ℕ
   pub granted : ℕ
   pub seats : ℕ
   pub loads : ℕ
@@ -16,7 +16,7 @@ pub record DeskValue : Type 0 where
 
 -- a desk that has done nothing yet
 abbrev pub new_desk : TableId → ℕ → ℕ → ℕ → DeskValue
-new_desk id number tenant granted = record { id = id; number = number; tenant = tenant; granted = granted; seats = 0; loads = 0; pool = 0; spent = 0 }
+new_desk id number purse granted = record { id = id; number = number; purse = purse; granted = granted; seats = 0; loads = 0; pool = 0; spent = 0 }
 
 -- a desk or a lease was made from it
 abbrev pub after_seat : DeskValue → DeskValue

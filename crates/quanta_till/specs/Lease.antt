@@ -13,8 +13,8 @@ pub record LeaseValue : Type 0 where
   pub left : ℕ
 
 -- nothing was drawn, used or handed back with it
-abbrev pub empty_lease : TillValue → LeaseValue
-empty_lease t = record { id = t.id; tenant = t.tenant; drawn = 0; used = 0; back = 0; left = 0 }
+abbrev pub empty_lease : TillValue → ℕ → LeaseValue
+empty_lease t tenant = record { id = t.id; tenant = tenant; drawn = 0; used = 0; back = 0; left = 0 }
 
 -- nothing was drawn, used or handed back with it yet
 pub record IsEmpty (l : LeaseValue) : Type 0 where

@@ -54,5 +54,5 @@ after_granted_load v = record v { loads = v.loads + 1 }
 -- what contracts see of a till
 pub record TillValue : Type 0 where
   pub id : TableId
-  pub tenant : ℕ
+  pub purse : ℕ
   pub granted : ℕ

@@ -4,10 +4,10 @@ ghost use Rattle.quanta_till.specs.declared.rule.TheConstants.{WORDS};
 
 use crate::rule::Words;
 
-/// The words of a till, and whose they are.
+/// The words of a till, and of which purse they are.
 #[derive(Drop)]
 pub(crate) struct Account {
     pub(crate) table: Words,
-    pub(crate) tenant: u32,
+    pub(crate) purse: u32,
     ghost has_words: { table.shared.table_id.words ≡ WORDS },
 }

@@ -14,6 +14,7 @@ use std::sync::Arc;
 /// and cannot fail.
 pub struct Lease {
     account: Arc<Account, Global>,
+    tenant: u32,
     purse: Purse,
 }
 
@@ -26,7 +27,7 @@ impl Model for Lease {
 
     ghost view = { λ l. record {
       id = (arc_value l.account).table.shared.table_id;
-      tenant = (arc_value l.account).tenant;
+      tenant = l.tenant;
       drawn = l.purse.drawn;
       used = l.purse.used;
       back = l.purse.back;
@@ -38,25 +39,29 @@ impl Model for Lease {
 }
 
 impl Lease {
-    pub(crate) fn new(account: Arc<Account, Global>, purse: Purse) -> Lease
+    pub(crate) fn new(account: Arc<Account, Global>, tenant: u32, purse: Purse) -> Lease
         requires { purse.id ≡ (arc_value account).table.shared.table_id }
         ensures { result ≡ record {
           id = purse.id;
-          tenant = (arc_value account).tenant;
+          tenant = tenant;
           drawn = purse.drawn;
           used = purse.used;
           back = purse.back;
           left = purse.left;
         } }
     {
-        Lease { account, purse }
+        Lease {
+            account,
+            tenant,
+            purse,
+        }
     }
 
-    /// Whose quanta they are.
+    /// For which tenant of its purse they are drawn.
     pub fn tenant(&self) -> u32
         ensures { result ≡ self.now.tenant }
     {
-        self.account.tenant
+        self.tenant
     }
 
     /// How many quanta were drawn, and neither used nor handed back.
@@ -102,7 +107,11 @@ impl Lease {
 
 impl Drop for Lease {
     fn drop(self) {
-        let Lease { account, mut purse } = self;
+        let Lease {
+            account,
+            tenant: _,
+            mut purse,
+        } = self;
         purse.settle(&account.table);
         purse.end(&account.table);
     }

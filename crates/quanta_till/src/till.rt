@@ -14,7 +14,7 @@ use std::alloc::{AllocError, Global};
 use std::marker::Model;
 use std::sync::Arc;
 
-/// The prepaid quanta of one tenant, in three atomic words: POOL, what nobody has drawn; SPENT, what was used; and
+/// The prepaid quanta of one purse, in three atomic words: POOL, what nobody has drawn; SPENT, what was used; and
 /// GRANTED, what it was opened with.
 #[derive(Drop)]
 pub struct Till {
@@ -29,16 +29,16 @@ impl Model for Till {
 
     ghost view = { λ t. record {
       id = (arc_value t.account).table.shared.table_id;
-      tenant = (arc_value t.account).tenant;
+      purse = (arc_value t.account).purse;
       granted = (arc_value t.account).table.shared.key;
     } };
 }
 
 /// One thread's seat at a till. A seat has no bytes, and slices of such values are not supported, so a desk has its
-/// tenant's number too.
+/// purse's number too.
 #[derive(Drop)]
 pub struct Desk {
-    tenant: u32,
+    purse: u32,
     seat: Seat<(), SeatView>,
 }
 
@@ -51,7 +51,7 @@ impl Model for Desk {
     ghost view = { λ d. record {
       id = d.seat.table_id;
       number = d.seat.id;
-      tenant = d.tenant;
+      purse = d.purse;
       granted = d.seat.me.0.granted;
       seats = d.seat.me.0.seats;
       loads = d.seat.me.0.loads;
@@ -78,23 +78,23 @@ pub struct TillWords {
 impl Till {
     /// Opens a till with all of `granted` in its pool, nothing spent and no lease, and its first desk. It fails only
     /// for want of memory.
-    pub fn new(alloc: Global, tenant: u32, granted: u64) -> Result<(Till, Desk), AllocError>
-        ensures till { IfOk result (λ made. (made.0.tenant ≡ tenant) × (made.0.granted ≡ granted)) }
-        ensures desk { IfOk result (λ made. made.1 ≡ new_desk made.0.id 0 tenant granted) }
+    pub fn new(alloc: Global, purse: u32, granted: u64) -> Result<(Till, Desk), AllocError>
+        ensures till { IfOk result (λ made. (made.0.purse ≡ purse) × (made.0.granted ≡ granted)) }
+        ensures desk { IfOk result (λ made. made.1 ≡ new_desk made.0.id 0 purse granted) }
     {
         let mut words = [0; WORDS];
         words[POOL] = granted;
         words[GRANTED] = granted;
         let (table, seat) = Words::of_words(alloc, &words, &granted)?;
-        let account = Arc::new(alloc, Account { table, tenant })?;
-        Ok((Till { account }, Desk { tenant, seat }))
+        let account = Arc::new(alloc, Account { table, purse })?;
+        Ok((Till { account }, Desk { purse, seat }))
     }
 
     /// Makes one more desk, for another thread. It takes no memory.
     pub fn desk(&self, desk: &mut Desk) -> Desk
         requires { desk.old.id ≡ self.now.id }
         ensures desk { desk.new ≡ after_seat desk.old }
-        ensures new { result ≡ new_desk self.now.id result.number self.now.tenant desk.old.granted }
+        ensures new { result ≡ new_desk self.now.id result.number self.now.purse desk.old.granted }
     {
         let seat = self
             .account
@@ -102,22 +102,22 @@ impl Till {
             .shared
             .split_seat::<NewSeat>(&mut desk.seat);
         Desk {
-            tenant: self.account.tenant,
+            purse: self.account.purse,
             seat,
         }
     }
 
-    /// Makes an empty lease. It fails only where so many share the till that their count is full, and then changes
-    /// nothing.
-    pub fn lease(&self, desk: &mut Desk) -> Result<Lease, AllocError>
+    /// Makes an empty lease for a tenant of the purse. It fails only where so many share the till that their count is full, and
+    /// then changes nothing.
+    pub fn lease(&self, desk: &mut Desk, tenant: u32) -> Result<Lease, AllocError>
         requires { desk.old.id ≡ self.now.id }
-        ensures empty { IfOk result (λ lease. lease ≡ empty_lease self.now) }
+        ensures empty { IfOk result (λ lease. lease ≡ empty_lease self.now tenant) }
         ensures desk { OnOk result (desk.new ≡ after_seat desk.old) }
         ensures err { OnErr result (desk.new ≡ desk.old) }
     {
         let account = Arc::try_clone(&self.account)?;
         let seat = account.table.shared.split_seat::<NewSeat>(&mut desk.seat);
-        Ok(Lease::new(account, Purse::new(seat)))
+        Ok(Lease::new(account, tenant, Purse::new(seat)))
     }
 
     /// Loads the three words, one after the other: other threads may step in between. It takes no memory.

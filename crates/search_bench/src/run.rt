@@ -81,7 +81,7 @@ pub(crate) fn searched<R: Runtime + AllocGlobal>(
     let Ok((till, mut desk)) = Till::new(rt.alloc(), 0, most) else {
         return Err("no memory");
     };
-    let Ok(lease) = till.lease(&mut desk) else {
+    let Ok(lease) = till.lease(&mut desk, 0) else {
         return Err("no memory");
     };
     run_plan(rt.alloc(), plan, lease, most).ok_or("no memory")

@@ -95,7 +95,7 @@ impl Shown {
         most: u32,
     ) -> Result<(), Fail> {
         let (till, mut desk) = Till::new(alloc, 0, 1_000)?;
-        let lease = till.lease(&mut desk)?;
+        let lease = till.lease(&mut desk, 0)?;
         let project = project.clone_in(alloc)?;
         self.add_run(alloc, Plan { project, kind }, lease, most)
     }

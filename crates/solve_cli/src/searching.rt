@@ -129,7 +129,7 @@ pub fn solve<W: Watch>(
     ensures { IfOk result (λ found. IsFound plan most found) }
 {
     let (till, mut desk) = Till::new(alloc, 0, most)?;
-    let lease = till.lease(&mut desk)?;
+    let lease = till.lease(&mut desk, 0)?;
     match plan.kind {
         Kind::Tree => match TreeSearch::new(alloc, plan, lease) {
             Ok(search) => Ok(found_by(search, most, watch)),

@@ -71,10 +71,10 @@ fn jobs_of_two_tenants(rt: HostRuntime) -> Result<(), Fail> {
     let (till, mut desk) = Till::new(alloc, 0, 100)?;
     let (other_till, mut other_desk) = Till::new(alloc, 1, 10)?;
     let mut table = JobTable::new(alloc);
-    let search = search_of(alloc, DIAMOND, till.lease(&mut desk)?)?;
+    let search = search_of(alloc, DIAMOND, till.lease(&mut desk, 0)?)?;
     let diamond: Box<dyn Strategy> = Box::new(alloc, search)?;
     insert(alloc, &mut table, 0, 1, 6, diamond)?;
-    let search = search_of(alloc, CHAIN, other_till.lease(&mut other_desk)?)?;
+    let search = search_of(alloc, CHAIN, other_till.lease(&mut other_desk, 1)?)?;
     let chain: Box<dyn Strategy> = Box::new(alloc, search)?;
     insert(alloc, &mut table, 1, 1, 2, chain)?;
     send_first(&rt, &mut table);
@@ -124,7 +124,7 @@ fn a_job_goes_on_to_its_end(rt: HostRuntime) -> Result<(), Fail> {
     let alloc = rt.alloc();
     let (till, mut desk) = Till::new(alloc, 0, 100)?;
     let mut table = JobTable::new(alloc);
-    let search = search_of(alloc, DIAMOND, till.lease(&mut desk)?)?;
+    let search = search_of(alloc, DIAMOND, till.lease(&mut desk, 0)?)?;
     let boxed: Box<dyn Strategy> = Box::new(alloc, search)?;
     insert(alloc, &mut table, 0, 1, 6, boxed)?;
     go_on(&rt, &mut table);
@@ -172,10 +172,10 @@ fn strangers_are_handed_back(rt: HostRuntime) -> Result<(), Fail> {
     let alloc = rt.alloc();
     let (till, mut desk) = Till::new(alloc, 0, 100)?;
     let (mut table, mut elsewhere) = (JobTable::new(alloc), JobTable::new(alloc));
-    let search = search_of(alloc, DIAMOND, till.lease(&mut desk)?)?;
+    let search = search_of(alloc, DIAMOND, till.lease(&mut desk, 0)?)?;
     let diamond: Box<dyn Strategy> = Box::new(alloc, search)?;
     insert(alloc, &mut table, 0, 1, 6, diamond)?;
-    let search = search_of(alloc, CHAIN, till.lease(&mut desk)?)?;
+    let search = search_of(alloc, CHAIN, till.lease(&mut desk, 0)?)?;
     let chain: Box<dyn Strategy> = Box::new(alloc, search)?;
     insert(alloc, &mut elsewhere, 0, 1, 6, chain)?;
     hand_back(&rt, &mut table, &mut elsewhere);
@@ -188,7 +188,7 @@ fn cancels_at_every_phase(rt: HostRuntime) -> Result<(), Fail> {
     for case in CASES.iter() {
         let (till, mut desk) = Till::new(alloc, 0, 100)?;
         let mut table = JobTable::new(alloc);
-        let search = search_of(alloc, DIAMOND, till.lease(&mut desk)?)?;
+        let search = search_of(alloc, DIAMOND, till.lease(&mut desk, 0)?)?;
         let boxed: Box<dyn Strategy> = Box::new(alloc, search)?;
         insert(alloc, &mut table, 0, 1, u64::from(case.quanta), boxed)?;
         cancel_in(&rt, &mut table, case);

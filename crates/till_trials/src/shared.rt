@@ -31,7 +31,7 @@ fn leases_in_turn(till: &Till, desk: &mut Desk) -> Result<(), AllocError>
     requires { desk.old.id ≡ till.now.id }
 {
     for _ in 0..40 {
-        spend(till.lease(desk)?, 25);
+        spend(till.lease(desk, 1)?, 25);
     }
     Ok(())
 }
@@ -56,10 +56,10 @@ fn two_threads_add_up(rt: HostRuntime) -> Result<(), Fail> {
 #[test]
 fn four_threads_add_up(rt: HostRuntime) -> Result<(), Fail> {
     let (till, mut desk) = Till::new(rt.alloc(), 1, 10_000)?;
-    let first = till.lease(&mut desk)?;
-    let second = till.lease(&mut desk)?;
-    let third = till.lease(&mut desk)?;
-    let fourth = till.lease(&mut desk)?;
+    let first = till.lease(&mut desk, 1)?;
+    let second = till.lease(&mut desk, 1)?;
+    let third = till.lease(&mut desk, 1)?;
+    let fourth = till.lease(&mut desk, 1)?;
     thread::join(
         &rt,
         || thread::join(&rt, || spend(first, 500), || spend(second, 500)),
@@ -101,9 +101,9 @@ fn end_elsewhere(rt: &impl Threads, boxed: Box<dyn Work>) -> Result<(), AllocErr
 #[test]
 fn leases_in_boxes_end_in_other_threads(rt: HostRuntime) -> Result<(), Fail> {
     let (till, mut desk) = Till::new(rt.alloc(), 1, 1_000)?;
-    let lease = till.lease(&mut desk)?;
+    let lease = till.lease(&mut desk, 1)?;
     let mut first: Box<dyn Work> = Box::new(rt.alloc(), Worker { lease })?;
-    let lease = till.lease(&mut desk)?;
+    let lease = till.lease(&mut desk, 1)?;
     let second: Box<dyn Work> = Box::new(rt.alloc(), Worker { lease })?;
     first.advance();
     assert!(rt; till.words(&mut desk) == words(990, 1, 1_000));
@@ -130,11 +130,11 @@ fn take_turns<R: Wait>(rt: &R, waiting: &Mutex<Vec<Box<dyn Work>>>) {
 fn leases_in_boxes_wait_behind_a_lock(rt: HostRuntime) -> Result<(), Fail> {
     let (till, mut desk) = Till::new(rt.alloc(), 1, 500)?;
     let mut waiting: Vec<Box<dyn Work>> = Vec::with_capacity(rt.alloc(), 3)?;
-    let lease = till.lease(&mut desk)?;
+    let lease = till.lease(&mut desk, 1)?;
     waiting.push(Box::new(rt.alloc(), Worker { lease })?)?;
-    let lease = till.lease(&mut desk)?;
+    let lease = till.lease(&mut desk, 1)?;
     waiting.push(Box::new(rt.alloc(), Worker { lease })?)?;
-    let lease = till.lease(&mut desk)?;
+    let lease = till.lease(&mut desk, 1)?;
     waiting.push(Box::new(rt.alloc(), Worker { lease })?)?;
     let waiting = Mutex::new(waiting);
     thread::join(

@@ -441,7 +441,7 @@ fn search(
 /// Makes a search and walks through it.
 fn walk_once(rt: &impl Abort, alloc: Global, line: &Walk) -> Result<(), Fail> {
     let (till, mut desk) = Till::new(alloc, 3, 100)?;
-    let lease = till.lease(&mut desk)?;
+    let lease = till.lease(&mut desk, 3)?;
     let project = project(alloc, line.0, line.1)?;
     let kind = line.2;
     search(
@@ -459,7 +459,7 @@ fn walk_once(rt: &impl Abort, alloc: Global, line: &Walk) -> Result<(), Fail> {
 /// The same with the plain search of the tree.
 fn walk_plainly(rt: &impl Abort, alloc: Global, line: &Walk) -> Result<(), Fail> {
     let (till, mut desk) = Till::new(alloc, 3, 100)?;
-    let lease = till.lease(&mut desk)?;
+    let lease = till.lease(&mut desk, 3)?;
     let project = project(alloc, line.0, line.1)?;
     let kind = Kind::Tree;
     match PlainSearch::new(alloc, Plan { project, kind }, lease) {

@@ -7,4 +7,4 @@ returns-in-Ok g c =
 
 pub returns-in-Err : goal.returns-in-Err
 returns-in-Err g c =
-    strayed g.J.Strategy.meaning c.args.farm.now c.give.new.self c.args.turn c.in-Err.field-0.0 c.journal.ensures.replayed c.in-Err.ensures.strange c.in-Err.ensures.kept
+    strayed g.J.Strategy.meaning c.args.farm.now c.give.new.self c.args.turn c.in-Err.field-0.0 c.requires.known c.journal.ensures.replayed c.in-Err.ensures.strange c.in-Err.ensures.kept

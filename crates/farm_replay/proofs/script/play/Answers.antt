@@ -1,7 +1,7 @@
-use Rattle.std.proofs.Common.{◌≡◌, refl, map, arith, sym, ap, ◌∙◌, subst}
+use Rattle.std.proofs.Common.{◌≡◌, ◌<◌, length, get_or, refl, map, arith, sym, ap, ◌∙◌, subst}
 use Rattle.farm_replay.proofs.CounterLemmas.{known_number, own_till, kept_tills, tills_length}
-use Rattle.farm_core.specs.World.{terms_in, opened}
-use Rattle.farm_replay.specs.Counter.{counter_of}
+use Rattle.farm_core.specs.World.{purse_in, opened}
+use Rattle.farm_replay.specs.Counter.{counter_of, counter_for}
 use Rattle.farm_replay.specs.Floor.{IsFloor}
 use Rattle.farm_replay.specs.Reader.{script_rest}
 use Rattle.farm_replay.proofs.PlayLemmas.{Played, begun, play_begins, settled_on, settled_cut, asked_known, asked_on, asked_cut, asked_unsent, played_sent, play_over, play_written, play_cut}
@@ -15,7 +15,7 @@ loop-answered-init g c = (
   c.requires.counters,
   c.requires.floor,
   play_begins c.args.config.now (script_rest g.R.Read.remaining c.args.script.now) (g.W.Write.contents c.args.writer.now) c.args.floor.now.farm
-      (begun c.args.config.now c.args.floor.now.farm c.farms_are_replayed.ensures c.requires.farm),
+      (ap (λ w. w.config) c.requires.farm) (begun c.args.config.now c.args.floor.now.farm c.farms_are_replayed.ensures c.requires.farm),
 )
 
 pub returns-in-Over-clause-written : goal.returns-in-Over-clause-written
@@ -78,10 +78,11 @@ loop-answered-preserved g c =
         ap (λ x. x.farm.config) w.floor-is ∙ w.answer-said.ensures.told.config ∙ inv.0,
         ap (map counter_of)
             (w.counters-is
-            ∙ kept_tills c.loop-answered.counters w.in-Asked.tenant w.index-counters-tenant.result w.answer-said.new.counter
+            ∙ kept_tills c.loop-answered.counters w.purse_of-purse.result w.index-counters-purse.result w.answer-said.new.counter
+            (subst (λ n. n < length c.loop-answered.counters) (sym w.purse_of-purse.ensures.exact)
             (tills_length c.args.config.now c.loop-answered.counters w.in-Asked.tenant inv.1
-            (known_number w.in-Asked.who c.args.config.now w.in-Asked.tenant (asked_known c.args.config.now c.read_request.result w.in-Asked.tenant w.in-Asked.who w.in-Asked.asked (cc (w.in-Asked.is, c.hear.ensures)))))
-            w.index-counters-tenant.is w.answer-said.ensures.counter)
+            (known_number w.in-Asked.who c.args.config.now w.in-Asked.tenant (asked_known c.args.config.now c.read_request.result w.in-Asked.tenant w.in-Asked.who w.in-Asked.asked (cc (w.in-Asked.is, c.hear.ensures))))))
+            w.index-counters-purse.is w.answer-said.ensures.counter)
             ∙ inv.1,
         subst (λ x. IsFloor g.J.Strategy.meaning x.farm x.held.items) (sym w.floor-is) w.answer-said.ensures.floor,
         rw (w.floor-is, w.writer-is)
@@ -109,20 +110,15 @@ returns-clause-cut_off g c =
     (subst (λ n. Played c.args.config.now (script_rest g.R.Read.remaining c.args.script.now) (script_rest g.R.Read.remaining c.loop-answered.script) (g.W.Write.contents c.args.writer.now) (g.W.Write.contents c.loop-answered.writer) n c.loop-answered.floor.farm)
     all c.loop-answered.invariant.3) c.end.ensures.fault
 
-pub bounds-counters-tenant : goal.bounds-counters-tenant
-bounds-counters-tenant g c =
-    tills_length c.args.config.now c.loop-answered.counters c.in-Asked.tenant c.loop-answered.invariant.1
-    (known_number c.in-Asked.who c.args.config.now c.in-Asked.tenant (asked_known c.args.config.now c.read_request.result c.in-Asked.tenant c.in-Asked.who c.in-Asked.asked (cc (c.in-Asked.is, c.hear.ensures))))
+pub bounds-counters-purse : goal.bounds-counters-purse
+bounds-counters-purse g c =
+    let few = tills_length c.args.config.now c.loop-answered.counters c.in-Asked.tenant c.loop-answered.invariant.1
+    (known_number c.in-Asked.who c.args.config.now c.in-Asked.tenant (asked_known c.args.config.now c.read_request.result c.in-Asked.tenant c.in-Asked.who c.in-Asked.asked (cc (c.in-Asked.is, c.hear.ensures)))) in
+    omega (arith, few, c.purse_of-purse.ensures.exact)
 
 pub answer-said-requires-clause-counter : goal.answer-said-requires-clause-counter
 answer-said-requires-clause-counter g c κs within =
-    ap (λ x. x.tenant)
-    (own_till c.args.config.now c.loop-answered.counters c.in-Asked.tenant c.index-counters-tenant.result c.loop-answered.invariant.1
-    (known_number c.in-Asked.who c.args.config.now c.in-Asked.tenant (asked_known c.args.config.now c.read_request.result c.in-Asked.tenant c.in-Asked.who c.in-Asked.asked (cc (c.in-Asked.is, c.hear.ensures)))))
-
-pub answer-said-requires-clause-granted : goal.answer-said-requires-clause-granted
-answer-said-requires-clause-granted g c κs within =
-    ap (λ x. x.granted)
-    (own_till c.args.config.now c.loop-answered.counters c.in-Asked.tenant c.index-counters-tenant.result c.loop-answered.invariant.1
-    (known_number c.in-Asked.who c.args.config.now c.in-Asked.tenant (asked_known c.args.config.now c.read_request.result c.in-Asked.tenant c.in-Asked.who c.in-Asked.asked (cc (c.in-Asked.is, c.hear.ensures)))))
-    ∙ ap (λ k. (terms_in k c.in-Asked.tenant).quanta) (sym c.loop-answered.invariant.0)
+    let known = known_number c.in-Asked.who c.args.config.now c.in-Asked.tenant (asked_known c.args.config.now c.read_request.result c.in-Asked.tenant c.in-Asked.who c.in-Asked.asked (cc (c.in-Asked.is, c.hear.ensures))) in
+    ap (λ p. counter_of (get_or c.loop-answered.counters p c.index-counters-purse.result)) c.purse_of-purse.ensures.exact
+    ∙ own_till c.args.config.now c.loop-answered.counters c.in-Asked.tenant c.index-counters-purse.result c.loop-answered.invariant.1 known
+    ∙ ap (λ k. counter_for k (purse_in k c.in-Asked.tenant)) (sym c.loop-answered.invariant.0)

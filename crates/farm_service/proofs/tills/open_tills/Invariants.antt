@@ -1,6 +1,13 @@
-use Rattle.std.proofs.Common.{◌≡◌, length}
+use Rattle.std.proofs.Common.{◌≡◌, length, map}
+use Rattle.std.specs.List.{range_with_len}
 use Rattle.farm_pool.specs.Settle.{AreSeated}
+use Rattle.farm_service.specs.Tills.{opening_of, opening_for}
 use Rattle.farm_service.proofs.tills.open_tills.Given as goal
 
-abbrev pub invariant-loop-tenant : goal.invariant-loop-tenant
-invariant-loop-tenant l = record { seated : AreSeated l.tills.items l.desks.items; count : length l.tills.items ≡ l.tenant }
+-- one for each purse so far
+abbrev pub invariant-loop-purse : goal.invariant-loop-purse
+invariant-loop-purse l = record {
+  tills : map opening_of l.tills.items ≡ map (opening_for l.config) (range_with_len 0 l.purse);
+  count : length l.tills.items ≡ l.purse;
+  seated : AreSeated l.tills.items l.desks.items;
+}

@@ -9,7 +9,7 @@ use Rattle.farm_core.specs.declared.account.Account.{Account}
 use Rattle.farm_core.specs.declared.entry.Event.TheVariants.{Cancel}
 use Rattle.farm_core.specs.declared.reply.Reply.TheVariants as reply
 use Rattle.farm_core.specs.Step.{Replied}
-use Rattle.farm_core.specs.World.{World, Follows}
+use Rattle.farm_core.specs.World.{World, Follows, purses_in}
 use Rattle.farm_core.specs.Farm.{IsFarm, owed}
 use Rattle.farm_core.proofs.ViewLemmas.{moved}
 use Rattle.farm_core.proofs.MoveLemmas.{IsMove, moved_is, written, one_entry}
@@ -18,11 +18,11 @@ use Rattle.farm_core.proofs.farm.Farm.cancel_job.Goals.{After-write_down}
 use Rattle.farm_core.proofs.farm.Farm.cancel_job.Goals as goal
 
 pub free_up-requires : goal.free_up-requires
-free_up-requires g c = freed_most c.args.self.now c.args.tenant c.args.seq c.args.freed (vec_capacity c.self.inside.journal) c.index.result.now c.args.then (subst (λ (x : World). IsFarm x (vec_capacity c.self.inside.journal)) c.self.view_is c.self.invariant) c.requires.known (c.index.ensures ∙ ap (λ (x : World). get_or x.accounts c.args.tenant c.index.result.now) c.self.view_is) c.requires.given_up
+free_up-requires g c = freed_most c.args.self.now c.args.tenant c.args.seq c.args.freed (vec_capacity c.self.inside.journal) c.account-account.result c.args.then (subst (λ (x : World). IsFarm x (vec_capacity c.self.inside.journal)) c.self.view_is c.self.invariant.0) c.requires.known c.account-account.ensures.exact c.requires.given_up
 
 pub write_down-requires-clause-room : goal.write_down-requires-clause-room
 write_down-requires-clause-room g c =
-    omega (arith, owed_some c.args.self.now c.args.tenant c.args.seq c.args.freed c.args.then c.requires.given_up, c.self.invariant.room, ap (λ (x : World). length x.journal) c.self.view_is, ap (λ (x : World). length x.rows) c.self.view_is, ap (λ (x : World). owed x.rows) c.self.view_is)
+    omega (arith, owed_some c.args.self.now c.args.tenant c.args.seq c.args.freed c.args.then c.requires.given_up, c.self.invariant.0.room, ap (λ (x : World). length x.journal) c.self.view_is, ap (λ (x : World). length x.rows) c.self.view_is, ap (λ (x : World). owed x.rows) c.self.view_is)
 
 did : (g : Over) (c : After-write_down g) → IsGivenUp c.args.self.now.rows c.args.tenant c.args.seq c.cancel.new.self
 did g c =
@@ -32,30 +32,36 @@ did g c =
     (λ yes. subst (λ (rs : List Row). IsGivenUp rs c.args.tenant c.args.seq c.cancel.new.self) rows_are (c.cancel.ensures.given_up yes))
     (λ not. subst (λ (rs : List Row). IfSome (find_row c.args.tenant c.args.seq rs) (λ job. given_up job job.phase ≡ None)) rows_are (c.cancel.ensures.refused not))
 
-it : (g : Over) (c : After-write_down g) → IsCancel c.args.self.now c.args.tenant c.args.seq c.args.freed c.index.result.now c.args.then c.cancel.new.self
-it g c = cancel_moves c.args.self.now c.args.tenant c.args.seq c.args.freed (vec_capacity c.self.inside.journal) c.index.result.now c.args.then c.cancel.new.self (subst (λ (x : World). IsFarm x (vec_capacity c.self.inside.journal)) c.self.view_is c.self.invariant) c.requires.known (c.index.ensures ∙ ap (λ (x : World). get_or x.accounts c.args.tenant c.index.result.now) c.self.view_is) (sym c.has_room.ensures.exact ∙ c.if-not-has_room.false) c.requires.given_up (did g c)
+it : (g : Over) (c : After-write_down g) → IsCancel c.args.self.now c.args.tenant c.args.seq c.args.freed c.account-account.result c.args.then c.cancel.new.self
+it g c = cancel_moves c.args.self.now c.args.tenant c.args.seq c.args.freed (vec_capacity c.self.inside.journal) c.account-account.result c.args.then c.cancel.new.self (subst (λ (x : World). IsFarm x (vec_capacity c.self.inside.journal)) c.self.view_is c.self.invariant.0) c.requires.known c.account-account.ensures.exact (sym c.has_room.ensures.exact ∙ c.if-not-has_room.false) c.requires.given_up (did g c)
 
-moves : (g : Over) (c : After-write_down g) → IsMove c.args.self.now c.args.tenant c.cancel.new.self (record c.index.result.now { book = after_free_up c.args.freed c.index.result.now.book; used = c.index.result.now.used + 1 }) (Cancel c.args.seq) (Replied (reply.Line c.args.then))
+moves : (g : Over) (c : After-write_down g) → IsMove c.args.self.now c.args.tenant c.cancel.new.self (record c.account-account.result { book = after_free_up c.args.freed c.account-account.result.book; used = c.account-account.result.used + 1 }) (Cancel c.args.seq) (Replied (reply.Line c.args.then))
 moves g c = (it g c).moves
 
 wrote : (g : Over) (c : After-write_down g) →
-    let v : World = record { config = c.self.inside.config; rows = c.cancel.new.self; journal = c.write_down.new.journal.items; accounts = c.write_down.new.accounts.items } in
+    let v : World = record { config = c.self.inside.config; rows = c.cancel.new.self; journal = c.write_down.new.journal.items; books = c.write_down.new.ledgers.books.items; numbers = c.write_down.new.ledgers.numbers.items } in
     IsFarm v (vec_capacity c.write_down.new.journal) × Follows c.args.self.now c.args.tenant (Cancel c.args.seq) (Replied (reply.Line c.args.then)) v
 wrote g c =
     let w : World = c.args.self.now in
     let t = c.args.tenant in
-    let account : Account = c.index.result.now in
+    let account : Account = c.account-account.result in
     let then : Account = record account { book = after_free_up c.args.freed account.book; used = account.used + 1 } in
-    let wrote_is : c.write_down.new.accounts.items ≡ set c.self.inside.accounts.items t then = c.write_down.ensures.accounts ∙ ap (λ (b : BookData). let a : Account = record account { book = b; used = account.used + 1 } in set c.self.inside.accounts.items t a) c.free_up.ensures in
-    let farm : IsFarm w (vec_capacity c.self.inside.journal) = subst (λ (x : World). IsFarm x (vec_capacity c.self.inside.journal)) c.self.view_is c.self.invariant in
-    let v : World = record { config = c.self.inside.config; rows = c.cancel.new.self; journal = c.write_down.new.journal.items; accounts = c.write_down.new.accounts.items } in
-    let is : v ≡ moved w t (c.cancel.new.self) then (one_entry t (Cancel c.args.seq)) = moved_is w c.self.inside.config c.self.inside.jobs (c.cancel.new.self) c.self.inside.journal.items c.write_down.new.journal.items c.self.inside.accounts.items c.write_down.new.accounts.items t (c.cancel.new.self) then (Cancel c.args.seq)
-    c.self.view_is (refl) wrote_is (c.write_down.ensures.journal) in
-    let room : length w.journal + 1 + owed (c.cancel.new.self) ≤ vec_capacity c.write_down.new.journal = omega (arith, (it g c).room, c.self.invariant.room, c.write_down.ensures.capacity, ap (λ (x : World). length x.journal) c.self.view_is, ap (λ (x : World). length x.rows) c.self.view_is, ap (λ (x : World). owed x.rows) c.self.view_is) in
+    let books_are : c.write_down.new.ledgers.books.items ≡ set c.self.inside.ledgers.books.items c.purse_of-purse.result then.book = c.write_down.ensures.books ∙ ap (set c.self.inside.ledgers.books.items c.purse_of-purse.result) c.free_up.ensures in
+    let farm : IsFarm w (vec_capacity c.self.inside.journal) = subst (λ (x : World). IsFarm x (vec_capacity c.self.inside.journal)) c.self.view_is c.self.invariant.0 in
+    let v : World = record { config = c.self.inside.config; rows = c.cancel.new.self; journal = c.write_down.new.journal.items; books = c.write_down.new.ledgers.books.items; numbers = c.write_down.new.ledgers.numbers.items } in
+    let is : v ≡ moved w t (c.cancel.new.self) then (one_entry t (Cancel c.args.seq)) = moved_is w c.self.inside.config c.self.inside.jobs (c.cancel.new.self) c.self.inside.journal.items c.write_down.new.journal.items c.self.inside.ledgers.books.items c.write_down.new.ledgers.books.items c.self.inside.ledgers.numbers.items c.write_down.new.ledgers.numbers.items t c.purse_of-purse.result (c.cancel.new.self) then (Cancel c.args.seq)
+    c.self.view_is c.purse_of-purse.ensures.exact (refl) books_are c.write_down.ensures.numbers (c.write_down.ensures.journal) in
+    let room : length w.journal + 1 + owed (c.cancel.new.self) ≤ vec_capacity c.write_down.new.journal = omega (arith, (it g c).room, c.self.invariant.0.room, c.write_down.ensures.capacity, ap (λ (x : World). length x.journal) c.self.view_is, ap (λ (x : World). length x.rows) c.self.view_is, ap (λ (x : World). owed x.rows) c.self.view_is) in
     written w v t (c.cancel.new.self) then (Cancel c.args.seq) (Replied (reply.Line c.args.then)) (vec_capacity c.self.inside.journal) (vec_capacity c.write_down.new.journal) farm (moves g c) is room
 
 pub invariant_of-self : goal.invariant_of-self
-invariant_of-self g c = (wrote g c).0
+invariant_of-self g c = ((wrote g c).0, c.write_down.ensures.purses ∙ c.self.invariant.1)
 
 pub returns-clause-follows : goal.returns-clause-follows
 returns-clause-follows g c = (wrote g c).1
+
+pub write_down-requires-clause-known : goal.write_down-requires-clause-known
+write_down-requires-clause-known g c = omega (arith, c.requires.known, c.self.invariant.0.count, ap (λ (x : World). length x.config.tenants) c.self.view_is)
+
+pub write_down-requires-clause-purse : goal.write_down-requires-clause-purse
+write_down-requires-clause-purse g c = omega (arith, c.purse_of-purse.ensures.known, c.self.invariant.0.ledgers, ap (λ (x : World). purses_in x.config) c.self.view_is)

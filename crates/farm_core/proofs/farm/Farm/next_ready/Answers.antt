@@ -16,8 +16,8 @@ returns-in_default-clause-idle g c =
 pub has_room-requires-clause-known : goal.has_room-requires-clause-known
 has_room-requires-clause-known g c =
     let here : slice_get (waiting_keys c.self.inside.jobs) c.loop-i.i ≡ Some (c.in-Some.tenant, c.in-Some.seq) = sym c.waiting.ensures ∙ c.in-Some.is in
-    let known = key_known (length c.self.inside.accounts.items) c.self.inside.jobs c.loop-i.i c.in-Some.tenant c.in-Some.seq c.self.invariant.whose here in
-    omega (arith, known, c.self.invariant.count, ap (λ (x : World). length x.config.tenants) c.self.view_is)
+    let known = key_known (length c.self.inside.ledgers.numbers.items) c.self.inside.jobs c.loop-i.i c.in-Some.tenant c.in-Some.seq c.self.invariant.0.whose here in
+    omega (arith, known, c.self.invariant.0.count, ap (λ (x : World). length x.config.tenants) c.self.view_is)
 
 pub returns-clause-idle : goal.returns-clause-idle
 returns-clause-idle g c =
@@ -25,7 +25,7 @@ returns-clause-idle g c =
 
 pub returns-then-has_room-clause-first : goal.returns-then-has_room-clause-first
 returns-then-has_room-clause-first g c =
-    let farm : IsFarm c.args.self.now (vec_capacity c.self.inside.journal) = subst (λ (x : World). IsFarm x (vec_capacity c.self.inside.journal)) c.self.view_is c.self.invariant in
+    let farm : IsFarm c.args.self.now (vec_capacity c.self.inside.journal) = subst (λ (x : World). IsFarm x (vec_capacity c.self.inside.journal)) c.self.view_is c.self.invariant.0 in
     let rows_are : c.self.inside.jobs ≡ c.args.self.now.rows = ap (λ (x : World). x.rows) c.self.view_is in
     let here : slice_get (waiting_keys c.args.self.now.rows) c.loop-i.i ≡ Some (c.in-Some.tenant, c.in-Some.seq) = ap (λ (rs : List Row). slice_get (waiting_keys rs) c.loop-i.i) (sym rows_are) ∙ sym c.waiting.ensures ∙ c.in-Some.is in
     record {

@@ -7,7 +7,7 @@ use Rattle.farm_core.specs.declared.entry.Event.{Event}
 use Rattle.farm_core.proofs.CommandLemmas.{submit_moves, owed_push, next_few, free_in}
 use Rattle.farm_core.specs.Tenant.{free}
 use Rattle.farm_core.proofs.StepLemmas.{submit_short}
-use Rattle.farm_core.specs.World.{IsOnlyNoted}
+use Rattle.farm_core.specs.World.{IsOnlyNoted, purses_in}
 use Rattle.farm_core.specs.declared.account.Account.{Account}
 use Rattle.farm_core.specs.declared.entry.Event.TheVariants.{Submit}
 use Rattle.farm_core.specs.declared.reply.Reply.TheVariants as reply
@@ -24,40 +24,46 @@ use Rattle.farm_core.proofs.farm.Farm.submit_job.Goals as goal
 pub noted-requires-clause-step : goal.noted-requires-clause-step
 noted-requires-clause-step g c =
     let w : World = c.args.self.now in
-    let free_is : c.index.result.now.book.free ≡ free (view c.args.tenant w) = free_in w c.args.tenant (vec_capacity c.self.inside.journal) c.index.result.now (subst (λ (x : World). IsFarm x (vec_capacity c.self.inside.journal)) c.self.view_is c.self.invariant) c.requires.known (c.index.ensures ∙ ap (λ (x : World). get_or x.accounts c.args.tenant c.index.result.now) c.self.view_is) in
+    let free_is : c.account-account.result.book.free ≡ free (view c.args.tenant w) = free_in w c.args.tenant (vec_capacity c.self.inside.journal) c.account-account.result (subst (λ (x : World). IsFarm x (vec_capacity c.self.inside.journal)) c.self.view_is c.self.invariant.0) c.requires.known c.account-account.ensures.exact in
     subst (λ (e : Event). IsOnlyNoted (view c.args.tenant w) e (reply.NoShort c.in-Err.short.free)) (sym c.requires.event)
     (submit_short (view c.args.tenant w) c.args.plan c.args.quanta c.in-Err.short.free c.requires.amount c.requires.jobs
     (λ enough. let no = c.in-Err.ensures.enough.1 (omega (arith, enough, free_is)) in absurd (cc)) (c.in-Err.ensures.short ∙ free_is))
 
 pub overflow_add-account : goal.overflow_add-account
 overflow_add-account g c =
-    let it = account_in c.args.self.now c.args.tenant (vec_capacity c.self.inside.journal) c.index.result.now (subst (λ (x : World). IsFarm x (vec_capacity c.self.inside.journal)) c.self.view_is c.self.invariant) c.requires.known (c.index.ensures ∙ ap (λ (x : World). get_or x.accounts c.args.tenant c.index.result.now) c.self.view_is) in
-    omega (arith, it.used, c.has_room.ensures.few, next_few c.args.self.now c.args.tenant (vec_capacity c.self.inside.journal) c.index.result.now (subst (λ (x : World). IsFarm x (vec_capacity c.self.inside.journal)) c.self.view_is c.self.invariant) c.requires.known (c.index.ensures ∙ ap (λ (x : World). get_or x.accounts c.args.tenant c.index.result.now) c.self.view_is))
+    let it = account_in c.args.self.now c.args.tenant (vec_capacity c.self.inside.journal) c.account-account.result (subst (λ (x : World). IsFarm x (vec_capacity c.self.inside.journal)) c.self.view_is c.self.invariant.0) c.requires.known c.account-account.ensures.exact in
+    omega (arith, it.used, c.has_room.ensures.few, next_few c.args.self.now c.args.tenant (vec_capacity c.self.inside.journal) c.account-account.result (subst (λ (x : World). IsFarm x (vec_capacity c.self.inside.journal)) c.self.view_is c.self.invariant.0) c.requires.known c.account-account.ensures.exact)
 
-moves : (g : Over) (c : After-write_down g) → let new : JobData = record { seq = c.index.result.now.next; plan = c.args.plan; phase = Waiting; nodes = 0; left = c.args.quanta } in
-    IsMove c.args.self.now c.args.tenant (c.args.self.now.rows ++ record { tenant = c.args.tenant; job = new } ∷ []) (record c.index.result.now { book = after_hold c.args.quanta c.index.result.now.book; next = c.index.result.now.next + 1; used = c.index.result.now.used + 1 }) (Submit c.args.plan c.args.quanta) (Replied (reply.Job c.index.result.now.next))
-moves g c = submit_moves c.args.self.now c.args.tenant (vec_capacity c.self.inside.journal) c.args.quanta c.index.result.now c.args.plan (subst (λ (x : World). IsFarm x (vec_capacity c.self.inside.journal)) c.self.view_is c.self.invariant) c.requires.known (c.index.ensures ∙ ap (λ (x : World). get_or x.accounts c.args.tenant c.index.result.now) c.self.view_is) (sym c.has_room.ensures.exact ∙ c.if-not-has_room.false) c.requires.amount c.requires.jobs (c.in_default.ensures.enough.0 refl)
+moves : (g : Over) (c : After-write_down g) → let new : JobData = record { seq = c.account-account.result.next; plan = c.args.plan; phase = Waiting; nodes = 0; left = c.args.quanta } in
+    IsMove c.args.self.now c.args.tenant (c.args.self.now.rows ++ record { tenant = c.args.tenant; job = new } ∷ []) (record c.account-account.result { book = after_hold c.args.quanta c.account-account.result.book; next = c.account-account.result.next + 1; used = c.account-account.result.used + 1 }) (Submit c.args.plan c.args.quanta) (Replied (reply.Job c.account-account.result.next))
+moves g c = submit_moves c.args.self.now c.args.tenant (vec_capacity c.self.inside.journal) c.args.quanta c.account-account.result c.args.plan (subst (λ (x : World). IsFarm x (vec_capacity c.self.inside.journal)) c.self.view_is c.self.invariant.0) c.requires.known c.account-account.ensures.exact (sym c.has_room.ensures.exact ∙ c.if-not-has_room.false) c.requires.amount c.requires.jobs (c.in_default.ensures.enough.0 refl) c.requires.planned
 
 wrote : (g : Over) (c : After-write_down g) →
-    let v : World = record { config = c.self.inside.config; rows = c.insert.new.self; journal = c.write_down.new.journal.items; accounts = c.write_down.new.accounts.items } in
-    IsFarm v (vec_capacity c.write_down.new.journal) × Follows c.args.self.now c.args.tenant (Submit c.args.plan c.args.quanta) (Replied (reply.Job c.index.result.now.next)) v
+    let v : World = record { config = c.self.inside.config; rows = c.insert.new.self; journal = c.write_down.new.journal.items; books = c.write_down.new.ledgers.books.items; numbers = c.write_down.new.ledgers.numbers.items } in
+    IsFarm v (vec_capacity c.write_down.new.journal) × Follows c.args.self.now c.args.tenant (Submit c.args.plan c.args.quanta) (Replied (reply.Job c.account-account.result.next)) v
 wrote g c =
     let w : World = c.args.self.now in
     let t = c.args.tenant in
-    let account : Account = c.index.result.now in
+    let account : Account = c.account-account.result in
     let then : Account = record account { book = after_hold c.args.quanta account.book; next = account.next + 1; used = account.used + 1 } in
     let new : JobData = record { seq = account.next; plan = c.args.plan; phase = Waiting; nodes = 0; left = c.args.quanta } in
     let event_is : c.write_down.new.journal.items ≡ c.self.inside.journal.items ++ one_entry t (Submit c.args.plan c.args.quanta) = c.write_down.ensures.journal ∙ ap (λ es. es ++ one_entry t c.args.event) c.keep_room.ensures.kept ∙ ap (λ (e : Event). c.self.inside.journal.items ++ one_entry t e) c.requires.event in
-    let wrote_is : c.write_down.new.accounts.items ≡ set c.self.inside.accounts.items t then = c.write_down.ensures.accounts ∙ ap (λ (b : BookData). let a : Account = record account { book = b; next = account.next + 1; used = account.used + 1 } in set c.self.inside.accounts.items t a) c.in_default.ensures.held in
-    let farm : IsFarm w (vec_capacity c.self.inside.journal) = subst (λ (x : World). IsFarm x (vec_capacity c.self.inside.journal)) c.self.view_is c.self.invariant in
-    let v : World = record { config = c.self.inside.config; rows = c.insert.new.self; journal = c.write_down.new.journal.items; accounts = c.write_down.new.accounts.items } in
-    let is : v ≡ moved w t (w.rows ++ record { tenant = t; job = new } ∷ []) then (one_entry t (Submit c.args.plan c.args.quanta)) = moved_is w c.self.inside.config c.self.inside.jobs (c.insert.new.self) c.self.inside.journal.items c.write_down.new.journal.items c.self.inside.accounts.items c.write_down.new.accounts.items t (w.rows ++ record { tenant = t; job = new } ∷ []) then (Submit c.args.plan c.args.quanta)
-    c.self.view_is (c.in-Ok-insert.ensures.added ∙ ap (λ (x : World). x.rows ++ record { tenant = t; job = c.in-Some.job } ∷ []) c.self.view_is ∙ ap (λ (j : JobData). w.rows ++ record { tenant = t; job = j } ∷ []) c.in-Some.ensures.made) wrote_is event_is in
+    let books_are : c.write_down.new.ledgers.books.items ≡ set c.self.inside.ledgers.books.items c.purse_of-purse.result then.book = c.write_down.ensures.books ∙ ap (set c.self.inside.ledgers.books.items c.purse_of-purse.result) c.in_default.ensures.held in
+    let farm : IsFarm w (vec_capacity c.self.inside.journal) = subst (λ (x : World). IsFarm x (vec_capacity c.self.inside.journal)) c.self.view_is c.self.invariant.0 in
+    let v : World = record { config = c.self.inside.config; rows = c.insert.new.self; journal = c.write_down.new.journal.items; books = c.write_down.new.ledgers.books.items; numbers = c.write_down.new.ledgers.numbers.items } in
+    let is : v ≡ moved w t (w.rows ++ record { tenant = t; job = new } ∷ []) then (one_entry t (Submit c.args.plan c.args.quanta)) = moved_is w c.self.inside.config c.self.inside.jobs (c.insert.new.self) c.self.inside.journal.items c.write_down.new.journal.items c.self.inside.ledgers.books.items c.write_down.new.ledgers.books.items c.self.inside.ledgers.numbers.items c.write_down.new.ledgers.numbers.items t c.purse_of-purse.result (w.rows ++ record { tenant = t; job = new } ∷ []) then (Submit c.args.plan c.args.quanta)
+    c.self.view_is c.purse_of-purse.ensures.exact (c.in-Ok-insert.ensures.added ∙ ap (λ (x : World). x.rows ++ record { tenant = t; job = c.in-Some.job } ∷ []) c.self.view_is ∙ ap (λ (j : JobData). w.rows ++ record { tenant = t; job = j } ∷ []) c.in-Some.ensures.made) books_are c.write_down.ensures.numbers event_is in
     let room : length w.journal + 1 + owed (w.rows ++ record { tenant = t; job = new } ∷ []) ≤ vec_capacity c.write_down.new.journal = omega (arith, owed_push t new w.rows, owed-most w.rows, c.in-Ok.ensures.room, c.write_down.ensures.capacity, c.len.ensures, ap (λ (x : World). length x.journal) c.self.view_is, ap (λ (x : World). length x.rows) c.self.view_is) in
-    written w v t (w.rows ++ record { tenant = t; job = new } ∷ []) then (Submit c.args.plan c.args.quanta) (Replied (reply.Job c.index.result.now.next)) (vec_capacity c.self.inside.journal) (vec_capacity c.write_down.new.journal) farm (moves g c) is room
+    written w v t (w.rows ++ record { tenant = t; job = new } ∷ []) then (Submit c.args.plan c.args.quanta) (Replied (reply.Job c.account-account.result.next)) (vec_capacity c.self.inside.journal) (vec_capacity c.write_down.new.journal) farm (moves g c) is room
 
 pub invariant_of-self-2 : goal.invariant_of-self-2
-invariant_of-self-2 g c = (wrote g c).0
+invariant_of-self-2 g c = ((wrote g c).0, c.write_down.ensures.purses ∙ c.self.invariant.1)
 
 pub returns : goal.returns
 returns g c = (wrote g c).1
+
+pub write_down-requires-clause-known : goal.write_down-requires-clause-known
+write_down-requires-clause-known g c = omega (arith, c.requires.known, c.self.invariant.0.count, ap (λ (x : World). length x.config.tenants) c.self.view_is)
+
+pub write_down-requires-clause-purse : goal.write_down-requires-clause-purse
+write_down-requires-clause-purse g c = omega (arith, c.purse_of-purse.ensures.known, c.self.invariant.0.ledgers, ap (λ (x : World). purses_in x.config) c.self.view_is)

@@ -8,7 +8,7 @@ use Rattle.farm_replay.proofs.floor.Floor.answer.Goals as goal
 pub returns-in-Fund-clause-told : goal.returns-in-Fund-clause-told
 returns-in-Fund-clause-told g c =
     rw c.in-Fund.is
-    (replied c.args.self.now.farm c.fund.new.self c.args.tenant (what.Fund c.in-Fund.seq c.in-Fund.quanta) (Fund c.in-Fund.seq c.in-Fund.quanta) c.fund.result refl (λ none room. room) c.fund.ensures)
+    (replied c.args.self.now.farm c.fund.new.self c.args.tenant (what.Fund c.in-Fund.seq c.in-Fund.quanta) (Fund c.in-Fund.seq c.in-Fund.quanta) c.fund.result c.requires.known refl (λ none room. room) c.fund.ensures)
 
 pub returns-in-Fund-clause-floor : goal.returns-in-Fund-clause-floor
 returns-in-Fund-clause-floor g c =
@@ -19,7 +19,7 @@ returns-in-Fund-clause-floor g c =
 pub returns-in-Status-clause-told : goal.returns-in-Status-clause-told
 returns-in-Status-clause-told g c =
     rw c.in-Status.is
-    (replied c.args.self.now.farm c.status.new.self c.args.tenant (what.Status c.in-Status.seq) (Status c.in-Status.seq) c.status.result refl (λ none room. room) c.status.ensures)
+    (replied c.args.self.now.farm c.status.new.self c.args.tenant (what.Status c.in-Status.seq) (Status c.in-Status.seq) c.status.result c.requires.known refl (λ none room. room) c.status.ensures)
 
 pub returns-in-Status-clause-floor : goal.returns-in-Status-clause-floor
 returns-in-Status-clause-floor g c =
@@ -30,7 +30,7 @@ returns-in-Status-clause-floor g c =
 pub returns-in-Fetch-clause-told : goal.returns-in-Fetch-clause-told
 returns-in-Fetch-clause-told g c =
     rw c.in-Fetch.is
-    (replied c.args.self.now.farm c.result.new.self c.args.tenant (what.Fetch c.in-Fetch.seq) (Fetch c.in-Fetch.seq) c.result.result refl (λ none room. room) c.result.ensures)
+    (replied c.args.self.now.farm c.result.new.self c.args.tenant (what.Fetch c.in-Fetch.seq) (Fetch c.in-Fetch.seq) c.result.result c.requires.known refl (λ none room. room) c.result.ensures)
 
 pub returns-in-Fetch-clause-floor : goal.returns-in-Fetch-clause-floor
 returns-in-Fetch-clause-floor g c =
@@ -41,7 +41,7 @@ returns-in-Fetch-clause-floor g c =
 pub returns-in-Cancel-clause-told : goal.returns-in-Cancel-clause-told
 returns-in-Cancel-clause-told g c =
     rw c.in-Cancel.is
-    (replied c.args.self.now.farm c.cancel.new.self c.args.tenant (what.Cancel c.in-Cancel.seq) (Cancel c.in-Cancel.seq) c.cancel.result refl (cancel_needs (view c.args.tenant c.args.self.now.farm) c.in-Cancel.seq c.cancel.result c.cancel.ensures.accepted) c.cancel.ensures.follows)
+    (replied c.args.self.now.farm c.cancel.new.self c.args.tenant (what.Cancel c.in-Cancel.seq) (Cancel c.in-Cancel.seq) c.cancel.result c.requires.known refl (cancel_needs (view c.args.tenant c.args.self.now.farm) c.in-Cancel.seq c.cancel.result c.cancel.ensures.accepted) c.cancel.ensures.follows)
 
 pub returns-in-Cancel-clause-floor : goal.returns-in-Cancel-clause-floor
 returns-in-Cancel-clause-floor g c =
@@ -52,7 +52,7 @@ returns-in-Cancel-clause-floor g c =
 pub returns-in-Forget-clause-told : goal.returns-in-Forget-clause-told
 returns-in-Forget-clause-told g c =
     rw c.in-Forget.is
-    (replied c.args.self.now.farm c.forget.new.self c.args.tenant (what.Forget c.in-Forget.seq) (Forget c.in-Forget.seq) c.forget.result refl (λ none room. room) c.forget.ensures)
+    (replied c.args.self.now.farm c.forget.new.self c.args.tenant (what.Forget c.in-Forget.seq) (Forget c.in-Forget.seq) c.forget.result c.requires.known refl (λ none room. room) c.forget.ensures)
 
 pub returns-in-Forget-clause-floor : goal.returns-in-Forget-clause-floor
 returns-in-Forget-clause-floor g c =
@@ -63,7 +63,7 @@ returns-in-Forget-clause-floor g c =
 pub returns-in-Ledger-clause-told : goal.returns-in-Ledger-clause-told
 returns-in-Ledger-clause-told g c =
     rw c.in-Ledger.is
-    (replied c.args.self.now.farm c.ledger.new.self c.args.tenant (what.Ledger) (Ledger) c.ledger.result refl (λ none room. room) c.ledger.ensures)
+    (replied c.args.self.now.farm c.ledger.new.self c.args.tenant (what.Ledger) (Ledger) c.ledger.result c.requires.known refl (λ none room. room) c.ledger.ensures)
 
 pub returns-in-Ledger-clause-floor : goal.returns-in-Ledger-clause-floor
 returns-in-Ledger-clause-floor g c =

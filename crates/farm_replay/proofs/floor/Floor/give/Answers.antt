@@ -4,7 +4,7 @@ use Rattle.farm_replay.proofs.floor.Floor.give.Goals as goal
 
 pub returns-in_default-clause-told : goal.returns-in_default-clause-told
 returns-in_default-clause-told g c =
-    told_none g.J.Strategy.meaning c.args.self.now.farm c.args.tenant c.args.seq c.args.self.now.held.items c.requires.floor
+    told_none g.J.Strategy.meaning c.args.self.now.farm c.args.tenant c.args.seq c.args.self.now.held.items c.requires.known c.requires.floor
     (lacks_turn c.args.tenant c.args.seq c.args.self.now.held.items (cc (c.place_of.ensures, c.deref.ensures.value, c.in_default.is)))
 
 pub run-requires-after_bounds : goal.run-requires-after_bounds

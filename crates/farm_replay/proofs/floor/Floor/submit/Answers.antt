@@ -1,13 +1,19 @@
 use Rattle.std.proofs.Common.{refl}
 use Rattle.farm_core.specs.declared.entry.Event.TheVariants.{Submit}
 use Rattle.session_lines.specs.declared.request.What.TheVariants as what
-use Rattle.farm_replay.proofs.FloorLemmas.{replied, floor_replied}
+use Rattle.farm_replay.proofs.FloorLemmas.{unanswered, replied, floor_replied}
 use Rattle.farm_replay.proofs.floor.Floor.submit.Goals as goal
+
+pub returns-in_default-clause-told : goal.returns-in_default-clause-told
+returns-in_default-clause-told g c = unanswered c.args.self.now.farm c.args.tenant (what.Submit c.args.plan.kind c.args.quanta c.args.plan.project) c.requires.known refl
+
+pub returns-in_default-make-clause-told : goal.returns-in_default-make-clause-told
+returns-in_default-make-clause-told g c = unanswered c.args.self.now.farm c.args.tenant (what.Submit c.args.plan.kind c.args.quanta c.args.plan.project) c.requires.known refl
 
 pub returns-clause-told : goal.returns-clause-told
 returns-clause-told g c =
     replied c.args.self.now.farm c.submit.new.self c.args.tenant (what.Submit c.args.plan.kind c.args.quanta c.args.plan.project) (Submit c.args.plan c.args.quanta) c.submit.result
-    refl (λ none room. refl) c.submit.ensures
+    c.requires.known refl (λ none room. refl) c.submit.ensures
 
 pub returns-clause-floor : goal.returns-clause-floor
 returns-clause-floor g c =

@@ -11,4 +11,4 @@ returns-in-Ok-clause-told g c =
 pub returns-in-Err-clause-told : goal.returns-in-Err-clause-told
 returns-in-Err-clause-told g c =
     subst (λ a. IsTold c.args.self.now.farm c.args.tenant (what.Turn c.args.seq c.args.slice) a c.hold.new.self.farm) (sym c.untaken.ensures)
-    (turned_untaken c.args.self.now.farm c.hold.new.self.farm c.args.tenant c.args.seq c.args.slice c.in-Err.why c.in-Err.ensures.refused)
+    (turned_untaken c.args.self.now.farm c.hold.new.self.farm c.args.tenant c.args.seq c.args.slice c.in-Err.why c.requires.known c.in-Err.ensures.refused)

@@ -1,5 +1,0 @@
-use Rattle.farm_core.proofs.AloneLemmas.{each_is_alone}
-use Rattle.farm_core.proofs.laws.each_tenant_is_alone.Goals as goal
-
-pub returns : goal.returns
-returns c = each_is_alone

@@ -1,0 +1,11 @@
+-- What a thread of a service does.
+use Rattle.std.specs.Prelude.{⊤}
+use Rattle.farm_core.specs.Config.{ConfigData}
+use Rattle.farm_service.specs.declared.service.Part.{Part}
+use Rattle.farm_service.specs.declared.service.Part.TheVariants.{Worker, Client}
+use Rattle.farm_service.specs.Tills.{AreTillsOf}
+
+-- a client is answered at desks of the tills of the configuration's purses
+abbrev pub IsAtTills : ConfigData → Part → Type 0
+IsAtTills config Worker = ⊤
+IsAtTills config (Client own stream) = AreTillsOf config own.items
