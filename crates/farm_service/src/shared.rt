@@ -31,7 +31,7 @@ pub(crate) enum Asked {
     Cancel(u64),
     /// That the job of this number be kept no longer.
     Forget(u64),
-    /// The tenant's ledger.
+    /// The ledger of the tenant's purse.
     Ledger,
 }
 

@@ -46,13 +46,13 @@ pub(crate) fn work_both<R: Threads + Wait + Sync, G: Gate + Sync>(
     (first, second)
 }
 
-/// Four workers at once, and how many turns each pair of them took.
+/// Four workers at once.
 pub(crate) fn work_in_fours<R: Threads + Wait + Sync, G: Gate + Sync>(
     rt: &R,
     pool: &Pool,
     pass: &mut PoolPass,
     gate: &G,
-) -> [(WorkEnd, WorkEnd); 2]
+) -> ((WorkEnd, WorkEnd), (WorkEnd, WorkEnd))
     requires { IsPassOf pool.now.lock pass.old }
     ensures { IsPassOf pool.now.lock pass.new }
 {
@@ -79,7 +79,7 @@ pub(crate) fn work_in_fours<R: Threads + Wait + Sync, G: Gate + Sync>(
     );
     pool.join_pass(pass, one);
     pool.join_pass(pass, two);
-    [first, second]
+    (first, second)
 }
 
 /// Two workers, while the second tenant cancels its first job.

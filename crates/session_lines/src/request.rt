@@ -31,7 +31,7 @@ pub enum What {
     Cancel(u64),
     /// That the job of this number be kept no longer.
     Forget(u64),
-    /// The tenant's ledger.
+    /// The ledger of the tenant's purse.
     Ledger,
     /// That a turn of the job of this number be taken, for at most so many nodes.
     Take {

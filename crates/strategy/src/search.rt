@@ -44,7 +44,7 @@ pub trait Strategy: Send + Drop {
     fn best(&self) -> Option<&Schedule>
         ensures { option_copied result ≡ shown_best (meaning self.now) };
 
-    /// Draws so many quanta from the tenant's till.
+    /// Draws so many quanta from the till of its lease.
     fn fund(&mut self, quanta: u64)
         requires going { IsFalse (shown_closed (meaning self.old)) }
         requires limited { (meaning self.old).nodes + (meaning self.old).left + quanta ≤ 1000000000000 }

@@ -1,4 +1,4 @@
--- The ledger of one tenant's prepaid quanta.
+-- The ledger of one purse's prepaid quanta.
 use Rattle.std.specs.Prelude.{◌≡◌, ℕ, ◌+◌, ◌-◌, ◌≤◌}
 
 -- how many were granted; of these, how many are free, held by jobs, and spent on nodes
@@ -8,12 +8,12 @@ pub record BookData : Type 0 where
   pub held : ℕ
   pub spent : ℕ
 
--- every quantum is in one place, and no tenant has more than 10^12
+-- every quantum is in one place, and no purse has more than 10^12
 pub record IsBook (b : BookData) : Type 0 where
   pub whole : b.granted ≡ b.free + b.held + b.spent
   pub limited : b.granted ≤ 1000000000000
 
--- of a tenant that has done nothing yet
+-- of a purse that has spent nothing yet
 abbrev pub opened : ℕ → BookData
 opened n = record { granted = n; free = n; held = 0; spent = 0 }
 

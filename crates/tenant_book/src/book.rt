@@ -4,7 +4,7 @@ ghost use Rattle.tenant_book.specs.Book.{IsBook, opened, after_hold, after_spend
 
 use std::marker::Model;
 
-/// A tenant's ledger, in quanta: granted are always free, held and spent together.
+/// A purse's ledger, in quanta: granted are always free, held and spent together.
 #[derive(Clone, Copy, Debug)]
 pub struct Book {
     granted: u64,
@@ -46,7 +46,7 @@ impl Book {
         }
     }
 
-    /// How many quanta the tenant was granted.
+    /// How many quanta the purse was granted.
     pub fn granted(&self) -> u64
         ensures exact { result ≡ self.now.granted }
         ensures book { IsBook self.now }
@@ -62,7 +62,7 @@ impl Book {
         self.free
     }
 
-    /// How many quanta the tenant's jobs hold.
+    /// How many quanta its members' jobs hold.
     pub fn held(&self) -> u64
         ensures exact { result ≡ self.now.held }
         ensures book { IsBook self.now }
