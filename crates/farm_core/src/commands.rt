@@ -1,5 +1,5 @@
 //! What tenants ask of the farm.
-ghost use Rattle.std.specs.Prelude.{◌≡◌, ◌<◌, ◌≤◌, ◌+◌, true, false, Some, None, IfOk, IfSome, IfNone, IsTrue, length, option_map, nat_lt};
+ghost use Rattle.std.specs.Prelude.{◌≡◌, ℕ, ◌<◌, ◌≤◌, ◌+◌, ◌++◌, [], ◌∷◌, true, false, Some, None, IfOk, IfSome, IfNone, IsTrue, length, option_map, nat_lt};
 ghost use Rattle.std.specs.Option.{option_copied};
 ghost use Rattle.mrcpsp.specs.Project.{is_project};
 ghost use Rattle.job_table.specs.Table.{JobData, is_out, is_ended};
@@ -119,12 +119,13 @@ impl<J: Strategy> Farm<J> {
 
     /// Takes in a job for a plan, with so many quanta and its search. The search has to be fresh, without quanta, and of this
     /// tenant and plan; any other is answered `NoMemory` where such a one would be taken in. Where the job is refused, the
-    /// search is dropped. Refused, the first of: `NoRoom`, `NoAmount`, `NoJobs`, `NoShort`; `NoMemory` in place of any answer
-    /// but `NoRoom`.
+    /// search is dropped. A job that is taken in stands behind all others that wait. Refused, the first of: `NoRoom`, `NoAmount`,
+    /// `NoJobs`, `NoShort`; `NoMemory` in place of any answer but `NoRoom`.
     #[tactic(auto, using(crate::proofs::StepLemmas::submit_amount, crate::proofs::StepLemmas::submit_full))]
     pub fn submit(&mut self, tenant: u32, plan: Plan, quanta: u64, search: J) -> Reply
         requires { tenant < length self.old.config.tenants }
-        ensures { IsReply self.old tenant (Event.Submit plan quanta) result self.new }
+        ensures follows { IsReply self.old tenant (Event.Submit plan quanta) result self.new }
+        ensures turns { (seq : ℕ) → result ≡ Reply.Job seq → self.new.waiting ≡ self.old.waiting ++ (tenant, seq) ∷ [] }
     {
         let Ok(event) = submission(self.alloc, &plan, quanta) else {
             return self.unanswered(tenant);
@@ -168,7 +169,8 @@ impl<J: Strategy> Farm<J> {
         requires planned { IsTrue (is_project plan.project) }
         requires amount { is_amount quanta ≡ true }
         requires jobs { nat_lt (length (view tenant self.old).jobs) (view tenant self.old).terms.jobs ≡ true }
-        ensures { IsReply self.old tenant (Event.Submit plan quanta) result self.new }
+        ensures follows { IsReply self.old tenant (Event.Submit plan quanta) result self.new }
+        ensures turns { (seq : ℕ) → result ≡ Reply.Job seq → self.new.waiting ≡ self.old.waiting ++ (tenant, seq) ∷ [] }
     {
         if !self.has_room(tenant, 1) {
             return Reply::NoRoom;

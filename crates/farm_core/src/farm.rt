@@ -1,5 +1,5 @@
 //! The farm.
-ghost use Rattle.std.specs.Prelude.{◌≡◌, ◌<◌, ◌≤◌, ◌+◌, ◌++◌, ◌*◌, [], ◌∷◌, IsTrue, true, length, map, get_or, option_map, slice_set, IfOk, OnOk};
+ghost use Rattle.std.specs.Prelude.{◌≡◌, ℕ, ◌<◌, ◌≤◌, ◌+◌, ◌++◌, ◌*◌, [], ◌∷◌, IsTrue, true, length, map, get_or, option_map, slice_set, IfOk, OnOk};
 ghost use Rattle.std.specs.Vec.{vec_len, vec_capacity};
 ghost use Rattle.farm_core.specs.Tenant.{book, ledger_of, find_job, line_of};
 ghost use Rattle.farm_core.specs.Step.{has_room};
@@ -41,10 +41,10 @@ impl<J> Model for Farm<J> {
 
     ghost Value = { World };
 
-    ghost view = { λ f. record { config = f.config; rows = f.jobs; journal = f.journal.items; books = f.ledgers.books.items; numbers = f.ledgers.numbers.items } };
+    ghost view = { λ f. record { config = f.config; rows = f.jobs.rows; waiting = f.jobs.waiting; journal = f.journal.items; books = f.ledgers.books.items; numbers = f.ledgers.numbers.items } };
 
     ghost invariant = { λ f.
-        IsFarm (record { config = f.config; rows = f.jobs; journal = f.journal.items; books = f.ledgers.books.items; numbers = f.ledgers.numbers.items }) (vec_capacity f.journal)
+        IsFarm (record { config = f.config; rows = f.jobs.rows; waiting = f.jobs.waiting; journal = f.journal.items; books = f.ledgers.books.items; numbers = f.ledgers.numbers.items }) (vec_capacity f.journal)
         × (f.ledgers.purses.items ≡ purse_numbers f.config) };
 }
 
@@ -252,7 +252,8 @@ impl<J> Farm<J> {
         requires known { tenant < length self.old.config.tenants }
         requires step { IsOnlyNoted (view tenant self.old) event reply }
         requires planned { IsPlanned event }
-        ensures { IsReply self.old tenant event result self.new }
+        ensures follows { IsReply self.old tenant event result self.new }
+        ensures job { (seq : ℕ) → result ≡ Reply.Job seq → reply ≡ Reply.Job seq }
     {
         if !self.has_room(tenant, 1) {
             return Reply::NoRoom;
