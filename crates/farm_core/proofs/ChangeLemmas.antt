@@ -8,10 +8,10 @@ use Rattle.farm_core.specs.declared.entry.Event.{Event}
 use Rattle.farm_core.specs.declared.account.Account.{Account}
 use Rattle.farm_core.specs.Tenant.{book, held, held_by, free, find_job, put_job, drop_job}
 use Rattle.farm_core.specs.Step.{Answer, Step, step}
-use Rattle.farm_core.specs.World.{World, account_of, member, view, entries_of, is_noted}
+use Rattle.farm_core.specs.World.{World, table_of, account_of, member, view, entries_of, is_noted}
 use Rattle.farm_core.specs.Truth.{IsPlanned}
 use Rattle.farm_core.specs.Farm.{IsFarm, AreOf}
-use Rattle.farm_core.proofs.ViewLemmas.{table_of, found_own, put_own, put_other, drop_own, drop_other}
+use Rattle.farm_core.proofs.ViewLemmas.{found_own, put_own, put_other, drop_own, drop_other}
 use Rattle.farm_core.proofs.MoveLemmas.{IsMove, known_in, account_in, spent_in}
 use Rattle.farm_core.proofs.FarmLemmas.{running_in}
 use Rattle.farm_core.proofs.NeedLemmas.{AreBelow, run_below}

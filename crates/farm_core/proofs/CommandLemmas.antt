@@ -17,9 +17,9 @@ use Rattle.farm_core.specs.declared.reply.Line.{Line}
 use Rattle.farm_core.specs.declared.reply.Reply.TheVariants as reply
 use Rattle.farm_core.specs.Tenant.{book, free, held, find_job, line_of}
 use Rattle.farm_core.specs.Step.{Replied, has_room, is_amount}
-use Rattle.farm_core.specs.World.{World, account_of, member, view}
+use Rattle.farm_core.specs.World.{World, table_of, account_of, member, view}
 use Rattle.farm_core.specs.Farm.{IsFarm, IsGivenUpTo, owed, owed_in}
-use Rattle.farm_core.proofs.ViewLemmas.{table_of, found_own}
+use Rattle.farm_core.proofs.ViewLemmas.{found_own}
 use Rattle.farm_core.proofs.MoveLemmas.{IsMove, account_in, spent_in}
 use Rattle.farm_core.proofs.NeedLemmas.{AreBelow}
 use Rattle.farm_core.proofs.RunningLemmas.{paid_found, found_held}

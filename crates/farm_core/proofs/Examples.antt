@@ -1,6 +1,7 @@
 -- The steps of a tenant alone over three scripts, computed.
 use Rattle.std.proofs.Common.{◌≡◌, ℕ, zero, suc, ◌+◌, ◌<◌, true, false, List, [], ◌∷◌, Option, Some, None, length, map, refl, ap, ◌∙◌, subst, arith, inl, inr, length-append}
-use Rattle.std.specs.Prelude.{slice_get}
+use Rattle.std.specs.Prelude.{slice_get, cond, filter}
+use Rattle.std.proofs.lemmas.Bool.Decides.{nat_tests}
 use Rattle.mrcpsp.specs.Project.{ProjectData, ModeData, size, renewables, nonrenewables, modes, mode_count, successors, duration, request, consumption, capacity, stock, precedes}
 use Rattle.mrcpsp.specs.Schedule.{mode_of, start_of, finish, load, makespan}
 use Rattle.mrcpsp.specs.Values.{shortest, least, tail, lft, bound}
@@ -14,7 +15,7 @@ use Rattle.strategy.specs.declared.kind.Kind.TheVariants.{Tree, RuleLft}
 use Rattle.strategy.specs.declared.plan.Plan.{Plan}
 use Rattle.strategy.specs.declared.verdict.Verdict.{Verdict}
 use Rattle.strategy.specs.declared.verdict.Verdict.TheVariants.{Going, Optimal}
-use Rattle.job_table.specs.Table.{Row}
+use Rattle.job_table.specs.Table.{Row, is_key, find_row, does_wait}
 use Rattle.job_table.specs.declared.phase.Phase.{Phase}
 use Rattle.job_table.specs.declared.phase.Phase.TheVariants.{Waiting, Out, Leaving, Dry, Closed, Cancelled}
 use Rattle.farm_core.specs.declared.config.TenantLine.{TenantLine}
@@ -241,6 +242,9 @@ unfolding tenant_in view member purse kept
 none_before zero u n l here = let is : 0 ≡ u = ap tenant_in here in subst (λ v. has_room 2 (view v queue) ≡ false) is refl
 none_before (suc j) u n l here = absurd (omega (arith, l))
 
+each_waits : (t s : ℕ) → length (filter (is_key t s) queue.waiting) ≡ cond (does_wait (find_row t s queue.rows)) 1 0
+each_waits t s = grind (arith, nat_tests)
+
 third_of_1_is_next : IsFirstReady queue 1 3 5
 unfolding view member purse kept
 third_of_1_is_next = record {
@@ -252,6 +256,7 @@ third_of_1_is_next = record {
     slice_is = refl;
     room = refl;
   };
+  each = each_waits;
   at = 1;
   here = refl;
   before = none_before;

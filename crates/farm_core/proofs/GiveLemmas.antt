@@ -18,10 +18,9 @@ use Rattle.farm_core.specs.declared.reply.Line.{Line}
 use Rattle.farm_core.specs.declared.reply.Reply.TheVariants as reply
 use Rattle.farm_core.specs.Tenant.{book, held, find_job, line_of, nodes_of_turn}
 use Rattle.farm_core.specs.Step.{Replied, Sent, NoTurn, is_slice, has_room, may_have_run}
-use Rattle.farm_core.specs.World.{World, account_of, view, Follows}
+use Rattle.farm_core.specs.World.{World, table_of, account_of, view, Follows}
 use Rattle.farm_core.specs.Farm.{IsFarm, owed, owed_in}
 use Rattle.farm_core.specs.Turn.{IsTurn, IsReady}
-use Rattle.farm_core.proofs.ViewLemmas.{table_of}
 use Rattle.farm_core.proofs.MoveLemmas.{IsMove, account_in, spent_in, stays_follows}
 use Rattle.farm_core.proofs.RunningLemmas.{found_held, after_back}
 use Rattle.farm_core.proofs.FarmLemmas.{owed-most}

@@ -13,10 +13,10 @@ use Rattle.farm_core.specs.Config.{ConfigData, purse_names}
 use Rattle.farm_core.specs.declared.reply.Reply.TheVariants as reply
 use Rattle.farm_core.specs.Tenant.{Tenant, Member, book, held, free}
 use Rattle.farm_core.specs.Step.{Answer, Replied, Step, step, noted, unnoted, has_room}
-use Rattle.farm_core.specs.World.{World, Call, Leads, Run, Steps, new_numbers, no_book, opened, purse_in, account_of, member, view, entries_of, is_noted, entry_of, KeepsOrder, Follows, IsOnlyNoted}
+use Rattle.farm_core.specs.World.{World, table_of, Call, Leads, Run, Steps, new_numbers, no_book, opened, purse_in, account_of, member, view, entries_of, is_noted, entry_of, KeepsOrder, Follows, IsOnlyNoted}
 use Rattle.farm_core.specs.Truth.{IsPlanned, ArePlanned}
 use Rattle.farm_core.specs.Farm.{IsAccount, IsFarm, IsReached, AreFrom, AreOf, owed, IsReply}
-use Rattle.farm_core.proofs.ViewLemmas.{IsKnown, table_of, moved, set_own, set_other, follows_from}
+use Rattle.farm_core.proofs.ViewLemmas.{IsKnown, moved, set_own, set_other, follows_from}
 use Rattle.farm_core.proofs.SharingLemmas.{counted}
 use Rattle.farm_core.proofs.SeatLemmas.{named, steps_of, one_ledger, view_stays}
 use Rattle.farm_core.proofs.ReplayLemmas.{no_more, replayed_on}

@@ -5,10 +5,9 @@ use Rattle.std.proofs.lemmas.Bool.{cond_both, eqb-true, and_parts}
 use Rattle.job_table.specs.Table.{Row, JobData, is_row, is_waiting, find_row, AreWaiting}
 use Rattle.job_table.proofs.WaitingLemmas.{waiting_found, waiting_at}
 use Rattle.farm_core.specs.Step.{is_slice, has_room}
-use Rattle.farm_core.specs.World.{World, view}
+use Rattle.farm_core.specs.World.{World, table_of, view}
 use Rattle.farm_core.specs.Farm.{IsFarm, AreOf}
 use Rattle.farm_core.specs.Turn.{IsReady, IsIdle}
-use Rattle.farm_core.proofs.ViewLemmas.{table_of}
 use Rattle.farm_core.proofs.ChangeLemmas.{own_job}
 use Rattle.farm_core.proofs.CommandLemmas.{own_row}
 

@@ -59,10 +59,6 @@ set_other (y ∷ xs) zero (suc t) x d differ = refl
 set_other (y ∷ xs) (suc u) zero x d differ = refl
 set_other (y ∷ xs) (suc u) (suc t) x d differ = set_other xs u t x d (λ e. differ (ap suc e))
 
--- all tenants' jobs, and which of them wait
-abbrev pub table_of : World → TableData
-table_of w = record { rows = w.rows; waiting = w.waiting }
-
 -- another table, another account of tenant t, and these entries at the end of the journal
 abbrev pub moved : World → ℕ → TableData → Account → List Entry → World
 moved w t all account entries =

@@ -1,7 +1,7 @@
 -- Turns: a job's search in the hands of a worker.
 use Rattle.std.specs.Prelude.{◌≡◌, ◌⊎◌, ℕ, ◌<◌, true, false, length, Some, slice_get}
 use Rattle.strategy.specs.Search.{Meaning, ran_on, nodes_within}
-use Rattle.job_table.specs.Table.{JobData, find_row, is_waiting, without, waiting_then}
+use Rattle.job_table.specs.Table.{JobData, find_row, is_waiting, without, waiting_then, AreWaiting}
 use Rattle.job_table.specs.Job.{meaning_of, back, IsOwn}
 use Rattle.job_table.specs.declared.phase.Phase.TheVariants.{Out}
 use Rattle.farm_core.specs.declared.entry.Event.TheVariants.{Take, Give}
@@ -11,7 +11,7 @@ use Rattle.farm_core.specs.declared.reply.NoTurn.TheVariants as no_turn
 use Rattle.farm_core.specs.Tenant.{find_job, line_of}
 use Rattle.farm_core.specs.Step as step
 use Rattle.farm_core.specs.Step.{Replied, Sent, is_slice, has_room}
-use Rattle.farm_core.specs.World.{World, view, Follows}
+use Rattle.farm_core.specs.World.{World, table_of, view, Follows}
 
 -- a turn that has run so many nodes: nothing yet, or all that it could; and the best schedule is still with its search
 pub record IsTurn (slice ran : ℕ) (m : Meaning) : Type 0 where
@@ -56,9 +56,11 @@ pub record IsReady (w : World) (t s slice : ℕ) : Type 0 where
   pub slice_is : is_slice slice ≡ true
   pub room : has_room 2 (view t w) ≡ true
 
--- the first of these in the order of their turns: no waiting job before it is of a tenant that has entries for a turn
+-- the first of these in the order of their turns, in which each job that waits stands once: no waiting job before it is of a tenant that has entries
+-- for a turn
 pub record IsFirstReady (w : World) (t s slice : ℕ) : Type 0 where
   pub ready : IsReady w t s slice
+  pub each : AreWaiting (table_of w)
   pub at : ℕ
   pub here : slice_get w.waiting at ≡ Some (t, s)
   pub before : (j u n : ℕ) → j < at → slice_get w.waiting j ≡ Some (u, n) → has_room 2 (view u w) ≡ false

@@ -3,7 +3,7 @@ use Rattle.std.specs.Prelude.{Bool, true, false, cond, ◌≡◌, ◌≢◌, ◌
 use Rattle.std.specs.List.{range_with_len}
 use Rattle.tenant_book.specs.Book as ledger
 use Rattle.tenant_book.specs.Book.{BookData}
-use Rattle.job_table.specs.Table.{Row, jobs_of}
+use Rattle.job_table.specs.Table.{Row, TableData, jobs_of}
 use Rattle.farm_core.specs.declared.account.Account.{Account}
 use Rattle.farm_core.specs.declared.account.Numbers.{Numbers}
 use Rattle.farm_core.specs.declared.config.TenantLine.{TenantLine}
@@ -25,6 +25,10 @@ pub record World : Type 0 where
   pub journal : List Entry
   pub books : List BookData
   pub numbers : List Numbers
+
+-- all tenants' jobs, and which of them wait
+abbrev pub table_of : World → TableData
+table_of w = record { rows = w.rows; waiting = w.waiting }
 
 abbrev pub new_numbers : Numbers
 new_numbers = record { next = 1; used = 0 }

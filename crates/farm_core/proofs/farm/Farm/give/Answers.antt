@@ -10,9 +10,9 @@ use Rattle.farm_core.specs.declared.account.Account.{Account}
 use Rattle.farm_core.specs.declared.entry.Event.TheVariants.{Give}
 use Rattle.farm_core.specs.declared.reply.Reply.TheVariants as reply
 use Rattle.farm_core.specs.Step.{Replied}
-use Rattle.farm_core.specs.World.{World, view, Follows, purses_in}
+use Rattle.farm_core.specs.World.{World, table_of, view, Follows, purses_in}
 use Rattle.farm_core.specs.Farm.{IsFarm, owed}
-use Rattle.farm_core.proofs.ViewLemmas.{table_of, moved}
+use Rattle.farm_core.proofs.ViewLemmas.{moved}
 use Rattle.farm_core.proofs.MoveLemmas.{IsMove, account_in, moved_is, written, one_entry}
 use Rattle.farm_core.proofs.farm.Farm.give.Given.{Over}
 use Rattle.farm_core.proofs.farm.Farm.give.Goals.{After-write_down}

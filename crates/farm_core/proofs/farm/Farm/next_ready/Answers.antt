@@ -2,9 +2,8 @@ use Rattle.std.proofs.Common.{◌≡◌, Some, None, length, sym, ap, ◌∙◌,
 use Rattle.std.specs.Prelude.{slice_get}
 use Rattle.std.specs.Vec.{vec_capacity}
 use Rattle.job_table.specs.Table.{AreWaiting}
-use Rattle.farm_core.specs.World.{World}
+use Rattle.farm_core.specs.World.{World, table_of}
 use Rattle.farm_core.specs.Farm.{IsFarm}
-use Rattle.farm_core.proofs.ViewLemmas.{table_of}
 use Rattle.farm_core.proofs.NextLemmas.{key_known, ready_at, idle_of, found_before, found_within}
 use Rattle.farm_core.proofs.farm.Farm.next_ready.Goals as goal
 
@@ -34,6 +33,7 @@ returns-then-has_room-clause-first g c =
     let here : slice_get c.args.self.now.waiting c.loop-i.i ≡ Some (c.in-Some.tenant, c.in-Some.seq) = ap (λ (x : World). slice_get x.waiting c.loop-i.i) (sym c.self.view_is) ∙ sym c.waiting.ensures.key ∙ c.in-Some.is in
     record {
       ready = ready_at c.args.self.now (vec_capacity c.self.inside.journal) c.loop-i.i c.in-Some.tenant c.in-Some.seq c.args.slice farm are here (sym c.is_slice.ensures ∙ c.if-not-is_slice.false) (sym c.has_room.ensures.exact ∙ c.if-has_room.true);
+      each = are;
       at = c.loop-i.i;
       here = here;
       before = c.loop-i.invariant;

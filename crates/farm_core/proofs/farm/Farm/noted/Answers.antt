@@ -2,11 +2,11 @@ use Rattle.std.proofs.Common.{◌≡◌, ◌+◌, ◌≤◌, ◌++◌, length, s
 use Rattle.std.specs.Vec.{vec_capacity}
 use Rattle.farm_core.specs.declared.account.Account.{Account}
 use Rattle.farm_core.specs.Step.{Replied}
-use Rattle.farm_core.specs.World.{World, Follows, purses_in}
+use Rattle.farm_core.specs.World.{World, table_of, Follows, purses_in}
 use Rattle.farm_core.specs.Farm.{IsFarm, owed}
 use Rattle.farm_core.proofs.FarmLemmas.{owed-most}
 use Rattle.farm_core.proofs.MoveLemmas.{IsMove, account_in, noted_moves, moved_is, written, reply_is, one_entry}
-use Rattle.farm_core.proofs.ViewLemmas.{table_of, moved}
+use Rattle.farm_core.proofs.ViewLemmas.{moved}
 use Rattle.farm_core.proofs.farm.Farm.noted.Given.{Over}
 use Rattle.farm_core.proofs.farm.Farm.noted.Goals.{After-write_down}
 use Rattle.farm_core.proofs.farm.Farm.noted.Goals as goal

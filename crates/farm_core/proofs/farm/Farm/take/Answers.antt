@@ -9,9 +9,9 @@ use Rattle.farm_core.proofs.TurnLemmas.{turn_fresh}
 use Rattle.farm_core.specs.declared.account.Account.{Account}
 use Rattle.farm_core.specs.declared.entry.Event.TheVariants.{Take}
 use Rattle.farm_core.specs.Step.{Sent}
-use Rattle.farm_core.specs.World.{World, Follows, purses_in}
+use Rattle.farm_core.specs.World.{World, table_of, Follows, purses_in}
 use Rattle.farm_core.specs.Farm.{IsFarm, owed}
-use Rattle.farm_core.proofs.ViewLemmas.{table_of, moved}
+use Rattle.farm_core.proofs.ViewLemmas.{moved}
 use Rattle.farm_core.proofs.MoveLemmas.{IsMove, account_in, moved_is, written, one_entry}
 use Rattle.farm_core.proofs.farm.Farm.take.Given.{Over}
 use Rattle.farm_core.proofs.farm.Farm.take.Goals.{After-write_down}
