@@ -7,7 +7,7 @@ use Rattle.tenant_book.specs.Book.{BookData, after_hold, after_free_up}
 use Rattle.mrcpsp.specs.Project.{is_project}
 use Rattle.strategy.specs.declared.plan.Plan.{Plan}
 use Rattle.job_table.specs.Table as kept
-use Rattle.job_table.specs.Table.{Row, JobData, TableData, is_out, is_ended, find_row, put_row, drop_row, jobs_of, comes_before, add_row, add_job, change_job}
+use Rattle.job_table.specs.Table.{Row, JobData, TableData, is_out, is_ended, find_row, put_row, drop_row, jobs_of, comes_before, add_row, add_job, change_job, does_wait, waiting_then}
 use Rattle.job_table.specs.Job.{given_up, IsFunded, IsGivenUp}
 use Rattle.job_table.specs.declared.phase.Phase.{Phase}
 use Rattle.job_table.specs.declared.phase.Phase.TheVariants.{Waiting, Out, Leaving, Dry, Closed, Cancelled}
@@ -22,7 +22,8 @@ use Rattle.farm_core.specs.Farm.{IsFarm, IsGivenUpTo, owed, owed_in}
 use Rattle.farm_core.proofs.ViewLemmas.{found_own}
 use Rattle.farm_core.proofs.MoveLemmas.{IsMove, account_in, spent_in}
 use Rattle.farm_core.proofs.NeedLemmas.{AreBelow}
-use Rattle.farm_core.proofs.RunningLemmas.{paid_found, found_held}
+use Rattle.farm_core.proofs.OrderLemmas.{changed_turns}
+use Rattle.farm_core.proofs.RunningLemmas.{found_seq, paid_found, found_held}
 use Rattle.farm_core.proofs.FarmLemmas.{running_in, owed-most}
 use Rattle.farm_core.proofs.StepLemmas.{told, submit_steps, fund_steps, cancel_steps, forget_steps, given_up_seq}
 use Rattle.farm_core.proofs.ChangeLemmas.{own_job, whole_in, changed_moves, dropped_moves, next_above, added_moves}
@@ -63,6 +64,7 @@ gone_owed job new Cancelled gone = absurd (cc)
 -- a job that is given up frees no more than is held, and leaves room for its entry
 pub record IsCancel (w : World) (t s freed : ℕ) (account : Account) (line : Line) (all : TableData) : Type 0 where
   pub moves : IsMove w t all (record account { book = after_free_up freed account.book; used = account.used + 1 }) (Cancel s) (Replied (reply.Line line))
+  pub turns : all.waiting ≡ waiting_then t s (does_wait (find_row t s w.rows)) (does_wait (find_row t s all.rows)) w.waiting
   pub room : owed all.rows + 1 ≤ owed w.rows
 
 pub freed_most : (w : World) (t s freed capacity : ℕ) (account : Account) (line : Line) → IsFarm w capacity → t < length w.config.tenants → account ≡ account_of w t → IsGivenUpTo (view t w) s freed line
@@ -98,12 +100,14 @@ cancel_moves w t s freed capacity account line all farm l is room up did =
     (rw spent steps) refl refl (omega (arith, left, most)) (omega (arith, whole, most)) tt) in
     record {
       moves = subst (λ (d : TableData). IsMove w t d (record account { book = after_free_up freed account.book; used = account.used + 1 }) (Cancel s) (Replied (reply.Line line))) (sym after_is) moves;
+      turns = changed_turns w t s up.job new all there (given_up_seq up.job new gone ∙ found_seq s (view t w).jobs up.job up.found) after_is;
       room = omega (arith, ap (λ (d : TableData). owed d.rows) after_is, owed_put t s up.job new w.rows there, gone_owed up.job new up.job.phase gone);
     }
 
 -- a job that is given more quanta
 pub record IsFunding (w : World) (t s quanta : ℕ) (account : Account) (line : Line) (all : TableData) : Type 0 where
   pub moves : IsMove w t all (record account { book = after_hold quanta account.book; used = account.used + 1 }) (Fund s quanta) (Replied (reply.Line (record line { phase = Waiting; left = line.left + quanta })))
+  pub turns : all.waiting ≡ waiting_then t s (does_wait (find_row t s w.rows)) (does_wait (find_row t s all.rows)) w.waiting
   pub room : owed all.rows ≤ 2 * length w.rows
 
 pub put_length : (t s : ℕ) (new : JobData) (rows : List Row) → length (put_row t s new rows) ≡ length rows
@@ -135,6 +139,7 @@ fund_moves w t s quanta capacity account line all farm l is room line_is here go
     (rw spent steps) refl refl (omega arith) (omega (arith, whole, some)) tt in
     record {
       moves = rw (after_is, ← told_is) moves;
+      turns = changed_turns w t s it.job new all there (found_seq s (view t w).jobs it.job it.found) after_is;
       room = omega (arith, ap (λ (d : TableData). owed d.rows) after_is, owed-most (put_row t s new w.rows), put_length t s new w.rows);
     }
 

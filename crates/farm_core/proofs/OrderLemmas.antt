@@ -1,9 +1,10 @@
 -- Where a new job stands among its tenant's, and who waits after a call.
-use Rattle.std.proofs.Common.{◌≡◌, ◌≢◌, ℕ, ◌<◌, ◌≤◌, ◌==◌, Bool, true, false, cond, List, [], ◌∷◌, ◌++◌, ◌⊎◌, inl, inr, ⊎_elim, refl, sym, ap, ◌∙◌, subst, arith}
+use Rattle.std.proofs.Common.{◌≡◌, ◌≢◌, ℕ, ◌<◌, ◌≤◌, ◌==◌, Some, Bool, true, false, cond, List, [], ◌∷◌, ◌++◌, ◌⊎◌, inl, inr, ⊎_elim, refl, sym, ap, ◌∙◌, subst, arith}
 use Rattle.std.proofs.lemmas.Bool.{cond_both, cond-true, eqb-true, eq-eqb, and_parts}
 use Rattle.std.proofs.lemmas.Bool.Decides.{nat_tests}
-use Rattle.job_table.specs.Table.{Row, JobData, is_row, put_row, drop_row, jobs_of, comes_before, add_row, is_key, without, waiting_then}
-use Rattle.farm_core.specs.World.{IsWithout, KeepsOrder}
+use Rattle.job_table.specs.Table.{Row, JobData, is_row, TableData, find_row, put_row, drop_row, jobs_of, comes_before, add_row, is_key, is_waiting, does_wait, without, waiting_then, change_job}
+use Rattle.farm_core.specs.World.{World, table_of, IsWithout, KeepsOrder, KeepsTurns}
+use Rattle.job_table.proofs.RowLemmas.{put_same}
 use Rattle.farm_core.specs.Farm.{AreFrom, AreOf}
 use Rattle.farm_core.proofs.NeedLemmas.{AreBelow}
 
@@ -128,3 +129,21 @@ then_order t s true true keys = inl refl
 then_order t s true false keys = without_order t s keys
 then_order t s false true keys = inr (inl (s, refl))
 then_order t s false false keys = inl refl
+
+then_same : (t s : ℕ) (b : Bool) (keys : List (ℕ × ℕ)) → waiting_then t s b b keys ≡ keys
+then_same t s true keys = refl
+then_same t s false keys = refl
+
+-- where no job changed
+pub same_turns : (old new : World) (t s : ℕ) → table_of new ≡ table_of old → KeepsTurns old t s new
+same_turns old new t s is =
+    ap (λ (d : TableData). d.waiting) is ∙ sym (then_same t s (does_wait (find_row t s old.rows)) old.waiting)
+    ∙ ap (λ (d : TableData). waiting_then t s (does_wait (find_row t s old.rows)) (does_wait (find_row t s d.rows)) old.waiting) (sym is)
+
+-- and where one became another
+pub changed_turns : (w : World) (t s : ℕ) (job then : JobData) (all : TableData) → find_row t s w.rows ≡ Some job → then.seq ≡ s → all ≡ change_job t s job then (table_of w)
+    → all.waiting ≡ waiting_then t s (does_wait (find_row t s w.rows)) (does_wait (find_row t s all.rows)) w.waiting
+changed_turns w t s job then all found named is =
+    let now : find_row t s all.rows ≡ Some then = ap (λ (d : TableData). find_row t s d.rows) is ∙ put_same t s job then w.rows found named in
+    ap (λ (d : TableData). d.waiting) is ∙ ap (λ o. waiting_then t s (does_wait o) (is_waiting then.phase) w.waiting) (sym found)
+    ∙ ap (λ o. waiting_then t s (does_wait (find_row t s w.rows)) (does_wait o) w.waiting) (sym now)

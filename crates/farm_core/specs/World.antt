@@ -3,7 +3,7 @@ use Rattle.std.specs.Prelude.{Bool, true, false, cond, ◌≡◌, ◌≢◌, ◌
 use Rattle.std.specs.List.{range_with_len}
 use Rattle.tenant_book.specs.Book as ledger
 use Rattle.tenant_book.specs.Book.{BookData}
-use Rattle.job_table.specs.Table.{Row, TableData, jobs_of}
+use Rattle.job_table.specs.Table.{Row, TableData, find_row, jobs_of, does_wait, waiting_then}
 use Rattle.farm_core.specs.declared.account.Account.{Account}
 use Rattle.farm_core.specs.declared.account.Numbers.{Numbers}
 use Rattle.farm_core.specs.declared.config.TenantLine.{TenantLine}
@@ -126,6 +126,10 @@ pub record IsWithout (t : ℕ) (old new : List (ℕ × ℕ)) : Type 0 where
 -- no job passes another: all stand as they stood, one of tenant t came behind them, or one of tenant t is gone
 abbrev pub KeepsOrder : ℕ → List (ℕ × ℕ) → List (ℕ × ℕ) → Type 0
 KeepsOrder t old new = (new ≡ old) ⊎ ((seq : ℕ) × (new ≡ old ++ (t, seq) ∷ [])) ⊎ IsWithout t old new
+
+-- who waits once this job alone has changed: it stands last where it begins to wait, is gone where it waits no longer, and all others keep their places
+abbrev pub KeepsTurns : World → ℕ → ℕ → World → Type 0
+KeepsTurns old t s new = new.waiting ≡ waiting_then t s (does_wait (find_row t s old.rows)) (does_wait (find_row t s new.rows)) old.waiting
 
 -- a call of a tenant makes the step of its place at its purse; what is another tenant's own, and what another purse has spent,
 -- does not change

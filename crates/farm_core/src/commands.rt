@@ -7,7 +7,7 @@ ghost use Rattle.job_table.specs.Job.{given_up};
 ghost use Rattle.farm_core.specs.declared.reply.Line.{Line};
 ghost use Rattle.farm_core.specs.Tenant.{Tenant, find_job, line_of};
 ghost use Rattle.farm_core.specs.Step.{Replied, step, has_room, is_amount};
-ghost use Rattle.farm_core.specs.World.{World, view, IsOnlyNoted};
+ghost use Rattle.farm_core.specs.World.{World, view, IsOnlyNoted, KeepsTurns};
 ghost use Rattle.farm_core.specs.Farm.{IsReply, IsFundRefusal, IsGivenUpTo};
 
 use crate::farm::{keep_room, write_down};
@@ -230,12 +230,14 @@ impl<J: Strategy> Farm<J> {
         self.noted(tenant, Event::Fetch(seq), reply)
     }
 
-    /// Gives a job so many quanta more of those that are free, and it waits. Refused, the first of: `NoRoom`, `NoUnknown`,
-    /// `NoBusy`, `NoOver`, `NoAmount`, `NoShort`; `NoMemory` in place of any answer but `NoRoom`.
-    #[tactic(auto, using(crate::proofs::StepLemmas::fund_unknown, crate::proofs::StepLemmas::fund_refused))]
+    /// Gives a job so many quanta more of those that are free, and it waits: behind all others where it was dry, and else at its
+    /// place. Refused, the first of: `NoRoom`, `NoUnknown`, `NoBusy`, `NoOver`, `NoAmount`, `NoShort`; `NoMemory` in place of any
+    /// answer but `NoRoom`.
+    #[tactic(auto, using(crate::proofs::StepLemmas::fund_unknown, crate::proofs::StepLemmas::fund_refused, crate::proofs::OrderLemmas::same_turns))]
     pub fn fund(&mut self, tenant: u32, seq: u64, quanta: u64) -> Reply
         requires { tenant < length self.old.config.tenants }
-        ensures { IsReply self.old tenant (Event.Fund seq quanta) result self.new }
+        ensures follows { IsReply self.old tenant (Event.Fund seq quanta) result self.new }
+        ensures turns { KeepsTurns self.old tenant seq self.new }
     {
         let event = Event::Fund(seq, quanta);
         let Some(line) = self.snapshot(tenant, seq) else {
@@ -248,13 +250,15 @@ impl<J: Strategy> Farm<J> {
     }
 
     /// The same for a job that is not out or at its end.
+    #[tactic(auto, using(crate::proofs::OrderLemmas::same_turns))]
     fn fund_job(&mut self, tenant: u32, seq: u64, line: Line, quanta: u64) -> Reply
         requires known { tenant < length self.old.config.tenants }
         requires line { option_map line_of (find_job seq (view tenant self.old).jobs) ≡ Some line }
         requires out { is_out line.phase ≡ false }
         requires ended { is_ended line.phase ≡ false }
         requires amount { is_amount quanta ≡ true }
-        ensures { IsReply self.old tenant (Event.Fund seq quanta) result self.new }
+        ensures follows { IsReply self.old tenant (Event.Fund seq quanta) result self.new }
+        ensures turns { KeepsTurns self.old tenant seq self.new }
     {
         if !self.has_room(tenant, 1) {
             return Reply::NoRoom;
@@ -291,10 +295,11 @@ impl<J: Strategy> Farm<J> {
     /// Gives a job up that is not at its end: while a worker holds its turn it is leaving, and else it is cancelled and
     /// what it held is free. Takes no memory where it does. Refused, the first of: `NoRoom`, `NoUnknown`, `NoOver`; `NoMemory`
     /// in place of the last two.
-    #[tactic(auto, using(crate::proofs::StepLemmas::cancel_unknown, crate::proofs::StepLemmas::cancel_over, crate::proofs::StepLemmas::cancel_told, crate::proofs::StepLemmas::cancel_less))]
+    #[tactic(auto, using(crate::proofs::StepLemmas::cancel_unknown, crate::proofs::StepLemmas::cancel_over, crate::proofs::StepLemmas::cancel_told, crate::proofs::StepLemmas::cancel_less, crate::proofs::OrderLemmas::same_turns))]
     pub fn cancel(&mut self, tenant: u32, seq: u64) -> Reply
         requires { tenant < length self.old.config.tenants }
         ensures follows { IsReply self.old tenant (Event.Cancel seq) result self.new }
+        ensures turns { KeepsTurns self.old tenant seq self.new }
         ensures accepted { (line : Line) → (step (view tenant self.old) (Event.Cancel seq)).answer ≡ Replied (Reply.Line line) → result ≡ Reply.Line line }
     {
         let Some(line) = self.snapshot(tenant, seq) else {
@@ -307,10 +312,12 @@ impl<J: Strategy> Farm<J> {
     }
 
     /// The same for a job that is not at its end, which is then told of so, with so many quanta less.
+    #[tactic(auto, using(crate::proofs::OrderLemmas::same_turns))]
     fn cancel_job(&mut self, tenant: u32, seq: u64, freed: u64, then: Line) -> Reply
         requires known { tenant < length self.old.config.tenants }
         requires given_up { IsGivenUpTo (view tenant self.old) seq freed then }
         ensures follows { IsReply self.old tenant (Event.Cancel seq) result self.new }
+        ensures turns { KeepsTurns self.old tenant seq self.new }
         ensures accepted { has_room 1 (view tenant self.old) ≡ true → result ≡ Reply.Line then }
     {
         if !self.has_room(tenant, 1) {

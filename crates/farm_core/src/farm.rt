@@ -3,7 +3,7 @@ ghost use Rattle.std.specs.Prelude.{◌≡◌, ℕ, ◌<◌, ◌≤◌, ◌+◌,
 ghost use Rattle.std.specs.Vec.{vec_len, vec_capacity};
 ghost use Rattle.farm_core.specs.Tenant.{book, ledger_of, find_job, line_of};
 ghost use Rattle.farm_core.specs.Step.{has_room};
-ghost use Rattle.farm_core.specs.World.{World, purse, view, account_of, new_numbers, opened, opened_books, purse_in, purses_in, IsReplayed, IsOnlyNoted};
+ghost use Rattle.farm_core.specs.World.{World, table_of, purse, view, account_of, new_numbers, opened, opened_books, purse_in, purses_in, IsReplayed, IsOnlyNoted};
 ghost use Rattle.farm_core.specs.Config.{is_config};
 ghost use Rattle.farm_core.specs.Farm.{IsAccount, IsReached, IsReply, purse_numbers};
 ghost use Rattle.farm_core.specs.Truth.{IsPlanned};
@@ -254,6 +254,7 @@ impl<J> Farm<J> {
         requires planned { IsPlanned event }
         ensures follows { IsReply self.old tenant event result self.new }
         ensures job { (seq : ℕ) → result ≡ Reply.Job seq → reply ≡ Reply.Job seq }
+        ensures table { table_of self.new ≡ table_of self.old }
     {
         if !self.has_room(tenant, 1) {
             return Reply::NoRoom;

@@ -65,3 +65,6 @@ write_down-requires-clause-known g c = omega (arith, c.requires.known, c.self.in
 
 pub write_down-requires-clause-purse : goal.write_down-requires-clause-purse
 write_down-requires-clause-purse g c = omega (arith, c.purse_of-purse.ensures.known, c.self.invariant.0.ledgers, ap (λ (x : World). purses_in x.config) c.self.view_is)
+
+pub returns-clause-turns : goal.returns-clause-turns
+returns-clause-turns g c = (it g c).turns

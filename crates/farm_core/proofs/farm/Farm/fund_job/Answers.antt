@@ -65,8 +65,11 @@ wrote g c =
 pub invariant_of-self-2 : goal.invariant_of-self-2
 invariant_of-self-2 g c = ((wrote g c).0, c.write_down.ensures.purses ∙ c.self.invariant.1)
 
-pub returns : goal.returns
-returns g c = (wrote g c).1
+pub returns-clause-follows : goal.returns-clause-follows
+returns-clause-follows g c = (wrote g c).1
+
+pub returns-clause-turns : goal.returns-clause-turns
+returns-clause-turns g c = (it g c).turns
 
 pub write_down-requires-clause-known : goal.write_down-requires-clause-known
 write_down-requires-clause-known g c = omega (arith, c.requires.known, c.self.invariant.0.count, ap (λ (x : World). length x.config.tenants) c.self.view_is)
