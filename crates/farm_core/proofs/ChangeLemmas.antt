@@ -1,18 +1,21 @@
 -- Calls that change a job, make one, or keep one no longer, and what a tenant's account tells then.
-use Rattle.std.proofs.Common.{◌≡◌, ℕ, ◌+◌, ◌-◌, ◌<◌, ◌==◌, true, Option, Some, List, [], ◌∷◌, ◌++◌, length, get_or, refl, sym, ap, ◌∙◌, arith, inl, inr}
-use Rattle.std.proofs.lemmas.Bool.{cond_both, eqb-true, and_parts}
+use Rattle.std.proofs.Common.{◌≡◌, ℕ, ◌+◌, ◌-◌, ◌<◌, true, false, Some, List, [], ◌∷◌, ◌++◌, length, refl, sym, ap, ◌∙◌, subst, arith}
+use Rattle.std.proofs.lemmas.Bool.{cond_both}
 use Rattle.tenant_book.specs.Book.{BookData}
-use Rattle.job_table.specs.Table.{Row, JobData, is_row, find_row, put_row, drop_row, jobs_of}
+use Rattle.job_table.specs.Table as kept
+use Rattle.job_table.specs.Table.{Row, JobData, TableData, is_row, is_waiting, find_row, put_row, drop_row, jobs_of, add_row, add_job, change_job}
 use Rattle.farm_core.specs.declared.entry.Event.{Event}
 use Rattle.farm_core.specs.declared.account.Account.{Account}
 use Rattle.farm_core.specs.Tenant.{book, held, held_by, free, find_job, put_job, drop_job}
 use Rattle.farm_core.specs.Step.{Answer, Step, step}
-use Rattle.farm_core.specs.World.{World, account_of, member, view, entries_of, is_noted, keys, IsWithout}
+use Rattle.farm_core.specs.World.{World, table_of, account_of, member, view, entries_of, is_noted}
 use Rattle.farm_core.specs.Truth.{IsPlanned}
 use Rattle.farm_core.specs.Farm.{IsFarm, AreOf}
-use Rattle.farm_core.proofs.ViewLemmas.{found_own, put_own, put_other, drop_own, drop_other, push_own, push_other}
+use Rattle.farm_core.proofs.ViewLemmas.{found_own, put_own, put_other, drop_own, drop_other}
 use Rattle.farm_core.proofs.MoveLemmas.{IsMove, known_in, account_in, spent_in}
 use Rattle.farm_core.proofs.FarmLemmas.{running_in}
+use Rattle.farm_core.proofs.NeedLemmas.{AreBelow, run_below}
+use Rattle.farm_core.proofs.OrderLemmas.{put_from, drop_from, add_from, add_whose, add_own, add_other, without_order, then_order}
 use Rattle.farm_core.proofs.RunningLemmas.{held_put, held_drop, held_push, found_seq}
 
 same_book : (g f h s g' f' h' s' : ℕ) → g ≡ g' → f ≡ f' → h ≡ h' → s ≡ s'
@@ -58,55 +61,12 @@ drop_whose n t s [] all = tt
 drop_whose n t s (row ∷ rows) all =
     cond_both (is_row t s row) rows (row ∷ drop_row t s rows) (AreOf n) (λ _. all.1) (λ _. (all.0, drop_whose n t s rows all.1))
 
-push_whose : (n t : ℕ) (new : JobData) (rows : List Row) → t < n → AreOf n rows → AreOf n (rows ++ record { tenant = t; job = new } ∷ [])
-push_whose n t new [] l all = (l, tt)
-push_whose n t new (row ∷ rows) l all = (all.0, push_whose n t new rows l all.1)
-
-abbrev key_of : Row → ℕ × ℕ
-key_of row = (row.tenant, row.job.seq)
-
-key_is : (t s : ℕ) (row : Row) → is_row t s row ≡ true → key_of row ≡ (t, s)
-key_is t s row is =
-    let parts = and_parts (row.tenant == t) (row.job.seq == s) is in
-    ap {B = ℕ × ℕ} (λ n. (n, row.job.seq)) (eqb-true row.tenant t parts.0) ∙ ap {B = ℕ × ℕ} (λ n. (t, n)) (eqb-true row.job.seq s parts.1)
-
-put_keys : (t s : ℕ) (new : JobData) (rows : List Row) → new.seq ≡ s → keys (put_row t s new rows) ≡ keys rows
-put_keys t s new [] seq = refl
-put_keys t s new (row ∷ rows) seq =
-    cond_both (is_row t s row) (record { tenant = t; job = new } ∷ rows) (row ∷ put_row t s new rows) (λ (rs : List Row). keys rs ≡ keys (row ∷ rows))
-    (λ is. ap {B = List (ℕ × ℕ)} (λ k. k ∷ keys rows) (ap {B = ℕ × ℕ} (λ n. (t, n)) seq ∙ sym (key_is t s row is)))
-    (λ _. ap {B = List (ℕ × ℕ)} (λ ks. key_of row ∷ ks) (put_keys t s new rows seq))
-
-drop_keys : (t s : ℕ) (job : JobData) (rows : List Row) → find_row t s rows ≡ Some job → IsWithout t (keys rows) (keys (drop_row t s rows))
-drop_keys t s job [] found = absurd (cc)
-drop_keys t s job (row ∷ rows) found =
-    cond_both (is_row t s row) (Some row.job) (find_row t s rows) (λ (o : Option JobData). o ≡ Some job → IsWithout t (keys (row ∷ rows)) (keys (drop_row t s (row ∷ rows))))
-    (λ is _. record {
-      seq = s;
-      before = [];
-      behind = keys rows;
-      was = ap {B = List (ℕ × ℕ)} (λ k. k ∷ keys rows) (key_is t s row is);
-      is = rw is refl;
-    })
-    (λ isnt h. let it = drop_keys t s job rows h in record {
-      seq = it.seq;
-      before = key_of row ∷ it.before;
-      behind = it.behind;
-      was = ap {B = List (ℕ × ℕ)} (λ ks. key_of row ∷ ks) it.was;
-      is = rw isnt (ap {B = List (ℕ × ℕ)} (λ ks. key_of row ∷ ks) it.is);
-    })
-    found
-
-push_keys : (t : ℕ) (new : JobData) (rows : List Row) → keys (rows ++ record { tenant = t; job = new } ∷ []) ≡ keys rows ++ (t, new.seq) ∷ []
-push_keys t new [] = refl
-push_keys t new (row ∷ rows) = ap {B = List (ℕ × ℕ)} (λ ks. key_of row ∷ ks) (push_keys t new rows)
-
 -- a job stands otherwise
 pub changed_moves : (w : World) (t s capacity : ℕ) (account : Account) (job new : JobData) (then : BookData) (event : Event) (answer : Answer)
     → IsFarm w capacity → t < length w.config.tenants → account ≡ account_of w t → find_row t s w.rows ≡ Some job → new.seq ≡ job.seq
     → step (view t w) event ≡ record { answer = answer; after = record (view t w) { spent = then.spent; used = (view t w).used + 1; jobs = put_job new.seq new (view t w).jobs } }
     → is_noted answer ≡ true → then.granted ≡ account.book.granted → then.held + job.left ≡ account.book.held + new.left → then.granted ≡ then.free + then.held + then.spent
-    → IsPlanned event → IsMove w t (put_row t s new w.rows) (record account { book = then; used = account.used + 1 }) event answer
+    → IsPlanned event → IsMove w t (change_job t s job new (table_of w)) (record account { book = then; used = account.used + 1 }) event answer
 unfolding view member
 changed_moves w t s capacity account job new then event answer farm l is found named steps told granted held_is whole planned =
     let a = account_in w t capacity account farm l is in
@@ -127,8 +87,9 @@ changed_moves w t s capacity account job new then event answer farm l is found n
         used = omega (arith, a.used);
       };
       others = λ u differ. put_other u t s new w.rows differ;
-      order = inl (put_keys t s new w.rows seq);
+      order = then_order t s (is_waiting job.phase) (is_waiting new.phase) w.waiting;
       whose = put_whose (length w.numbers) t s new w.rows (omega (arith, farm.count)) farm.whose;
+      stands = put_from 0 t s new w.rows farm.order;
     }
 
 -- a job is kept no longer that holds nothing
@@ -136,7 +97,7 @@ pub dropped_moves : (w : World) (t s capacity : ℕ) (account : Account) (job : 
     → IsFarm w capacity → t < length w.config.tenants → account ≡ account_of w t → find_row t s w.rows ≡ Some job → job.left ≡ 0
     → step (view t w) event ≡ record { answer = answer; after = record (view t w) { used = (view t w).used + 1; jobs = drop_job job.seq (view t w).jobs } }
     → is_noted answer ≡ true → IsPlanned event
-    → IsMove w t (drop_row t s w.rows) (record account { used = account.used + 1 }) event answer
+    → IsMove w t (kept.drop_job t s (table_of w)) (record account { used = account.used + 1 }) event answer
 unfolding view member
 dropped_moves w t s capacity account job event answer farm l is found none steps told planned =
     let a = account_in w t capacity account farm l is in
@@ -158,22 +119,30 @@ dropped_moves w t s capacity account job event answer farm l is found none steps
         used = omega (arith, a.used);
       };
       others = λ u differ. drop_other u t s w.rows differ;
-      order = inr (inr (drop_keys t s job w.rows found));
+      order = without_order t s w.waiting;
       whose = drop_whose (length w.numbers) t s w.rows farm.whose;
+      stands = drop_from 0 t s w.rows farm.order;
     }
 
--- a job more
-pub pushed_moves : (w : World) (t capacity : ℕ) (account : Account) (new : JobData) (then : BookData) (event : Event) (answer : Answer)
-    → IsFarm w capacity → t < length w.config.tenants → account ≡ account_of w t
+-- the next number of a tenant is above those of its jobs
+pub next_above : (w : World) (t capacity : ℕ) (account : Account) → IsFarm w capacity → t < length w.config.tenants → account ≡ account_of w t → AreBelow account.next (jobs_of t w.rows)
+unfolding view member
+next_above w t capacity account farm l is =
+    subst (λ n. AreBelow n (jobs_of t w.rows)) (sym (account_in w t capacity account farm l is).next) (run_below w.config farm.reached.calls w farm.reached.run t)
+
+-- a job more, of the next number
+pub added_moves : (w : World) (t capacity : ℕ) (account : Account) (new : JobData) (then : BookData) (event : Event) (answer : Answer)
+    → IsFarm w capacity → t < length w.config.tenants → account ≡ account_of w t → new.seq ≡ account.next
     → step (view t w) event ≡ record { answer = answer; after = record (view t w) { used = (view t w).used + 1; next = (view t w).next + 1; jobs = (view t w).jobs ++ new ∷ [] } }
     → is_noted answer ≡ true → then.granted ≡ account.book.granted → then.held ≡ account.book.held + new.left → then.spent ≡ account.book.spent → then.granted ≡ then.free + then.held + then.spent
-    → IsPlanned event → IsMove w t (w.rows ++ record { tenant = t; job = new } ∷ []) (record { book = then; next = account.next + 1; used = account.used + 1 }) event answer
+    → IsPlanned event → IsMove w t (add_job t new (table_of w)) (record { book = then; next = account.next + 1; used = account.used + 1 }) event answer
 unfolding view member
-pushed_moves w t capacity account new then event answer farm l is steps told granted held_is spent_is whole planned =
+added_moves w t capacity account new then event answer farm l is named steps told granted held_is spent_is whole planned =
     let a = account_in w t capacity account farm l is in
-    let rows_are = push_own t new w.rows in
+    let below : AreBelow new.seq (jobs_of t w.rows) = subst (λ n. AreBelow n (jobs_of t w.rows)) (sym named) (next_above w t capacity account farm l is) in
+    let rows : List Row = add_row (record { tenant = t; job = new }) w.rows in
+    let rows_are : jobs_of t rows ≡ jobs_of t w.rows ++ new ∷ [] = add_own 0 t new w.rows farm.order below in
     let spent : then.spent ≡ (view t w).spent = spent_is ∙ spent_in w t capacity account farm l is in
-    let rows : List Row = w.rows ++ record { tenant = t; job = new } ∷ [] in
     let held_moves : held_by (jobs_of t rows) + 0 ≡ held_by (jobs_of t w.rows) + new.left = omega (arith, ap held_by rows_are, held_push new (jobs_of t w.rows)) in
     record {
       known = known_in w t capacity farm l;
@@ -186,7 +155,8 @@ pushed_moves w t capacity account new then event answer farm l is steps told gra
         next = refl;
         used = omega (arith, a.used);
       };
-      others = λ u differ. push_other u t new w.rows differ;
-      order = inr (inl (new.seq, push_keys t new w.rows));
-      whose = push_whose (length w.numbers) t new w.rows (omega (arith, farm.count)) farm.whose;
+      others = λ u differ. add_other u t new w.rows differ;
+      order = then_order t new.seq false (is_waiting new.phase) w.waiting;
+      whose = add_whose (length w.numbers) (record { tenant = t; job = new }) w.rows (omega (arith, farm.count)) farm.whose;
+      stands = add_from 0 (record { tenant = t; job = new }) w.rows (omega arith) farm.order;
     }

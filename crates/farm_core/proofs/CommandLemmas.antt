@@ -1,11 +1,13 @@
 -- What each command that changes a job moves.
-use Rattle.std.proofs.Common.{◌≡◌, ℕ, ◌+◌, ◌*◌, ◌<◌, ◌≤◌, Bool, true, false, Option, Some, None, List, [], ◌∷◌, ◌++◌, length, get_or, nat_lt, refl, sym, ap, ◌∙◌, subst, arith}
+use Rattle.std.proofs.Common.{◌≡◌, ℕ, ◌+◌, ◌*◌, ◌<◌, ◌≤◌, ◌==◌, Bool, true, false, Option, Some, None, List, [], ◌∷◌, length, nat_lt, refl, sym, ap, ◌∙◌, subst, arith}
 use Rattle.std.specs.Prelude.{option_map, IsTrue, IsFalse, IfSome}
+use Rattle.std.proofs.lemmas.Bool.{cond_both, eqb-true}
 use Rattle.std.proofs.lemmas.Bool.Decides.{nat_tests}
 use Rattle.tenant_book.specs.Book.{BookData, after_hold, after_free_up}
 use Rattle.mrcpsp.specs.Project.{is_project}
 use Rattle.strategy.specs.declared.plan.Plan.{Plan}
-use Rattle.job_table.specs.Table.{Row, JobData, is_out, is_ended, find_row, put_row, drop_row}
+use Rattle.job_table.specs.Table as kept
+use Rattle.job_table.specs.Table.{Row, JobData, TableData, is_out, is_ended, find_row, put_row, drop_row, jobs_of, comes_before, add_row, add_job, change_job, does_wait, waiting_then}
 use Rattle.job_table.specs.Job.{given_up, IsFunded, IsGivenUp}
 use Rattle.job_table.specs.declared.phase.Phase.{Phase}
 use Rattle.job_table.specs.declared.phase.Phase.TheVariants.{Waiting, Out, Leaving, Dry, Closed, Cancelled}
@@ -15,14 +17,16 @@ use Rattle.farm_core.specs.declared.reply.Line.{Line}
 use Rattle.farm_core.specs.declared.reply.Reply.TheVariants as reply
 use Rattle.farm_core.specs.Tenant.{book, free, held, find_job, line_of}
 use Rattle.farm_core.specs.Step.{Replied, has_room, is_amount}
-use Rattle.farm_core.specs.World.{World, account_of, member, view}
+use Rattle.farm_core.specs.World.{World, table_of, account_of, member, view}
 use Rattle.farm_core.specs.Farm.{IsFarm, IsGivenUpTo, owed, owed_in}
 use Rattle.farm_core.proofs.ViewLemmas.{found_own}
 use Rattle.farm_core.proofs.MoveLemmas.{IsMove, account_in, spent_in}
-use Rattle.farm_core.proofs.RunningLemmas.{paid_found, found_held}
+use Rattle.farm_core.proofs.NeedLemmas.{AreBelow}
+use Rattle.farm_core.proofs.OrderLemmas.{changed_turns}
+use Rattle.farm_core.proofs.RunningLemmas.{found_seq, paid_found, found_held}
 use Rattle.farm_core.proofs.FarmLemmas.{running_in, owed-most}
 use Rattle.farm_core.proofs.StepLemmas.{told, submit_steps, fund_steps, cancel_steps, forget_steps, given_up_seq}
-use Rattle.farm_core.proofs.ChangeLemmas.{own_job, whole_in, changed_moves, dropped_moves, pushed_moves}
+use Rattle.farm_core.proofs.ChangeLemmas.{own_job, whole_in, changed_moves, dropped_moves, next_above, added_moves}
 
 pub owed_put : (t s : ℕ) (old new : JobData) (rows : List Row) → find_row t s rows ≡ Some old → owed (put_row t s new rows) + owed_in old.phase ≡ owed rows + owed_in new.phase
 owed_put t s old new [] found = absurd (cc)
@@ -41,7 +45,7 @@ same_job a b found one two = cc
 
 pub forget_moves : (w : World) (t s capacity : ℕ) (account : Account) (line : Line) → IsFarm w capacity → t < length w.config.tenants → account ≡ account_of w t
     → has_room 1 (view t w) ≡ true → option_map line_of (find_job s (view t w).jobs) ≡ Some line → is_ended line.phase ≡ true
-    → IsMove w t (drop_row t s w.rows) (record account { used = account.used + 1 }) (Forget s) (Replied (reply.Forgotten s))
+    → IsMove w t (kept.drop_job t s (table_of w)) (record account { used = account.used + 1 }) (Forget s) (Replied (reply.Forgotten s))
 unfolding line_of
 forget_moves w t s capacity account line farm l is room line_is ended =
     let it = told (view t w) s line line_is in
@@ -58,9 +62,10 @@ gone_owed job new Closed gone = absurd (cc)
 gone_owed job new Cancelled gone = absurd (cc)
 
 -- a job that is given up frees no more than is held, and leaves room for its entry
-pub record IsCancel (w : World) (t s freed : ℕ) (account : Account) (line : Line) (rows : List Row) : Type 0 where
-  pub moves : IsMove w t rows (record account { book = after_free_up freed account.book; used = account.used + 1 }) (Cancel s) (Replied (reply.Line line))
-  pub room : owed rows + 1 ≤ owed w.rows
+pub record IsCancel (w : World) (t s freed : ℕ) (account : Account) (line : Line) (all : TableData) : Type 0 where
+  pub moves : IsMove w t all (record account { book = after_free_up freed account.book; used = account.used + 1 }) (Cancel s) (Replied (reply.Line line))
+  pub turns : all.waiting ≡ waiting_then t s (does_wait (find_row t s w.rows)) (does_wait (find_row t s all.rows)) w.waiting
+  pub room : owed all.rows + 1 ≤ owed w.rows
 
 pub freed_most : (w : World) (t s freed capacity : ℕ) (account : Account) (line : Line) → IsFarm w capacity → t < length w.config.tenants → account ≡ account_of w t → IsGivenUpTo (view t w) s freed line
     → freed ≤ account.book.held
@@ -73,9 +78,9 @@ pub owed_some : (w : World) (t s freed : ℕ) (line : Line) → IsGivenUpTo (vie
 owed_some w t s freed line up =
     omega (arith, gone_owed up.job up.then up.job.phase up.gone, owed_put t s up.job up.then w.rows (own_row w t s up.job up.found))
 
-pub cancel_moves : (w : World) (t s freed capacity : ℕ) (account : Account) (line : Line) (rows : List Row) → IsFarm w capacity → t < length w.config.tenants → account ≡ account_of w t
-    → has_room 1 (view t w) ≡ true → IsGivenUpTo (view t w) s freed line → IsGivenUp w.rows t s rows → IsCancel w t s freed account line rows
-cancel_moves w t s freed capacity account line rows farm l is room up did =
+pub cancel_moves : (w : World) (t s freed capacity : ℕ) (account : Account) (line : Line) (all : TableData) → IsFarm w capacity → t < length w.config.tenants → account ≡ account_of w t
+    → has_room 1 (view t w) ≡ true → IsGivenUpTo (view t w) s freed line → IsGivenUp (table_of w) t s all → IsCancel w t s freed account line all
+cancel_moves w t s freed capacity account line all farm l is room up did =
     let new : JobData = did.then in
     let job_is : did.job ≡ up.job = same_job did.job up.job (find_row t s w.rows) did.found (own_row w t s up.job up.found) in
     let gone : given_up up.job up.job.phase ≡ Some new = ap (λ (j : JobData). given_up j j.phase) (sym job_is) ∙ did.gone in
@@ -87,35 +92,40 @@ cancel_moves w t s freed capacity account line rows farm l is room up did =
     let whole = whole_in w t capacity account farm l is in
     let spent = spent_in w t capacity account farm l is in
     let steps = cancel_steps (view t w) s up.job new room up.found gone in
-    let moves : IsMove w t (put_row t s new w.rows) (record account { book = after_free_up freed account.book; used = account.used + 1 }) (Cancel s) (Replied (reply.Line line)) =
-    subst (λ (x : Line). IsMove w t (put_row t s new w.rows) (record account { book = after_free_up freed account.book; used = account.used + 1 }) (Cancel s) (Replied (reply.Line x))) line_is
+    let after : TableData = change_job t s up.job new (table_of w) in
+    let after_is : all ≡ after = did.after ∙ ap (λ (j : JobData). change_job t s j new (table_of w)) job_is in
+    let moves : IsMove w t after (record account { book = after_free_up freed account.book; used = account.used + 1 }) (Cancel s) (Replied (reply.Line line)) =
+    subst (λ (x : Line). IsMove w t after (record account { book = after_free_up freed account.book; used = account.used + 1 }) (Cancel s) (Replied (reply.Line x))) line_is
     (changed_moves w t s capacity account up.job new (after_free_up freed account.book) (Cancel s) (Replied (reply.Line (line_of new))) farm l is there (given_up_seq up.job new gone)
     (rw spent steps) refl refl (omega (arith, left, most)) (omega (arith, whole, most)) tt) in
     record {
-      moves = subst (λ (rs : List Row). IsMove w t rs (record account { book = after_free_up freed account.book; used = account.used + 1 }) (Cancel s) (Replied (reply.Line line))) (sym did.after) moves;
-      room = omega (arith, ap owed did.after, owed_put t s up.job new w.rows there, gone_owed up.job new up.job.phase gone);
+      moves = subst (λ (d : TableData). IsMove w t d (record account { book = after_free_up freed account.book; used = account.used + 1 }) (Cancel s) (Replied (reply.Line line))) (sym after_is) moves;
+      turns = changed_turns w t s up.job new all there (given_up_seq up.job new gone ∙ found_seq s (view t w).jobs up.job up.found) after_is;
+      room = omega (arith, ap (λ (d : TableData). owed d.rows) after_is, owed_put t s up.job new w.rows there, gone_owed up.job new up.job.phase gone);
     }
 
 -- a job that is given more quanta
-pub record IsFunding (w : World) (t s quanta : ℕ) (account : Account) (line : Line) (rows : List Row) : Type 0 where
-  pub moves : IsMove w t rows (record account { book = after_hold quanta account.book; used = account.used + 1 }) (Fund s quanta) (Replied (reply.Line (record line { phase = Waiting; left = line.left + quanta })))
-  pub room : owed rows ≤ 2 * length w.rows
+pub record IsFunding (w : World) (t s quanta : ℕ) (account : Account) (line : Line) (all : TableData) : Type 0 where
+  pub moves : IsMove w t all (record account { book = after_hold quanta account.book; used = account.used + 1 }) (Fund s quanta) (Replied (reply.Line (record line { phase = Waiting; left = line.left + quanta })))
+  pub turns : all.waiting ≡ waiting_then t s (does_wait (find_row t s w.rows)) (does_wait (find_row t s all.rows)) w.waiting
+  pub room : owed all.rows ≤ 2 * length w.rows
 
 pub put_length : (t s : ℕ) (new : JobData) (rows : List Row) → length (put_row t s new rows) ≡ length rows
 put_length t s new [] = refl
 put_length t s new (row ∷ rows) = grind (arith, nat_tests, put_length t s new rows)
 
-pub fund_moves : (w : World) (t s quanta capacity : ℕ) (account : Account) (line : Line) (rows : List Row) → IsFarm w capacity → t < length w.config.tenants → account ≡ account_of w t
+pub fund_moves : (w : World) (t s quanta capacity : ℕ) (account : Account) (line : Line) (all : TableData) → IsFarm w capacity → t < length w.config.tenants → account ≡ account_of w t
     → has_room 1 (view t w) ≡ true → option_map line_of (find_job s (view t w).jobs) ≡ Some line → is_out line.phase ≡ false → is_ended line.phase ≡ false → is_amount quanta ≡ true → quanta ≤ account.book.free
-    → IsFunded w.rows t s quanta rows → IsFunding w t s quanta account line rows
+    → IsFunded (table_of w) t s quanta all → IsFunding w t s quanta account line all
 unfolding line_of free book
-fund_moves w t s quanta capacity account line rows farm l is room line_is here going amount some did =
+fund_moves w t s quanta capacity account line all farm l is room line_is here going amount some did =
     let it = told (view t w) s line line_is in
     let a = account_in w t capacity account farm l is in
     let there = own_row w t s it.job it.found in
     let job_is : did.job ≡ it.job = same_job did.job it.job (find_row t s w.rows) did.found there in
     let new : JobData = record it.job { phase = Waiting; left = it.job.left + quanta } in
-    let rows_are : rows ≡ put_row t s new w.rows = did.after ∙ ap (λ (j : JobData). put_row t s (record j { phase = Waiting; left = j.left + quanta }) w.rows) job_is in
+    let after : TableData = change_job t s it.job new (table_of w) in
+    let after_is : all ≡ after = did.after ∙ ap (λ (j : JobData). change_job t s j (record j { phase = Waiting; left = j.left + quanta }) (table_of w)) job_is in
     let here_is : is_out it.job.phase ≡ false = ap (λ (x : Line). is_out x.phase) it.line_is ∙ here in
     let going_is : is_ended it.job.phase ≡ false = ap (λ (x : Line). is_ended x.phase) it.line_is ∙ going in
     let free_is : account.book.free ≡ free (view t w) = ap (λ (b : BookData). b.free) a.book in
@@ -124,12 +134,13 @@ fund_moves w t s quanta capacity account line rows farm l is room line_is here g
     let spent = spent_in w t capacity account farm l is in
     let told_is : line_of new ≡ record line { phase = Waiting; left = line.left + quanta } = ap (λ (x : Line). let y : Line = record x { phase = Waiting; left = x.left + quanta } in y) it.line_is in
     let then : Account = record account { book = after_hold quanta account.book; used = account.used + 1 } in
-    let moves : IsMove w t (put_row t s new w.rows) then (Fund s quanta) (Replied (reply.Line (line_of new))) =
+    let moves : IsMove w t after then (Fund s quanta) (Replied (reply.Line (line_of new))) =
     changed_moves w t s capacity account it.job new (after_hold quanta account.book) (Fund s quanta) (Replied (reply.Line (line_of new))) farm l is there refl
     (rw spent steps) refl refl (omega arith) (omega (arith, whole, some)) tt in
     record {
-      moves = rw (rows_are, ← told_is) moves;
-      room = omega (arith, ap owed rows_are, owed-most (put_row t s new w.rows), put_length t s new w.rows);
+      moves = rw (after_is, ← told_is) moves;
+      turns = changed_turns w t s it.job new all there (found_seq s (view t w).jobs it.job it.found) after_is;
+      room = omega (arith, ap (λ (d : TableData). owed d.rows) after_is, owed-most (put_row t s new w.rows), put_length t s new w.rows);
     }
 
 -- more quanta than are free make no more than a tenant may have
@@ -143,10 +154,10 @@ fund_limited w t s quanta capacity account job farm l is found some limited =
     omega (arith, (paid_found (view t w).spent s (view t w).jobs job own running.jobs).0, found_held s (view t w).jobs job own, running.covered, ap (λ (b : BookData). b.free) a.book, some, limited)
 
 -- where a job can be given up, it is
-pub cancel_did : (w : World) (t s freed : ℕ) (line : Line) (rows : List Row) (result : Bool) → IsGivenUpTo (view t w) s freed line → (IsTrue result → IsGivenUp w.rows t s rows)
-    → (IsFalse result → IfSome (find_row t s w.rows) (λ job. given_up job job.phase ≡ None)) → IsGivenUp w.rows t s rows
-cancel_did w t s freed line rows true up did not = did refl
-cancel_did w t s freed line rows false up did not =
+pub cancel_did : (w : World) (t s freed : ℕ) (line : Line) (all : TableData) (result : Bool) → IsGivenUpTo (view t w) s freed line → (IsTrue result → IsGivenUp (table_of w) t s all)
+    → (IsFalse result → IfSome (find_row t s w.rows) (λ job. given_up job job.phase ≡ None)) → IsGivenUp (table_of w) t s all
+cancel_did w t s freed line all true up did not = did refl
+cancel_did w t s freed line all false up did not =
     let there = own_row w t s up.job up.found in
     let none : given_up up.job up.job.phase ≡ None = subst (λ (found : Option JobData). IfSome found (λ job. given_up job job.phase ≡ None)) there (not refl) in
     let gone = up.gone in
@@ -172,18 +183,29 @@ fund_line w t s quanta capacity account line farm l is line_is some limited =
 pub submit_moves : (w : World) (t capacity quanta : ℕ) (account : Account) (plan : Plan) → IsFarm w capacity → t < length w.config.tenants → account ≡ account_of w t
     → has_room 1 (view t w) ≡ true → is_amount quanta ≡ true → nat_lt (length (view t w).jobs) (view t w).terms.jobs ≡ true → quanta ≤ account.book.free → IsTrue (is_project plan.project)
     → let new : JobData = record { seq = account.next; plan = plan; phase = Waiting; nodes = 0; left = quanta } in
-    IsMove w t (w.rows ++ record { tenant = t; job = new } ∷ []) (record account { book = after_hold quanta account.book; next = account.next + 1; used = account.used + 1 }) (Submit plan quanta) (Replied (reply.Job account.next))
+    IsMove w t (add_job t new (table_of w)) (record account { book = after_hold quanta account.book; next = account.next + 1; used = account.used + 1 }) (Submit plan quanta) (Replied (reply.Job account.next))
 submit_moves w t capacity quanta account plan farm l is room amount more some planned =
     let a = account_in w t capacity account farm l is in
     let free_is = free_in w t capacity account farm l is in
     let steps = submit_steps (view t w) plan quanta room amount more (omega (arith, some, free_is)) in
     let new : JobData = record { seq = account.next; plan = plan; phase = Waiting; nodes = 0; left = quanta } in
-    pushed_moves w t capacity account new (after_hold quanta account.book) (Submit plan quanta) (Replied (reply.Job account.next)) farm l is
+    added_moves w t capacity account new (after_hold quanta account.book) (Submit plan quanta) (Replied (reply.Job account.next)) farm l is refl
     (rw a.next steps) refl refl refl refl (omega (arith, whole_in w t capacity account farm l is, some)) planned
 
-pub owed_push : (t : ℕ) (new : JobData) (rows : List Row) → owed (rows ++ record { tenant = t; job = new } ∷ []) ≡ owed rows + owed_in new.phase
-owed_push t new [] = omega arith
-owed_push t new (row ∷ rows) = omega (arith, owed_push t new rows)
+pub owed_add : (new : Row) (rows : List Row) → owed (add_row new rows) ≡ owed rows + owed_in new.job.phase
+owed_add new [] = omega arith
+owed_add new (row ∷ rows) =
+    cond_both (comes_before new.tenant new.job.seq row) (new ∷ row ∷ rows) (row ∷ add_row new rows) (λ (rs : List Row). owed rs ≡ owed (row ∷ rows) + owed_in new.job.phase)
+    (λ _. omega arith) (λ _. omega (arith, owed_add new rows))
+
+no_job : (s : ℕ) (jobs : List JobData) → AreBelow s jobs → find_job s jobs ≡ None
+no_job s [] below = refl
+no_job s (job ∷ jobs) below =
+    cond_both (job.seq == s) (Some job) (find_job s jobs) (λ (o : Option JobData). o ≡ None) (λ is. absurd (omega (arith, below.0, eqb-true job.seq s is))) (λ _. no_job s jobs below.1)
+
+-- no job has the next number yet
+pub next_free : (w : World) (t capacity : ℕ) (account : Account) → IsFarm w capacity → t < length w.config.tenants → account ≡ account_of w t → find_row t account.next w.rows ≡ None
+next_free w t capacity account farm l is = sym (found_own t account.next w.rows) ∙ no_job account.next (jobs_of t w.rows) (next_above w t capacity account farm l is)
 
 pub next_few : (w : World) (t capacity : ℕ) (account : Account) → IsFarm w capacity → t < length w.config.tenants → account ≡ account_of w t → account.next ≤ account.used + 1
 next_few w t capacity account farm l is =

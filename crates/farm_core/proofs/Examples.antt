@@ -1,6 +1,7 @@
 -- The steps of a tenant alone over three scripts, computed.
 use Rattle.std.proofs.Common.{◌≡◌, ℕ, zero, suc, ◌+◌, ◌<◌, true, false, List, [], ◌∷◌, Option, Some, None, length, map, refl, ap, ◌∙◌, subst, arith, inl, inr, length-append}
-use Rattle.std.specs.Prelude.{slice_get}
+use Rattle.std.specs.Prelude.{slice_get, cond, filter}
+use Rattle.std.proofs.lemmas.Bool.Decides.{nat_tests}
 use Rattle.mrcpsp.specs.Project.{ProjectData, ModeData, size, renewables, nonrenewables, modes, mode_count, successors, duration, request, consumption, capacity, stock, precedes}
 use Rattle.mrcpsp.specs.Schedule.{mode_of, start_of, finish, load, makespan}
 use Rattle.mrcpsp.specs.Values.{shortest, least, tail, lft, bound}
@@ -14,7 +15,7 @@ use Rattle.strategy.specs.declared.kind.Kind.TheVariants.{Tree, RuleLft}
 use Rattle.strategy.specs.declared.plan.Plan.{Plan}
 use Rattle.strategy.specs.declared.verdict.Verdict.{Verdict}
 use Rattle.strategy.specs.declared.verdict.Verdict.TheVariants.{Going, Optimal}
-use Rattle.job_table.specs.Table.{Row, waiting_keys}
+use Rattle.job_table.specs.Table.{Row, is_key, find_row, does_wait}
 use Rattle.job_table.specs.declared.phase.Phase.{Phase}
 use Rattle.job_table.specs.declared.phase.Phase.TheVariants.{Waiting, Out, Leaving, Dry, Closed, Cancelled}
 use Rattle.farm_core.specs.declared.config.TenantLine.{TenantLine}
@@ -208,7 +209,8 @@ purses_numbered : map (purse_of (None ∷ Some (98 ∷ []) ∷ None ∷ Some (98
 unfolding purse_of first_member
 purses_numbered = refl
 
--- ---- whose turn is next: tenant 0's job came first, but it has one entry left; of tenant 1's three jobs the first is out
+-- ---- whose turn is next: tenant 0's job stands first, but it has one entry left; of tenant 1's three jobs the first is out, and the third stands
+-- before the second, since that has come back
 
 abbrev row : ℕ → ℕ → Phase → Row
 row t s phase = record { tenant = t; job = record { seq = s; plan = by RuleLft; phase = phase; nodes = 0; left = 5 } }
@@ -217,13 +219,11 @@ abbrev queue : World
 queue = record {
   config = record { tenants = terms 100 3 1 ∷ terms 100 3 9 ∷ []; workers = 1; slice = 5 };
   rows = row 0 1 Waiting ∷ row 1 1 (Out 2) ∷ row 1 2 Waiting ∷ row 1 3 Waiting ∷ [];
+  waiting = (0, 1) ∷ (1, 3) ∷ (1, 2) ∷ [];
   journal = [];
   books = [];
   numbers = [];
 }
-
-waiting_in_order : waiting_keys queue.rows ≡ (0, 1) ∷ (1, 2) ∷ (1, 3) ∷ []
-waiting_in_order = refl
 
 tenant_in : Option (ℕ × ℕ) → ℕ
 tenant_in None = 0
@@ -235,42 +235,46 @@ number_in (Some k) = k.1
 
 -- what is asked of the waiting jobs before the one at this place
 abbrev NoneBefore : ℕ → Type 0
-NoneBefore at = (j u n : ℕ) → j < at → slice_get (waiting_keys queue.rows) j ≡ Some (u, n) → has_room 2 (view u queue) ≡ false
+NoneBefore at = (j u n : ℕ) → j < at → slice_get queue.waiting j ≡ Some (u, n) → has_room 2 (view u queue) ≡ false
 
 none_before : NoneBefore 1
 unfolding tenant_in view member purse kept
 none_before zero u n l here = let is : 0 ≡ u = ap tenant_in here in subst (λ v. has_room 2 (view v queue) ≡ false) is refl
 none_before (suc j) u n l here = absurd (omega (arith, l))
 
-second_of_1_is_next : IsFirstReady queue 1 2 5
+each_waits : (t s : ℕ) → length (filter (is_key t s) queue.waiting) ≡ cond (does_wait (find_row t s queue.rows)) 1 0
+each_waits t s = grind (arith, nat_tests)
+
+third_of_1_is_next : IsFirstReady queue 1 3 5
 unfolding view member purse kept
-second_of_1_is_next = record {
+third_of_1_is_next = record {
   ready = record {
-    job = record { seq = 2; plan = by RuleLft; phase = Waiting; nodes = 0; left = 5 };
+    job = record { seq = 3; plan = by RuleLft; phase = Waiting; nodes = 0; left = 5 };
     known = omega arith;
     found = refl;
     waits = refl;
     slice_is = refl;
     room = refl;
   };
+  each = each_waits;
   at = 1;
   here = refl;
   before = none_before;
 }
 
-third_at : (at : ℕ) → slice_get (waiting_keys queue.rows) at ≡ Some (1, 3) → NoneBefore at → ⊥
+second_at : (at : ℕ) → slice_get queue.waiting at ≡ Some (1, 2) → NoneBefore at → ⊥
 unfolding tenant_in number_in view member purse kept
-third_at zero here none = let is : 0 ≡ 1 = ap tenant_in here in omega (arith, is)
-third_at (suc zero) here none = let is : 2 ≡ 3 = ap number_in here in omega (arith, is)
-third_at (suc (suc at)) here none = let is : true ≡ false = none 1 1 2 (omega arith) refl in absurd (cc)
+second_at zero here none = let is : 0 ≡ 1 = ap tenant_in here in omega (arith, is)
+second_at (suc zero) here none = let is : 3 ≡ 2 = ap number_in here in omega (arith, is)
+second_at (suc (suc at)) here none = let is : true ≡ false = none 1 1 3 (omega arith) refl in absurd (cc)
 
-third_of_1_is_not : IsFirstReady queue 1 3 5 → ⊥
-third_of_1_is_not it = third_at it.at it.here it.before
+second_of_1_is_not : IsFirstReady queue 1 2 5 → ⊥
+second_of_1_is_not it = second_at it.at it.here it.before
 
--- ---- a job that is gone, and two that changed places
+-- ---- a job that waits no longer, and two that changed places
 
-second_gone : KeepsOrder 1 (waiting_keys queue.rows) ((0, 1) ∷ (1, 3) ∷ [])
-second_gone = inr (inr (record { seq = 2; before = (0, 1) ∷ []; behind = (1, 3) ∷ []; was = refl; is = refl }))
+second_gone : KeepsOrder 1 queue.waiting ((0, 1) ∷ (1, 3) ∷ [])
+second_gone = inr (inr (record { seq = 2; before = (0, 1) ∷ (1, 3) ∷ []; behind = []; was = refl; is = refl }))
 
 first_in : List (ℕ × ℕ) → ℕ
 first_in [] = 0

@@ -1,5 +1,5 @@
 -- What a farm keeps, from the farm in which nothing has happened on.
-use Rattle.std.proofs.Common.{ℕ, zero, suc, ◌-◌, ◌+◌, ◌≡◌, ◌∙◌, sym, subst, ◌<◌, ◌≤◌, true, ◌&&◌, nat_le, cond, false, List, [], ◌∷◌, ◌++◌, length, map, filter, get_or, refl, ap, arith, ◌*◌, Bool}
+use Rattle.std.proofs.Common.{ℕ, zero, suc, ◌-◌, ◌+◌, ◌≡◌, ◌∙◌, sym, ◌<◌, ◌≤◌, true, ◌&&◌, nat_le, cond, false, List, [], ◌∷◌, ◌++◌, length, map, filter, get_or, refl, ap, arith, ◌*◌, Bool}
 use Rattle.std.specs.List.{list_all, range_with_len}
 use Rattle.std.proofs.lemmas.Bool.{and_parts, leb-true}
 use Rattle.std.proofs.lemmas.List.{length-map, map-append, get_or_default}
@@ -10,7 +10,6 @@ use Rattle.job_table.specs.Table.{JobData, Row, is_out, jobs_of}
 use Rattle.job_table.specs.declared.phase.Phase.{Phase}
 use Rattle.job_table.specs.declared.phase.Phase.TheVariants.{Waiting, Out, Leaving, Dry, Closed, Cancelled}
 use Rattle.farm_core.specs.declared.account.Account.{Account}
-use Rattle.farm_core.specs.declared.account.Numbers.{Numbers}
 use Rattle.farm_core.specs.declared.config.TenantLine.{TenantLine}
 use Rattle.farm_core.specs.Purses.{is_first, purses}
 use Rattle.farm_core.specs.Config.{ConfigData, purse_names, no_terms, lines_of, granted_by, are_terms, are_distinct, are_purses, is_within, is_config}
@@ -109,6 +108,7 @@ farm_opened config capacity is = record {
   replayed = opened_replayed config;
   reached = record { calls = []; run = refl; planned = λ c among. absurd (cc) };
   whose = tt;
+  order = tt;
   config = is;
 }
 

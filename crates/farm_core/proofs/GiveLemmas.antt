@@ -1,5 +1,5 @@
 -- Turns that are taken and given back, in the farm.
-use Rattle.std.proofs.Common.{◌≡◌, ◌⊎◌, inl, inr, ℕ, ◌+◌, ◌-◌, ◌<◌, ◌≤◌, ◌*◌, min, ◌==◌, ◌&&◌, ◌||◌, Bool, true, false, cond, Some, None, List, [], ◌∷◌, length, get_or, refl, sym, ap, ◌∙◌, subst, arith, ⊎_elim, eq-eqb}
+use Rattle.std.proofs.Common.{◌≡◌, ◌⊎◌, inl, inr, ℕ, ◌+◌, ◌-◌, ◌<◌, ◌≤◌, ◌*◌, min, ◌==◌, ◌&&◌, ◌||◌, Bool, true, false, cond, Some, None, List, [], ◌∷◌, length, refl, sym, ap, ◌∙◌, subst, arith, ⊎_elim, eq-eqb}
 use Rattle.std.specs.Prelude.{option_map}
 use Rattle.std.proofs.lemmas.Bool.{cond_both, and_parts, eqb-true}
 use Rattle.std.proofs.lemmas.Bool.Decides.{nat_tests}
@@ -8,7 +8,7 @@ use Rattle.tenant_book.specs.Book.{BookData, after_spend, after_free_up}
 use Rattle.strategy.specs.Outcome.{is_closed}
 use Rattle.strategy.specs.declared.plan.Plan.{Plan}
 use Rattle.strategy.specs.Search.{Meaning, nodes_within}
-use Rattle.job_table.specs.Table.{Row, JobData, is_waiting, is_out, find_row, put_row}
+use Rattle.job_table.specs.Table.{Row, JobData, TableData, is_waiting, is_out, find_row, put_row, without, waiting_then, change_job}
 use Rattle.job_table.specs.Job.{is_turn, phase_after, back, meaning_of, IsOwn, IsSent, IsBack}
 use Rattle.job_table.specs.declared.phase.Phase.{Phase}
 use Rattle.job_table.specs.declared.phase.Phase.TheVariants.{Waiting, Out, Leaving, Dry, Closed, Cancelled}
@@ -18,7 +18,7 @@ use Rattle.farm_core.specs.declared.reply.Line.{Line}
 use Rattle.farm_core.specs.declared.reply.Reply.TheVariants as reply
 use Rattle.farm_core.specs.Tenant.{book, held, find_job, line_of, nodes_of_turn}
 use Rattle.farm_core.specs.Step.{Replied, Sent, NoTurn, is_slice, has_room, may_have_run}
-use Rattle.farm_core.specs.World.{World, account_of, view, Follows}
+use Rattle.farm_core.specs.World.{World, table_of, account_of, view, Follows}
 use Rattle.farm_core.specs.Farm.{IsFarm, owed, owed_in}
 use Rattle.farm_core.specs.Turn.{IsTurn, IsReady}
 use Rattle.farm_core.proofs.MoveLemmas.{IsMove, account_in, spent_in, stays_follows}
@@ -55,36 +55,39 @@ take_ready w t s slice line known is may =
     record { job = it.job; known = known; found = it.found; waits = ap is_waiting phase ∙ first.0; slice_is = first.1; room = parts.1 }
 
 -- a turn that goes out
-pub record IsGoing (w : World) (t s slice : ℕ) (account : Account) (m : Meaning) (rows : List Row) : Type 0 where
+pub record IsGoing (w : World) (t s slice : ℕ) (account : Account) (m : Meaning) (all : TableData) : Type 0 where
   pub job : JobData
   pub found : find_job s (view t w).jobs ≡ Some job
   pub search : m ≡ meaning_of t job
-  pub moves : IsMove w t rows (record account { book = account.book; used = account.used + 1 }) (Take s slice) (Sent (line_of (record job { phase = Out slice })))
-  pub room : owed rows ≤ 2 * length w.rows
+  pub turns : all.waiting ≡ without t s w.waiting
+  pub moves : IsMove w t all (record account { book = account.book; used = account.used + 1 }) (Take s slice) (Sent (line_of (record job { phase = Out slice })))
+  pub room : owed all.rows ≤ 2 * length w.rows
 
-pub take_moves : (w : World) (t s slice capacity : ℕ) (account : Account) (line : Line) (m : Meaning) (rows : List Row) → IsFarm w capacity → t < length w.config.tenants → account ≡ account_of w t
-    → option_map line_of (find_job s (view t w).jobs) ≡ Some line → (is_waiting line.phase && is_slice slice && has_room 2 (view t w)) ≡ true → IsSent w.rows t s slice m rows → IsGoing w t s slice account m rows
+pub take_moves : (w : World) (t s slice capacity : ℕ) (account : Account) (line : Line) (m : Meaning) (all : TableData) → IsFarm w capacity → t < length w.config.tenants → account ≡ account_of w t
+    → option_map line_of (find_job s (view t w).jobs) ≡ Some line → (is_waiting line.phase && is_slice slice && has_room 2 (view t w)) ≡ true → IsSent (table_of w) t s slice m all → IsGoing w t s slice account m all
 unfolding line_of
-take_moves w t s slice capacity account line m rows farm l is line_is may did =
+take_moves w t s slice capacity account line m all farm l is line_is may did =
     let it = told (view t w) s line line_is in
     let there = own_row w t s it.job it.found in
     let job_is : did.job ≡ it.job = same_job did.job it.job (find_row t s w.rows) did.found there in
     let new : JobData = record it.job { phase = Out slice } in
-    let rows_are : rows ≡ put_row t s new w.rows = did.after ∙ ap (λ (j : JobData). put_row t s (record j { phase = Out slice }) w.rows) job_is in
+    let after : TableData = change_job t s it.job new (table_of w) in
+    let after_is : all ≡ after = did.after ∙ ap (λ (j : JobData). change_job t s j (record j { phase = Out slice }) (table_of w)) job_is in
     let may_is = and_parts (is_waiting line.phase && is_slice slice) (has_room 2 (view t w)) may in
     let may_wait = and_parts (is_waiting line.phase) (is_slice slice) may_is.0 in
     let waits : is_waiting it.job.phase ≡ true = ap (λ (x : Line). is_waiting x.phase) it.line_is ∙ may_wait.0 in
     let steps = take_steps (view t w) s slice it.job it.found waits may_wait.1 may_is.1 in
     let spent = spent_in w t capacity account farm l is in
     let whole = whole_in w t capacity account farm l is in
-    let moves : IsMove w t (put_row t s new w.rows) (record account { book = account.book; used = account.used + 1 }) (Take s slice) (Sent (line_of new)) =
+    let moves : IsMove w t after (record account { book = account.book; used = account.used + 1 }) (Take s slice) (Sent (line_of new)) =
     changed_moves w t s capacity account it.job new account.book (Take s slice) (Sent (line_of new)) farm l is there refl (rw spent steps) refl refl refl whole tt in
     record {
       job = it.job;
       found = it.found;
       search = did.search ∙ ap (meaning_of t) job_is;
-      moves = subst (λ (rs : List Row). IsMove w t rs (record account { book = account.book; used = account.used + 1 }) (Take s slice) (Sent (line_of new))) (sym rows_are) moves;
-      room = omega (arith, ap owed rows_are, owed-most (put_row t s new w.rows), put_length t s new w.rows);
+      turns = ap (λ (d : TableData). d.waiting) after_is ∙ ap (λ (b : Bool). waiting_then t s b false w.waiting) waits;
+      moves = subst (λ (d : TableData). IsMove w t d (record account { book = account.book; used = account.used + 1 }) (Take s slice) (Sent (line_of new))) (sym after_is) moves;
+      room = omega (arith, ap (λ (d : TableData). owed d.rows) after_is, owed-most (put_row t s new w.rows), put_length t s new w.rows);
     }
 
 last_of : (a : Bool) {b : Bool} → b ≡ true → (a || b) ≡ true
@@ -138,26 +141,35 @@ back_owed job ran Dry closed left out = absurd (cc)
 back_owed job ran Closed closed left out = absurd (cc)
 back_owed job ran Cancelled closed left out = absurd (cc)
 
+out_waits_not : (phase : Phase) → is_out phase ≡ true → is_waiting phase ≡ false
+out_waits_not Waiting out = absurd (cc)
+out_waits_not (Out slice) out = refl
+out_waits_not (Leaving slice) out = refl
+out_waits_not Dry out = refl
+out_waits_not Closed out = refl
+out_waits_not Cancelled out = refl
+
 -- the book of a tenant whose turn came back after so many nodes: they are paid, and what the job does not keep is free
 abbrev pub settled_book : ℕ → JobData → BookData → BookData
 settled_book ran job b = after_free_up (job.left - ran - (back ran job).left) (after_spend ran b)
 
-pub record IsGiving (w : World) (t s slice ran : ℕ) (account : Account) (m : Meaning) (rows : List Row) : Type 0 where
+pub record IsGiving (w : World) (t s slice ran : ℕ) (account : Account) (m : Meaning) (all : TableData) : Type 0 where
   pub job : JobData
   pub found : find_row t s w.rows ≡ Some job
   pub own : IsOwn t slice ran m job
-  pub rows_are : rows ≡ put_row t s (back ran job) w.rows
-  pub moves : IsMove w t rows (record account { book = settled_book ran job account.book; used = account.used + 1 }) (Give s ran) (Replied (reply.Ran ran (line_of (back ran job))))
-  pub room : owed rows + 1 ≤ owed w.rows
+  pub after : all ≡ change_job t s job (back ran job) (table_of w)
+  pub turns : all.waiting ≡ waiting_then t s false (is_waiting (back ran job).phase) w.waiting
+  pub moves : IsMove w t all (record account { book = settled_book ran job account.book; used = account.used + 1 }) (Give s ran) (Replied (reply.Ran ran (line_of (back ran job))))
+  pub room : owed all.rows + 1 ≤ owed w.rows
   pub spent : ran ≤ account.book.held
   pub ran_most : ran ≤ job.left
   pub left_most : (back ran job).left ≤ job.left - ran
   pub freed : job.left - ran - (back ran job).left ≤ account.book.held - ran
 
-pub give_moves : (w : World) (t s slice ran capacity : ℕ) (account : Account) (m : Meaning) (rows : List Row) → IsFarm w capacity → t < length w.config.tenants → account ≡ account_of w t
-    → IsTurn slice ran m → IsBack w.rows t s slice ran m rows → IsGiving w t s slice ran account m rows
+pub give_moves : (w : World) (t s slice ran capacity : ℕ) (account : Account) (m : Meaning) (all : TableData) → IsFarm w capacity → t < length w.config.tenants → account ≡ account_of w t
+    → IsTurn slice ran m → IsBack (table_of w) t s slice ran m all → IsGiving w t s slice ran account m all
 unfolding book held
-give_moves w t s slice ran capacity account m rows farm l is turn did =
+give_moves w t s slice ran capacity account m all farm l is turn did =
     let a = account_in w t capacity account farm l is in
     let job : JobData = did.job in
     let new : JobData = back ran job in
@@ -173,16 +185,18 @@ give_moves w t s slice ran capacity account m rows farm l is turn did =
     let whole = whole_in w t capacity account farm l is in
     let then : BookData = settled_book ran job account.book in
     let steps = give_steps (view t w) s ran job own may in
-    let moves : IsMove w t (put_row t s new w.rows) (record account { book = then; used = account.used + 1 }) (Give s ran) (Replied (reply.Ran ran (line_of new))) =
+    let after : TableData = change_job t s job new (table_of w) in
+    let moves : IsMove w t after (record account { book = then; used = account.used + 1 }) (Give s ran) (Replied (reply.Ran ran (line_of new))) =
     changed_moves w t s capacity account job new then (Give s ran) (Replied (reply.Ran ran (line_of new))) farm l is did.found refl (rw spent_is steps) refl refl
     (omega (arith, most, ran_is.1, left_most)) (omega (arith, whole, spent, freed)) tt in
     record {
       job = job;
       found = did.found;
       own = did.own;
-      rows_are = did.after;
-      moves = subst (λ (rs : List Row). IsMove w t rs (record account { book = then; used = account.used + 1 }) (Give s ran) (Replied (reply.Ran ran (line_of new)))) (sym did.after) moves;
-      room = omega (arith, ap owed did.after, owed_put t s job new w.rows did.found, back_owed job ran job.phase (is_closed job.plan (job.nodes + ran)) (job.left - ran) ran_is.0);
+      after = did.after;
+      turns = ap (λ (d : TableData). d.waiting) did.after ∙ ap (λ (b : Bool). waiting_then t s b (is_waiting new.phase) w.waiting) (out_waits_not job.phase ran_is.0);
+      moves = subst (λ (d : TableData). IsMove w t d (record account { book = then; used = account.used + 1 }) (Give s ran) (Replied (reply.Ran ran (line_of new)))) (sym did.after) moves;
+      room = omega (arith, ap (λ (d : TableData). owed d.rows) did.after, owed_put t s job new w.rows did.found, back_owed job ran job.phase (is_closed job.plan (job.nodes + ran)) (job.left - ran) ran_is.0);
       spent = spent;
       ran_most = ran_is.1;
       left_most = left_most;
@@ -206,24 +220,25 @@ unfolding line_of
 line_left job line is = ap (λ (x : Line). x.left) is
 
 -- the same, told by what was told of the job before and after
-pub record IsToldGiving (w : World) (t s slice ran : ℕ) (account : Account) (m : Meaning) (rows : List Row) (before line : Line) : Type 0 where
+pub record IsToldGiving (w : World) (t s slice ran : ℕ) (account : Account) (m : Meaning) (all : TableData) (before line : Line) : Type 0 where
   pub job : JobData
   pub found : find_row t s w.rows ≡ Some job
   pub own : IsOwn t slice ran m job
-  pub moves : IsMove w t rows (record account { book = after_free_up (before.left - ran - line.left) (after_spend ran account.book); used = account.used + 1 }) (Give s ran) (Replied (reply.Ran ran line))
-  pub room : owed rows + 1 ≤ owed w.rows
+  pub turns : all.waiting ≡ waiting_then t s false (is_waiting (back ran job).phase) w.waiting
+  pub moves : IsMove w t all (record account { book = after_free_up (before.left - ran - line.left) (after_spend ran account.book); used = account.used + 1 }) (Give s ran) (Replied (reply.Ran ran line))
+  pub room : owed all.rows + 1 ≤ owed w.rows
   pub spent : ran ≤ account.book.held
   pub ran_most : ran ≤ before.left
   pub left_most : line.left ≤ before.left - ran
   pub freed : before.left - ran - line.left ≤ account.book.held - ran
 
-pub give_told : (w : World) (t s slice ran capacity : ℕ) (account : Account) (m : Meaning) (rows : List Row) (before line : Line) → IsFarm w capacity → t < length w.config.tenants → account ≡ account_of w t
-    → IsTurn slice ran m → IsBack w.rows t s slice ran m rows → option_map line_of (find_job s (view t w).jobs) ≡ Some before → ((job : JobData) → find_row t s rows ≡ Some job → line ≡ line_of job)
-    → IsToldGiving w t s slice ran account m rows before line
-give_told w t s slice ran capacity account m rows before line farm l is turn did told_before told_after =
-    let it = give_moves w t s slice ran capacity account m rows farm l is turn did in
+pub give_told : (w : World) (t s slice ran capacity : ℕ) (account : Account) (m : Meaning) (all : TableData) (before line : Line) → IsFarm w capacity → t < length w.config.tenants → account ≡ account_of w t
+    → IsTurn slice ran m → IsBack (table_of w) t s slice ran m all → option_map line_of (find_job s (view t w).jobs) ≡ Some before → ((job : JobData) → find_row t s all.rows ≡ Some job → line ≡ line_of job)
+    → IsToldGiving w t s slice ran account m all before line
+give_told w t s slice ran capacity account m all before line farm l is turn did told_before told_after =
+    let it = give_moves w t s slice ran capacity account m all farm l is turn did in
     let new : JobData = back ran it.job in
-    let line_is : line ≡ line_of new = told_after new (ap (find_row t s) it.rows_are ∙ found_put t s it.job new w.rows it.found refl) in
+    let line_is : line ≡ line_of new = told_after new (ap (λ (d : TableData). find_row t s d.rows) it.after ∙ found_put t s it.job new w.rows it.found refl) in
     let left : line.left ≡ new.left = line_left new line line_is in
     let had : it.job.left ≡ before.left = own_told w t s it.job before told_before it.found in
     let amount : it.job.left - ran - new.left ≡ before.left - ran - line.left = omega (arith, had, left) in
@@ -231,8 +246,9 @@ give_told w t s slice ran capacity account m rows before line farm l is turn did
       job = it.job;
       found = it.found;
       own = it.own;
-      moves = subst (λ (n : ℕ). IsMove w t rows (record account { book = after_free_up n (after_spend ran account.book); used = account.used + 1 }) (Give s ran) (Replied (reply.Ran ran line))) amount
-          (subst (λ (x : Line). IsMove w t rows (record account { book = settled_book ran it.job account.book; used = account.used + 1 }) (Give s ran) (Replied (reply.Ran ran x))) (sym line_is) it.moves);
+      turns = it.turns;
+      moves = subst (λ (n : ℕ). IsMove w t all (record account { book = after_free_up n (after_spend ran account.book); used = account.used + 1 }) (Give s ran) (Replied (reply.Ran ran line))) amount
+          (subst (λ (x : Line). IsMove w t all (record account { book = settled_book ran it.job account.book; used = account.used + 1 }) (Give s ran) (Replied (reply.Ran ran x))) (sym line_is) it.moves);
       room = it.room;
       spent = it.spent;
       ran_most = omega (arith, it.ran_most, had);

@@ -26,7 +26,6 @@ use Rattle.farm_core.proofs.CommandLemmas.{own_row}
 use Rattle.farm_core.proofs.PlaceLemmas.{first_from-most}
 use Rattle.farm_core.proofs.SeatLemmas.{each_view_is_a_seat, steps_of, jobs_stay}
 use Rattle.farm_core.proofs.NeedLemmas.{IsNumberOf, AreDistinct, alone_distinct}
-use Rattle.farm_core.proofs.NextLemmas.{no_job}
 use Rattle.farm_core.proofs.RunningLemmas.{found_seq, out_in, after_back}
 use Rattle.farm_core.proofs.StepLemmas.{given_up_seq}
 
@@ -77,6 +76,11 @@ push_found s new (one ∷ jobs) job found = grind (arith, nat_tests, push_found 
 push_none : (s : ℕ) (new : JobData) (jobs : List JobData) → find_job s jobs ≡ None → find_job s (jobs ++ new ∷ []) ≡ cond (new.seq == s) (Some new) None
 push_none s new [] none = refl
 push_none s new (one ∷ jobs) none = grind (arith, nat_tests, push_none s new jobs)
+
+no_job : (s : ℕ) (jobs : List JobData) → (IsNumberOf s jobs → ⊥) → find_job s jobs ≡ None
+no_job s [] not = refl
+no_job s (job ∷ jobs) not =
+    cond_both (job.seq == s) (Some job) (find_job s jobs) (λ (o : Option JobData). o ≡ None) (λ e. absurd (not (inl (eqb-true job.seq s e)))) (λ _. no_job s jobs (λ i. not (inr i)))
 
 -- a job is not there twice
 drop_own : (s : ℕ) (jobs : List JobData) → AreDistinct jobs → find_job s (drop_job s jobs) ≡ None

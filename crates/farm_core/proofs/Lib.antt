@@ -16,6 +16,7 @@ pub mod ViewLemmas
 pub mod FarmLemmas
 pub mod MoveLemmas
 pub mod StepLemmas
+pub mod OrderLemmas
 pub mod ChangeLemmas
 pub mod CommandLemmas
 pub mod TurnLemmas

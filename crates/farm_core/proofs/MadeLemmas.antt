@@ -1,25 +1,16 @@
 -- Each call of a tenant that the farm has can be made: there is a world in which it was. So there are runs; and what their journals have.
-use Rattle.std.proofs.Common.{◌≡◌, ◌≢◌, ℕ, suc, ◌+◌, ◌<◌, Bool, true, false, cond, not, List, [], ◌∷◌, ◌++◌, length, map, filter, nat_le, nat_lt, ◌==◌, ◌&&◌, Option, Some, None, refl, sym, ap, ◌∙◌, subst, arith, append_assoc, append-nil}
-use Rattle.std.specs.Prelude.{option_map, All, flat_map}
-use Rattle.std.proofs.lemmas.Bool.{cond_both}
+use Rattle.std.proofs.Common.{◌≡◌, ◌≢◌, ℕ, suc, ◌+◌, ◌<◌, Bool, true, false, cond, not, List, [], ◌∷◌, ◌++◌, length, map, filter, ◌==◌, refl, sym, ap, ◌∙◌, arith, append_assoc, append-nil}
+use Rattle.std.specs.Prelude.{All, flat_map}
 use Rattle.std.proofs.lemmas.List.{length-set, length-map}
 use Rattle.std.proofs.lemmas.Bool.Decides.{nat_tests}
-use Rattle.mrcpsp.specs.Schedule.{makespan}
-use Rattle.strategy.specs.Outcome.{best_after, verdict_after}
-use Rattle.strategy.specs.declared.plan.Plan.{Plan}
 use Rattle.tenant_book.specs.Book as book_of
-use Rattle.job_table.specs.Table.{Row, JobData, is_waiting, is_out, is_ended, jobs_of}
-use Rattle.job_table.specs.Job.{given_up, back}
-use Rattle.job_table.specs.declared.phase.Phase.TheVariants.{Waiting, Out}
+use Rattle.job_table.specs.Table.{Row, JobData, TableData, jobs_of}
 use Rattle.farm_core.specs.declared.account.Account.{Account}
 use Rattle.farm_core.specs.declared.config.TenantLine.{TenantLine}
 use Rattle.farm_core.specs.declared.entry.Entry.{Entry}
 use Rattle.farm_core.specs.declared.entry.Event.{Event}
-use Rattle.farm_core.specs.declared.entry.Event.TheVariants.{Submit, Fund, Status, Fetch, Cancel, Forget, Ledger, Take, Give}
-use Rattle.farm_core.specs.declared.reply.Reply.{Reply}
-use Rattle.farm_core.specs.declared.reply.Reply.TheVariants as reply
-use Rattle.farm_core.specs.Tenant.{Tenant, book, free, find_job, put_job, drop_job, line_of}
-use Rattle.farm_core.specs.Step.{Answer, Replied, Sent, NoTurn, Step, step, has_room, is_amount, is_slice, unnoted, noted, changed, fresh_job, submitted, about, funded, fetched, cancelled_as, cancelled, forgotten, commanded, taken, may_have_run, gave}
+use Rattle.farm_core.specs.Tenant.{Tenant}
+use Rattle.farm_core.specs.Step.{Answer, Step, step}
 use Rattle.std.specs.List.{range_with_len}
 use Rattle.tenant_book.specs.Book.{BookData}
 use Rattle.farm_core.specs.declared.account.Numbers.{Numbers}
@@ -71,7 +62,7 @@ account_after t = record { book = record (book_of.opened 0) { spent = t.spent };
 pub made : World → ℕ → Event → World
 made w t e =
     let s : Step = step (view t w) e in
-    moved w t (rows_with t s.after.jobs w.rows) (account_after s.after) (entry_of t e s.answer)
+    moved w t (record { rows = rows_with t s.after.jobs w.rows; waiting = w.waiting }) (account_after s.after) (entry_of t e s.answer)
 
 tenant_is : (a before : Tenant) (used : ℕ) (jobs : List JobData) → a.terms ≡ before.terms → a.granted ≡ before.granted → a.beside ≡ before.beside → used ≡ a.used → jobs ≡ a.jobs
     → record before { spent = a.spent; next = a.next; used = used; jobs = jobs } ≡ a
@@ -92,6 +83,7 @@ each_step_can_be_made w t e known =
     let s : Step = step (view t w) e in
     let count = step_counted (view t w) e in
     let rows : List Row = rows_with t s.after.jobs w.rows in
+    let all : TableData = record { rows = rows; waiting = w.waiting } in
     let jobs = own_rows t s.after.jobs w.rows in
     let others : (u : ℕ) → u ≢ t → jobs_of u rows ≡ jobs_of u w.rows = λ u differ. other_rows u t s.after.jobs w.rows differ in
     let used : s.after.used ≡ length (entries_of t w.journal) + length (entry_of t e s.answer) =
@@ -99,9 +91,9 @@ each_step_can_be_made w t e known =
     record {
       known = known.known;
       answer_is = refl;
-      own = moved_own w t rows (account_after s.after) e s.answer known others
+      own = moved_own w t all (account_after s.after) e s.answer known others
           ∙ tenant_is s.after (view t w) (length (entries_of t w.journal) + length (entry_of t e s.answer)) (jobs_of t rows) count.terms count.granted count.beside (sym used) jobs;
-      others = λ u differ. member_other w u t rows (account_after s.after) e s.answer differ (others u differ);
+      others = λ u differ. member_other w u t all (account_after s.after) e s.answer differ (others u differ);
       purses = λ q differ. ap (λ (b : BookData). b.spent) (set_other w.books q (purse_in w.config t) (account_after s.after).book no_book differ);
       journal = refl;
       config = refl;

@@ -20,7 +20,7 @@ use Rattle.farm_core.specs.Tenant.{Tenant, Member, Purse, new_member, newcomers,
 use Rattle.farm_core.specs.Step.{Answer, Replied, Sent, NoTurn, Step, step, has_room, is_amount, is_slice, unnoted, noted, changed, fresh_job, submitted, about, funded, fetched, cancelled_as, cancelled, forgotten, commanded, taken, may_have_run, gave}
 use Rattle.farm_core.specs.declared.config.TenantLine.{TenantLine}
 use Rattle.farm_core.specs.Config.{ConfigData}
-use Rattle.farm_core.specs.World.{World, Call, Asked, opened, member, view, Steps, Leads, Run, after_alone}
+use Rattle.farm_core.specs.World.{World, Call, Asked, opened, view, Steps, Leads, Run, after_alone}
 use Rattle.farm_core.specs.Need.{given_by, given_to, nodes_for, HasRunItsNodes, NodesAreTheLesser}
 use Rattle.farm_core.proofs.PlaceLemmas.{first_from-most}
 use Rattle.farm_core.proofs.AloneLemmas.{member_opened}
@@ -467,8 +467,17 @@ distinct_of : (g : ℕ → ℕ) (next : ℕ) (jobs : List JobData) → AreFunded
 distinct_of g next [] all = tt
 distinct_of g next (job ∷ jobs) all = (all.2, distinct_of g next jobs all.3)
 
-pub run_distinct : (config : ConfigData) (calls : List Call) (w : World) → Run config calls w → (t : ℕ) → AreDistinct (view t w).jobs
-run_distinct config calls w run t = distinct_of (given_to t calls) (view t w).next (view t w).jobs (run_kept config calls w run t).jobs
+-- each of these jobs has a number below this one
+abbrev pub AreBelow : ℕ → List JobData → Type 0
+AreBelow next [] = ⊤
+AreBelow next (job ∷ jobs) = (job.seq < next) × AreBelow next jobs
+
+below_of : (g : ℕ → ℕ) (next : ℕ) (jobs : List JobData) → AreFunded g next jobs → AreBelow next jobs
+below_of g next [] all = tt
+below_of g next (job ∷ jobs) all = (all.1, below_of g next jobs all.3)
+
+pub run_below : (config : ConfigData) (calls : List Call) (w : World) → Run config calls w → (t : ℕ) → AreBelow (view t w).next (view t w).jobs
+run_below config calls w run t = below_of (given_to t calls) (view t w).next (view t w).jobs (run_kept config calls w run t).jobs
 
 -- ---- along a purse's calls
 

@@ -35,6 +35,11 @@ pub record IsAccount (t : Tenant) (a : Account) : Type 0 where
   pub next : a.next ≡ t.next
   pub used : a.used ≡ t.used
 
+-- these rows stand by their tenants' numbers, from this one on
+abbrev pub AreFrom : ℕ → List Row → Type 0
+AreFrom t [] = ⊤
+AreFrom t (row ∷ rows) = (t ≤ row.tenant) × AreFrom row.tenant rows
+
 -- each of these rows is of one of so many tenants
 abbrev pub AreOf : ℕ → List Row → Type 0
 AreOf count [] = ⊤
@@ -51,7 +56,7 @@ abbrev pub purse_numbers : ConfigData → List ℕ
 purse_numbers config = map (purse_in config) (range_with_len 0 (length config.tenants))
 
 -- each tenant has its account, each purse is where its entries lead, a run leads to the whole, and the journal has room for all entries that
--- are owed
+-- are owed; the rows stand by their tenants
 pub record IsFarm (w : World) (capacity : ℕ) : Type 0 where
   pub count : length w.numbers ≡ length w.config.tenants
   pub ledgers : length w.books ≡ purses_in w.config
@@ -60,6 +65,7 @@ pub record IsFarm (w : World) (capacity : ℕ) : Type 0 where
   pub replayed : IsReplayed w
   pub reached : IsReached w
   pub whose : AreOf (length w.numbers) w.rows
+  pub order : AreFrom 0 w.rows
   pub config : IsTrue (is_config w.config)
 
 -- a call makes its tenant's step with this reply; or the journal has room but there was no memory, and nothing has changed

@@ -1,8 +1,8 @@
 -- Turns: a job's search in the hands of a worker.
 use Rattle.std.specs.Prelude.{◌≡◌, ◌⊎◌, ℕ, ◌<◌, true, false, length, Some, slice_get}
 use Rattle.strategy.specs.Search.{Meaning, ran_on, nodes_within}
-use Rattle.job_table.specs.Table.{JobData, find_row, is_waiting, waiting_keys}
-use Rattle.job_table.specs.Job.{meaning_of, IsOwn}
+use Rattle.job_table.specs.Table.{JobData, find_row, is_waiting, without, waiting_then, AreWaiting}
+use Rattle.job_table.specs.Job.{meaning_of, back, IsOwn}
 use Rattle.job_table.specs.declared.phase.Phase.TheVariants.{Out}
 use Rattle.farm_core.specs.declared.entry.Event.TheVariants.{Take, Give}
 use Rattle.farm_core.specs.declared.reply.Reply.{Reply}
@@ -11,7 +11,7 @@ use Rattle.farm_core.specs.declared.reply.NoTurn.TheVariants as no_turn
 use Rattle.farm_core.specs.Tenant.{find_job, line_of}
 use Rattle.farm_core.specs.Step as step
 use Rattle.farm_core.specs.Step.{Replied, Sent, is_slice, has_room}
-use Rattle.farm_core.specs.World.{World, view, Follows}
+use Rattle.farm_core.specs.World.{World, table_of, view, Follows}
 
 -- a turn that has run so many nodes: nothing yet, or all that it could; and the best schedule is still with its search
 pub record IsTurn (slice ran : ℕ) (m : Meaning) : Type 0 where
@@ -20,11 +20,12 @@ pub record IsTurn (slice ran : ℕ) (m : Meaning) : Type 0 where
   pub after : m ≡ ran_on ran start
   pub all : (ran ≡ 0) ⊎ (ran ≡ nodes_within slice start)
 
--- a turn was taken: the search is that of a job that waited, and the call follows
+-- a turn was taken: the search is that of a job that waited and waits no longer, and the call follows
 pub record IsTaken (old : World) (t s slice : ℕ) (m : Meaning) (new : World) : Type 0 where
   pub job : JobData
   pub found : find_job s (view t old).jobs ≡ Some job
   pub search : m ≡ meaning_of t job
+  pub turns : new.waiting ≡ without t s old.waiting
   pub follows : Follows old t (Take s slice) (Sent (line_of (record job { phase = Out slice }))) new
 
 -- none was: the call follows, or there was no memory, and nothing has changed
@@ -32,11 +33,12 @@ abbrev pub IsNotTaken : World → ℕ → ℕ → ℕ → NoTurn → World → T
 IsNotTaken old t s slice no_turn.None new = Follows old t (Take s slice) step.NoTurn new
 IsNotTaken old t s slice no_turn.NoMemory new = new ≡ old
 
--- a turn came back to the job whose it is
+-- a turn came back to the job whose it is, which stands behind all others where it waits again
 pub record IsGiven (old : World) (t s slice ran : ℕ) (m : Meaning) (answer : Reply) (new : World) : Type 0 where
   pub job : JobData
   pub found : find_row t s old.rows ≡ Some job
   pub own : IsOwn t slice ran m job
+  pub turns : new.waiting ≡ waiting_then t s false (is_waiting (back ran job).phase) old.waiting
   pub follows : Follows old t (Give s ran) (Replied answer) new
 
 -- there is no turn to take: the slice is not 1 to 1,000,000, or no job waits whose tenant has entries for a turn
@@ -54,9 +56,11 @@ pub record IsReady (w : World) (t s slice : ℕ) : Type 0 where
   pub slice_is : is_slice slice ≡ true
   pub room : has_room 2 (view t w) ≡ true
 
--- the first of these in the order in which the jobs came: no waiting job before it is of a tenant that has entries for a turn
+-- the first of these in the order of their turns, in which each job that waits stands once: no waiting job before it is of a tenant that has entries
+-- for a turn
 pub record IsFirstReady (w : World) (t s slice : ℕ) : Type 0 where
   pub ready : IsReady w t s slice
+  pub each : AreWaiting (table_of w)
   pub at : ℕ
-  pub here : slice_get (waiting_keys w.rows) at ≡ Some (t, s)
-  pub before : (j u n : ℕ) → j < at → slice_get (waiting_keys w.rows) j ≡ Some (u, n) → has_room 2 (view u w) ≡ false
+  pub here : slice_get w.waiting at ≡ Some (t, s)
+  pub before : (j u n : ℕ) → j < at → slice_get w.waiting j ≡ Some (u, n) → has_room 2 (view u w) ≡ false

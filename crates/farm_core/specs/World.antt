@@ -3,7 +3,7 @@ use Rattle.std.specs.Prelude.{Bool, true, false, cond, ◌≡◌, ◌≢◌, ◌
 use Rattle.std.specs.List.{range_with_len}
 use Rattle.tenant_book.specs.Book as ledger
 use Rattle.tenant_book.specs.Book.{BookData}
-use Rattle.job_table.specs.Table.{Row, jobs_of}
+use Rattle.job_table.specs.Table.{Row, TableData, find_row, jobs_of, does_wait, waiting_then}
 use Rattle.farm_core.specs.declared.account.Account.{Account}
 use Rattle.farm_core.specs.declared.account.Numbers.{Numbers}
 use Rattle.farm_core.specs.declared.config.TenantLine.{TenantLine}
@@ -16,14 +16,19 @@ use Rattle.farm_core.specs.Config.{ConfigData, purse_names, no_terms, lines_of, 
 use Rattle.farm_core.specs.Tenant.{Tenant, Member, Purse, terms_of, newcomers, seated_at, seat, with_seat}
 use Rattle.farm_core.specs.Step.{Answer, Replied, Sent, NoTurn, step, commanded, noted}
 
--- one table of jobs and one journal for all, a ledger for each purse, and for each tenant the number of its next job and how
--- many entries are its own
+-- one table of jobs and one journal for all, the jobs that wait in the order in which they take their turns, a ledger for each purse, and for each
+-- tenant the number of its next job and how many entries are its own
 pub record World : Type 0 where
   pub config : ConfigData
   pub rows : List Row
+  pub waiting : List (ℕ × ℕ)
   pub journal : List Entry
   pub books : List BookData
   pub numbers : List Numbers
+
+-- all tenants' jobs, and which of them wait
+abbrev pub table_of : World → TableData
+table_of w = record { rows = w.rows; waiting = w.waiting }
 
 abbrev pub new_numbers : Numbers
 new_numbers = record { next = 1; used = 0 }
@@ -53,6 +58,7 @@ unfoldable pub opened : ConfigData → World
 opened config = record {
   config = config;
   rows = [];
+  waiting = [];
   journal = [];
   books = opened_books config;
   numbers = map (λ (line : TenantLine). new_numbers) config.tenants;
@@ -109,10 +115,6 @@ pub record IsOnlyNoted (t : Tenant) (event : Event) (answer : Reply) : Type 0 wh
 abbrev pub entry_of : ℕ → Event → Answer → List Entry
 entry_of t event answer = cond (is_noted answer) (record { tenant = t; event = event } ∷ []) []
 
--- whose the jobs are, and their numbers, in the order in which they came
-abbrev pub keys : List Row → List (ℕ × ℕ)
-keys rows = map (λ (row : Row). (row.tenant, row.job.seq)) rows
-
 -- one of tenant t is gone, and the others stand as they stood
 pub record IsWithout (t : ℕ) (old new : List (ℕ × ℕ)) : Type 0 where
   pub seq : ℕ
@@ -125,6 +127,10 @@ pub record IsWithout (t : ℕ) (old new : List (ℕ × ℕ)) : Type 0 where
 abbrev pub KeepsOrder : ℕ → List (ℕ × ℕ) → List (ℕ × ℕ) → Type 0
 KeepsOrder t old new = (new ≡ old) ⊎ ((seq : ℕ) × (new ≡ old ++ (t, seq) ∷ [])) ⊎ IsWithout t old new
 
+-- who waits once this job alone has changed: it stands last where it begins to wait, is gone where it waits no longer, and all others keep their places
+abbrev pub KeepsTurns : World → ℕ → ℕ → World → Type 0
+KeepsTurns old t s new = new.waiting ≡ waiting_then t s (does_wait (find_row t s old.rows)) (does_wait (find_row t s new.rows)) old.waiting
+
 -- a call of a tenant makes the step of its place at its purse; what is another tenant's own, and what another purse has spent,
 -- does not change
 pub record Steps (old : World) (t : ℕ) (event : Event) (answer : Answer) (new : World) : Type 0 where
@@ -136,14 +142,14 @@ pub record Steps (old : World) (t : ℕ) (event : Event) (answer : Answer) (new 
   pub journal : new.journal ≡ old.journal ++ entry_of t event answer
   pub config : new.config ≡ old.config
 
--- the same where no job passes another in the table
+-- the same where no waiting job passes another
 pub record Follows (old : World) (t : ℕ) (event : Event) (answer : Answer) (new : World) : Type 0 where
   pub known : t < length old.config.tenants
   pub answer_is : answer ≡ (step (view t old) event).answer
   pub own : view t new ≡ (step (view t old) event).after
   pub others : (u : ℕ) → u ≢ t → member u new ≡ member u old
   pub purses : (p : ℕ) → p ≢ purse_in old.config t → spent_in p new ≡ spent_in p old
-  pub order : KeepsOrder t (keys old.rows) (keys new.rows)
+  pub order : KeepsOrder t old.waiting new.waiting
   pub journal : new.journal ≡ old.journal ++ entry_of t event answer
   pub config : new.config ≡ old.config
 
@@ -153,7 +159,7 @@ pub record Call : Type 0 where
   pub event : Event
   pub answer : Answer
 
--- calls of all tenants, one after another, in whatever order the jobs then stand
+-- calls of all tenants, one after another, in whatever order the jobs then wait
 abbrev pub Leads : World → List Call → World → Type 0
 Leads old [] new = new ≡ old
 Leads old (c ∷ calls) new = (mid : World) × Steps old c.tenant c.event c.answer mid × Leads mid calls new

@@ -1,5 +1,5 @@
 //! What tenants ask of the farm.
-ghost use Rattle.std.specs.Prelude.{◌≡◌, ◌<◌, ◌≤◌, ◌+◌, true, false, Some, None, IfOk, IfSome, IfNone, IsTrue, length, option_map, nat_lt};
+ghost use Rattle.std.specs.Prelude.{◌≡◌, ℕ, ◌<◌, ◌≤◌, ◌+◌, ◌++◌, [], ◌∷◌, true, false, Some, None, IfOk, IfSome, IfNone, IsTrue, length, option_map, nat_lt};
 ghost use Rattle.std.specs.Option.{option_copied};
 ghost use Rattle.mrcpsp.specs.Project.{is_project};
 ghost use Rattle.job_table.specs.Table.{JobData, is_out, is_ended};
@@ -7,7 +7,7 @@ ghost use Rattle.job_table.specs.Job.{given_up};
 ghost use Rattle.farm_core.specs.declared.reply.Line.{Line};
 ghost use Rattle.farm_core.specs.Tenant.{Tenant, find_job, line_of};
 ghost use Rattle.farm_core.specs.Step.{Replied, step, has_room, is_amount};
-ghost use Rattle.farm_core.specs.World.{World, view, IsOnlyNoted};
+ghost use Rattle.farm_core.specs.World.{World, view, IsOnlyNoted, KeepsTurns};
 ghost use Rattle.farm_core.specs.Farm.{IsReply, IsFundRefusal, IsGivenUpTo};
 
 use crate::farm::{keep_room, write_down};
@@ -119,12 +119,13 @@ impl<J: Strategy> Farm<J> {
 
     /// Takes in a job for a plan, with so many quanta and its search. The search has to be fresh, without quanta, and of this
     /// tenant and plan; any other is answered `NoMemory` where such a one would be taken in. Where the job is refused, the
-    /// search is dropped. Refused, the first of: `NoRoom`, `NoAmount`, `NoJobs`, `NoShort`; `NoMemory` in place of any answer
-    /// but `NoRoom`.
+    /// search is dropped. A job that is taken in stands behind all others that wait. Refused, the first of: `NoRoom`, `NoAmount`,
+    /// `NoJobs`, `NoShort`; `NoMemory` in place of any answer but `NoRoom`.
     #[tactic(auto, using(crate::proofs::StepLemmas::submit_amount, crate::proofs::StepLemmas::submit_full))]
     pub fn submit(&mut self, tenant: u32, plan: Plan, quanta: u64, search: J) -> Reply
         requires { tenant < length self.old.config.tenants }
-        ensures { IsReply self.old tenant (Event.Submit plan quanta) result self.new }
+        ensures follows { IsReply self.old tenant (Event.Submit plan quanta) result self.new }
+        ensures turns { (seq : ℕ) → result ≡ Reply.Job seq → self.new.waiting ≡ self.old.waiting ++ (tenant, seq) ∷ [] }
     {
         let Ok(event) = submission(self.alloc, &plan, quanta) else {
             return self.unanswered(tenant);
@@ -168,7 +169,8 @@ impl<J: Strategy> Farm<J> {
         requires planned { IsTrue (is_project plan.project) }
         requires amount { is_amount quanta ≡ true }
         requires jobs { nat_lt (length (view tenant self.old).jobs) (view tenant self.old).terms.jobs ≡ true }
-        ensures { IsReply self.old tenant (Event.Submit plan quanta) result self.new }
+        ensures follows { IsReply self.old tenant (Event.Submit plan quanta) result self.new }
+        ensures turns { (seq : ℕ) → result ≡ Reply.Job seq → self.new.waiting ≡ self.old.waiting ++ (tenant, seq) ∷ [] }
     {
         if !self.has_room(tenant, 1) {
             return Reply::NoRoom;
@@ -228,12 +230,14 @@ impl<J: Strategy> Farm<J> {
         self.noted(tenant, Event::Fetch(seq), reply)
     }
 
-    /// Gives a job so many quanta more of those that are free, and it waits. Refused, the first of: `NoRoom`, `NoUnknown`,
-    /// `NoBusy`, `NoOver`, `NoAmount`, `NoShort`; `NoMemory` in place of any answer but `NoRoom`.
-    #[tactic(auto, using(crate::proofs::StepLemmas::fund_unknown, crate::proofs::StepLemmas::fund_refused))]
+    /// Gives a job so many quanta more of those that are free, and it waits: behind all others where it was dry, and else at its
+    /// place. Refused, the first of: `NoRoom`, `NoUnknown`, `NoBusy`, `NoOver`, `NoAmount`, `NoShort`; `NoMemory` in place of any
+    /// answer but `NoRoom`.
+    #[tactic(auto, using(crate::proofs::StepLemmas::fund_unknown, crate::proofs::StepLemmas::fund_refused, crate::proofs::OrderLemmas::same_turns))]
     pub fn fund(&mut self, tenant: u32, seq: u64, quanta: u64) -> Reply
         requires { tenant < length self.old.config.tenants }
-        ensures { IsReply self.old tenant (Event.Fund seq quanta) result self.new }
+        ensures follows { IsReply self.old tenant (Event.Fund seq quanta) result self.new }
+        ensures turns { KeepsTurns self.old tenant seq self.new }
     {
         let event = Event::Fund(seq, quanta);
         let Some(line) = self.snapshot(tenant, seq) else {
@@ -246,13 +250,15 @@ impl<J: Strategy> Farm<J> {
     }
 
     /// The same for a job that is not out or at its end.
+    #[tactic(auto, using(crate::proofs::OrderLemmas::same_turns))]
     fn fund_job(&mut self, tenant: u32, seq: u64, line: Line, quanta: u64) -> Reply
         requires known { tenant < length self.old.config.tenants }
         requires line { option_map line_of (find_job seq (view tenant self.old).jobs) ≡ Some line }
         requires out { is_out line.phase ≡ false }
         requires ended { is_ended line.phase ≡ false }
         requires amount { is_amount quanta ≡ true }
-        ensures { IsReply self.old tenant (Event.Fund seq quanta) result self.new }
+        ensures follows { IsReply self.old tenant (Event.Fund seq quanta) result self.new }
+        ensures turns { KeepsTurns self.old tenant seq self.new }
     {
         if !self.has_room(tenant, 1) {
             return Reply::NoRoom;
@@ -289,10 +295,11 @@ impl<J: Strategy> Farm<J> {
     /// Gives a job up that is not at its end: while a worker holds its turn it is leaving, and else it is cancelled and
     /// what it held is free. Takes no memory where it does. Refused, the first of: `NoRoom`, `NoUnknown`, `NoOver`; `NoMemory`
     /// in place of the last two.
-    #[tactic(auto, using(crate::proofs::StepLemmas::cancel_unknown, crate::proofs::StepLemmas::cancel_over, crate::proofs::StepLemmas::cancel_told, crate::proofs::StepLemmas::cancel_less))]
+    #[tactic(auto, using(crate::proofs::StepLemmas::cancel_unknown, crate::proofs::StepLemmas::cancel_over, crate::proofs::StepLemmas::cancel_told, crate::proofs::StepLemmas::cancel_less, crate::proofs::OrderLemmas::same_turns))]
     pub fn cancel(&mut self, tenant: u32, seq: u64) -> Reply
         requires { tenant < length self.old.config.tenants }
         ensures follows { IsReply self.old tenant (Event.Cancel seq) result self.new }
+        ensures turns { KeepsTurns self.old tenant seq self.new }
         ensures accepted { (line : Line) → (step (view tenant self.old) (Event.Cancel seq)).answer ≡ Replied (Reply.Line line) → result ≡ Reply.Line line }
     {
         let Some(line) = self.snapshot(tenant, seq) else {
@@ -305,10 +312,12 @@ impl<J: Strategy> Farm<J> {
     }
 
     /// The same for a job that is not at its end, which is then told of so, with so many quanta less.
+    #[tactic(auto, using(crate::proofs::OrderLemmas::same_turns))]
     fn cancel_job(&mut self, tenant: u32, seq: u64, freed: u64, then: Line) -> Reply
         requires known { tenant < length self.old.config.tenants }
         requires given_up { IsGivenUpTo (view tenant self.old) seq freed then }
         ensures follows { IsReply self.old tenant (Event.Cancel seq) result self.new }
+        ensures turns { KeepsTurns self.old tenant seq self.new }
         ensures accepted { has_room 1 (view tenant self.old) ≡ true → result ≡ Reply.Line then }
     {
         if !self.has_room(tenant, 1) {

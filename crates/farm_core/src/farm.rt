@@ -1,9 +1,9 @@
 //! The farm.
-ghost use Rattle.std.specs.Prelude.{◌≡◌, ◌<◌, ◌≤◌, ◌+◌, ◌++◌, ◌*◌, [], ◌∷◌, IsTrue, true, length, map, get_or, option_map, slice_set, IfOk, OnOk};
+ghost use Rattle.std.specs.Prelude.{◌≡◌, ℕ, ◌<◌, ◌≤◌, ◌+◌, ◌++◌, ◌*◌, [], ◌∷◌, IsTrue, true, length, map, get_or, option_map, slice_set, IfOk, OnOk};
 ghost use Rattle.std.specs.Vec.{vec_len, vec_capacity};
 ghost use Rattle.farm_core.specs.Tenant.{book, ledger_of, find_job, line_of};
 ghost use Rattle.farm_core.specs.Step.{has_room};
-ghost use Rattle.farm_core.specs.World.{World, purse, view, account_of, new_numbers, opened, opened_books, purse_in, purses_in, IsReplayed, IsOnlyNoted};
+ghost use Rattle.farm_core.specs.World.{World, table_of, purse, view, account_of, new_numbers, opened, opened_books, purse_in, purses_in, IsReplayed, IsOnlyNoted};
 ghost use Rattle.farm_core.specs.Config.{is_config};
 ghost use Rattle.farm_core.specs.Farm.{IsAccount, IsReached, IsReply, purse_numbers};
 ghost use Rattle.farm_core.specs.Truth.{IsPlanned};
@@ -41,10 +41,10 @@ impl<J> Model for Farm<J> {
 
     ghost Value = { World };
 
-    ghost view = { λ f. record { config = f.config; rows = f.jobs; journal = f.journal.items; books = f.ledgers.books.items; numbers = f.ledgers.numbers.items } };
+    ghost view = { λ f. record { config = f.config; rows = f.jobs.rows; waiting = f.jobs.waiting; journal = f.journal.items; books = f.ledgers.books.items; numbers = f.ledgers.numbers.items } };
 
     ghost invariant = { λ f.
-        IsFarm (record { config = f.config; rows = f.jobs; journal = f.journal.items; books = f.ledgers.books.items; numbers = f.ledgers.numbers.items }) (vec_capacity f.journal)
+        IsFarm (record { config = f.config; rows = f.jobs.rows; waiting = f.jobs.waiting; journal = f.journal.items; books = f.ledgers.books.items; numbers = f.ledgers.numbers.items }) (vec_capacity f.journal)
         × (f.ledgers.purses.items ≡ purse_numbers f.config) };
 }
 
@@ -252,7 +252,9 @@ impl<J> Farm<J> {
         requires known { tenant < length self.old.config.tenants }
         requires step { IsOnlyNoted (view tenant self.old) event reply }
         requires planned { IsPlanned event }
-        ensures { IsReply self.old tenant event result self.new }
+        ensures follows { IsReply self.old tenant event result self.new }
+        ensures job { (seq : ℕ) → result ≡ Reply.Job seq → reply ≡ Reply.Job seq }
+        ensures table { table_of self.new ≡ table_of self.old }
     {
         if !self.has_room(tenant, 1) {
             return Reply::NoRoom;

@@ -34,7 +34,7 @@ fn is_slice(slice: u64) -> bool
 
 /// What is told of a tenant's job of that number now, or what was told of it where there is none.
 fn told_of<J>(jobs: &JobTable<J>, tenant: u32, seq: u64, before: Line) -> Line
-    ensures { (job : JobData) → find_row tenant seq jobs.now ≡ Some job → result ≡ line_of job }
+    ensures { (job : JobData) → find_row tenant seq jobs.now.rows ≡ Some job → result ≡ line_of job }
 {
     match jobs.find(tenant, seq) {
         Some(job) => line_of(job),
@@ -148,7 +148,7 @@ impl<J: Strategy> Farm<J> {
     }
 
     /// Takes a turn back, run or unrun, where it is of a job that is out. Any other turn is handed back, and nothing has
-    /// changed. Takes no memory.
+    /// changed. A job that waits again stands behind all others that wait. Takes no memory.
     pub fn give(&mut self, turn: Turn<J>) -> Result<Reply, Stranger<J>>
         requires known { turn.tenant < length self.old.config.tenants }
         requires turn { IsTurn turn.slice turn.ran (J.meaning turn.search) }
@@ -193,7 +193,7 @@ impl<J: Strategy> Farm<J> {
         Ok(Reply::Ran(ran, line))
     }
 
-    /// The first job of which a turn of at most so many nodes can be taken, in the order in which the jobs came.
+    /// The first job of which a turn of at most so many nodes can be taken, in the order of their turns.
     fn next_ready(&self, slice: u64) -> Option<(u32, u64)>
         ensures first { IfSome result (λ key. IsFirstReady self.now key.0 key.1 slice) }
         ensures idle { IfNone result (IsIdle self.now slice) }
@@ -201,7 +201,7 @@ impl<J: Strategy> Farm<J> {
         if !is_slice(slice) {
             return None;
         }
-        for i in 0..self.jobs.len() {
+        for i in 0..self.jobs.waiting_len() {
             let Some((tenant, seq)) = self.jobs.waiting(i) else {
                 return None;
             };
@@ -212,8 +212,8 @@ impl<J: Strategy> Farm<J> {
         None
     }
 
-    /// Takes a turn of the first waiting job whose tenant has entries for it, in the order in which the jobs came.
-    /// Only where there is one is there `NoMemory`.
+    /// Takes a turn of the first waiting job whose tenant has entries for it, in the order of their turns: a job that comes
+    /// back stands behind those that wait. Only where there is one is there `NoMemory`.
     pub fn take_next(&mut self, slice: u64) -> Result<Turn<J>, NoTurn>
         ensures taken { IfOk result (λ turn. IsTaken self.old turn.tenant turn.seq slice (J.meaning turn.search) self.new) }
         ensures first { IfOk result (λ turn. IsFirstReady self.old turn.tenant turn.seq slice) }

@@ -10,7 +10,7 @@
 //! - `ready`: the searches of a script's submits.
 //! - `scripts`: the worked scripts.
 //! - `shared`: two tenants of one purse, and a third one beside them.
-//! - `strangers`: turns of one farm at another one, and the next turn of any tenant.
+//! - `strangers`: turns of one farm at another one, and whose turn is next.
 //! - `tests`: the trials.
 #![tactic(auto)]
 

@@ -1,4 +1,4 @@
-//! Turns of one farm at another one, and the next turn of any tenant.
+//! Turns of one farm at another one, and whose turn is next.
 ghost use Rattle.std.specs.Prelude.{◌≡◌, IfOk, IfErr};
 ghost use Rattle.farm_core.specs.Turn.{IsTurn};
 
@@ -118,4 +118,31 @@ pub(crate) fn take_any<J: Strategy>(
     let held = sent(rt, farm, 1, 2);
     assert!(rt; next_of(farm, 2) == NONE);
     assert!(rt; put_back(farm, held) == Answer::Ran(0, WAITING));
+}
+
+/// Each of these is the next, and gives its turn back as it is.
+fn follow<J: Strategy>(rt: &impl Abort, farm: &mut Farm<J>, order: &[(u32, u64)]) {
+    for whose in order {
+        assert!(rt; next_of(farm, 2) == Ok(*whose));
+    }
+}
+
+/// Jobs 1 and 2 of a and job 1 of b take turns, and none stands before those that wait when it comes or comes back. Worked by hand:
+/// once they are submitted, a1 a2 b1 wait in this order; after a turn of a1, a2 b1 a1; of a2, b1 a1 a2; of b1, a1 a2 b1; and of a1
+/// again, a2 b1 a1. While b1 is out, a2 a1 wait, and after a turn of a2, a1 a2; once b1 is back, a1 a2 b1, and so a1, a2 and b1 are next.
+pub(crate) fn take_turns<J: Strategy>(
+    rt: &impl Abort,
+    farm: &mut Farm<J>,
+    first: Ready<J>,
+    second: Ready<J>,
+    other: Ready<J>,
+) {
+    assert!(rt; submit(farm, 0, 6, Some(first)) == Answer::Job(1));
+    assert!(rt; submit(farm, 0, 6, Some(second)) == Answer::Job(2));
+    assert!(rt; submit(farm, 1, 6, Some(other)) == Answer::Job(1));
+    follow(rt, farm, &[(0, 1), (0, 2), (1, 1), (0, 1)]);
+    let held = sent(rt, farm, 1, 2);
+    follow(rt, farm, &[(0, 2)]);
+    assert!(rt; put_back(farm, held) == Answer::Ran(0, WAITING));
+    follow(rt, farm, &[(0, 1), (0, 2), (1, 1)]);
 }

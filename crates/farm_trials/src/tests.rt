@@ -10,7 +10,7 @@ use crate::scripts::{
     LONE_TREE, OTHER, REFUSALS, RULE_IN_TURNS, SAMPLE, SAMPLE_OF_SHARED, STARVED_RULE,
     STARVED_TREE, THREE_COMMANDS, THREE_REFUSALS, TREE, WHILE_OUT, WHOLE_TREES, rule,
 };
-use crate::strangers::{exchange, stray, take_any};
+use crate::strangers::{exchange, stray, take_any, take_turns};
 use farm_core::Farm;
 use std::alloc::Global;
 use std::process::Abort;
@@ -326,5 +326,14 @@ fn the_next_turn_of_any_tenant(rt: HostRuntime) -> Result<(), Fail> {
     let (own, other) = pair_of(rt.alloc(), Text::Diamond, 1)?;
     let mut farm = farm_of(rt.alloc(), 1)?;
     take_any(&rt, &mut farm, own, other);
+    Ok(())
+}
+
+#[test]
+fn jobs_take_turns(rt: HostRuntime) -> Result<(), Fail> {
+    let (first, other) = pair_of(rt.alloc(), Text::Diamond, 1)?;
+    let (second, _) = pair_of(rt.alloc(), Text::Diamond, 0)?;
+    let mut farm = farm_of(rt.alloc(), 100)?;
+    take_turns(&rt, &mut farm, first, second, other);
     Ok(())
 }

@@ -1,15 +1,15 @@
-use Rattle.std.proofs.Common.{◌≡◌, ◌+◌, ◌≤◌, List, get_or, set, None, length, refl, sym, ap, ◌∙◌, subst, arith}
+use Rattle.std.proofs.Common.{◌≡◌, ◌+◌, ◌≤◌, set, None, length, refl, sym, ap, ◌∙◌, subst, arith}
 use Rattle.std.specs.Vec.{vec_capacity}
 use Rattle.std.specs.Prelude.{IfSome}
-use Rattle.tenant_book.specs.Book.{BookData, after_free_up}
-use Rattle.job_table.specs.Table.{Row, find_row}
+use Rattle.tenant_book.specs.Book.{after_free_up}
+use Rattle.job_table.specs.Table.{TableData, find_row}
 use Rattle.job_table.specs.Job.{given_up, IsGivenUp}
 use Rattle.farm_core.proofs.CommandLemmas.{IsCancel, cancel_moves, cancel_did, freed_most, owed_some}
 use Rattle.farm_core.specs.declared.account.Account.{Account}
 use Rattle.farm_core.specs.declared.entry.Event.TheVariants.{Cancel}
 use Rattle.farm_core.specs.declared.reply.Reply.TheVariants as reply
 use Rattle.farm_core.specs.Step.{Replied}
-use Rattle.farm_core.specs.World.{World, Follows, purses_in}
+use Rattle.farm_core.specs.World.{World, table_of, Follows, purses_in}
 use Rattle.farm_core.specs.Farm.{IsFarm, owed}
 use Rattle.farm_core.proofs.ViewLemmas.{moved}
 use Rattle.farm_core.proofs.MoveLemmas.{IsMove, moved_is, written, one_entry}
@@ -24,13 +24,13 @@ pub write_down-requires-clause-room : goal.write_down-requires-clause-room
 write_down-requires-clause-room g c =
     omega (arith, owed_some c.args.self.now c.args.tenant c.args.seq c.args.freed c.args.then c.requires.given_up, c.self.invariant.0.room, ap (λ (x : World). length x.journal) c.self.view_is, ap (λ (x : World). length x.rows) c.self.view_is, ap (λ (x : World). owed x.rows) c.self.view_is)
 
-did : (g : Over) (c : After-write_down g) → IsGivenUp c.args.self.now.rows c.args.tenant c.args.seq c.cancel.new.self
+did : (g : Over) (c : After-write_down g) → IsGivenUp (table_of c.args.self.now) c.args.tenant c.args.seq c.cancel.new.self
 did g c =
     let w : World = c.args.self.now in
-    let rows_are : c.self.inside.jobs ≡ w.rows = ap (λ (x : World). x.rows) c.self.view_is in
+    let table_is : c.self.inside.jobs ≡ table_of w = ap table_of c.self.view_is in
     cancel_did w c.args.tenant c.args.seq c.args.freed c.args.then c.cancel.new.self c.cancel.result c.requires.given_up
-    (λ yes. subst (λ (rs : List Row). IsGivenUp rs c.args.tenant c.args.seq c.cancel.new.self) rows_are (c.cancel.ensures.given_up yes))
-    (λ not. subst (λ (rs : List Row). IfSome (find_row c.args.tenant c.args.seq rs) (λ job. given_up job job.phase ≡ None)) rows_are (c.cancel.ensures.refused not))
+    (λ yes. subst (λ (d : TableData). IsGivenUp d c.args.tenant c.args.seq c.cancel.new.self) table_is (c.cancel.ensures.given_up yes))
+    (λ not. subst (λ (d : TableData). IfSome (find_row c.args.tenant c.args.seq d.rows) (λ job. given_up job job.phase ≡ None)) table_is (c.cancel.ensures.refused not))
 
 it : (g : Over) (c : After-write_down g) → IsCancel c.args.self.now c.args.tenant c.args.seq c.args.freed c.account-account.result c.args.then c.cancel.new.self
 it g c = cancel_moves c.args.self.now c.args.tenant c.args.seq c.args.freed (vec_capacity c.self.inside.journal) c.account-account.result c.args.then c.cancel.new.self (subst (λ (x : World). IsFarm x (vec_capacity c.self.inside.journal)) c.self.view_is c.self.invariant.0) c.requires.known c.account-account.ensures.exact (sym c.has_room.ensures.exact ∙ c.if-not-has_room.false) c.requires.given_up (did g c)
@@ -39,7 +39,7 @@ moves : (g : Over) (c : After-write_down g) → IsMove c.args.self.now c.args.te
 moves g c = (it g c).moves
 
 wrote : (g : Over) (c : After-write_down g) →
-    let v : World = record { config = c.self.inside.config; rows = c.cancel.new.self; journal = c.write_down.new.journal.items; books = c.write_down.new.ledgers.books.items; numbers = c.write_down.new.ledgers.numbers.items } in
+    let v : World = record { config = c.self.inside.config; rows = c.cancel.new.self.rows; waiting = c.cancel.new.self.waiting; journal = c.write_down.new.journal.items; books = c.write_down.new.ledgers.books.items; numbers = c.write_down.new.ledgers.numbers.items } in
     IsFarm v (vec_capacity c.write_down.new.journal) × Follows c.args.self.now c.args.tenant (Cancel c.args.seq) (Replied (reply.Line c.args.then)) v
 wrote g c =
     let w : World = c.args.self.now in
@@ -48,10 +48,10 @@ wrote g c =
     let then : Account = record account { book = after_free_up c.args.freed account.book; used = account.used + 1 } in
     let books_are : c.write_down.new.ledgers.books.items ≡ set c.self.inside.ledgers.books.items c.purse_of-purse.result then.book = c.write_down.ensures.books ∙ ap (set c.self.inside.ledgers.books.items c.purse_of-purse.result) c.free_up.ensures in
     let farm : IsFarm w (vec_capacity c.self.inside.journal) = subst (λ (x : World). IsFarm x (vec_capacity c.self.inside.journal)) c.self.view_is c.self.invariant.0 in
-    let v : World = record { config = c.self.inside.config; rows = c.cancel.new.self; journal = c.write_down.new.journal.items; books = c.write_down.new.ledgers.books.items; numbers = c.write_down.new.ledgers.numbers.items } in
+    let v : World = record { config = c.self.inside.config; rows = c.cancel.new.self.rows; waiting = c.cancel.new.self.waiting; journal = c.write_down.new.journal.items; books = c.write_down.new.ledgers.books.items; numbers = c.write_down.new.ledgers.numbers.items } in
     let is : v ≡ moved w t (c.cancel.new.self) then (one_entry t (Cancel c.args.seq)) = moved_is w c.self.inside.config c.self.inside.jobs (c.cancel.new.self) c.self.inside.journal.items c.write_down.new.journal.items c.self.inside.ledgers.books.items c.write_down.new.ledgers.books.items c.self.inside.ledgers.numbers.items c.write_down.new.ledgers.numbers.items t c.purse_of-purse.result (c.cancel.new.self) then (Cancel c.args.seq)
     c.self.view_is c.purse_of-purse.ensures.exact (refl) books_are c.write_down.ensures.numbers (c.write_down.ensures.journal) in
-    let room : length w.journal + 1 + owed (c.cancel.new.self) ≤ vec_capacity c.write_down.new.journal = omega (arith, (it g c).room, c.self.invariant.0.room, c.write_down.ensures.capacity, ap (λ (x : World). length x.journal) c.self.view_is, ap (λ (x : World). length x.rows) c.self.view_is, ap (λ (x : World). owed x.rows) c.self.view_is) in
+    let room : length w.journal + 1 + owed c.cancel.new.self.rows ≤ vec_capacity c.write_down.new.journal = omega (arith, (it g c).room, c.self.invariant.0.room, c.write_down.ensures.capacity, ap (λ (x : World). length x.journal) c.self.view_is, ap (λ (x : World). length x.rows) c.self.view_is, ap (λ (x : World). owed x.rows) c.self.view_is) in
     written w v t (c.cancel.new.self) then (Cancel c.args.seq) (Replied (reply.Line c.args.then)) (vec_capacity c.self.inside.journal) (vec_capacity c.write_down.new.journal) farm (moves g c) is room
 
 pub invariant_of-self : goal.invariant_of-self
@@ -65,3 +65,6 @@ write_down-requires-clause-known g c = omega (arith, c.requires.known, c.self.in
 
 pub write_down-requires-clause-purse : goal.write_down-requires-clause-purse
 write_down-requires-clause-purse g c = omega (arith, c.purse_of-purse.ensures.known, c.self.invariant.0.ledgers, ap (λ (x : World). purses_in x.config) c.self.view_is)
+
+pub returns-clause-turns : goal.returns-clause-turns
+returns-clause-turns g c = (it g c).turns

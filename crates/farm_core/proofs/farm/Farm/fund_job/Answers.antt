@@ -1,6 +1,6 @@
-use Rattle.std.proofs.Common.{◌≡◌, ◌+◌, ◌≤◌, ◌++◌, get_or, set, length, refl, sym, ap, ◌∙◌, subst, arith}
+use Rattle.std.proofs.Common.{◌≡◌, ◌+◌, ◌≤◌, ◌++◌, set, length, refl, sym, ap, ◌∙◌, subst, arith}
 use Rattle.std.specs.Vec.{vec_capacity}
-use Rattle.tenant_book.specs.Book.{BookData, after_hold}
+use Rattle.tenant_book.specs.Book.{after_hold}
 use Rattle.job_table.specs.Table.{find_row}
 use Rattle.job_table.specs.Job.{IsFunded}
 use Rattle.job_table.specs.declared.phase.Phase.TheVariants.{Waiting}
@@ -11,7 +11,7 @@ use Rattle.farm_core.specs.declared.account.Account.{Account}
 use Rattle.farm_core.specs.declared.entry.Event.TheVariants.{Fund}
 use Rattle.farm_core.specs.declared.reply.Reply.TheVariants as reply
 use Rattle.farm_core.specs.Step.{Replied}
-use Rattle.farm_core.specs.World.{World, view, Follows, purses_in}
+use Rattle.farm_core.specs.World.{World, table_of, view, Follows, purses_in}
 use Rattle.farm_core.specs.Farm.{IsFarm, owed}
 use Rattle.farm_core.proofs.ViewLemmas.{moved}
 use Rattle.farm_core.proofs.MoveLemmas.{IsMove, moved_is, written, one_entry}
@@ -28,7 +28,7 @@ noted-requires-clause-step g c =
 
 pub fund-requires-after_bounds : goal.fund-requires-after_bounds
 fund-requires-after_bounds g c κs within =
-    let rows_are : c.self.inside.jobs ≡ c.args.self.now.rows = ap (λ (x : World). x.rows) c.self.view_is in
+    let rows_are : c.self.inside.jobs.rows ≡ c.args.self.now.rows = ap (λ (x : World). x.rows) c.self.view_is in
     rw rows_are (fund_bound c.args.self.now c.args.tenant c.args.seq c.args.quanta (vec_capacity c.self.inside.journal) c.account-account.result (find_row c.args.tenant c.args.seq c.args.self.now.rows) (subst (λ (x : World). IsFarm x (vec_capacity c.self.inside.journal)) c.self.view_is c.self.invariant.0) c.requires.known c.account-account.ensures.exact refl (c.in_default.ensures.enough.0 refl) c.has_room.ensures.limited)
 
 pub overflow_add-funded : goal.overflow_add-funded
@@ -40,14 +40,14 @@ some g c = c.in_default.ensures.enough.0 refl
 
 it : (g : Over) (c : After-write_down g) → IsFunding c.args.self.now c.args.tenant c.args.seq c.args.quanta c.account-account.result c.args.line c.fund.new.self
 it g c =
-    let did : IsFunded c.args.self.now.rows c.args.tenant c.args.seq c.args.quanta c.fund.new.self = subst (λ (x : World). IsFunded x.rows c.args.tenant c.args.seq c.args.quanta c.fund.new.self) c.self.view_is (c.fund.ensures.funded c.if-not-fund.false) in
+    let did : IsFunded (table_of c.args.self.now) c.args.tenant c.args.seq c.args.quanta c.fund.new.self = subst (λ (x : World). IsFunded (table_of x) c.args.tenant c.args.seq c.args.quanta c.fund.new.self) c.self.view_is (c.fund.ensures.funded c.if-not-fund.false) in
     fund_moves c.args.self.now c.args.tenant c.args.seq c.args.quanta (vec_capacity c.self.inside.journal) c.account-account.result c.args.line c.fund.new.self (subst (λ (x : World). IsFarm x (vec_capacity c.self.inside.journal)) c.self.view_is c.self.invariant.0) c.requires.known c.account-account.ensures.exact (sym c.has_room.ensures.exact ∙ c.if-not-has_room.false) c.requires.line c.requires.out c.requires.ended c.requires.amount (some g c) did
 
 moves : (g : Over) (c : After-write_down g) → IsMove c.args.self.now c.args.tenant c.fund.new.self (record c.account-account.result { book = after_hold c.args.quanta c.account-account.result.book; used = c.account-account.result.used + 1 }) (Fund c.args.seq c.args.quanta) (Replied (reply.Line (record c.args.line { phase = Waiting; left = c.args.line.left + c.args.quanta })))
 moves g c = (it g c).moves
 
 wrote : (g : Over) (c : After-write_down g) →
-    let v : World = record { config = c.self.inside.config; rows = c.fund.new.self; journal = c.write_down.new.journal.items; books = c.write_down.new.ledgers.books.items; numbers = c.write_down.new.ledgers.numbers.items } in
+    let v : World = record { config = c.self.inside.config; rows = c.fund.new.self.rows; waiting = c.fund.new.self.waiting; journal = c.write_down.new.journal.items; books = c.write_down.new.ledgers.books.items; numbers = c.write_down.new.ledgers.numbers.items } in
     IsFarm v (vec_capacity c.write_down.new.journal) × Follows c.args.self.now c.args.tenant (Fund c.args.seq c.args.quanta) (Replied (reply.Line (record c.args.line { phase = Waiting; left = c.args.line.left + c.args.quanta }))) v
 wrote g c =
     let w : World = c.args.self.now in
@@ -56,17 +56,20 @@ wrote g c =
     let then : Account = record account { book = after_hold c.args.quanta account.book; used = account.used + 1 } in
     let books_are : c.write_down.new.ledgers.books.items ≡ set c.self.inside.ledgers.books.items c.purse_of-purse.result then.book = c.write_down.ensures.books ∙ ap (set c.self.inside.ledgers.books.items c.purse_of-purse.result) c.in_default.ensures.held in
     let farm : IsFarm w (vec_capacity c.self.inside.journal) = subst (λ (x : World). IsFarm x (vec_capacity c.self.inside.journal)) c.self.view_is c.self.invariant.0 in
-    let v : World = record { config = c.self.inside.config; rows = c.fund.new.self; journal = c.write_down.new.journal.items; books = c.write_down.new.ledgers.books.items; numbers = c.write_down.new.ledgers.numbers.items } in
+    let v : World = record { config = c.self.inside.config; rows = c.fund.new.self.rows; waiting = c.fund.new.self.waiting; journal = c.write_down.new.journal.items; books = c.write_down.new.ledgers.books.items; numbers = c.write_down.new.ledgers.numbers.items } in
     let is : v ≡ moved w t (c.fund.new.self) then (one_entry t (Fund c.args.seq c.args.quanta)) = moved_is w c.self.inside.config c.self.inside.jobs (c.fund.new.self) c.self.inside.journal.items c.write_down.new.journal.items c.self.inside.ledgers.books.items c.write_down.new.ledgers.books.items c.self.inside.ledgers.numbers.items c.write_down.new.ledgers.numbers.items t c.purse_of-purse.result (c.fund.new.self) then (Fund c.args.seq c.args.quanta)
     c.self.view_is c.purse_of-purse.ensures.exact (refl) books_are c.write_down.ensures.numbers (c.write_down.ensures.journal ∙ ap (λ es. es ++ one_entry t (Fund c.args.seq c.args.quanta)) c.keep_room.ensures.kept) in
-    let room : length w.journal + 1 + owed (c.fund.new.self) ≤ vec_capacity c.write_down.new.journal = omega (arith, (it g c).room, c.in-Ok.ensures.room, c.write_down.ensures.capacity, c.len.ensures, ap (λ (x : World). length x.journal) c.self.view_is, ap (λ (x : World). length x.rows) c.self.view_is) in
+    let room : length w.journal + 1 + owed c.fund.new.self.rows ≤ vec_capacity c.write_down.new.journal = omega (arith, (it g c).room, c.in-Ok.ensures.room, c.write_down.ensures.capacity, c.len.ensures, ap (λ (x : World). length x.journal) c.self.view_is, ap (λ (x : World). length x.rows) c.self.view_is) in
     written w v t (c.fund.new.self) then (Fund c.args.seq c.args.quanta) (Replied (reply.Line (record c.args.line { phase = Waiting; left = c.args.line.left + c.args.quanta }))) (vec_capacity c.self.inside.journal) (vec_capacity c.write_down.new.journal) farm (moves g c) is room
 
 pub invariant_of-self-2 : goal.invariant_of-self-2
 invariant_of-self-2 g c = ((wrote g c).0, c.write_down.ensures.purses ∙ c.self.invariant.1)
 
-pub returns : goal.returns
-returns g c = (wrote g c).1
+pub returns-clause-follows : goal.returns-clause-follows
+returns-clause-follows g c = (wrote g c).1
+
+pub returns-clause-turns : goal.returns-clause-turns
+returns-clause-turns g c = (it g c).turns
 
 pub write_down-requires-clause-known : goal.write_down-requires-clause-known
 write_down-requires-clause-known g c = omega (arith, c.requires.known, c.self.invariant.0.count, ap (λ (x : World). length x.config.tenants) c.self.view_is)

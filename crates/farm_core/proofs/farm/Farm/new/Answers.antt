@@ -1,6 +1,5 @@
-use Rattle.std.proofs.Common.{◌≡◌, true, refl, ap, ◌∙◌, sym, subst}
+use Rattle.std.proofs.Common.{◌≡◌, refl, ap, ◌∙◌, sym, subst}
 use Rattle.std.specs.Vec.{vec_capacity}
-use Rattle.farm_core.specs.Config.{ConfigData, is_config}
 use Rattle.farm_core.specs.World.{World, opened}
 use Rattle.farm_core.specs.Farm.{IsFarm, purse_numbers}
 use Rattle.farm_core.proofs.FarmLemmas.{farm_opened}
@@ -9,7 +8,7 @@ use Rattle.farm_core.proofs.farm.Farm.new.Goals.{After-new-2}
 use Rattle.farm_core.proofs.farm.Farm.new.Goals as goal
 
 whole : (g : Over) (c : After-new-2 g) →
-    (let w : World = record { config = c.in_ok-clone_in.field-0; rows = c.new.result; journal = c.new-2.result.items; books = c.in_ok-open_books.field-0.items; numbers = c.in_ok-open_numbers.field-0.items } in w)
+    (let w : World = record { config = c.in_ok-clone_in.field-0; rows = c.new.result.rows; waiting = c.new.result.waiting; journal = c.new-2.result.items; books = c.in_ok-open_books.field-0.items; numbers = c.in_ok-open_numbers.field-0.items } in w)
     ≡ opened c.args.config.now
 unfolding opened
 whole g c = rw (c.in_ok-clone_in.ensures, c.new.ensures, c.new-2.ensures.items, c.in_ok-open_books.ensures, c.in_ok-open_numbers.ensures) refl

@@ -1,4 +1,4 @@
-use Rattle.std.proofs.Common.{◌≡◌, ◌+◌, ◌≤◌, ◌++◌, get_or, length, refl, sym, ap, ◌∙◌, subst, arith}
+use Rattle.std.proofs.Common.{◌≡◌, ◌+◌, ◌≤◌, ◌++◌, length, refl, sym, ap, ◌∙◌, subst, arith}
 use Rattle.std.specs.Vec.{vec_capacity}
 use Rattle.strategy.specs.Search.{Meaning}
 use Rattle.job_table.specs.Job.{IsSent}
@@ -9,7 +9,7 @@ use Rattle.farm_core.proofs.TurnLemmas.{turn_fresh}
 use Rattle.farm_core.specs.declared.account.Account.{Account}
 use Rattle.farm_core.specs.declared.entry.Event.TheVariants.{Take}
 use Rattle.farm_core.specs.Step.{Sent}
-use Rattle.farm_core.specs.World.{World, Follows, purses_in}
+use Rattle.farm_core.specs.World.{World, table_of, Follows, purses_in}
 use Rattle.farm_core.specs.Farm.{IsFarm, owed}
 use Rattle.farm_core.proofs.ViewLemmas.{moved}
 use Rattle.farm_core.proofs.MoveLemmas.{IsMove, account_in, moved_is, written, one_entry}
@@ -19,7 +19,7 @@ use Rattle.farm_core.proofs.farm.Farm.take.Goals as goal
 
 it : (g : Over) (c : After-write_down g) → IsGoing c.args.self.now c.args.tenant c.args.seq c.args.slice c.account-account.result (g.J.Strategy.meaning c.in-Some-send.search) c.send.new.self
 it g c =
-    let sent = subst (λ (x : World). IsSent x.rows c.args.tenant c.args.seq c.args.slice (g.J.Strategy.meaning c.in-Some-send.search) c.send.new.self) c.self.view_is c.in-Some-send.ensures.sent in
+    let sent = subst (λ (x : World). IsSent (table_of x) c.args.tenant c.args.seq c.args.slice (g.J.Strategy.meaning c.in-Some-send.search) c.send.new.self) c.self.view_is c.in-Some-send.ensures.sent in
     take_moves c.args.self.now c.args.tenant c.args.seq c.args.slice (vec_capacity c.self.inside.journal) c.account-account.result c.in-Some.line (g.J.Strategy.meaning c.in-Some-send.search) c.send.new.self (subst (λ (x : World). IsFarm x (vec_capacity c.self.inside.journal)) c.self.view_is c.self.invariant.0) c.requires c.account-account.ensures.exact
     (sym c.snapshot.ensures ∙ c.in-Some.is) (sym c.may_take.ensures.exact ∙ c.if-not-may_take.false) sent
 
@@ -27,7 +27,7 @@ moves : (g : Over) (c : After-write_down g) → IsMove c.args.self.now c.args.te
 moves g c = (it g c).moves
 
 wrote : (g : Over) (c : After-write_down g) →
-    let v : World = record { config = c.self.inside.config; rows = c.send.new.self; journal = c.write_down.new.journal.items; books = c.write_down.new.ledgers.books.items; numbers = c.write_down.new.ledgers.numbers.items } in
+    let v : World = record { config = c.self.inside.config; rows = c.send.new.self.rows; waiting = c.send.new.self.waiting; journal = c.write_down.new.journal.items; books = c.write_down.new.ledgers.books.items; numbers = c.write_down.new.ledgers.numbers.items } in
     IsFarm v (vec_capacity c.write_down.new.journal) × Follows c.args.self.now c.args.tenant (Take c.args.seq c.args.slice) (Sent (line_of (record (it g c).job { phase = Out c.args.slice }))) v
 wrote g c =
     let w : World = c.args.self.now in
@@ -35,10 +35,10 @@ wrote g c =
     let account : Account = c.account-account.result in
     let then : Account = record account { book = account.book; used = account.used + 1 } in
     let farm : IsFarm w (vec_capacity c.self.inside.journal) = subst (λ (x : World). IsFarm x (vec_capacity c.self.inside.journal)) c.self.view_is c.self.invariant.0 in
-    let v : World = record { config = c.self.inside.config; rows = c.send.new.self; journal = c.write_down.new.journal.items; books = c.write_down.new.ledgers.books.items; numbers = c.write_down.new.ledgers.numbers.items } in
+    let v : World = record { config = c.self.inside.config; rows = c.send.new.self.rows; waiting = c.send.new.self.waiting; journal = c.write_down.new.journal.items; books = c.write_down.new.ledgers.books.items; numbers = c.write_down.new.ledgers.numbers.items } in
     let is : v ≡ moved w t (c.send.new.self) then (one_entry t (Take c.args.seq c.args.slice)) = moved_is w c.self.inside.config c.self.inside.jobs (c.send.new.self) c.self.inside.journal.items c.write_down.new.journal.items c.self.inside.ledgers.books.items c.write_down.new.ledgers.books.items c.self.inside.ledgers.numbers.items c.write_down.new.ledgers.numbers.items t c.purse_of-purse.result (c.send.new.self) then (Take c.args.seq c.args.slice)
     c.self.view_is c.purse_of-purse.ensures.exact (refl) c.write_down.ensures.books c.write_down.ensures.numbers (c.write_down.ensures.journal ∙ ap (λ es. es ++ one_entry t (Take c.args.seq c.args.slice)) c.keep_room.ensures.kept) in
-    let room : length w.journal + 1 + owed (c.send.new.self) ≤ vec_capacity c.write_down.new.journal = omega (arith, (it g c).room, c.in-Ok.ensures.room, c.write_down.ensures.capacity, c.len.ensures, ap (λ (x : World). length x.journal) c.self.view_is, ap (λ (x : World). length x.rows) c.self.view_is) in
+    let room : length w.journal + 1 + owed c.send.new.self.rows ≤ vec_capacity c.write_down.new.journal = omega (arith, (it g c).room, c.in-Ok.ensures.room, c.write_down.ensures.capacity, c.len.ensures, ap (λ (x : World). length x.journal) c.self.view_is, ap (λ (x : World). length x.rows) c.self.view_is) in
     written w v t (c.send.new.self) then (Take c.args.seq c.args.slice) (Sent (line_of (record (it g c).job { phase = Out c.args.slice }))) (vec_capacity c.self.inside.journal) (vec_capacity c.write_down.new.journal) farm (moves g c) is room
 
 pub invariant_of-self-2 : goal.invariant_of-self-2
@@ -47,7 +47,7 @@ invariant_of-self-2 g c = ((wrote g c).0, c.write_down.ensures.purses ∙ c.self
 pub returns-clause-taken : goal.returns-clause-taken
 returns-clause-taken g c =
     let going = it g c in
-    record { job = going.job; found = going.found; search = going.search; follows = (wrote g c).1 }
+    record { job = going.job; found = going.found; search = going.search; turns = going.turns; follows = (wrote g c).1 }
 
 pub returns-clause-turn : goal.returns-clause-turn
 returns-clause-turn g c = turn_fresh c.args.slice (g.J.Strategy.meaning c.in-Some-send.search) (ap (λ (m : Meaning). m.taken) (it g c).search)
