@@ -31,15 +31,15 @@ use Rattle.farm_pool.specs.Served.{tenant_at, IsStep, IsAnswered, AreOfRun}
 -- ---- what the entries of a run are
 
 -- the entry of a tenant that there is, and what it submitted is a project
-record IsSound (config : ConfigData) (e : Entry) : Type 0 where
-  known : e.tenant < length config.tenants
-  planned : IsPlanned e.event
+pub record IsSound (config : ConfigData) (e : Entry) : Type 0 where
+  pub known : e.tenant < length config.tenants
+  pub planned : IsPlanned e.event
 
-abbrev AreSound : ConfigData → List Entry → Type 0
+abbrev pub AreSound : ConfigData → List Entry → Type 0
 AreSound config [] = ⊤
 AreSound config (e ∷ es) = IsSound config e × AreSound config es
 
-sound_both : (config : ConfigData) (xs ys : List Entry) → AreSound config xs → AreSound config ys → AreSound config (xs ++ ys)
+pub sound_both : (config : ConfigData) (xs ys : List Entry) → AreSound config xs → AreSound config ys → AreSound config (xs ++ ys)
 sound_both config [] ys one two = two
 sound_both config (x ∷ xs) ys one two = (one.0, sound_both config xs ys one.1 two)
 
@@ -57,7 +57,7 @@ leads_sound config old new (c ∷ calls) at planned sound run =
     leads_sound config run.0 new calls (run.1.config ∙ at) (λ d among. planned d (suc among.0, among.1))
     (subst (AreSound config) (sym run.1.journal) (sound_both config old.journal (entry_of c.tenant c.event c.answer) sound own)) run.2
 
-run_sound : (config : ConfigData) (entries : List Entry) → AreOfRun config entries → AreSound config entries
+pub run_sound : (config : ConfigData) (entries : List Entry) → AreOfRun config entries → AreSound config entries
 unfolding opened
 run_sound config entries it = subst (AreSound config) it.journal (leads_sound config (opened config) it.world it.calls refl it.planned tt it.run)
 
@@ -104,10 +104,10 @@ snoc_miss {X} {Y} f g (y ∷ xs) x h = by (snoc_miss f g xs x h) (f y)
     by rest false = rest
 
 -- where a purse stands after these entries
-abbrev purse_at : ConfigData → List Entry → ℕ → Purse
+abbrev pub purse_at : ConfigData → List Entry → ℕ → Purse
 purse_at config before p = after_alone (opened_purse config p) (events_of config p before)
 
-purse_on : (config : ConfigData) (before : List Entry) (e : Entry)
+pub purse_on : (config : ConfigData) (before : List Entry) (e : Entry)
     → let p = purse_in config e.tenant in
     purse_at config (before ++ e ∷ []) p ≡ with_seat (purse_at config before p) (place_in config e.tenant) (step (tenant_at config before e.tenant) e.event).after
 purse_on config before e =
@@ -115,7 +115,7 @@ purse_on config before e =
     ap (after_alone (opened_purse config p)) (snoc_hit (λ (d : Entry). eqb (purse_in config d.tenant) p) (asked_in config) before e (is_eq p p refl))
     ∙ after_more (opened_purse config p) (events_of config p before) (asked_in config e)
 
-purse_off : (config : ConfigData) (before : List Entry) (e : Entry) (q : ℕ) → q ≢ purse_in config e.tenant → purse_at config (before ++ e ∷ []) q ≡ purse_at config before q
+pub purse_off : (config : ConfigData) (before : List Entry) (e : Entry) (q : ℕ) → q ≢ purse_in config e.tenant → purse_at config (before ++ e ∷ []) q ≡ purse_at config before q
 purse_off config before e q differ =
     ap (after_alone (opened_purse config q)) (snoc_miss (λ (d : Entry). eqb (purse_in config d.tenant) q) (asked_in config) before e (is_ne (purse_in config e.tenant) q (λ h. differ (sym h))))
 

@@ -1,5 +1,5 @@
 -- Why each purse of a running pool is alone in it, and why what the pool replies about a job is true.
-use Rattle.std.specs.Prelude.{◌≡◌, ◌≢◌, ℕ, List, [], ◌∷◌, ◌++◌, cond, take, Some, slice_get}
+use Rattle.std.specs.Prelude.{◌≡◌, ◌≢◌, ℕ, ◌<◌, List, [], ◌∷◌, ◌++◌, cond, take, length, Some, slice_get}
 use Rattle.strategy.specs.declared.plan.Plan.{Plan}
 use Rattle.farm_core.specs.declared.entry.Entry.{Entry}
 use Rattle.farm_core.specs.declared.entry.Event.{Event}
@@ -7,16 +7,17 @@ use Rattle.farm_core.specs.declared.entry.Event.TheVariants.{Submit}
 use Rattle.farm_core.specs.declared.reply.Reply.{Reply}
 use Rattle.farm_core.specs.declared.reply.Reply.TheVariants.{Job, NoMemory}
 use Rattle.farm_core.specs.Config.{ConfigData}
-use Rattle.farm_core.specs.Step.{Replied}
+use Rattle.farm_core.specs.Step.{Replied, step}
 use Rattle.farm_core.specs.World.{Asked, purse_in, place_in, opened_purse, events_of, is_noted, answers_alone}
-use Rattle.farm_core.specs.Truth.{IsTrueReply}
+use Rattle.farm_core.specs.Truth.{IsPlanned, IsTrueReply}
 use Rattle.turn_lock.specs.History as history
 use Rattle.turn_lock.specs.History.{IsLegal}
 use Rattle.turn_lock.specs.Plays.{Called}
+use Rattle.turn_lock.specs.declared.view.Stage.TheVariants.{Idle}
 use Rattle.farm_pool.specs.declared.image.TurnImage.{TurnImage}
 use Rattle.farm_pool.specs.declared.image.CallImage.TheVariants as said
 use Rattle.farm_pool.specs.declared.image.AnswerImage.TheVariants as told
-use Rattle.farm_pool.specs.Served.{IsAnswered, AreOfRun, Served}
+use Rattle.farm_pool.specs.Served.{tenant_at, IsAnswered, AreOfRun, Served}
 use Rattle.farm_pool.specs.Worked.{PoolView}
 
 -- what a purse's members asked for among the entries of a history, in order
@@ -66,3 +67,17 @@ pub record EachReplyIsTrue : Type 0 where
       (called : Called Served v (said.Asked t event) (told.Replied reply) w) → IsTrueReply (WasSubmitted called.opening (history.events_of called.before) t) reply
   pub back : (v w : PoolView) (turn : TurnImage) (reply : Reply) →
       (called : Called Served v (said.Back turn) (told.Gave reply) w) → IsTrueReply (WasSubmitted called.opening (history.events_of called.before) turn.tenant) reply
+
+-- a pass that has seen this history is given this reply to its next call
+pub record IsReplied (config : ConfigData) (log : List (ℕ × Entry)) (number t : ℕ) (event : Event) (reply : Reply) : Type 0 where
+  pub after : PoolView
+  pub called :
+      let seen : PoolView = record { stage = Idle; number = number; opening = Some config; seen = log; mine = history.entries_of number log } in
+      Called Served seen (said.Asked t event) (told.Replied reply) after
+  pub before : called.before ≡ log
+
+-- after each legal history each call of a tenant can be given the reply of the tenant's step there: so what is said of replies is never said of nothing
+abbrev pub EachReplyCanBeMade : Type 0
+EachReplyCanBeMade = (config : ConfigData) (log : List (ℕ × Entry)) (number : ℕ) → IsLegal Served config log →
+    (t : ℕ) → t < length config.tenants → (event : Event) → IsPlanned event → (reply : Reply) →
+    (step (tenant_at config (history.events_of log) t) event).answer ≡ Replied reply → reply ≢ NoMemory → IsReplied config log number t event reply

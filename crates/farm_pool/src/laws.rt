@@ -1,5 +1,5 @@
 //! Laws of a pool: each is the proved contract of a function that does nothing.
-ghost use Rattle.farm_pool.specs.Laws.{EachReplyIsAlone, EachReplyIsIsolated, EachReplyIsTrue, LegalHistoriesAreRuns};
+ghost use Rattle.farm_pool.specs.Laws.{EachReplyCanBeMade, EachReplyIsAlone, EachReplyIsIsolated, EachReplyIsTrue, LegalHistoriesAreRuns};
 
 /// The entries of a legal history are those of a run of the farm. So what is proved of each run is true of each history: what a pass has
 /// seen, and what the farm of a closed pool has in its journal.
@@ -24,4 +24,10 @@ pub fn each_reply_is_isolated()
 /// schedule is shorter, and with 'infeasible' there is none.
 pub fn each_reply_is_true()
     ensures { EachReplyIsTrue }
+{}
+
+/// After each legal history each call of a tenant can be given the reply of the tenant's step there. So what is proved of each reply is never
+/// said of nothing.
+pub fn each_reply_can_be_made()
+    ensures { EachReplyCanBeMade }
 {}
