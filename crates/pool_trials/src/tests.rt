@@ -251,7 +251,15 @@ fn four_workers_of_one_purse_settle(rt: HostRuntime) -> Result<(), Fail> {
     assert!(rt; turns == 11);
     assert!(rt; is_closed(&pool.call(&rt, &mut pass, A, Command::Status(1))));
     for tenant in [A, B] {
-        assert!(rt; is_ledger(&pool.call(&rt, &mut pass, tenant, Command::Ledger), 20, 0, 0, 20));
+        assert!(rt;
+            is_ledger(
+                &pool.call(&rt, &mut pass, tenant, Command::Ledger),
+                20,
+                0,
+                0,
+                20
+            )
+        );
     }
     let farm = pool.close(pass).ok_or("a farm")?;
     assert!(rt; settle_shared(farm, purse) == Some(Ok(Settled)));
