@@ -31,7 +31,7 @@ use Rattle.farm_pool.specs.declared.image.AnswerImage.TheVariants as told
 use Rattle.farm_pool.specs.Laws.{EachReplyCanBeMade}
 use Rattle.farm_pool.specs.Served.{tenant_at, entry_if, IsStep, IsAnswered, Answers, AreOfRun, Served}
 use Rattle.farm_pool.specs.Worked.{PoolView}
-use Rattle.farm_pool.proofs.TruthLemmas.{IsSound, AreSound, run_sound, purse_at, purse_on, purse_off}
+use Rattle.farm_pool.proofs.EntryLemmas.{IsSound, AreSound, run_sound, purse_at, purse_on, purse_off}
 
 -- ---- entries that calls leave one after another are those of a run
 

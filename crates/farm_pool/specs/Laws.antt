@@ -15,7 +15,9 @@ use Rattle.turn_lock.specs.History.{IsLegal}
 use Rattle.turn_lock.specs.Plays.{Called}
 use Rattle.turn_lock.specs.declared.view.Stage.TheVariants.{Idle}
 use Rattle.farm_pool.specs.declared.image.TurnImage.{TurnImage}
+use Rattle.farm_pool.specs.declared.image.CallImage.{CallImage}
 use Rattle.farm_pool.specs.declared.image.CallImage.TheVariants as said
+use Rattle.farm_pool.specs.declared.image.AnswerImage.{AnswerImage}
 use Rattle.farm_pool.specs.declared.image.AnswerImage.TheVariants as told
 use Rattle.farm_pool.specs.Served.{tenant_at, IsAnswered, AreOfRun, Served}
 use Rattle.farm_pool.specs.Worked.{PoolView}
@@ -61,12 +63,14 @@ pub record WasSubmitted (config : ConfigData) (entries : List Entry) (t s : ℕ)
   pub answered : IsAnswered config (take at entries) t (Submit plan quanta) (slice_get entries at) (Job s)
 
 -- in a running pool what is replied about a job is true of a plan that its tenant has submitted under its number, in the history before the call:
--- to a tenant's call, and where a worker gives a turn back
+-- to a tenant's call, and where a worker gives a turn back. And no tenant has submitted two plans under one number
 pub record EachReplyIsTrue : Type 0 where
   pub asked : (v w : PoolView) (t : ℕ) (event : Event) (reply : Reply) →
       (called : Called Served v (said.Asked t event) (told.Replied reply) w) → IsTrueReply (WasSubmitted called.opening (history.events_of called.before) t) reply
   pub back : (v w : PoolView) (turn : TurnImage) (reply : Reply) →
       (called : Called Served v (said.Back turn) (told.Gave reply) w) → IsTrueReply (WasSubmitted called.opening (history.events_of called.before) turn.tenant) reply
+  pub one : (v w : PoolView) (call : CallImage) (answer : AnswerImage) → (called : Called Served v call answer w) → (t s : ℕ) (plan other : Plan) →
+      WasSubmitted called.opening (history.events_of called.before) t s plan → WasSubmitted called.opening (history.events_of called.before) t s other → plan ≡ other
 
 -- a pass that has seen this history is given this reply to its next call
 pub record IsReplied (config : ConfigData) (log : List (ℕ × Entry)) (number t : ℕ) (event : Event) (reply : Reply) : Type 0 where

@@ -1,7 +1,7 @@
 -- A pool in which a job was submitted, searched to its end by a worker's turn, and its best schedule was asked for.
 use Rattle.std.proofs.Common.{◌≡◌, ℕ, false, List, [], ◌∷◌, Some, None, refl, subst, arith}
 use Rattle.mrcpsp.specs.Project.{ProjectData, ModeData, size, renewables, nonrenewables, modes, mode_count, successors, duration, request, consumption, capacity, stock, precedes}
-use Rattle.mrcpsp.specs.Schedule.{mode_of, start_of, finish, load, makespan}
+use Rattle.mrcpsp.specs.Schedule.{ScheduleData, IsOptimal, mode_of, start_of, finish, load, makespan}
 use Rattle.mrcpsp.specs.Values.{shortest, least, tail, lft, bound}
 use Rattle.mrcpsp.specs.Placed.{placed_use, placed_consumption, last_start, are_ready, fits, is_allowed, earliest, is_eligible, is_executable, reserve, is_affordable, schedule_of}
 use Rattle.strategy.specs.Candidate.{placed_from, eligible_ones, is_allowed_mode, allowed_modes}
@@ -30,7 +30,8 @@ use Rattle.farm_pool.specs.declared.image.AnswerImage.TheVariants as told
 use Rattle.farm_pool.specs.Laws.{WasSubmitted, IsReplied}
 use Rattle.farm_pool.specs.Served.{tenant_at, Served}
 use Rattle.farm_pool.proofs.MadeLemmas.{AreLeft, left_run, each_reply_can_be_made}
-use Rattle.farm_pool.proofs.TruthLemmas.{IsSound, each_reply_is_true}
+use Rattle.farm_pool.proofs.EntryLemmas.{IsSound}
+use Rattle.farm_pool.proofs.TruthLemmas.{each_reply_is_true}
 
 abbrev mode : ℕ → List ModeData
 mode d = record { duration = d; renewable = []; nonrenewable = [] } ∷ []
@@ -60,8 +61,11 @@ entry event = record { tenant = 0; event = event }
 abbrev entries : List Entry
 entries = entry (Submit plan 9) ∷ entry (Take 1 100) ∷ entry (Give 1 3) ∷ []
 
+abbrev schedule : ScheduleData
+schedule = record { modes = 1 ∷ 1 ∷ 1 ∷ []; starts = 0 ∷ 0 ∷ 5 ∷ [] }
+
 abbrev best : Reply
-best = reply.Best 1 (Some (record { modes = 1 ∷ 1 ∷ 1 ∷ []; starts = 0 ∷ 0 ∷ 5 ∷ [] })) (Some 5) Optimal
+best = reply.Best 1 (Some schedule) (Some 5) Optimal
 
 best_is_answered : (step (tenant_at config entries 0) (Fetch 1)).answer ≡ Replied best
 unfolding newcomers first_member purse_of members_of place_of submitted fetched held free kept line_of nodes_of_turn best_after is_closed verdict_after tree.best_after tree.is_closed tree.all_visits tree.candidates tree.is_pruned tree.updated tree.visit_one pass chosen_at eligible_ones allowed_modes is_allowed_mode placed_from lft duration size modes renewables nonrenewables mode_count successors request consumption capacity stock precedes load shortest least placed_use placed_consumption last_start are_ready fits is_allowed earliest is_eligible is_executable reserve is_affordable tail schedule_of makespan finish start_of mode_of bound
@@ -140,10 +144,27 @@ history_is_legal = (
 best_is_replied : IsReplied config log 0 0 (Fetch 1) best
 best_is_replied = each_reply_can_be_made config log 0 history_is_legal 0 (omega arith) (Fetch 1) tt best best_is_answered (λ is. absurd (cc))
 
-best_is_true : IsTrueReply (WasSubmitted config entries 0) best
+-- the submit is in the history
+plan_was_submitted : WasSubmitted config entries 0 1 plan
+unfolding newcomers first_member purse_of members_of place_of submitted held free kept
+plan_was_submitted = record { at = 0; quanta = 9; entry = refl; answered = record { answer_is = refl; entry_is = refl } }
+
+-- what the law says of this reply
+abbrev IsSaid : ConfigData → List Entry → Type 0
+IsSaid c es = IsTrueReply (WasSubmitted c es 0) best × ((one other : Plan) → WasSubmitted c es 0 1 one → WasSubmitted c es 0 1 other → one ≡ other)
+
+best_is_true : IsSaid config entries
 best_is_true =
     let it = best_is_replied in
     let both : Some config ≡ Some it.called.opening = it.called.opened in
     let same : it.called.opening ≡ config = cc in
-    subst (λ (c : ConfigData). IsTrueReply (WasSubmitted c entries 0) best) same
-    (subst (λ (l : List (ℕ × Entry)). IsTrueReply (WasSubmitted it.called.opening (history.events_of l) 0) best) it.before (each_reply_is_true.asked _ it.after 0 (Fetch 1) best it.called))
+    let law = each_reply_is_true in
+    subst (λ (c : ConfigData). IsSaid c entries) same
+    (subst (λ (l : List (ℕ × Entry)). IsSaid it.called.opening (history.events_of l)) it.before
+    (law.asked _ it.after 0 (Fetch 1) best it.called, law.one _ it.after (said.Asked 0 (Fetch 1)) (told.Replied best) it.called 0 1))
+
+best_is_shortest : IsOptimal chain schedule
+best_is_shortest =
+    let it = best_is_true in
+    let same : it.0.0 ≡ plan = it.1 it.0.0 plan it.0.1 plan_was_submitted in
+    subst (λ (p : Plan). IsOptimal p.project schedule) same (it.0.3.optimal refl)
