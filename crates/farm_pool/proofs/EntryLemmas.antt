@@ -65,12 +65,15 @@ run_sound config entries it = subst (AreSound config) it.journal (leads_sound co
 nameless : (names : List (Option (List ℕ))) (t : ℕ) (other : Option (List ℕ)) → length names ≤ t → is_shared (purse_name names t) other ≡ false
 nameless names t other past = ap (λ (n : Option (List ℕ)). is_shared n other) (get_or_past names t None past)
 
-same_place : (names : List (Option (List ℕ))) (t u : ℕ) → t < length names → u < length names → purse_of names t ≡ purse_of names u → place_of names t ≡ place_of names u → t ≡ u
+same_place : (names : List (Option (List ℕ))) (t u : ℕ) → t < length names → u < length names
+    → purse_of names t ≡ purse_of names u → place_of names t ≡ place_of names u → t ≡ u
 same_place names t u l k purse place =
-    sym (found_at names t l) ∙ ap (λ p. get_or (members_of names p) (place_of names t) 0) purse ∙ ap (λ n. get_or (members_of names (purse_of names u)) n 0) place ∙ found_at names u k
+    sym (found_at names t l) ∙ ap (λ p. get_or (members_of names p) (place_of names t) 0) purse
+    ∙ ap (λ n. get_or (members_of names (purse_of names u)) n 0) place ∙ found_at names u k
 
 -- tenants of one purse and one place are the same
-same_tenant : (config : ConfigData) (t u : ℕ) → u < length config.tenants → purse_in config t ≡ purse_in config u → place_in config t ≡ place_in config u → t ≡ u
+same_tenant : (config : ConfigData) (t u : ℕ) → u < length config.tenants
+    → purse_in config t ≡ purse_in config u → place_in config t ≡ place_in config u → t ≡ u
 same_tenant config t u known purse place =
     let names = purse_names config.tenants in
     ⊎_elim
@@ -108,9 +111,11 @@ purse_on config before e =
     ap (after_alone (opened_purse config p)) (snoc_hit (λ (d : Entry). eqb (purse_in config d.tenant) p) (asked_in config) before e (is_eq p p refl))
     ∙ after_more (opened_purse config p) (events_of config p before) (asked_in config e)
 
-pub purse_off : (config : ConfigData) (before : List Entry) (e : Entry) (q : ℕ) → q ≢ purse_in config e.tenant → purse_at config (before ++ e ∷ []) q ≡ purse_at config before q
+pub purse_off : (config : ConfigData) (before : List Entry) (e : Entry) (q : ℕ) → q ≢ purse_in config e.tenant
+    → purse_at config (before ++ e ∷ []) q ≡ purse_at config before q
 purse_off config before e q differ =
-    ap (after_alone (opened_purse config q)) (snoc_miss (λ (d : Entry). eqb (purse_in config d.tenant) q) (asked_in config) before e (is_ne (purse_in config e.tenant) q (λ h. differ (sym h))))
+    ap (after_alone (opened_purse config q))
+    (snoc_miss (λ (d : Entry). eqb (purse_in config d.tenant) q) (asked_in config) before e (is_ne (purse_in config e.tenant) q (λ h. differ (sym h))))
 
 -- what is another tenant's own stays
 pub member_off : (config : ConfigData) (before : List Entry) (e : Entry) (t : ℕ) → e.tenant < length config.tenants → t ≢ e.tenant
@@ -125,5 +130,6 @@ member_off config before e t known differ =
     ∙ ap (λ (p : Purse). own_of (seat p (place_in config t))) (purse_on config before e)
     ∙ set_other (purse_at config before (purse_in config u)).members (place_in config t) (place_in config u) (own_of after) no_member elsewhere
     ∙ ap (λ p. own_of (seat (purse_at config before p) (place_in config t))) (sym purse))
-    (λ (apart_is : purse_in config t ≡ purse_in config u → ⊥). ap (λ (p : Purse). own_of (seat p (place_in config t))) (purse_off config before e (purse_in config t) apart_is))
+    (λ (apart_is : purse_in config t ≡ purse_in config u → ⊥).
+    ap (λ (p : Purse). own_of (seat p (place_in config t))) (purse_off config before e (purse_in config t) apart_is))
     (cases_eq (purse_in config t) (purse_in config u))

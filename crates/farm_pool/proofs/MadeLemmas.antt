@@ -44,9 +44,11 @@ abbrev pub AreLeft : ConfigData → List Entry → List Entry → Type 0
 AreLeft config before [] = ⊤
 AreLeft config before (e ∷ es) = IsLeft config before e × AreLeft config (before ++ e ∷ []) es
 
-left_more : (config : ConfigData) (before es : List Entry) (e : Entry) → AreLeft config before es → IsLeft config (before ++ es) e → AreLeft config before (es ++ e ∷ [])
+left_more : (config : ConfigData) (before es : List Entry) (e : Entry) → AreLeft config before es
+    → IsLeft config (before ++ es) e → AreLeft config before (es ++ e ∷ [])
 left_more config before [] e all one = (subst (λ b. IsLeft config b e) (append-nil before) one, tt)
-left_more config before (x ∷ es) e all one = (all.0, left_more config (before ++ x ∷ []) es e all.1 (subst (λ b. IsLeft config b e) (sym (append_assoc before (x ∷ []) es)) one))
+left_more config before (x ∷ es) e all one =
+    (all.0, left_more config (before ++ x ∷ []) es e all.1 (subst (λ b. IsLeft config b e) (sym (append_assoc before (x ∷ []) es)) one))
 
 opened_accounts : (config : ConfigData) → HasAccounts (opened config)
 unfolding opened
@@ -55,7 +57,8 @@ opened_accounts config = (
   length-map (range_with_len 0 (purses_in config)) (λ p. ledger.opened (granted_by (lines_of config.tenants p))) ∙ range_length 0 (purses_in config),
 )
 
-leads_more : (old mid new : World) (calls : List Call) (c : Call) → Leads old calls mid → Steps mid c.tenant c.event c.answer new → Leads old (calls ++ c ∷ []) new
+leads_more : (old mid new : World) (calls : List Call) (c : Call) → Leads old calls mid
+    → Steps mid c.tenant c.event c.answer new → Leads old (calls ++ c ∷ []) new
 leads_more old mid new [] c run steps = (new, subst (λ (w : World). Steps w c.tenant c.event c.answer new) run steps, refl)
 leads_more old mid new (d ∷ calls) c run steps = (run.0, run.1, leads_more run.0 mid new calls c run.2 steps)
 
@@ -108,24 +111,29 @@ goes_on w e at accounts left =
     let it = each_call_can_be_made w accounts t left.sound.known e.event in
     let new : World = it.0 in
     let steps : Steps w t e.event (step (view t w) e.event).answer new = it.1 in
-    let noted : is_noted (step (view t w) e.event).answer ≡ true = ap (λ (v : Tenant). is_noted (step v e.event).answer) (seen_at w t at left.sound.known) ∙ left.noted in
-    let journal : new.journal ≡ w.journal ++ e ∷ [] = steps.journal ∙ ap (λ es. w.journal ++ es) (entry_left t e.event (step (view t w) e.event).answer noted) in (
+    let noted : is_noted (step (view t w) e.event).answer ≡ true =
+    ap (λ (v : Tenant). is_noted (step v e.event).answer) (seen_at w t at left.sound.known) ∙ left.noted in
+    let journal : new.journal ≡ w.journal ++ e ∷ [] =
+    steps.journal ∙ ap (λ es. w.journal ++ es) (entry_left t e.event (step (view t w) e.event).answer noted) in (
       new,
       record {
         steps = steps;
         journal = journal;
-        replayed = λ p. purses_on w new e at steps p ∙ ap (λ es. purse_at w.config es p) (sym journal) ∙ ap (λ (c : ConfigData). purse_at c new.journal p) (sym steps.config);
+        replayed = λ p. purses_on w new e at steps p ∙ ap (λ es. purse_at w.config es p) (sym journal)
+            ∙ ap (λ (c : ConfigData). purse_at c new.journal p) (sym steps.config);
         accounts = it.2;
       },
     )
 
 runs_on : (config : ConfigData) (w : World) (calls : List Call) → w.config ≡ config → Run config calls w → ArePlanned calls → IsReplayed w → HasAccounts w
     → (es : List Entry) → AreLeft config w.journal es → AreOfRun config (w.journal ++ es)
-runs_on config w calls same run planned at accounts [] left = record { calls = calls; world = w; run = run; planned = planned; journal = sym (append-nil w.journal) }
+runs_on config w calls same run planned at accounts [] left =
+    record { calls = calls; world = w; run = run; planned = planned; journal = sym (append-nil w.journal) }
 runs_on config w calls same run planned at accounts (e ∷ es) left =
     let it = goes_on w e at accounts (subst (λ (c : ConfigData). IsLeft c w.journal e) (sym same) left.0) in
     let c : Call = record { tenant = e.tenant; event = e.event; answer = (step (view e.tenant w) e.event).answer } in
-    let more = runs_on config it.0 (calls ++ c ∷ []) (it.1.steps.config ∙ same) (leads_more (opened config) w it.0 calls c run it.1.steps) (planned_more calls c planned left.0.sound.planned)
+    let more = runs_on config it.0 (calls ++ c ∷ []) (it.1.steps.config ∙ same)
+    (leads_more (opened config) w it.0 calls c run it.1.steps) (planned_more calls c planned left.0.sound.planned)
     it.1.replayed it.1.accounts es (subst (λ b. AreLeft config b es) (sym it.1.journal) left.1) in
     subst (AreOfRun config) (ap (λ b. b ++ es) it.1.journal ∙ append_assoc w.journal (e ∷ []) es) more
 
@@ -185,7 +193,8 @@ left_if : (config : ConfigData) (before : List Entry) (e : Entry) (b : Bool) →
 left_if config before e true all one = left_run config (before ++ e ∷ []) (left_more config [] before e all (one refl))
 left_if config before e false all one = subst (AreOfRun config) (sym (append-nil before)) (left_run config before all)
 
-can_serve : (config : ConfigData) (log : List (ℕ × Entry)) → IsLegal Served config log → (t : ℕ) → t < length config.tenants → (event : Event) → IsPlanned event → (r : Reply)
+can_serve : (config : ConfigData) (log : List (ℕ × Entry)) → IsLegal Served config log → (t : ℕ) → t < length config.tenants
+    → (event : Event) → IsPlanned event → (r : Reply)
     → (step (tenant_at config (history.events_of log) t) event).answer ≡ Replied r → r ≢ reply.NoMemory
     → Served config (history.events_of log) (said.Asked t event) (entry_if t event (Replied r)) (told.Replied r)
 can_serve config log legal t known event planned r is memory =

@@ -103,7 +103,8 @@ alone_count p (a ∷ asked) =
     let after : Tenant = (step (seat p a.place) a.event).after in
     alone_count (with_seat p a.place after) asked ∙ length-set p.members a.place (own_of after)
 
-members_count : (config : ConfigData) (before : List Entry) (p : ℕ) → length (purse_at config before p).members ≡ length (members_of (purse_names config.tenants) p)
+members_count : (config : ConfigData) (before : List Entry) (p : ℕ)
+    → length (purse_at config before p).members ≡ length (members_of (purse_names config.tenants) p)
 unfolding newcomers
 members_count config before p =
     let members = members_of (purse_names config.tenants) p in
@@ -128,7 +129,8 @@ next_more : (config : ConfigData) (before : List Entry) (e : Entry) (t : ℕ) �
 next_more config before e t sound =
     let u = e.tenant in
     let own : next_at config before u ≤ next_at config (before ++ e ∷ []) u =
-    subst (λ n. next_at config before u ≤ n) (sym (ap (λ (m : Member). m.next) (own_on config before e sound.known))) (step_grows (tenant_at config before u) e.event) in
+    subst (λ n. next_at config before u ≤ n) (sym (ap (λ (m : Member). m.next) (own_on config before e sound.known)))
+    (step_grows (tenant_at config before u) e.event) in
     ⊎_elim
     (λ (same : t ≡ u). subst (λ v. next_at config before v ≤ next_at config (before ++ e ∷ []) v) (sym same) own)
     (λ (differ : t ≡ u → ⊥). least _ _ (ap (λ (m : Member). m.next) (member_off config before e t sound.known differ)))
@@ -139,11 +141,13 @@ next_grows config before [] t sound = least _ _ (ap (λ b. next_at config b t) (
 next_grows config before (e ∷ es) t sound =
     let one = next_more config before e t sound.0 in
     let rest : next_at config (before ++ e ∷ []) t ≤ next_at config ((before ++ e ∷ []) ++ es) t = next_grows config (before ++ e ∷ []) es t sound.1 in
-    let whole : next_at config ((before ++ e ∷ []) ++ es) t ≡ next_at config (before ++ e ∷ es) t = ap (λ b. next_at config b t) (append_assoc before (e ∷ []) es) in
+    let whole : next_at config ((before ++ e ∷ []) ++ es) t ≡ next_at config (before ++ e ∷ es) t =
+    ap (λ b. next_at config b t) (append_assoc before (e ∷ []) es) in
     omega (arith, one, rest, whole)
 
 -- what is between two entries
-between : {X : Type 0} (xs : List X) (i j : ℕ) (x y : X) → slice_get xs i ≡ Some x → slice_get xs j ≡ Some y → i < j → (rest : List X) × (take j xs ≡ (take i xs ++ x ∷ []) ++ rest)
+between : {X : Type 0} (xs : List X) (i j : ℕ) (x y : X) → slice_get xs i ≡ Some x → slice_get xs j ≡ Some y → i < j
+    → (rest : List X) × (take j xs ≡ (take i xs ++ x ∷ []) ++ rest)
 between [] i j x y here there less = absurd (cc)
 between (z ∷ xs) i zero x y here there less = absurd (omega arith)
 between {X} (z ∷ xs) zero (suc j) x y here there less = let same : z ≡ x = cc in (take j xs, ap (λ (w : X). w ∷ take j xs) same)
@@ -163,11 +167,13 @@ later_greater config entries t s n plan other sound here there less =
     let one = (submit_numbered (tenant_at config first t) plan here.quanta).gives s (sym here.answered.answer_is) in
     let two = (submit_numbered (tenant_at config (take there.at entries) t) other there.quanta).gives n (sym there.answered.answer_is) in
     let after : next_at config (first ++ e ∷ []) t ≡ s + 1 = ap (λ (m : Member). m.next) (own_on config first e sounds.known) ∙ one.1 in
-    let grown : next_at config (first ++ e ∷ []) t ≤ next_at config ((first ++ e ∷ []) ++ it.0) t = next_grows config (first ++ e ∷ []) it.0 t (sound_back config (first ++ e ∷ []) it.0 all) in
+    let grown : next_at config (first ++ e ∷ []) t ≤ next_at config ((first ++ e ∷ []) ++ it.0) t =
+    next_grows config (first ++ e ∷ []) it.0 t (sound_back config (first ++ e ∷ []) it.0 all) in
     let where_is : next_at config (take there.at entries) t ≡ next_at config ((first ++ e ∷ []) ++ it.0) t = ap (λ b. next_at config b t) it.1 in
     omega (arith, two.0, after, grown, where_is)
 
-same_submit : (t p q : ℕ) (plan other : Plan) → Some (let e : Entry = record { tenant = t; event = Submit plan p } in e) ≡ Some (record { tenant = t; event = Submit other q }) → plan ≡ other
+same_submit : (t p q : ℕ) (plan other : Plan)
+    → Some (let e : Entry = record { tenant = t; event = Submit plan p } in e) ≡ Some (record { tenant = t; event = Submit other q }) → plan ≡ other
 same_submit t p q plan other is =
     let one : Entry = record { tenant = t; event = Submit plan p } in
     let two : Entry = record { tenant = t; event = Submit other q } in

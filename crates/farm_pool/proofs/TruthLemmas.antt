@@ -47,11 +47,14 @@ record IsAt (all before : List Entry) (e : Entry) : Type 0 where
   here : slice_get all (length before) ≡ Some e
   front : take (length before) all ≡ before
 
-makes : (config : ConfigData) (all before : List Entry) (e : Entry) → IsAt all before e → Makes (WasSubmitted config all e.tenant) (tenant_at config before e.tenant) e.event
+makes : (config : ConfigData) (all before : List Entry) (e : Entry) → IsAt all before e
+    → Makes (WasSubmitted config all e.tenant) (tenant_at config before e.tenant) e.event
 makes config all before e at plan quanta s event answer =
     let t = e.tenant in
-    let whole : Some e ≡ Some (record { tenant = t; event = Submit plan quanta }) = ap (λ (v : Event). let d : Entry = record { tenant = t; event = v } in Some d) event in
-    let told : (step (tenant_at config before t) (Submit plan quanta)).answer ≡ Replied (reply.Job s) = ap (λ (v : Event). (step (tenant_at config before t) v).answer) (sym event) ∙ answer in
+    let whole : Some e ≡ Some (record { tenant = t; event = Submit plan quanta }) =
+    ap (λ (v : Event). let d : Entry = record { tenant = t; event = v } in Some d) event in
+    let told : (step (tenant_at config before t) (Submit plan quanta)).answer ≡ Replied (reply.Job s) =
+    ap (λ (v : Event). (step (tenant_at config before t) v).answer) (sym event) ∙ answer in
     record {
       at = length before;
       quanta = quanta;
@@ -67,21 +70,24 @@ knows_more : (config : ConfigData) (all before : List Entry) (e : Entry) → IsS
 knows_more config all before e sound at knows t =
     let u = e.tenant in
     let made : Made = WasSubmitted config all u in
-    let good : IsGood made (step (tenant_at config before u) e.event) = step_good made (tenant_at config before u) e.event (knows u) sound.planned (makes config all before e at) in
+    let good : IsGood made (step (tenant_at config before u) e.event) =
+    step_good made (tenant_at config before u) e.event (knows u) sound.planned (makes config all before e at) in
     let after : Tenant = (step (tenant_at config before u) e.event).after in
     let own : KnowsAt config all (before ++ e ∷ []) u =
     subst (λ (p : Purse). AreKnown made (seat p (place_in config u)).jobs) (sym (purse_on config before e))
     (put_jobs made (purse_at config before (purse_in config u)).members (place_in config u) (own_of after) good.jobs) in
     ⊎_elim
     (λ (same : t ≡ u). subst (KnowsAt config all (before ++ e ∷ [])) (sym same) own)
-    (λ (differ : t ≡ u → ⊥). subst (λ (m : Member). AreKnown (WasSubmitted config all t) m.jobs) (sym (member_off config before e t sound.known differ)) (knows t))
+    (λ (differ : t ≡ u → ⊥).
+    subst (λ (m : Member). AreKnown (WasSubmitted config all t) m.jobs) (sym (member_off config before e t sound.known differ)) (knows t))
     (cases_eq t u)
 
 here_is : (before rest : List Entry) (e : Entry) → slice_get (before ++ e ∷ rest) (length before) ≡ Some e
 here_is [] rest e = refl
 here_is (x ∷ before) rest e = here_is before rest e
 
-knows_on : (config : ConfigData) (all before rest : List Entry) → all ≡ before ++ rest → AreSound config rest → ((t : ℕ) → KnowsAt config all before t) → (t : ℕ) → KnowsAt config all all t
+knows_on : (config : ConfigData) (all before rest : List Entry) → all ≡ before ++ rest → AreSound config rest
+    → ((t : ℕ) → KnowsAt config all before t) → (t : ℕ) → KnowsAt config all all t
 knows_on config all before [] whole sound knows t =
     subst (λ es. KnowsAt config all es t) (sym (whole ∙ append-nil before)) (knows t)
 knows_on config all before (e ∷ rest) whole sound knows t =
@@ -107,7 +113,8 @@ submit_told made t plan quanta =
     (λ _. cond_both (nat_le quanta (free t)) _ (noted t (reply.NoShort (free t))) Goal (λ _. tt) (λ _. tt)) (λ _. tt)) (λ _. tt)) (λ _. tt)
 
 -- each other step tells the truth of the jobs that are known
-other_told : (made : Made) (t : Tenant) (e : Event) → AreKnown made t.jobs → IsPlanned e → ((plan : Plan) (quanta : ℕ) → e ≢ Submit plan quanta) → IsTrueAnswer made (step t e).answer
+other_told : (made : Made) (t : Tenant) (e : Event) → AreKnown made t.jobs → IsPlanned e
+    → ((plan : Plan) (quanta : ℕ) → e ≢ Submit plan quanta) → IsTrueAnswer made (step t e).answer
 other_told made t e known planned other = (step_good made t e known planned (λ plan quanta s is answer. absurd (other plan quanta is))).answer
 
 step_told : (made : Made) (t : Tenant) (e : Event) → AreKnown made t.jobs → IsTrueAnswer made (step t e).answer
@@ -144,7 +151,8 @@ each_reply_is_true = record {
       answer_true called.opening before t event called.event r (sound_before called.opening before called.event called.stands.run) called.stands.answers;
   back = λ v w turn r called.
       let before : List Entry = history.events_of called.before in
-      step_true called.opening before turn.tenant (Give turn.seq turn.ran) called.event r (sound_before called.opening before called.event called.stands.run) called.stands.answers.steps;
+      step_true called.opening before turn.tenant (Give turn.seq turn.ran) called.event r (sound_before called.opening before called.event called.stands.run)
+      called.stands.answers.steps;
   one = λ v w call answer called t s plan other here there.
       let before : List Entry = history.events_of called.before in
       one_plan called.opening before t s plan other (sound_before called.opening before called.event called.stands.run) here there;

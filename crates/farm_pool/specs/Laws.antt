@@ -3,9 +3,10 @@ use Rattle.std.specs.Prelude.{◌≡◌, ◌≢◌, ℕ, ◌<◌, List, [], ◌�
 use Rattle.strategy.specs.declared.plan.Plan.{Plan}
 use Rattle.farm_core.specs.declared.entry.Entry.{Entry}
 use Rattle.farm_core.specs.declared.entry.Event.{Event}
-use Rattle.farm_core.specs.declared.entry.Event.TheVariants.{Submit}
+use Rattle.farm_core.specs.declared.entry.Event.TheVariants.{Submit, Cancel}
+use Rattle.farm_core.specs.declared.reply.Line.{Line as JobLine}
 use Rattle.farm_core.specs.declared.reply.Reply.{Reply}
-use Rattle.farm_core.specs.declared.reply.Reply.TheVariants.{Job, NoMemory}
+use Rattle.farm_core.specs.declared.reply.Reply.TheVariants.{Job, Line, NoMemory}
 use Rattle.farm_core.specs.Config.{ConfigData}
 use Rattle.farm_core.specs.Step.{Replied, step}
 use Rattle.farm_core.specs.World.{Asked, purse_in, place_in, opened_purse, events_of, is_noted, answers_alone}
@@ -66,11 +67,14 @@ pub record WasSubmitted (config : ConfigData) (entries : List Entry) (t s : ℕ)
 -- to a tenant's call, and where a worker gives a turn back. And no tenant has submitted two plans under one number
 pub record EachReplyIsTrue : Type 0 where
   pub asked : (v w : PoolView) (t : ℕ) (event : Event) (reply : Reply) →
-      (called : Called Served v (said.Asked t event) (told.Replied reply) w) → IsTrueReply (WasSubmitted called.opening (history.events_of called.before) t) reply
+      (called : Called Served v (said.Asked t event) (told.Replied reply) w) →
+      IsTrueReply (WasSubmitted called.opening (history.events_of called.before) t) reply
   pub back : (v w : PoolView) (turn : TurnImage) (reply : Reply) →
-      (called : Called Served v (said.Back turn) (told.Gave reply) w) → IsTrueReply (WasSubmitted called.opening (history.events_of called.before) turn.tenant) reply
+      (called : Called Served v (said.Back turn) (told.Gave reply) w) →
+      IsTrueReply (WasSubmitted called.opening (history.events_of called.before) turn.tenant) reply
   pub one : (v w : PoolView) (call : CallImage) (answer : AnswerImage) → (called : Called Served v call answer w) → (t s : ℕ) (plan other : Plan) →
-      WasSubmitted called.opening (history.events_of called.before) t s plan → WasSubmitted called.opening (history.events_of called.before) t s other → plan ≡ other
+      WasSubmitted called.opening (history.events_of called.before) t s plan →
+      WasSubmitted called.opening (history.events_of called.before) t s other → plan ≡ other
 
 -- a pass that has seen this history is given this reply to its next call
 pub record IsReplied (config : ConfigData) (log : List (ℕ × Entry)) (number t : ℕ) (event : Event) (reply : Reply) : Type 0 where
@@ -85,3 +89,9 @@ abbrev pub EachReplyCanBeMade : Type 0
 EachReplyCanBeMade = (config : ConfigData) (log : List (ℕ × Entry)) (number : ℕ) → IsLegal Served config log →
     (t : ℕ) → t < length config.tenants → (event : Event) → IsPlanned event → (reply : Reply) →
     (step (tenant_at config (history.events_of log) t) event).answer ≡ Replied reply → reply ≢ NoMemory → IsReplied config log number t event reply
+
+-- whatever memory there is, a cancel that its tenant's step accepts is answered so
+abbrev pub AcceptedCancelsAreMade : Type 0
+AcceptedCancelsAreMade = (v w : PoolView) (t s : ℕ) (reply : Reply) →
+    (called : Called Served v (said.Asked t (Cancel s)) (told.Replied reply) w) → (line : JobLine) →
+    (step (tenant_at called.opening (history.events_of called.before) t) (Cancel s)).answer ≡ Replied (Line line) → reply ≡ Line line

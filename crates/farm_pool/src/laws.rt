@@ -1,5 +1,5 @@
 //! Laws of a pool: each is the proved contract of a function that does nothing.
-ghost use Rattle.farm_pool.specs.Laws.{EachReplyCanBeMade, EachReplyIsAlone, EachReplyIsIsolated, EachReplyIsTrue, LegalHistoriesAreRuns};
+ghost use Rattle.farm_pool.specs.Laws.{AcceptedCancelsAreMade, EachReplyCanBeMade, EachReplyIsAlone, EachReplyIsIsolated, EachReplyIsTrue, LegalHistoriesAreRuns};
 
 /// The entries of a legal history are those of a run of the farm. So what is proved of each run is true of each history: what a pass has
 /// seen, and what the farm of a closed pool has in its journal.
@@ -21,7 +21,7 @@ pub fn each_reply_is_isolated()
 
 /// In a running pool what is replied about a job, to a tenant or where a worker gives a turn back, is true of a plan that its tenant has
 /// submitted under that number before, in the history: a schedule is feasible and has the makespan that is named, with 'optimal' no feasible
-/// schedule is shorter, and with 'infeasible' there is none.
+/// schedule is shorter, and with 'infeasible' there is none. No tenant has submitted two plans under one number.
 pub fn each_reply_is_true()
     ensures { EachReplyIsTrue }
 {}
@@ -30,4 +30,9 @@ pub fn each_reply_is_true()
 /// said of nothing.
 pub fn each_reply_can_be_made()
     ensures { EachReplyCanBeMade }
+{}
+
+/// In a running pool a cancel that its tenant's step accepts is answered so, whatever memory there is.
+pub fn accepted_cancels_are_made()
+    ensures { AcceptedCancelsAreMade }
 {}
