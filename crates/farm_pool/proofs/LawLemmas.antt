@@ -1,12 +1,14 @@
 -- Legal histories, and the replies in them.
-use Rattle.std.proofs.Common.{◌≡◌, ◌≢◌, ℕ, Bool, true, false, cond, List, [], ◌∷◌, ◌++◌, Option, Some, None, refl, sym, ap, ◌∙◌, subst, arith, append_assoc, append-nil, eqb}
+use Rattle.std.proofs.Common.{◌≡◌, ◌≢◌, ℕ, Bool, true, false, not, ◌&&◌, cond, List, [], ◌∷◌, ◌++◌, Option, Some, None, refl, sym, ap, ◌∙◌, subst, append_assoc, append-nil, eqb}
 use Rattle.farm_core.specs.declared.entry.Entry.{Entry}
 use Rattle.farm_core.specs.declared.entry.Event.{Event}
+use Rattle.farm_core.specs.declared.entry.Event.TheVariants.{Cancel}
+use Rattle.farm_core.specs.declared.reply.Line.{Line}
 use Rattle.farm_core.specs.declared.reply.Reply.{Reply}
 use Rattle.farm_core.specs.declared.reply.Reply.TheVariants as reply
 use Rattle.farm_core.specs.Config.{ConfigData}
-use Rattle.farm_core.specs.Tenant.{Purse, seat, with_seat}
-use Rattle.farm_core.specs.Step.{Answer, Replied, step}
+use Rattle.farm_core.specs.Tenant.{Tenant, Purse, seat, with_seat}
+use Rattle.farm_core.specs.Step.{Answer, Replied, step, has_room}
 use Rattle.farm_core.specs.World.{Asked, opened, purse_in, place_in, opened_purse, events_of, is_noted, answers_alone, after_alone}
 use Rattle.farm_core.proofs.SharingLemmas.{is_eq}
 use Rattle.farm_core.proofs.ReplayLemmas.{asked_in, snoc_hit}
@@ -16,8 +18,8 @@ use Rattle.turn_lock.specs.Plays.{Called}
 use Rattle.turn_lock.proofs.Histories.{events_of-append, events_of-tagged}
 use Rattle.farm_pool.specs.declared.image.CallImage.TheVariants as said
 use Rattle.farm_pool.specs.declared.image.AnswerImage.TheVariants as told
-use Rattle.farm_pool.specs.Laws.{own_in, LegalHistoriesAreRuns, EachReplyIsAlone, EachReplyIsIsolated}
-use Rattle.farm_pool.specs.Served.{IsStep, IsAnswered, AreOfRun, Served}
+use Rattle.farm_pool.specs.Laws.{own_in, LegalHistoriesAreRuns, EachReplyIsAlone, EachReplyIsIsolated, AcceptedCancelsAreMade}
+use Rattle.farm_pool.specs.Served.{tenant_at, is_line, IsStep, IsAnswered, AreOfRun, Served}
 use Rattle.farm_pool.specs.Worked.{PoolView}
 
 -- what follows legally on the entries of a run makes them those of a longer run
@@ -101,3 +103,21 @@ each_reply_is_isolated v w x y t u event r s one two memory other begins places 
     ∙ ap (λ (p : Purse). (step (seat (after_alone p mine) (place_in one.opening t)) event).answer) begins
     ∙ ap (λ n. (step (seat (after_alone first mine) n) event).answer) places
     ∙ ap (λ (asked : List Asked). (step (seat (after_alone first asked) (place_in two.opening u)) event).answer) own ∙ sym b.answer_is)
+
+never : (b : Bool) → (b && false) ≡ true → ⊥
+never true is = cc
+never false is = cc
+
+-- a call whose step tells of a job is not refused for want of memory, where it is a cancel
+cancel_is : (config : ConfigData) (before : List Entry) (t s : ℕ) (entry : Option Entry) (r : Reply) (line : Line)
+    → IsAnswered config before t (Cancel s) entry r
+    → (step (tenant_at config before t) (Cancel s)).answer ≡ Replied (reply.Line line) → r ≡ reply.Line line
+cancel_is config before t s entry reply.NoMemory line is told =
+    let v : Tenant = tenant_at config before t in
+    let none : (has_room 1 v && false) ≡ true = subst (λ (a : Answer). (has_room 1 v && not (is_line a)) ≡ true) told is.needs in
+    absurd (never (has_room 1 v) none)
+cancel_is config before t s entry r line is told = replied_same r (reply.Line line) (is.answer_is ∙ told)
+
+pub accepted_cancels_are_made : AcceptedCancelsAreMade
+accepted_cancels_are_made v w t s r called line told =
+    cancel_is called.opening (history.events_of called.before) t s called.event r line called.stands.answers told

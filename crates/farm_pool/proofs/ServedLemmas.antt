@@ -1,11 +1,12 @@
 -- What a call of the farm is answered, by the entries before.
 use Rattle.farm_pool.specs.declared.held.FarmAnswer.{FarmAnswer}
-use Rattle.std.proofs.Common.{◌≡◌, ℕ, Bool, true, false, cond, List, [], ◌∷◌, ◌++◌, Option, Some, None, refl, sym, ap, ◌∙◌, subst, ◌<◌, length, ⊎_elim, inl, inr}
+use Rattle.std.proofs.Common.{◌≡◌, ℕ, Bool, true, false, not, ◌&&◌, cond, List, [], ◌∷◌, ◌++◌, Option, Some, None, refl, sym, ap, ◌∙◌, subst, ◌<◌, length, ⊎_elim, inl, inr}
 use Rattle.strategy.specs.Search.{Meaning}
 use Rattle.job_table.specs.Job.{IsStrange}
 use Rattle.farm_core.specs.declared.entry.Entry.{Entry}
 use Rattle.farm_core.specs.declared.entry.Event.{Event}
-use Rattle.farm_core.specs.declared.entry.Event.TheVariants.{Take, Give}
+use Rattle.farm_core.specs.declared.entry.Event.TheVariants.{Cancel, Take, Give}
+use Rattle.farm_core.specs.declared.reply.Line.{Line}
 use Rattle.farm_core.specs.declared.reply.Reply.{Reply}
 use Rattle.farm_core.specs.declared.reply.Reply.TheVariants as reply
 use Rattle.farm_core.specs.declared.turn.Turn.{Turn}
@@ -13,7 +14,7 @@ use Rattle.farm_core.specs.Tenant.{Tenant, Purse, seat, find_job, line_of}
 use Rattle.farm_core.specs.Step.{Answer, Replied, Sent, step, is_slice, has_room}
 use Rattle.farm_core.specs.Config.{ConfigData}
 use Rattle.job_table.specs.declared.phase.Phase.TheVariants.{Out}
-use Rattle.farm_core.specs.Turn.{IsTaken, IsIdle, IsGiven}
+use Rattle.farm_core.specs.Turn.{IsTaken, IsIdle, IsReady, IsGiven}
 use Rattle.farm_core.specs.World.{World, purse_in, place_in, view, is_noted, Follows, IsReplayed, Run}
 use Rattle.farm_core.proofs.SeatLemmas.{each_view_is_a_seat}
 use Rattle.farm_core.specs.Farm.{IsReply, IsReached}
@@ -27,7 +28,7 @@ use Rattle.farm_pool.specs.declared.image.AnswerImage.TheVariants as told
 use Rattle.farm_pool.specs.declared.held.FarmCall.{FarmCall}
 use Rattle.farm_pool.specs.declared.held.FarmCall.TheVariants as asked
 use Rattle.farm_pool.specs.declared.held.FarmAnswer.TheVariants as given
-use Rattle.farm_pool.specs.Served.{tenant_at, entry_if, IsStep, IsAnswered, Answers}
+use Rattle.farm_pool.specs.Served.{tenant_at, entry_if, is_line, may_need, IsStep, IsAnswered, Answers}
 use Rattle.farm_pool.specs.declared.command.Command.{Command}
 use Rattle.farm_pool.specs.Calls.{call_image, MayAsk, DoesOn, AnswersOn}
 
@@ -56,37 +57,58 @@ pub record IsAnsweredOn (old new : World) (t : ℕ) (e : Event) (r : Reply) : Ty
   pub journal : new.journal ≡ old.journal ++ listed entry
   pub stands : IsAnswered old.config old.journal t e entry r
 
-pub replies : (old new : World) (t : ℕ) (e : Event) (r : Reply) → t < length old.config.tenants → IsReplayed old → IsReply old t e r new → IsAnsweredOn old new t e r
-replies old new t e reply.NoMemory known at f = record {
+pub replies : (old new : World) (t : ℕ) (e : Event) (r : Reply) → t < length old.config.tenants → IsReplayed old → IsReply old t e r new
+    → (r ≡ reply.NoMemory → may_need (view t old) e ≡ true) → IsAnsweredOn old new t e r
+replies old new t e reply.NoMemory known at f needs = record {
   entry = None;
   config = ap (λ (w : World). w.config) f.0;
   journal = ap (λ (w : World). w.journal) f.0 ∙ no_more old.journal;
-  stands = record { entry_is = refl; room = subst (λ (v : Tenant). has_room 1 v ≡ true) (stands_at old t at known) f.1 };
+  stands = record { entry_is = refl; needs = subst (λ (v : Tenant). may_need v e ≡ true) (stands_at old t at known) (needs refl) };
 }
-replies old new t e (reply.Job s) known at f = let it = steps_on old new t e (Replied (reply.Job s)) at f in record { entry = entry_if t e (Replied (reply.Job s)); config = f.config; journal = it.journal; stands = it.steps }
-replies old new t e (reply.Line line) known at f = let it = steps_on old new t e (Replied (reply.Line line)) at f in record { entry = entry_if t e (Replied (reply.Line line)); config = f.config; journal = it.journal; stands = it.steps }
-replies old new t e (reply.Ran ran line) known at f = let it = steps_on old new t e (Replied (reply.Ran ran line)) at f in record { entry = entry_if t e (Replied (reply.Ran ran line)); config = f.config; journal = it.journal; stands = it.steps }
-replies old new t e (reply.Best s best span verdict) known at f = let it = steps_on old new t e (Replied (reply.Best s best span verdict)) at f in record { entry = entry_if t e (Replied (reply.Best s best span verdict)); config = f.config; journal = it.journal; stands = it.steps }
-replies old new t e (reply.Forgotten s) known at f = let it = steps_on old new t e (Replied (reply.Forgotten s)) at f in record { entry = entry_if t e (Replied (reply.Forgotten s)); config = f.config; journal = it.journal; stands = it.steps }
-replies old new t e (reply.Ledger b) known at f = let it = steps_on old new t e (Replied (reply.Ledger b)) at f in record { entry = entry_if t e (Replied (reply.Ledger b)); config = f.config; journal = it.journal; stands = it.steps }
-replies old new t e reply.NoRoom known at f = let it = steps_on old new t e (Replied reply.NoRoom) at f in record { entry = entry_if t e (Replied reply.NoRoom); config = f.config; journal = it.journal; stands = it.steps }
-replies old new t e reply.NoUnknown known at f = let it = steps_on old new t e (Replied reply.NoUnknown) at f in record { entry = entry_if t e (Replied reply.NoUnknown); config = f.config; journal = it.journal; stands = it.steps }
-replies old new t e reply.NoBusy known at f = let it = steps_on old new t e (Replied reply.NoBusy) at f in record { entry = entry_if t e (Replied reply.NoBusy); config = f.config; journal = it.journal; stands = it.steps }
-replies old new t e reply.NoOver known at f = let it = steps_on old new t e (Replied reply.NoOver) at f in record { entry = entry_if t e (Replied reply.NoOver); config = f.config; journal = it.journal; stands = it.steps }
-replies old new t e reply.NoAmount known at f = let it = steps_on old new t e (Replied reply.NoAmount) at f in record { entry = entry_if t e (Replied reply.NoAmount); config = f.config; journal = it.journal; stands = it.steps }
-replies old new t e reply.NoJobs known at f = let it = steps_on old new t e (Replied reply.NoJobs) at f in record { entry = entry_if t e (Replied reply.NoJobs); config = f.config; journal = it.journal; stands = it.steps }
-replies old new t e (reply.NoShort free) known at f = let it = steps_on old new t e (Replied (reply.NoShort free)) at f in record { entry = entry_if t e (Replied (reply.NoShort free)); config = f.config; journal = it.journal; stands = it.steps }
+replies old new t e (reply.Job s) known at f needs = let it = steps_on old new t e (Replied (reply.Job s)) at f in record { entry = entry_if t e (Replied (reply.Job s)); config = f.config; journal = it.journal; stands = it.steps }
+replies old new t e (reply.Line line) known at f needs = let it = steps_on old new t e (Replied (reply.Line line)) at f in record { entry = entry_if t e (Replied (reply.Line line)); config = f.config; journal = it.journal; stands = it.steps }
+replies old new t e (reply.Ran ran line) known at f needs = let it = steps_on old new t e (Replied (reply.Ran ran line)) at f in record { entry = entry_if t e (Replied (reply.Ran ran line)); config = f.config; journal = it.journal; stands = it.steps }
+replies old new t e (reply.Best s best span verdict) known at f needs = let it = steps_on old new t e (Replied (reply.Best s best span verdict)) at f in record { entry = entry_if t e (Replied (reply.Best s best span verdict)); config = f.config; journal = it.journal; stands = it.steps }
+replies old new t e (reply.Forgotten s) known at f needs = let it = steps_on old new t e (Replied (reply.Forgotten s)) at f in record { entry = entry_if t e (Replied (reply.Forgotten s)); config = f.config; journal = it.journal; stands = it.steps }
+replies old new t e (reply.Ledger b) known at f needs = let it = steps_on old new t e (Replied (reply.Ledger b)) at f in record { entry = entry_if t e (Replied (reply.Ledger b)); config = f.config; journal = it.journal; stands = it.steps }
+replies old new t e reply.NoRoom known at f needs = let it = steps_on old new t e (Replied reply.NoRoom) at f in record { entry = entry_if t e (Replied reply.NoRoom); config = f.config; journal = it.journal; stands = it.steps }
+replies old new t e reply.NoUnknown known at f needs = let it = steps_on old new t e (Replied reply.NoUnknown) at f in record { entry = entry_if t e (Replied reply.NoUnknown); config = f.config; journal = it.journal; stands = it.steps }
+replies old new t e reply.NoBusy known at f needs = let it = steps_on old new t e (Replied reply.NoBusy) at f in record { entry = entry_if t e (Replied reply.NoBusy); config = f.config; journal = it.journal; stands = it.steps }
+replies old new t e reply.NoOver known at f needs = let it = steps_on old new t e (Replied reply.NoOver) at f in record { entry = entry_if t e (Replied reply.NoOver); config = f.config; journal = it.journal; stands = it.steps }
+replies old new t e reply.NoAmount known at f needs = let it = steps_on old new t e (Replied reply.NoAmount) at f in record { entry = entry_if t e (Replied reply.NoAmount); config = f.config; journal = it.journal; stands = it.steps }
+replies old new t e reply.NoJobs known at f needs = let it = steps_on old new t e (Replied reply.NoJobs) at f in record { entry = entry_if t e (Replied reply.NoJobs); config = f.config; journal = it.journal; stands = it.steps }
+replies old new t e (reply.NoShort free) known at f needs = let it = steps_on old new t e (Replied (reply.NoShort free)) at f in record { entry = entry_if t e (Replied (reply.NoShort free)); config = f.config; journal = it.journal; stands = it.steps }
 
 -- a tenant that may ask is the farm's
 pub asked_known : {J : Type 0} (meaning : J → Meaning) (config : ConfigData) (call : FarmCall J) (t : ℕ) (command : Command J) → call ≡ asked.Asked t command → MayAsk meaning config call
     → t < length config.tenants
 asked_known {J} meaning config call t command is may = subst (λ (c : FarmCall J). MayAsk meaning config c) is may
 
+-- where a call is answered that there is no memory, it may need some
+pub room_needs : (old new : World) (t : ℕ) (e : Event) (r : Reply) → IsReply old t e r new → r ≡ reply.NoMemory → has_room 1 (view t old) ≡ true
+room_needs old new t e r f is = let none : IsReply old t e reply.NoMemory new = subst (λ (a : Reply). IsReply old t e a new) is f in none.1
+
+no_line : (answer : Answer) → ((line : Line) → answer ≡ Replied (reply.Line line) → ⊥) → not (is_line answer) ≡ true
+no_line (Replied (reply.Line line)) other = absurd (other line refl)
+no_line answer other = refl
+
+both_true : (a b : Bool) → a ≡ true → b ≡ true → (a && b) ≡ true
+both_true true b one two = two
+both_true false b one two = one
+
+pub cancel_needs : (old new : World) (t s : ℕ) (r : Reply) → IsReply old t (Cancel s) r new
+    → ((line : Line) → (step (view t old) (Cancel s)).answer ≡ Replied (reply.Line line) → r ≡ reply.Line line) → r ≡ reply.NoMemory → may_need (view t old) (Cancel s) ≡ true
+cancel_needs old new t s r f accepted is =
+    let room = room_needs old new t (Cancel s) r f is in
+    let left = no_line (step (view t old) (Cancel s)).answer (λ line told. let both : reply.NoMemory ≡ reply.Line line = sym is ∙ accepted line told in absurd (cc)) in
+    both_true (has_room 1 (view t old)) (not (is_line (step (view t old) (Cancel s)).answer)) room left
+
 -- an answer to a tenant
 pub asked_replied : {J : Type 0} (meaning : J → Meaning) (old new : World) (call : FarmCall J) (t : ℕ) (e : Event) (r : Reply) → call_image meaning call ≡ said.Asked t e
-    → t < length old.config.tenants → IsReplayed old → IsReply old t e r new → AnswersOn meaning old call (given.Replied r) new
-asked_replied meaning old new call t e r is known at f =
-    let it = replies old new t e r known at f in
+    → t < length old.config.tenants → IsReplayed old → IsReply old t e r new → (r ≡ reply.NoMemory → may_need (view t old) e ≡ true)
+    → AnswersOn meaning old call (given.Replied r) new
+asked_replied meaning old new call t e r is known at f needs =
+    let it = replies old new t e r known at f needs in
     record {
       entry = it.entry;
       config = it.config;
@@ -132,6 +154,28 @@ idled meaning old new slice at idle kept = record {
         idle;
   };
 }
+
+-- there was no memory for one that could be taken
+pub unsent : {J : Type 0} (meaning : J → Meaning) (old new : World) (slice t s : ℕ) → IsReplayed old → IsReady old t s slice → new ≡ old
+    → AnswersOn meaning old (asked.Next slice) given.NoMemory new
+unsent meaning old new slice t s at ready kept =
+    let here = stands_at old t at ready.known in
+    record {
+      entry = None;
+      config = ap (λ (w : World). w.config) kept;
+      journal = ap (λ (w : World). w.journal) kept ∙ no_more old.journal;
+      answers = record {
+        entry_is = refl;
+        slice_is = ready.slice_is;
+        tenant = t;
+        seq = s;
+        job = ready.job;
+        known = ready.known;
+        found = ap (λ (v : Tenant). find_job s v.jobs) (sym here) ∙ ready.found;
+        waits = ready.waits;
+        room = subst (λ (v : Tenant). has_room 2 v ≡ true) here ready.room;
+      };
+    }
 
 -- a turn came back
 pub gave_back : {J : Type 0} (meaning : J → Meaning) (old new : World) (turn : Turn J) (r : Reply) → IsReplayed old

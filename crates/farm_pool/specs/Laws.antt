@@ -1,18 +1,26 @@
--- Why each purse of a running pool is alone in it.
-use Rattle.std.specs.Prelude.{◌≡◌, ◌≢◌, ℕ, List, [], ◌∷◌, ◌++◌, cond}
+-- Why each purse of a running pool is alone in it, and why what the pool replies about a job is true.
+use Rattle.std.specs.Prelude.{◌≡◌, ◌≢◌, ℕ, ◌<◌, List, [], ◌∷◌, ◌++◌, cond, take, length, Some, slice_get}
+use Rattle.strategy.specs.declared.plan.Plan.{Plan}
 use Rattle.farm_core.specs.declared.entry.Entry.{Entry}
 use Rattle.farm_core.specs.declared.entry.Event.{Event}
+use Rattle.farm_core.specs.declared.entry.Event.TheVariants.{Submit, Cancel}
+use Rattle.farm_core.specs.declared.reply.Line.{Line as JobLine}
 use Rattle.farm_core.specs.declared.reply.Reply.{Reply}
-use Rattle.farm_core.specs.declared.reply.Reply.TheVariants.{NoMemory}
+use Rattle.farm_core.specs.declared.reply.Reply.TheVariants.{Job, Line, NoMemory}
 use Rattle.farm_core.specs.Config.{ConfigData}
-use Rattle.farm_core.specs.Step.{Replied}
+use Rattle.farm_core.specs.Step.{Replied, step}
 use Rattle.farm_core.specs.World.{Asked, purse_in, place_in, opened_purse, events_of, is_noted, answers_alone}
+use Rattle.farm_core.specs.Truth.{IsPlanned, IsTrueReply}
 use Rattle.turn_lock.specs.History as history
 use Rattle.turn_lock.specs.History.{IsLegal}
 use Rattle.turn_lock.specs.Plays.{Called}
+use Rattle.turn_lock.specs.declared.view.Stage.TheVariants.{Idle}
+use Rattle.farm_pool.specs.declared.image.TurnImage.{TurnImage}
+use Rattle.farm_pool.specs.declared.image.CallImage.{CallImage}
 use Rattle.farm_pool.specs.declared.image.CallImage.TheVariants as said
+use Rattle.farm_pool.specs.declared.image.AnswerImage.{AnswerImage}
 use Rattle.farm_pool.specs.declared.image.AnswerImage.TheVariants as told
-use Rattle.farm_pool.specs.Served.{AreOfRun, Served}
+use Rattle.farm_pool.specs.Served.{tenant_at, IsAnswered, AreOfRun, Served}
 use Rattle.farm_pool.specs.Worked.{PoolView}
 
 -- what a purse's members asked for among the entries of a history, in order
@@ -47,3 +55,43 @@ EachReplyIsIsolated = (v w x y : PoolView) (t u : ℕ) (event : Event) (reply ot
     reply ≢ NoMemory → other ≢ NoMemory →
     opened_purse one.opening (purse_in one.opening t) ≡ opened_purse two.opening (purse_in two.opening u) → place_in one.opening t ≡ place_in two.opening u →
     own_in one.opening (purse_in one.opening t) one.before ≡ own_in two.opening (purse_in two.opening u) two.before → reply ≡ other
+
+-- one of these entries is tenant t's submit of the plan, which after the entries before it is answered that the job has number s
+pub record WasSubmitted (config : ConfigData) (entries : List Entry) (t s : ℕ) (plan : Plan) : Type 0 where
+  pub at : ℕ
+  pub quanta : ℕ
+  pub entry : slice_get entries at ≡ Some (record { tenant = t; event = Submit plan quanta })
+  pub answered : IsAnswered config (take at entries) t (Submit plan quanta) (slice_get entries at) (Job s)
+
+-- in a running pool what is replied about a job is true of a plan that its tenant has submitted under its number, in the history before the call:
+-- to a tenant's call, and where a worker gives a turn back. And no tenant has submitted two plans under one number
+pub record EachReplyIsTrue : Type 0 where
+  pub asked : (v w : PoolView) (t : ℕ) (event : Event) (reply : Reply) →
+      (called : Called Served v (said.Asked t event) (told.Replied reply) w) →
+      IsTrueReply (WasSubmitted called.opening (history.events_of called.before) t) reply
+  pub back : (v w : PoolView) (turn : TurnImage) (reply : Reply) →
+      (called : Called Served v (said.Back turn) (told.Gave reply) w) →
+      IsTrueReply (WasSubmitted called.opening (history.events_of called.before) turn.tenant) reply
+  pub one : (v w : PoolView) (call : CallImage) (answer : AnswerImage) → (called : Called Served v call answer w) → (t s : ℕ) (plan other : Plan) →
+      WasSubmitted called.opening (history.events_of called.before) t s plan →
+      WasSubmitted called.opening (history.events_of called.before) t s other → plan ≡ other
+
+-- a pass that has seen this history is given this reply to its next call
+pub record IsReplied (config : ConfigData) (log : List (ℕ × Entry)) (number t : ℕ) (event : Event) (reply : Reply) : Type 0 where
+  pub after : PoolView
+  pub called :
+      let seen : PoolView = record { stage = Idle; number = number; opening = Some config; seen = log; mine = history.entries_of number log } in
+      Called Served seen (said.Asked t event) (told.Replied reply) after
+  pub before : called.before ≡ log
+
+-- after each legal history each call of a tenant can be given the reply of the tenant's step there: so what is said of replies is never said of nothing
+abbrev pub EachReplyCanBeMade : Type 0
+EachReplyCanBeMade = (config : ConfigData) (log : List (ℕ × Entry)) (number : ℕ) → IsLegal Served config log →
+    (t : ℕ) → t < length config.tenants → (event : Event) → IsPlanned event → (reply : Reply) →
+    (step (tenant_at config (history.events_of log) t) event).answer ≡ Replied reply → reply ≢ NoMemory → IsReplied config log number t event reply
+
+-- whatever memory there is, a cancel that its tenant's step accepts is answered so
+abbrev pub AcceptedCancelsAreMade : Type 0
+AcceptedCancelsAreMade = (v w : PoolView) (t s : ℕ) (reply : Reply) →
+    (called : Called Served v (said.Asked t (Cancel s)) (told.Replied reply) w) → (line : JobLine) →
+    (step (tenant_at called.opening (history.events_of called.before) t) (Cancel s)).answer ≡ Replied (Line line) → reply ≡ Line line

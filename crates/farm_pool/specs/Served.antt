@@ -1,12 +1,12 @@
 -- What a farm answers, by its configuration and the entries before.
-use Rattle.std.specs.Prelude.{◌≡◌, ◌⊎◌, ℕ, ◌<◌, true, false, List, length, Option, Some, None, cond, ◌++◌}
+use Rattle.std.specs.Prelude.{◌≡◌, ◌⊎◌, ℕ, ◌<◌, Bool, true, false, not, ◌&&◌, List, length, Option, Some, None, cond, ◌++◌}
 use Rattle.strategy.specs.Search.{Meaning}
 use Rattle.job_table.specs.Table.{JobData, is_waiting}
 use Rattle.job_table.specs.Job.{IsOwn, meaning_of}
 use Rattle.job_table.specs.declared.phase.Phase.TheVariants.{Out}
 use Rattle.farm_core.specs.declared.entry.Entry.{Entry}
 use Rattle.farm_core.specs.declared.entry.Event.{Event}
-use Rattle.farm_core.specs.declared.entry.Event.TheVariants.{Take, Give}
+use Rattle.farm_core.specs.declared.entry.Event.TheVariants.{Cancel, Take, Give}
 use Rattle.farm_core.specs.declared.reply.Reply.{Reply}
 use Rattle.farm_core.specs.declared.reply.Reply.TheVariants as reply
 use Rattle.farm_core.specs.Config.{ConfigData}
@@ -34,13 +34,23 @@ pub record IsStep (config : ConfigData) (before : List Entry) (t : ℕ) (event :
   pub answer_is : answer ≡ (step (tenant_at config before t) event).answer
   pub entry_is : entry ≡ entry_if t event answer
 
--- or there was no memory
-pub record IsUnanswered (config : ConfigData) (before : List Entry) (t : ℕ) (entry : Option Entry) : Type 0 where
+-- an answer that tells where a job stands
+abbrev pub is_line : Answer → Bool
+is_line (Replied (reply.Line line)) = true
+is_line answer = false
+
+-- whether a tenant's call may need memory: where the journal has room for its entry, each call but a cancel that is accepted
+abbrev pub may_need : Tenant → Event → Bool
+may_need t (Cancel s) = has_room 1 t && not (is_line (step t (Cancel s)).answer)
+may_need t event = has_room 1 t
+
+-- or it may need memory, and there was none
+pub record IsUnanswered (config : ConfigData) (before : List Entry) (t : ℕ) (event : Event) (entry : Option Entry) : Type 0 where
   pub entry_is : entry ≡ None
-  pub room : has_room 1 (tenant_at config before t) ≡ true
+  pub needs : may_need (tenant_at config before t) event ≡ true
 
 abbrev pub IsAnswered : ConfigData → List Entry → ℕ → Event → Option Entry → Reply → Type 0
-IsAnswered config before t event entry reply.NoMemory = IsUnanswered config before t entry
+IsAnswered config before t event entry reply.NoMemory = IsUnanswered config before t event entry
 IsAnswered config before t event entry answer = IsStep config before t event entry (Replied answer)
 
 -- what the search of a turn means
@@ -62,6 +72,18 @@ pub record IsIdleAt (config : ConfigData) (before : List Entry) (slice : ℕ) (e
   pub entry_is : entry ≡ None
   pub none : (is_slice slice ≡ false)
       ⊎ ((t s : ℕ) (job : JobData) → t < length config.tenants → find_job s (tenant_at config before t).jobs ≡ Some job → is_waiting job.phase ≡ true → has_room 2 (tenant_at config before t) ≡ false)
+
+-- there was no memory for a turn, and there is a job there that waits, of a tenant that has entries for it
+pub record IsUnsent (config : ConfigData) (before : List Entry) (slice : ℕ) (entry : Option Entry) : Type 0 where
+  pub entry_is : entry ≡ None
+  pub slice_is : is_slice slice ≡ true
+  pub tenant : ℕ
+  pub seq : ℕ
+  pub job : JobData
+  pub known : tenant < length config.tenants
+  pub found : find_job seq (tenant_at config before tenant).jobs ≡ Some job
+  pub waits : is_waiting job.phase ≡ true
+  pub room : has_room 2 (tenant_at config before tenant) ≡ true
 
 -- a turn came back to the job whose it is there
 pub record IsTakenBack (config : ConfigData) (before : List Entry) (i : TurnImage) (entry : Option Entry) (answer : Reply) : Type 0 where
@@ -88,7 +110,7 @@ abbrev pub Answers : ConfigData → List Entry → CallImage → Option Entry �
 Answers config before (said.Asked t event) entry (told.Replied answer) = IsAnswered config before t event entry answer
 Answers config before (said.Next slice) entry (told.Sent i) = IsSentOut config before slice entry i
 Answers config before (said.Next slice) entry told.Idle = IsIdleAt config before slice entry
-Answers config before (said.Next slice) entry told.NoMemory = entry ≡ None
+Answers config before (said.Next slice) entry told.NoMemory = IsUnsent config before slice entry
 Answers config before (said.Back i) entry (told.Gave answer) = IsTakenBack config before i entry answer
 Answers config before (said.Back i) entry told.Stray = IsStray config before i entry
 Answers config before call entry answer = ⊥

@@ -1,8 +1,10 @@
 //! The farm under the lock, and its calls.
-ghost use Rattle.std.specs.Prelude.{◌≡◌, ◌<◌, [], length, IfOk};
+ghost use Rattle.std.specs.Prelude.{◌≡◌, ◌<◌, true, [], length, IfOk};
 ghost use Rattle.farm_core.specs.Farm.{IsReply};
 ghost use Rattle.farm_core.specs.Turn.{IsTurn};
+ghost use Rattle.farm_core.specs.World.{view};
 ghost use Rattle.farm_pool.specs.Command.{event_of};
+ghost use Rattle.farm_pool.specs.Served.{may_need};
 ghost use Rattle.farm_pool.specs.Calls.{MayAsk, AnswersOn, DoesOn};
 
 use crate::Command;
@@ -76,9 +78,11 @@ impl<J> Kept for Held<J> {
 }
 
 /// Makes a call of a tenant.
+#[tactic(auto, using(crate::proofs::ServedLemmas::room_needs, crate::proofs::ServedLemmas::cancel_needs))]
 pub(crate) fn answer<J: Strategy>(farm: &mut Farm<J>, tenant: u32, command: Command<J>) -> Reply
     requires { tenant < length farm.old.config.tenants }
-    ensures { IsReply farm.old tenant (event_of command) result farm.new }
+    ensures reply { IsReply farm.old tenant (event_of command) result farm.new }
+    ensures memory { result ≡ Reply.NoMemory → may_need (view tenant farm.old) (event_of command) ≡ true }
 {
     match command {
         Command::Submit {

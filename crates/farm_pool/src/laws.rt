@@ -1,5 +1,5 @@
 //! Laws of a pool: each is the proved contract of a function that does nothing.
-ghost use Rattle.farm_pool.specs.Laws.{EachReplyIsAlone, EachReplyIsIsolated, LegalHistoriesAreRuns};
+ghost use Rattle.farm_pool.specs.Laws.{AcceptedCancelsAreMade, EachReplyCanBeMade, EachReplyIsAlone, EachReplyIsIsolated, EachReplyIsTrue, LegalHistoriesAreRuns};
 
 /// The entries of a legal history are those of a run of the farm. So what is proved of each run is true of each history: what a pass has
 /// seen, and what the farm of a closed pool has in its journal.
@@ -17,4 +17,22 @@ pub fn each_reply_is_alone()
 /// purse's members and the same turns of their jobs, whatever the other tenants do.
 pub fn each_reply_is_isolated()
     ensures { EachReplyIsIsolated }
+{}
+
+/// In a running pool what is replied about a job, to a tenant or where a worker gives a turn back, is true of a plan that its tenant has
+/// submitted under that number before, in the history: a schedule is feasible and has the makespan that is named, with 'optimal' no feasible
+/// schedule is shorter, and with 'infeasible' there is none. No tenant has submitted two plans under one number.
+pub fn each_reply_is_true()
+    ensures { EachReplyIsTrue }
+{}
+
+/// After each legal history each call of a tenant can be given the reply of the tenant's step there. So what is proved of each reply is never
+/// said of nothing.
+pub fn each_reply_can_be_made()
+    ensures { EachReplyCanBeMade }
+{}
+
+/// In a running pool a cancel that its tenant's step accepts is answered so, whatever memory there is.
+pub fn accepted_cancels_are_made()
+    ensures { AcceptedCancelsAreMade }
 {}

@@ -7,4 +7,4 @@ use Rattle.farm_pool.proofs.held.answer_on.Goals as goal
 pub returns-in-Asked : goal.returns-in-Asked
 returns-in-Asked g c =
     asked_replied g.J.Strategy.meaning c.args.farm.now c.answer.new.farm c.args.call c.in-Asked.tenant (event_of c.in-Asked.command) c.answer.result
-    (ap (call_image g.J.Strategy.meaning) c.in-Asked.is) (asked_known g.J.Strategy.meaning c.args.farm.now.config c.args.call c.in-Asked.tenant c.in-Asked.command c.in-Asked.is c.requires) c.journal.ensures.replayed c.answer.ensures
+    (ap (call_image g.J.Strategy.meaning) c.in-Asked.is) (asked_known g.J.Strategy.meaning c.args.farm.now.config c.args.call c.in-Asked.tenant c.in-Asked.command c.in-Asked.is c.requires) c.journal.ensures.replayed c.answer.ensures.reply c.answer.ensures.memory
