@@ -9,7 +9,7 @@ use Rattle.farm_core.specs.declared.config.TenantLine.{TenantLine}
 use Rattle.farm_core.specs.declared.entry.Event.{Event}
 use Rattle.farm_core.specs.Purses.{is_shared, purse_name, purse_of, members_of, place_of}
 use Rattle.farm_core.specs.Config.{ConfigData, purse_names, no_terms, lines_of, granted_by}
-use Rattle.farm_core.specs.Tenant.{Tenant, Member, Purse, new_member, newcomers, newcomer, held_beside, seated_at, seat, with_seat, no_member, book}
+use Rattle.farm_core.specs.Tenant.{Tenant, Member, Purse, new_member, newcomers, newcomer, held_beside, seated_at, seat, with_seat, no_member}
 use Rattle.farm_core.specs.Step.{Answer, step}
 use Rattle.farm_core.specs.World.{World, Call, Asked, new_numbers, no_book, terms_in, purse_in, place_in, opened, spent_in, member, purse, view, Steps, Leads, own_calls, own_events, own_answers, answers_alone, after_alone, opened_purse}
 use Rattle.farm_core.specs.Laws.{EachPurseIsAlone, EachPurseIsIsolated, IsLone, lone_events, lone_answers, answers_by, after_by, EachLoneTenantIsAlone}
@@ -125,12 +125,7 @@ each_purse_is_isolated config elsewhere calls others w x run walk p q begins ask
     ap (λ (s : Purse). answers_alone s (own_events config p calls)) begins ∙ ap (answers_alone (opened_purse elsewhere q)) asked in
     let same_after : after_alone (opened_purse config p) (own_events config p calls) ≡ after_alone (opened_purse elsewhere q) (own_events elsewhere q others) =
     ap (λ (s : Purse). after_alone s (own_events config p calls)) begins ∙ ap (after_alone (opened_purse elsewhere q)) asked in
-    let all : purse p w ≡ purse q x = one.1 ∙ same_after ∙ sym two.1 in
-    record {
-      answers = one.0 ∙ same_answers ∙ sym two.0;
-      ledgers = λ place. ap (λ (s : Purse). book (seat s place)) all;
-      all = all;
-    }
+    (one.0 ∙ same_answers ∙ sym two.0, one.1 ∙ same_after ∙ sym two.1)
 
 -- ---- a tenant that has its purse for itself
 

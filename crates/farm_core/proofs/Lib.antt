@@ -3,6 +3,7 @@ pub mod PlaceLemmas
 pub mod SharingLemmas
 pub mod PursesLemmas
 pub mod SeatLemmas
+pub mod PurseCountLemmas
 pub mod AloneLemmas
 pub mod ReplayLemmas
 pub mod TruthLemmas
@@ -11,6 +12,7 @@ pub mod CountLemmas
 pub mod MadeLemmas
 pub mod NeedLemmas
 pub mod RunningLemmas
+pub mod LawLemmas
 pub mod AlikeLemmas
 pub mod ViewLemmas
 pub mod FarmLemmas

@@ -139,9 +139,9 @@ is_own names t =
     let at : 0 + t ≡ t = omega arith in
     is_eq (purse_of names (0 + t)) (purse_of names t) (ap (purse_of names) at)
 
-found : (names : Names) (t : ℕ) → t < length names → get_or (members_of names (purse_of names t)) (place_of names t) 0 ≡ t
+found : (names : Names) (t d : ℕ) → t < length names → get_or (members_of names (purse_of names t)) (place_of names t) d ≡ t
 unfolding members_of place_of
-found names t l = at_place (λ u. eqb (purse_of names u) (purse_of names t)) 0 (length names) t 0 l (is_own names t) ∙ omega arith
+found names t d l = at_place (λ u. eqb (purse_of names u) (purse_of names t)) 0 (length names) t d l (is_own names t) ∙ omega arith
 
 pub counted : (names : Names) (t : ℕ) → t < length names → purse_of names t < purses names
 unfolding purse_of purses
@@ -171,6 +171,9 @@ member_in names p l =
       },
     )
 
+onto : (names : Names) (p : ℕ) → p < purses names → (t : ℕ) × (t < length names) × (purse_of names t ≡ p)
+onto names p l = let it = member_in names p l in (it.0, it.1.known, it.1.purse)
+
 ordered : (names : Names) (t u : ℕ) → first_member names t ≡ t → first_member names u ≡ u → t < u → purse_of names t < purse_of names u
 unfolding purse_of
 ordered names t u e d l =
@@ -191,4 +194,4 @@ plain names none t =
     all_pass (is_first names) 0 (first_member names t) (λ u. is_eq (first_member names u) u (first_self names none u)) ∙ first_self names none t
 
 pub purses_are_shared : PursesAreShared
-purses_are_shared = record { shared = shared; apart = apart; found = found; counted = counted; ordered = ordered; plain = plain }
+purses_are_shared = record { shared = shared; apart = apart; found = found; counted = counted; onto = onto; ordered = ordered; plain = plain }

@@ -1,19 +1,22 @@
--- Why each purse is alone, and what this is for a purse of one tenant.
-use Rattle.std.specs.Prelude.{◌≡◌, ◌⊎◌, ℕ, ◌<◌, ◌==◌, true, List, [], ◌∷◌, length, map, filter, get_or, Option, None}
+-- Why each purse is alone and its ledger one and whole, and what this is for a purse of one tenant.
+use Rattle.std.specs.Prelude.{◌≡◌, ◌⊎◌, ℕ, ◌+◌, ◌<◌, ◌==◌, true, List, [], ◌∷◌, length, map, filter, get_or, Option, None}
+use Rattle.tenant_book.specs.Book.{BookData}
 use Rattle.farm_core.specs.declared.entry.Event.{Event}
 use Rattle.farm_core.specs.Purses.{is_shared, purse_name, first_member, purse_of, purses, members_of, place_of}
 use Rattle.farm_core.specs.Config.{ConfigData, purse_names}
-use Rattle.farm_core.specs.Tenant.{Tenant, Purse, newcomer, seat, book}
+use Rattle.farm_core.specs.Tenant.{Tenant, Purse, newcomer, seat, book, ledger_of}
 use Rattle.farm_core.specs.Step.{Answer, step}
 use Rattle.farm_core.specs.World.{World, Call, terms_in, purse_in, place_in, purse, view, Run, own_calls, own_events, own_answers, opened_purse, answers_alone, after_alone}
 
 -- tenants are of one purse where they share one by name, and never else; a purse's members are found at their places; purses are
--- numbered from 0 on, in the order of their first members; and where no one names a purse, each tenant's purse has its number
+-- numbered from 0 on, each number being that of some tenant's purse, in the order of their first members; and where no one names a
+-- purse, each tenant's purse has its number
 pub record PursesAreShared : Type 0 where
   pub shared : (names : List (Option (List ℕ))) (t u : ℕ) → is_shared (purse_name names t) (purse_name names u) ≡ true → purse_of names t ≡ purse_of names u
   pub apart : (names : List (Option (List ℕ))) (t u : ℕ) → purse_of names t ≡ purse_of names u → (t ≡ u) ⊎ (is_shared (purse_name names t) (purse_name names u) ≡ true)
-  pub found : (names : List (Option (List ℕ))) (t : ℕ) → t < length names → get_or (members_of names (purse_of names t)) (place_of names t) 0 ≡ t
+  pub found : (names : List (Option (List ℕ))) (t d : ℕ) → t < length names → get_or (members_of names (purse_of names t)) (place_of names t) d ≡ t
   pub counted : (names : List (Option (List ℕ))) (t : ℕ) → t < length names → purse_of names t < purses names
+  pub onto : (names : List (Option (List ℕ))) (p : ℕ) → p < purses names → (t : ℕ) × (t < length names) × (purse_of names t ≡ p)
   pub ordered : (names : List (Option (List ℕ))) (t u : ℕ) → first_member names t ≡ t → first_member names u ≡ u → t < u → purse_of names t < purse_of names u
   pub plain : (names : List (Option (List ℕ))) → ((t : ℕ) → purse_name names t ≡ None) → (t : ℕ) → purse_of names t ≡ t
 
@@ -24,20 +27,27 @@ EachPurseIsAlone = (config : ConfigData) (calls : List Call) (w : World) → Run
     × (purse p w ≡ after_alone (opened_purse config p) (own_events config p calls))
 
 -- and so two runs in which a purse begins alike and its members, in their order, ask for the same, one after another, give them equal
--- answers and an equal ledger, whoever else uses the farms, and whatever numbers the purse and its members have in each
-pub record AreEqualFor (config elsewhere : ConfigData) (calls others : List Call) (p q : ℕ) (w x : World) : Type 0 where
-  pub answers : own_answers config p calls ≡ own_answers elsewhere q others
-  pub ledgers : (place : ℕ) → book (seat (purse p w) place) ≡ book (seat (purse q x) place)
-  pub all : purse p w ≡ purse q x
-
+-- answers, equal jobs and an equal ledger, whoever else uses the farms, and whatever numbers the purse and its members have in each
 abbrev pub EachPurseIsIsolated : Type 0
 EachPurseIsIsolated = (config elsewhere : ConfigData) (calls others : List Call) (w x : World) → Run config calls w → Run elsewhere others x →
     (p q : ℕ) → opened_purse config p ≡ opened_purse elsewhere q → own_events config p calls ≡ own_events elsewhere q others →
-    AreEqualFor config elsewhere calls others p q w x
+    (own_answers config p calls ≡ own_answers elsewhere q others) × (purse p w ≡ purse q x)
 
 -- what a tenant of a run sees is what there is at its place of its purse
 abbrev pub EachViewIsASeat : Type 0
 EachViewIsASeat = (w : World) (t : ℕ) → t < length w.config.tenants → view t w ≡ seat (purse (purse_in w.config t) w) (place_in w.config t)
+
+-- the ledger that a tenant is told is that of its purse, and so all members of a purse are told the same
+abbrev pub EachLedgerIsThePurses : Type 0
+EachLedgerIsThePurses = (w : World) (t : ℕ) → t < length w.config.tenants → book (view t w) ≡ ledger_of (purse (purse_in w.config t) w)
+
+-- each quantum that was granted is free, held or spent, and in one of these alone
+abbrev pub IsWhole : BookData → Type 0
+IsWhole b = b.granted ≡ b.free + b.held + b.spent
+
+-- in each run, the ledger of each purse is whole: no difference in it was cut off at 0
+abbrev pub EachLedgerIsWhole : Type 0
+EachLedgerIsWhole = (config : ConfigData) (calls : List Call) (w : World) → Run config calls w → (p : ℕ) → IsWhole (ledger_of (purse p w))
 
 -- ---- a purse of one tenant
 
@@ -66,3 +76,11 @@ abbrev pub EachLoneTenantIsAlone : Type 0
 EachLoneTenantIsAlone = (config : ConfigData) (calls : List Call) (w : World) → Run config calls w → (t : ℕ) → t < length config.tenants → IsLone config t →
     (lone_answers t calls ≡ answers_by (newcomer (terms_in config t)) (lone_events t calls))
     × (view t w ≡ after_by (newcomer (terms_in config t)) (lone_events t calls))
+
+-- and so two runs in each of which a tenant shares its purse with no other and begins alike, and asks for the same, give it equal
+-- answers, and leave it the same, whoever else uses the farms, and whatever number the tenant has in each
+abbrev pub EachLoneTenantIsIsolated : Type 0
+EachLoneTenantIsIsolated = (config elsewhere : ConfigData) (calls others : List Call) (w x : World) → Run config calls w → Run elsewhere others x →
+    (t u : ℕ) → t < length config.tenants → u < length elsewhere.tenants → IsLone config t → IsLone elsewhere u →
+    newcomer (terms_in config t) ≡ newcomer (terms_in elsewhere u) → lone_events t calls ≡ lone_events u others →
+    (lone_answers t calls ≡ lone_answers u others) × (view t w ≡ view u x)

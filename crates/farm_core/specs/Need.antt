@@ -43,7 +43,7 @@ abbrev pub NodesAreTheLesser : Type 0
 NodesAreTheLesser = (config : ConfigData) (calls : List Call) (w : World) → Run config calls w → (t : ℕ) (job : JobData) → HasJob (view t w) job →
     HasRunItsNodes (given_to t calls) job
 
--- what a call that was accepted asked for, if it was none of status, result and ledger
+-- what an accepted submit, fund, cancel or forget asked for; status, result, ledger, takes, gives, and what was refused, ask for nothing
 abbrev pub asked : Event → Answer → List Event
 asked (Submit plan quanta) (Replied (reply.Job n)) = Submit plan quanta ∷ []
 asked (Fund s quanta) (Replied (reply.Line line)) = Fund s quanta ∷ []
@@ -75,8 +75,8 @@ members_in config p = members_of (purse_names config.tenants) p
 abbrev pub AllMembers : ConfigData → ℕ → (ℕ → Type 0) → Type 0
 AllMembers config p P = (t : ℕ) → t < length config.tenants → purse_in config t ≡ p → P t
 
--- at the end of these calls a member has been granted submits and funds and asked for nothing else but status, result and ledger, and its
--- jobs are at rest
+-- at the end of these calls a member has been granted submits and funds and had nothing else accepted but status, result, ledger, takes and
+-- gives, and its jobs are at rest
 pub record HasRested (calls : List Call) (w : World) (t : ℕ) : Type 0 where
   pub gifts : are_gifts (asked_by t calls) ≡ true
   pub rests : AreAtRest (view t w).jobs
@@ -86,8 +86,9 @@ pub record AreAlike (one other : Tenant) : Type 0 where
   pub lines : map line_of one.jobs ≡ map line_of other.jobs
   pub ledger : book one ≡ book other
 
--- two runs in which a purse begins alike, each of its members, in their order, was granted the same submits and funds and nothing else but
--- status, result and ledger, and has only dry and closed jobs at the end, end alike for its members, whatever turns, slices and refusals came between
+-- two runs in which a purse begins alike, each of its members, in their order, was granted the same submits and funds and had nothing else
+-- accepted but status, result, ledger, takes and gives, and has only dry and closed jobs at the end, end alike for its members, whatever turns,
+-- slices and refusals came between
 abbrev pub EachEndsAlike : Type 0
 EachEndsAlike = (config elsewhere : ConfigData) (calls others : List Call) (w x : World) → Run config calls w → Run elsewhere others x →
     (p q : ℕ) → opened_purse config p ≡ opened_purse elsewhere q →

@@ -10,7 +10,7 @@ is_shared (Some name) (Some other) = same_bytes name other
 is_shared (Some name) None = false
 is_shared None other = false
 
--- the name of the purse of tenant t, where it has one
+-- the name of the purse of tenant t, where its line names one
 abbrev pub purse_name : List (Option (List ℕ)) → ℕ → Option (List ℕ)
 purse_name names t = get_or names t None
 

@@ -173,6 +173,8 @@ impl Config {
     /// How many purses there are: at least 1, and no more than tenants.
     pub fn purses(&self) -> u32
         ensures exact { result ≡ purses (purse_names self.now.tenants) }
+        ensures some { 0 < result }
+        ensures most { result ≤ length self.now.tenants }
         ensures few { result ≤ 64 }
     {
         purses(self.tenants())

@@ -1,11 +1,11 @@
 //! Laws of the farm: each is the proved contract of a function that does nothing.
-ghost use Rattle.farm_core.specs.Laws.{PursesAreShared, EachPurseIsAlone, EachPurseIsIsolated, EachViewIsASeat, EachLoneTenantIsAlone};
+ghost use Rattle.farm_core.specs.Laws.{PursesAreShared, EachPurseIsAlone, EachPurseIsIsolated, EachViewIsASeat, EachLedgerIsThePurses, EachLedgerIsWhole, EachLoneTenantIsAlone, EachLoneTenantIsIsolated};
 ghost use Rattle.farm_core.specs.Runs.{EachCallCanBeMade, EachSequenceIsARun, JournalsAreTheCalls};
 ghost use Rattle.farm_core.specs.Truth.{EachAnswerIsTrue};
 ghost use Rattle.farm_core.specs.Need.{NodesAreTheLesser, EachEndsAlike};
 ghost use Rattle.farm_core.specs.Held.{TakenTurnsAreHeld, TurnsStayHeld, HeldTurnsAreNoStrangers, HeldTurnsRunTheirNodes, FarmsAreReplayed, TakenJobsWereNotOut, OnlyTakenJobsAreOut, GivenJobsAreNotOut};
 
-/// Tenants are of one purse where they name the same one, and never else.
+/// Tenants are of one purse where they name the same one, and never else; and purses are numbered from 0 on, with no number left out.
 pub fn purses_are_shared()
     ensures { PursesAreShared }
 {}
@@ -16,8 +16,8 @@ pub fn each_purse_is_alone()
     ensures { EachPurseIsAlone }
 {}
 
-/// Two runs in which a purse begins alike and its members ask for the same give them equal answers and an equal ledger, whatever the
-/// other tenants do.
+/// Two runs in which a purse begins alike and its members ask for the same give them equal answers, equal jobs and an equal ledger,
+/// whatever the other tenants do.
 pub fn each_purse_is_isolated()
     ensures { EachPurseIsIsolated }
 {}
@@ -27,13 +27,29 @@ pub fn each_view_is_a_seat()
     ensures { EachViewIsASeat }
 {}
 
+/// The ledger that a tenant of a farm is told is that of its purse, and so all members of a purse are told the same.
+pub fn each_ledger_is_the_purses()
+    ensures { EachLedgerIsThePurses }
+{}
+
+/// In every run, what a purse was granted is what it has free, what its members' jobs hold, and what it has spent.
+pub fn each_ledger_is_whole()
+    ensures { EachLedgerIsWhole }
+{}
+
 /// In every run the answers to a tenant that shares its purse with no other, and its jobs and ledger at the end, are those of its own
 /// calls alone.
 pub fn each_lone_tenant_is_alone()
     ensures { EachLoneTenantIsAlone }
 {}
 
-/// In every run of calls, each answer about a job is true of the plan that its tenant has submitted under that number:
+/// Two runs in each of which a tenant shares its purse with no other, begins alike and asks for the same give it equal answers, equal
+/// jobs and an equal ledger, whatever the other tenants do.
+pub fn each_lone_tenant_is_isolated()
+    ensures { EachLoneTenantIsIsolated }
+{}
+
+/// In every run of calls, each answer about a job is true of the plan that its tenant submits in that run under that number:
 /// a schedule is feasible and has the makespan that is named, with 'optimal' no feasible schedule is shorter, and with
 /// 'infeasible' there is none.
 pub fn each_answer_is_true()
@@ -46,9 +62,9 @@ pub fn nodes_are_the_lesser()
     ensures { NodesAreTheLesser }
 {}
 
-/// Two runs in which a purse begins alike and each of its members was granted the same submits and funds, and nothing else but
-/// status, results and ledger, and at whose end their jobs are all dry or closed, end with the same lines for each member and the
-/// same ledger: whatever turns, slices and refusals came between, and whoever else used the farms.
+/// Two runs in which a purse begins alike and each of its members was granted the same submits and funds, and had nothing else
+/// accepted but status, results and ledger, and at whose end their jobs are all dry or closed, end with the same lines for each member
+/// and the same ledger: whatever turns, slices and refusals came between, and whoever else used the farms.
 pub fn each_ends_alike()
     ensures { EachEndsAlike }
 {}
