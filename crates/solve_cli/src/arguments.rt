@@ -111,7 +111,7 @@ fn solve_command<'a>(alloc: Global) -> Result<Command<'a>, AllocError> {
         .arg(flag(
             alloc,
             "improvements",
-            "Print each better schedule as soon as it is found, before the lines of the best",
+            "Look every 65,536 nodes and at the end of each search, and print a better schedule, before the lines of the best",
         ))
 }
 
