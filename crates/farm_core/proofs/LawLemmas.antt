@@ -1,18 +1,15 @@
 -- That each purse's ledger is whole, and that two runs of a tenant that has its purse for itself are alike.
-use Rattle.std.proofs.Common.{◌≡◌, ◌≢◌, ℕ, ◌+◌, ◌-◌, ◌<◌, ◌≤◌, List, [], ◌∷◌, length, map, refl, sym, ap, ◌∙◌, subst, arith, ⊎_elim}
+use Rattle.std.proofs.Common.{◌≡◌, ◌≢◌, ℕ, ◌<◌, ◌≤◌, List, [], ◌∷◌, length, map, refl, sym, ap, ◌∙◌, subst, arith, ⊎_elim}
 use Rattle.std.specs.List.{sum_by}
 use Rattle.std.proofs.lemmas.Bool.{cases_lt}
 use Rattle.std.proofs.lemmas.List.{length-map}
 use Rattle.std.proofs.lemmas.List.Sums.{sum_by-cons}
-use Rattle.tenant_book.specs.Book.{BookData}
 use Rattle.farm_core.specs.declared.config.TenantLine.{TenantLine}
-use Rattle.farm_core.specs.declared.entry.Event.{Event}
-use Rattle.farm_core.specs.Purses.{purses}
-use Rattle.farm_core.specs.Config.{ConfigData, purse_names, lines_of, granted_by}
-use Rattle.farm_core.specs.Tenant.{Tenant, Member, Purse, held_by, new_member, newcomers, newcomer, held, free, book, ledger_of}
+use Rattle.farm_core.specs.Config.{ConfigData, purse_names, lines_of}
+use Rattle.farm_core.specs.Tenant.{Tenant, Member, Purse, held_by, new_member, newcomers, newcomer, free, book, ledger_of}
 use Rattle.farm_core.specs.World.{World, Call, Leads, Run, terms_in, purse_in, purses_in, purse, view, opened, opened_purse}
-use Rattle.farm_core.specs.Laws.{IsWhole, EachLedgerIsWhole, lone_events, lone_answers, answers_by, after_by, EachLoneTenantIsIsolated}
-use Rattle.farm_core.proofs.SharingLemmas.{IsMemberOf, member_in, counted}
+use Rattle.farm_core.specs.Laws.{IsWhole, EachLedgerIsWhole, lone_events, answers_by, after_by, EachLoneTenantIsIsolated}
+use Rattle.farm_core.proofs.SharingLemmas.{member_in, counted}
 use Rattle.farm_core.proofs.SeatLemmas.{named, ledger_is, purse_stays}
 use Rattle.farm_core.proofs.AloneLemmas.{config_opened, purse_opened, each_lone_tenant_is_alone}
 use Rattle.farm_core.proofs.RunningLemmas.{IsRunning, run_runs}

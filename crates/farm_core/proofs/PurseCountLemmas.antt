@@ -1,11 +1,11 @@
 -- How many purses there are at least and at most.
-use Rattle.std.proofs.Common.{◌≡◌, ℕ, ◌<◌, ◌≤◌, List, length, filter, arith}
+use Rattle.std.proofs.Common.{◌<◌, ◌≤◌, List, length, arith}
 use Rattle.std.specs.List.{range_with_len}
 use Rattle.std.proofs.lemmas.List.{length-map}
 use Rattle.std.proofs.lemmas.List.Sums.{length-filter, count_by-le-length}
 use Rattle.std.proofs.lemmas.List.FromFn.{length-range_with_len}
 use Rattle.farm_core.specs.declared.config.TenantLine.{TenantLine}
-use Rattle.farm_core.specs.Purses.{is_first, purse_of, purses}
+use Rattle.farm_core.specs.Purses.{is_first, purses}
 use Rattle.farm_core.specs.Config.{purse_names}
 use Rattle.farm_core.proofs.SharingLemmas.{counted}
 use Rattle.farm_core.proofs.SeatLemmas.{named}

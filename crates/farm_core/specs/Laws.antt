@@ -4,9 +4,9 @@ use Rattle.tenant_book.specs.Book.{BookData}
 use Rattle.farm_core.specs.declared.entry.Event.{Event}
 use Rattle.farm_core.specs.Purses.{is_shared, purse_name, first_member, purse_of, purses, members_of, place_of}
 use Rattle.farm_core.specs.Config.{ConfigData, purse_names}
-use Rattle.farm_core.specs.Tenant.{Tenant, Purse, newcomer, seat, book, ledger_of}
+use Rattle.farm_core.specs.Tenant.{Tenant, newcomer, seat, book, ledger_of}
 use Rattle.farm_core.specs.Step.{Answer, step}
-use Rattle.farm_core.specs.World.{World, Call, terms_in, purse_in, place_in, purse, view, Run, own_calls, own_events, own_answers, opened_purse, answers_alone, after_alone}
+use Rattle.farm_core.specs.World.{World, Call, terms_in, purse_in, place_in, purse, view, Run, own_events, own_answers, opened_purse, answers_alone, after_alone}
 
 -- tenants are of one purse where they share one by name, and never else; a purse's members are found at their places; purses are
 -- numbered from 0 on, each number being that of some tenant's purse, in the order of their first members; and where no one names a

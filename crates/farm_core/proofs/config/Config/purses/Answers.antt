@@ -1,4 +1,4 @@
-use Rattle.std.proofs.Common.{ℕ, List, length, ap, arith}
+use Rattle.std.proofs.Common.{List, length, ap, arith}
 use Rattle.farm_core.specs.declared.config.TenantLine.{TenantLine}
 use Rattle.farm_core.proofs.PurseCountLemmas.{some_purse, most_purses}
 use Rattle.farm_core.proofs.config.Config.purses.Goals as goal
