@@ -5,6 +5,9 @@ refusals, lines that are no requests) a reply has to be the one that plain_farm.
 what plain_searches.py shows after that number of nodes, never fewer than before, and a ledger's sums have to come out. In the end an auditor asks for each
 job of each tenant: it has run to the lesser of its quanta and its search's end, and what was spent are these nodes. The service ends settled, or unsettled
 where a tenant's entries do not suffice for a turn.
+
+In one of three some tenants share purses, some of a tenant's name. Each of them asks for a share that is drawn, and not for what it has brought: so it is
+answered as if the share were its own, but for its ledgers, which are the purse's, and in the end the nodes of all members are what the purse has spent.
 """
 import contextlib
 import json
@@ -76,8 +79,8 @@ class Job:
 class Tenant:
     """What is known of one tenant by its replies."""
 
-    def __init__(self, name, granted, plain):
-        self.name, self.granted, self.plain, self.jobs, self.gone = name, granted, plain, {}, {}
+    def __init__(self, name, granted, plain, is_member):
+        self.name, self.granted, self.plain, self.is_member, self.jobs, self.gone = name, granted, plain, is_member, {}, {}
 
     def reply(self, request, expected, said):
         """Judges the reply to a request, beside what the second farm says where no turn is taken."""
@@ -114,7 +117,8 @@ class Tenant:
         found = BOOK.fullmatch(said)
         granted, free, held, spent = map(int, found.groups()) if found else (0, 0, 0, 1)
         jobs = [*self.jobs.values(), *self.gone.values()]
-        if granted != self.granted or free + held + spent != granted or not sum(j.known for j in jobs) <= spent <= sum(j.given for j in jobs):
+        most = granted if self.is_member else sum(j.given for j in jobs)
+        if granted != self.granted or free + held + spent != granted or not sum(j.known for j in jobs) <= spent <= most:
             raise Wrong("no ledger of this tenant")
 
     def line(self, job, seq, said):
@@ -174,7 +178,7 @@ class Tenant:
         raise Wrong("no schedule of this search")
 
     def whole(self, ask):
-        """Judges each job at the end, where all that could run has run: `ask` sends a request and returns its reply."""
+        """Judges each job at the end, where all that could run has run: `ask` sends a request and returns its reply. Returns between what the nodes of its jobs are."""
         front, spent = f"@{self.name} ", 0
         for seq, job in self.jobs.items():
             said = ask(f"@{self.name} status {seq}\n")
@@ -185,13 +189,11 @@ class Tenant:
             spent += job.known
         least = spent + sum(job.known if job.cancelled else job.last() for job in self.gone.values())
         most = spent + sum(job.last() for job in self.gone.values())
-        book = BOOK.fullmatch(ask(f"@{self.name} ledger\n").removeprefix(front))
-        if not book or int(book[3]) or not least <= int(book[4]) <= most:
-            raise Wrong(f"the ledger {book and book[0]}, and not {least} to {most} spent")
+        return least, most
 
 
 class Client:
-    """What one client does: its tenant, its script, and how it sends."""
+    """What one client does: its tenant, of which `terms` are what it may ask for, its script, and how it sends."""
 
     def __init__(self, r, name, terms):
         self.name, self.terms = name, terms
@@ -272,6 +274,33 @@ def script_of(r, name, terms, hostile):
     return b"".join(out)
 
 
+def share_purses(r, terms):
+    """Has some tenants name a purse; none of these has more quanta than a project needs."""
+    many = r.choice([1, 1, 2, 5])
+    for it in terms:
+        if r.random() < 0.7:
+            it.update(purse=r.choice([f"t{r.randrange(many)}", f"p{r.randrange(many)}"]), quanta=r.choice([0, 0, 50, 1000]))
+
+
+def purses_of(terms):
+    """Of each purse the places of its members."""
+    purses = {}
+    for at, it in enumerate(terms):
+        purses.setdefault(("shared", it["purse"]) if "purse" in it else ("own", it["name"]), []).append(at)
+    return purses.values()
+
+
+def shares_of(r, terms):
+    """What each tenant asks for at most: of a purse with several members parts that are drawn, which make up all of it."""
+    shares = [it["quanta"] for it in terms]
+    for members in purses_of(terms):
+        rest = sum(shares[at] for at in members)
+        for at in members:
+            shares[at] = rest if at == members[-1] else r.choice([0, rest, rest // 2, r.randint(0, rest)])
+            rest -= shares[at]
+    return shares
+
+
 class Sessions:
     """A configuration and its clients, run against a service."""
 
@@ -282,10 +311,13 @@ class Sessions:
         self.terms = [{"name": f"t{i}", "quanta": r.choice([0, 50, 1000, 1000, MOST]), "jobs": r.choice([1, 3, 100, 1000]), "entries": 1_000_000} for i in range(many)]
         # (a tenant whose entries suffice for its submit alone)
         self.is_poor = r.random() < 0.15
+        if r.random() < 0.3:
+            share_purses(r, self.terms[self.is_poor:])
         if self.is_poor:
             self.terms[0].update(quanta=1000, entries=1)
         self.config = json.dumps({"tenants": self.terms, "workers": r.randint(1, 16), "slice": r.choice([1, 2, 7, 100, 1000000])}).encode()
-        self.clients = [Client(r, it["name"], it) for it in self.terms]
+        shares = shares_of(r, self.terms)
+        self.clients = [Client(r, it["name"], {**it, "quanta": share}) for it, share in zip(self.terms, shares)]
         if self.is_poor:
             self.clients[0].manner = "whole"
             self.clients[0].script = makers.submit(r, "t0", makers.project_text(r, True), 9) + b"@t0 ledger\n"
@@ -334,18 +366,34 @@ class Sessions:
                 thread.join()
             wait_until(lambda: not is_listening(port))
             wait_until(lambda: threads_of(it.pid) <= threads_then)
-            fault = next(filter(None, (self.judged(client, ask) for client in self.clients)), None)
+            fault = self.judged_all(ask)
             self.kilobytes = memory_of(it.pid, "VmHWM")
             asked = sum(len(client.script) for client in self.clients)
             bound = first + SESSION_COST * (len(self.clients) + 16) + 40 * asked // 1024
             return fault or (f"too much memory: {first} kB at first, {self.kilobytes} at the end" if self.kilobytes > bound else None)
 
-    def judged(self, client, ask):
-        """What is wrong with a client's replies, or with its tenant at the end."""
+    def judged_all(self, ask):
+        """What is wrong with some client's replies, or with a purse at the end."""
+        for members in purses_of(self.terms):
+            spent = [(0, 0)]
+            for at in members:
+                fault = self.judged(self.clients[at], sum(self.terms[it]["quanta"] for it in members), len(members) > 1, ask, spent)
+                if fault:
+                    return fault
+            least, most = map(sum, zip(*spent))
+            name = self.terms[members[0]]["name"]
+            said = ask(f"@{name} ledger\n")
+            book = BOOK.fullmatch(said.removeprefix(f"@{name} "))
+            if self.clients[members[0]].terms["entries"] > 1 and (not book or int(book[3]) or not least <= int(book[4]) <= most):
+                return f"{name}: {said!r}, and not {least} to {most} spent"
+        return None
+
+    def judged(self, client, granted, is_member, ask, spent):
+        """What is wrong with a client's replies, or with its tenant at the end. Adds to `spent` between what its jobs' nodes are."""
         if client.failure:
             return client.failure
         farm = Alone(plain_farm.config_of(json.dumps({"tenants": [client.terms]}).encode()))
-        tenant = Tenant(client.name, client.terms["quanta"], farm.tenants[client.name])
+        tenant = Tenant(client.name, granted, farm.tenants[client.name], is_member)
         said, at = client.lines, 0
         try:
             with contextlib.suppress(StopIteration):
@@ -358,7 +406,7 @@ class Sessions:
                 raise Wrong("more or fewer replies")
             if client.terms["entries"] > 1:
                 wait_until(lambda: " held 0 " in ask(f"@{client.name} ledger\n"))
-                tenant.whole(ask)
+                spent.append(tenant.whole(ask))
         except (Wrong, plain_farm.Unknown, IndexError) as why:
             return f"{client.name}, {client.manner}, request {at + 1}: {why!r}, said {said[at:at + 1]}"
         return None

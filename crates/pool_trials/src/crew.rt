@@ -1,4 +1,4 @@
-//! Two workers at once, and passes that come back from them.
+//! Two and four workers at once, and passes that come back from them.
 ghost use Rattle.std.specs.Prelude.{◌≡◌, length};
 ghost use Rattle.turn_lock.specs.Values.{IsPassOf};
 
@@ -44,6 +44,42 @@ pub(crate) fn work_both<R: Threads + Wait + Sync, G: Gate + Sync>(
     pool.join_pass(pass, one);
     pool.join_pass(pass, two);
     (first, second)
+}
+
+/// Four workers at once, and how many turns each pair of them took.
+pub(crate) fn work_in_fours<R: Threads + Wait + Sync, G: Gate + Sync>(
+    rt: &R,
+    pool: &Pool,
+    pass: &mut PoolPass,
+    gate: &G,
+) -> [(WorkEnd, WorkEnd); 2]
+    requires { IsPassOf pool.now.lock pass.old }
+    ensures { IsPassOf pool.now.lock pass.new }
+{
+    let one = pool.split_pass(pass);
+    let two = pool.split_pass(pass);
+    let ((one, first), (two, second)) = thread::join(
+        rt,
+        move || -> (PoolPass, (WorkEnd, WorkEnd))
+            requires { IsPassOf pool.now.lock one }
+            ensures { IsPassOf pool.entry.now.lock result.0 }
+        {
+            let mut one = one;
+            let ends = work_both(rt, pool, &mut one, gate);
+            (one, ends)
+        },
+        move || -> (PoolPass, (WorkEnd, WorkEnd))
+            requires { IsPassOf pool.now.lock two }
+            ensures { IsPassOf pool.entry.now.lock result.0 }
+        {
+            let mut two = two;
+            let ends = work_both(rt, pool, &mut two, gate);
+            (two, ends)
+        },
+    );
+    pool.join_pass(pass, one);
+    pool.join_pass(pass, two);
+    [first, second]
 }
 
 /// Two workers, while the second tenant cancels its first job.

@@ -1,5 +1,5 @@
 //! The trials.
-use crate::crew::{work_both, work_while_cancelled};
+use crate::crew::{work_both, work_in_fours, work_while_cancelled};
 use crate::gates::{Meeting, Open, Pair};
 use crate::made::{
     Purse, config_of, patient_of, pool_of, settle, settle_shared, shared_config, tree_of,
@@ -219,6 +219,40 @@ fn two_workers_of_one_purse_settle(rt: HostRuntime) -> Result<(), Fail> {
     assert!(rt; one.turns.saturating_add(two.turns) == 7);
     assert!(rt; is_closed(&pool.call(&rt, &mut pass, A, Command::Status(1))));
     assert!(rt; is_ledger(&pool.call(&rt, &mut pass, B, Command::Ledger), 20, 7, 0, 13));
+    let farm = pool.close(pass).ok_or("a farm")?;
+    assert!(rt; settle_shared(farm, purse) == Some(Ok(Settled)));
+    Ok(())
+}
+
+// Of the 20 quanta that a and b share each submits two jobs: a of 9 quanta and of 1, b of 4 and of 6. They use 9, 1, 4 and 6, in five turns, one, two and three.
+#[test]
+fn four_workers_of_one_purse_settle(rt: HostRuntime) -> Result<(), Fail> {
+    let config = shared_config(rt.alloc())?;
+    let (pool, mut pass) = pool_of(rt.alloc(), &config).ok_or("a pool")?;
+    let mut purse = Purse::new(rt.alloc(), 0, 20)?;
+    for (tenant, quanta) in [(A, 9), (B, 4), (A, 1), (B, 6)] {
+        let (plan, search) = tree_of(rt.alloc(), &mut purse, tenant)?;
+        let search: Box<dyn Strategy> = Box::new(rt.alloc(), search)?;
+        pool.call(
+            &rt,
+            &mut pass,
+            tenant,
+            Command::Submit {
+                plan,
+                quanta,
+                search,
+            },
+        );
+    }
+    let mut turns = 0;
+    for (one, two) in work_in_fours(&rt, &pool, &mut pass, &Open) {
+        turns = one.turns.saturating_add(two.turns).saturating_add(turns);
+    }
+    assert!(rt; turns == 11);
+    assert!(rt; is_closed(&pool.call(&rt, &mut pass, A, Command::Status(1))));
+    for tenant in [A, B] {
+        assert!(rt; is_ledger(&pool.call(&rt, &mut pass, tenant, Command::Ledger), 20, 0, 0, 20));
+    }
     let farm = pool.close(pass).ok_or("a farm")?;
     assert!(rt; settle_shared(farm, purse) == Some(Ok(Settled)));
     Ok(())

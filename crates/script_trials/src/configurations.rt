@@ -38,7 +38,7 @@ fn texts(rt: HostRuntime) -> Result<(), Fail> {
             "workers 2 slice 2; a 100 2 100; b 10 2 100",
         ),
         (
-            "{\"slice\":7,\"more\":[{}],\"tenants\":[{\"jobs\":1,\"purse\":1,\"name\":\"\\u0061\",\"quanta\":1,\"entries\":1,\"quanta\":3}],\"slice\":9}",
+            "{\"slice\":7,\"more\":[{}],\"tenants\":[{\"jobs\":1,\"colour\":1,\"name\":\"\\u0061\",\"quanta\":1,\"entries\":1,\"quanta\":3}],\"slice\":9}",
             "workers 2 slice 9; a 3 1 1",
         ),
         (
