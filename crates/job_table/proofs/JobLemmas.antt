@@ -7,7 +7,7 @@ use Rattle.mrcpsp.specs.Schedule.{ScheduleData, IsFeasible}
 use Rattle.mrcpsp.specs.Breach.{HasShape, HasModes}
 use Rattle.mrcpsp.proofs.LimitLemmas.{kept}
 use Rattle.strategy.specs.Pass.{pass}
-use Rattle.strategy.specs.Outcome.{best_pass, best_of, best_after, is_closed, verdict_after}
+use Rattle.strategy.specs.Outcome.{best_pass, best_of, best_after, is_closed}
 use Rattle.strategy.specs.declared.plan.Plan.{Plan}
 use Rattle.strategy.specs.declared.kind.Kind.{Kind}
 use Rattle.strategy.specs.declared.kind.Kind.TheVariants.{Tree, RuleLft, RuleMts, RuleSpt, Sample}

@@ -1,10 +1,12 @@
--- Where no two jobs of a tenant have the same number, each of the waiting jobs is found, and waits.
-use Rattle.std.proofs.Common.{◌≡◌, ℕ, zero, suc, ◌==◌, Bool, true, false, cond, List, [], ◌∷◌, map, filter, slice_get, Option, Some, None, refl, sym, ap, ◌∙◌, arith}
+-- Each of those who wait is found and waits, and each job that waits stands among them.
+use Rattle.std.proofs.Common.{◌≡◌, ℕ, zero, suc, ◌==◌, ◌+◌, ◌<◌, Bool, true, false, List, [], ◌∷◌, slice_get, Option, Some, None, refl, ap, ◌∙◌, arith}
 use Rattle.std.proofs.lemmas.Bool.{and_parts, eqb-true}
 use Rattle.std.proofs.lemmas.Bool.Decides.{nat_tests}
-use Rattle.job_table.specs.Table.{Row, JobData, is_row, is_waiting, find_row, waiting_keys, AreApart}
+use Rattle.job_table.specs.Table.{Row, JobData, TableData, is_key, is_waiting, does_wait, find_row, AreWaiting}
 use Rattle.job_table.specs.declared.phase.Phase.{Phase}
 use Rattle.job_table.specs.declared.phase.Phase.TheVariants.{Waiting, Out, Leaving, Dry, Closed, Cancelled}
+use Rattle.job_table.proofs.RowLemmas.{one_if}
+use Rattle.job_table.proofs.QueueLemmas.{times}
 
 -- the tenant's job of that number waits
 pub record DoesWait (t s : ℕ) (rows : List Row) : Type 0 where
@@ -20,33 +22,6 @@ waits Dry e = cc
 waits Closed e = cc
 waits Cancelled e = cc
 
--- a job that is found behind a row of another key is found
-past : (row : Row) (rows : List Row) (t s : ℕ) (job : JobData) (b : Bool) → is_row t s row ≡ b → find_row row.tenant row.job.seq rows ≡ None → find_row t s rows ≡ Some job
-    → cond b (Some row.job) (find_row t s rows) ≡ Some job
-past row rows t s job false key none found = found
-past row rows t s job true key none found =
-    let parts = and_parts (row.tenant == t) (row.job.seq == s) key in
-    let mine : row.tenant ≡ t = eqb-true row.tenant t parts.0 in
-    let same : row.job.seq ≡ s = eqb-true row.job.seq s parts.1 in
-    let gone : find_row t s rows ≡ None = ap (λ n. find_row n s rows) (sym mine) ∙ ap (λ n. find_row row.tenant n rows) (sym same) ∙ none in
-    cc
-
-behind : (row : Row) (rows : List Row) (t s : ℕ) → find_row row.tenant row.job.seq rows ≡ None → DoesWait t s rows → DoesWait t s (row ∷ rows)
-behind row rows t s none it = record {
-  job = it.job;
-  found = past row rows t s it.job (is_row t s row) refl none it.found;
-  waits = it.waits;
-}
-
-first : (row : Row) (rows : List Row) (t s : ℕ) → is_waiting row.job.phase ≡ true → row.tenant ≡ t → row.job.seq ≡ s → DoesWait t s (row ∷ rows)
-first row rows t s waiting mine same =
-    let key : is_row t s row ≡ true = grind (arith, nat_tests) in
-    record {
-      job = row.job;
-      found = ap (λ b. cond b (Some row.job) (find_row t s rows)) key;
-      waits = waits row.job.phase waiting;
-    }
-
 -- the tenant and the number in a key
 tenant_in : Option (ℕ × ℕ) → ℕ
 tenant_in None = 0
@@ -56,19 +31,50 @@ seq_in : Option (ℕ × ℕ) → ℕ
 seq_in None = 0
 seq_in (Some k) = k.1
 
--- a job's tenant and number
-abbrev key_of : Row → ℕ × ℕ
-key_of row = (row.tenant, row.job.seq)
+times_first : (t s : ℕ) (key : ℕ × ℕ) (keys : List (ℕ × ℕ)) (b : Bool) → is_key t s key ≡ b → times t s (key ∷ keys) ≡ times t s keys + one_if b
+times_first t s key keys true e = grind arith
+times_first t s key keys false e = grind arith
 
-one : (row : Row) (rows : List Row) (b : Bool) → is_waiting row.job.phase ≡ b → find_row row.tenant row.job.seq rows ≡ None
-    → ((i t s : ℕ) → slice_get (waiting_keys rows) i ≡ Some (t, s) → DoesWait t s rows)
-    → (i t s : ℕ) → slice_get (map key_of (cond b (row ∷ filter (λ (r : Row). is_waiting r.job.phase) rows) (filter (λ (r : Row). is_waiting r.job.phase) rows))) i ≡ Some (t, s)
-    → DoesWait t s (row ∷ rows)
+-- a key that stands at a place stands there at least once
+stands : (keys : List (ℕ × ℕ)) (i t s : ℕ) → slice_get keys i ≡ Some (t, s) → 0 < times t s keys
 unfolding tenant_in seq_in
-one row rows false phase none later i t s here = behind row rows t s none (later i t s here)
-one row rows true phase none later zero t s here = first row rows t s phase (ap tenant_in here) (ap seq_in here)
-one row rows true phase none later (suc i) t s here = behind row rows t s none (later i t s here)
+stands [] i t s here = absurd (cc)
+stands (key ∷ keys) zero t s here =
+    let t_is : key.0 ≡ t = ap tenant_in here in
+    let s_is : key.1 ≡ s = ap seq_in here in
+    let is : is_key t s key ≡ true = grind (arith, nat_tests) in
+    omega (arith, times_first t s key keys true is)
+stands (key ∷ keys) (suc i) t s here = omega (arith, stands keys i t s here, times_first t s key keys (is_key t s key) refl)
 
-pub waiting_found : (rows : List Row) → AreApart rows → (i t s : ℕ) → slice_get (waiting_keys rows) i ≡ Some (t, s) → DoesWait t s rows
-waiting_found [] apart i t s here = cc
-waiting_found (row ∷ rows) apart i t s here = one row rows (is_waiting row.job.phase) refl apart.0 (waiting_found rows apart.1) i t s here
+is_one : (b : Bool) → 0 < one_if b → b ≡ true
+is_one true some = refl
+is_one false some = absurd (omega (arith, some))
+
+found_waiting : (t s : ℕ) (rows : List Row) (o : Option JobData) → find_row t s rows ≡ o → 0 < one_if (does_wait o) → DoesWait t s rows
+found_waiting t s rows None found some = absurd (omega (arith, some))
+found_waiting t s rows (Some job) found some = record { job = job; found = found; waits = waits job.phase (is_one (is_waiting job.phase) some) }
+
+pub waiting_found : (table : TableData) → AreWaiting table → (i t s : ℕ) → slice_get table.waiting i ≡ Some (t, s) → DoesWait t s table.rows
+waiting_found table are i t s here = found_waiting t s table.rows (find_row t s table.rows) refl (omega (arith, are t s, stands table.waiting i t s here))
+
+-- where a key stands
+pub record StandsAt (t s : ℕ) (keys : List (ℕ × ℕ)) : Type 0 where
+  pub at : ℕ
+  pub here : slice_get keys at ≡ Some (t, s)
+
+key_at : (t s : ℕ) (key : ℕ × ℕ) (keys : List (ℕ × ℕ)) (b : Bool) → is_key t s key ≡ b → (0 < times t s keys → StandsAt t s keys) → 0 < times t s (key ∷ keys) → StandsAt t s (key ∷ keys)
+key_at t s key keys true e later some =
+    let parts = and_parts (key.0 == t) (key.1 == s) e in
+    let t_is : key.0 ≡ t = eqb-true key.0 t parts.0 in
+    let s_is : key.1 ≡ s = eqb-true key.1 s parts.1 in
+    record { at = 0; here = ap (λ n. Some (n, key.1)) t_is ∙ ap (λ n. Some (t, n)) s_is }
+key_at t s key keys false e later some =
+    let it = later (omega (arith, some, times_first t s key keys false e)) in
+    record { at = suc it.at; here = it.here }
+
+stand_at : (t s : ℕ) (keys : List (ℕ × ℕ)) → 0 < times t s keys → StandsAt t s keys
+stand_at t s [] some = absurd (omega (arith, some))
+stand_at t s (key ∷ keys) some = key_at t s key keys (is_key t s key) refl (stand_at t s keys) some
+
+pub waiting_at : (table : TableData) → AreWaiting table → (t s : ℕ) (job : JobData) → find_row t s table.rows ≡ Some job → is_waiting job.phase ≡ true → StandsAt t s table.waiting
+waiting_at table are t s job found waits = stand_at t s table.waiting (omega (arith, are t s, ap (λ o. one_if (does_wait o)) found, ap one_if waits))

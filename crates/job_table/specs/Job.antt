@@ -6,7 +6,7 @@ use Rattle.strategy.specs.Outcome.{best_after, is_closed, verdict_after}
 use Rattle.strategy.specs.Search.{Meaning}
 use Rattle.strategy.specs.declared.plan.Plan.{Plan}
 use Rattle.strategy.specs.declared.verdict.Verdict.{Verdict}
-use Rattle.job_table.specs.Table.{JobData, Row, find_row, put_row}
+use Rattle.job_table.specs.Table.{JobData, Row, TableData, find_row, change_job}
 use Rattle.job_table.specs.declared.phase.Phase.{Phase}
 use Rattle.job_table.specs.declared.phase.Phase.TheVariants.{Waiting, Out, Leaving, Dry, Closed, Cancelled}
 use Rattle.job_table.specs.declared.best.Best.{Best}
@@ -85,36 +85,36 @@ pub record IsOwn (tenant slice ran : ℕ) (m : Meaning) (job : JobData) : Type 0
   pub left : m.left + ran ≡ job.left
 
 -- in the table: the search of a waiting job goes out,
-pub record IsSent (old : List Row) (t s slice : ℕ) (m : Meaning) (new : List Row) : Type 0 where
+pub record IsSent (old : TableData) (t s slice : ℕ) (m : Meaning) (new : TableData) : Type 0 where
   pub job : JobData
-  pub found : find_row t s old ≡ Some job
+  pub found : find_row t s old.rows ≡ Some job
   pub waits : job.phase ≡ Waiting
   pub going : is_closed job.plan job.nodes ≡ false
   pub search : m ≡ meaning_of t job
-  pub after : new ≡ put_row t s (record job { phase = Out slice }) old
+  pub after : new ≡ change_job t s job (record job { phase = Out slice }) old
 
 -- and comes back;
-pub record IsBack (old : List Row) (t s slice ran : ℕ) (m : Meaning) (new : List Row) : Type 0 where
+pub record IsBack (old : TableData) (t s slice ran : ℕ) (m : Meaning) (new : TableData) : Type 0 where
   pub job : JobData
-  pub found : find_row t s old ≡ Some job
+  pub found : find_row t s old.rows ≡ Some job
   pub own : IsOwn t slice ran m job
-  pub after : new ≡ put_row t s (back ran job) old
+  pub after : new ≡ change_job t s job (back ran job) old
 
 -- no row is that of the search
 abbrev pub IsStrange : List Row → ℕ → ℕ → ℕ → ℕ → Meaning → Type 0
 IsStrange rows t s slice ran m = (job : JobData) → find_row t s rows ≡ Some job → IsOwn t slice ran m job → ⊥
 
 -- more quanta for a job whose search is with it, and it waits
-pub record IsFunded (old : List Row) (t s quanta : ℕ) (new : List Row) : Type 0 where
+pub record IsFunded (old : TableData) (t s quanta : ℕ) (new : TableData) : Type 0 where
   pub job : JobData
-  pub found : find_row t s old ≡ Some job
+  pub found : find_row t s old.rows ≡ Some job
   pub here : is_here job.phase ≡ true
-  pub after : new ≡ put_row t s (record job { phase = Waiting; left = job.left + quanta }) old
+  pub after : new ≡ change_job t s job (record job { phase = Waiting; left = job.left + quanta }) old
 
 -- a job that is not at its end is given up
-pub record IsGivenUp (old : List Row) (t s : ℕ) (new : List Row) : Type 0 where
+pub record IsGivenUp (old : TableData) (t s : ℕ) (new : TableData) : Type 0 where
   pub job : JobData
   pub then : JobData
-  pub found : find_row t s old ≡ Some job
+  pub found : find_row t s old.rows ≡ Some job
   pub gone : given_up job job.phase ≡ Some then
-  pub after : new ≡ put_row t s then old
+  pub after : new ≡ change_job t s job then old

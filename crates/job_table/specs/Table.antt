@@ -1,5 +1,6 @@
--- The rows of all tenants' jobs: a finite map by tenant and number, as a list in the order in which the jobs came.
-use Rattle.std.specs.Prelude.{◌≡◌, ℕ, Bool, true, false, cond, ◌&&◌, ◌==◌, List, [], ◌∷◌, map, filter, Option, Some, None}
+-- The rows of all tenants' jobs: a finite map by tenant and number, as a list in the order of tenants and numbers; and who waits.
+use Rattle.std.specs.Prelude.{◌≡◌, ℕ, Bool, true, false, cond, ◌&&◌, ◌||◌, ◌==◌, List, [], ◌∷◌, ◌++◌, map, filter, length, Option, Some, None}
+use Rattle.std.specs.Prelude.{nat_lt}
 use Rattle.strategy.specs.declared.plan.Plan.{Plan}
 use Rattle.job_table.specs.declared.phase.Phase.{Phase}
 use Rattle.job_table.specs.declared.phase.Phase.TheVariants.{Waiting, Out, Leaving, Dry, Closed, Cancelled}
@@ -65,11 +66,55 @@ drop_row t s (row ∷ rows) = cond (is_row t s row) rows (row ∷ drop_row t s r
 abbrev pub jobs_of : ℕ → List Row → List JobData
 jobs_of t rows = map (λ (row : Row). row.job) (filter (λ row. row.tenant == t) rows)
 
--- the tenants and the numbers of the jobs that wait, in the order in which they came
-abbrev pub waiting_keys : List Row → List (ℕ × ℕ)
-waiting_keys rows = map (λ (row : Row). (row.tenant, row.job.seq)) (filter (λ row. is_waiting row.job.phase) rows)
+-- a tenant's number comes before a row: by the tenant, and then by the number
+abbrev pub comes_before : ℕ → ℕ → Row → Bool
+comes_before t s row = nat_lt t row.tenant || ((t == row.tenant) && nat_lt s row.job.seq)
+
+-- the rows with one more, in its place among them
+abbrev pub add_row : Row → List Row → List Row
+add_row new [] = new ∷ []
+add_row new (row ∷ rows) = cond (comes_before new.tenant new.job.seq row) (new ∷ row ∷ rows) (row ∷ add_row new rows)
 
 -- no two jobs of a tenant have the same number: none of the later rows is that of an earlier one's tenant and number
 abbrev pub AreApart : List Row → Type 0
 AreApart [] = Unit {0}
 AreApart (row ∷ rows) = (find_row row.tenant row.job.seq rows ≡ None) × AreApart rows
+
+-- all tenants' jobs, by tenants and numbers; and which of them wait, as tenants and numbers in the order in which they are to have their turns
+pub record TableData : Type 0 where
+  pub rows : List Row
+  pub waiting : List (ℕ × ℕ)
+
+-- whether these are that tenant and that number
+abbrev pub is_key : ℕ → ℕ → ℕ × ℕ → Bool
+is_key t s key = (key.0 == t) && (key.1 == s)
+
+-- the keys without the first of that tenant and number
+abbrev pub without : ℕ → ℕ → List (ℕ × ℕ) → List (ℕ × ℕ)
+without t s [] = []
+without t s (key ∷ keys) = cond (is_key t s key) keys (key ∷ without t s keys)
+
+-- who waits once a job has changed: one that begins to wait stands last, one that waits no longer is gone, and all others keep their places
+abbrev pub waiting_then : ℕ → ℕ → Bool → Bool → List (ℕ × ℕ) → List (ℕ × ℕ)
+waiting_then t s was is keys = cond is (cond was keys (keys ++ (t, s) ∷ [])) (cond was (without t s keys) keys)
+
+-- a tenant's job is added; becomes another; and is removed
+abbrev pub add_job : ℕ → JobData → TableData → TableData
+add_job t job table =
+    record { rows = add_row (record { tenant = t; job = job }) table.rows; waiting = waiting_then t job.seq false (is_waiting job.phase) table.waiting }
+
+abbrev pub change_job : ℕ → ℕ → JobData → JobData → TableData → TableData
+change_job t s job then table =
+    record { rows = put_row t s then table.rows; waiting = waiting_then t s (is_waiting job.phase) (is_waiting then.phase) table.waiting }
+
+abbrev pub drop_job : ℕ → ℕ → TableData → TableData
+drop_job t s table = record { rows = drop_row t s table.rows; waiting = without t s table.waiting }
+
+-- whether a job is there and waits
+abbrev pub does_wait : Option JobData → Bool
+does_wait None = false
+does_wait (Some job) = is_waiting job.phase
+
+-- a tenant's job stands among those who wait once where it waits, and else never
+abbrev pub AreWaiting : TableData → Type 0
+AreWaiting table = (t s : ℕ) → length (filter (is_key t s) table.waiting) ≡ cond (does_wait (find_row t s table.rows)) 1 0

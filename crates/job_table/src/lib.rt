@@ -1,19 +1,21 @@
 //! The rows of all tenants' jobs.
 //!
-//! A [`JobTable`] is seen as the list of all rows in the order in which their jobs came, each row a job and whose it is. Each
-//! call answers and changes exactly the row that it names, and a call that is refused changes none. So a tenant's rows are
-//! changed by calls with that tenant's number alone. A [`Job`] knows what its search has shown, and has the search itself
-//! while no turn is out.
+//! A [`JobTable`] is seen as the list of all rows in the order of tenants and numbers, each row a job and whose it is, and the
+//! list of those that wait, in the order in which they are to have their turns. Each call answers and changes exactly the row
+//! that it names, and a call that is refused changes none. So a tenant's rows are changed by calls with that tenant's number
+//! alone. A [`Job`] knows what its search has shown, and has the search itself while no turn is out.
 //!
 //! - `phase`: the phases of a job, and in which of them it waits, is out or has ended.
 //! - `best`: the best schedule of a job, in memory that is taken once.
 //! - `job`: `Job`.
+//! - `queue`: who waits.
 //! - `table`: `JobTable`.
 #![tactic(auto)]
 
 mod best;
 mod job;
 mod phase;
+mod queue;
 mod table;
 
 pub use job::Job;

@@ -63,7 +63,7 @@ pub(crate) fn search_of(alloc: Global, text: &str, lease: Lease) -> Result<Plain
     }
 }
 
-/// Adds a job for a search to a table.
+/// Adds a job for a search to a table that has none of its number.
 pub(crate) fn insert<J: Strategy>(
     alloc: Global,
     table: &mut JobTable<J>,
@@ -74,6 +74,9 @@ pub(crate) fn insert<J: Strategy>(
 ) -> Result<(), Fail>
     requires { quanta ≤ 1000000000000 }
 {
+    if table.find(tenant, seq).is_some() {
+        return Err(Fail::from("there is such a job"));
+    }
     let plan = search.plan().clone_in(alloc)?;
     let job = Job::new(alloc, tenant, seq, plan, quanta, search).ok_or("no memory for the job")?;
     match table.insert(tenant, job) {
