@@ -2,9 +2,9 @@
 use Rattle.std.proofs.Common.{◌≡◌, ◌==◌, ℕ, ◌+◌, ◌<◌, ◌≤◌, Bool, true, false, List, length, Some, None, refl, sym, ap, ◌∙◌, subst, arith}
 use Rattle.std.proofs.lemmas.Bool.{and_parts, eqb-true}
 use Rattle.std.proofs.lemmas.Bool.Decides.{nat_tests}
-use Rattle.job_table.specs.Table.{Row, JobData, TableData, is_key, is_waiting, does_wait, find_row, without, add_job, change_job, drop_job, AreWaiting}
+use Rattle.job_table.specs.Table.{Row, JobData, TableData, is_key, is_waiting, does_wait, find_row, without, waiting_then, add_job, change_job, drop_job, AreApart, AreWaiting}
 use Rattle.job_table.specs.Kept.{IsKept}
-use Rattle.job_table.proofs.RowLemmas.{one_if, count_waiting, put_same, put_other, put_apart, put_length, put_count, drop_same, drop_other, drop_apart, drop_length, drop_count, add_same, add_other, add_apart, add_length, add_count, found_count, most_waiting}
+use Rattle.job_table.proofs.RowLemmas.{one_if, count_rows, put_same, put_other, put_length, put_count, drop_same, drop_other, drop_length, drop_count, add_same, add_other, add_length, add_count, found_count, most_rows}
 use Rattle.job_table.proofs.QueueLemmas.{times, out_same, out_other, out_length, out_none, then_same, then_other, then_length}
 
 -- a key is another one, or the same
@@ -13,9 +13,9 @@ each_key : (t s : ℕ) (old new : TableData) → AreWaiting old → times t s ne
     → (u n : ℕ) (b : Bool) → is_key u n (t, s) ≡ b → times u n new.waiting ≡ one_if (does_wait (find_row u n new.rows))
 each_key t s old new before own keys rows u n false e = keys u n e ∙ before u n ∙ ap (λ f. one_if (does_wait f)) (sym (rows u n e))
 each_key t s old new before own keys rows u n true e =
-    let parts = and_parts (t == u) (s == n) e in
-    let t_is : t ≡ u = eqb-true t u parts.0 in
-    let s_is : s ≡ n = eqb-true s n parts.1 in
+    let parts = and_parts (u == t) (n == s) e in
+    let t_is : t ≡ u = sym (eqb-true u t parts.0) in
+    let s_is : s ≡ n = sym (eqb-true n s parts.1) in
     subst (λ m. times u m new.waiting ≡ one_if (does_wait (find_row u m new.rows))) s_is (subst (λ v. times v s new.waiting ≡ one_if (does_wait (find_row v s new.rows))) t_is own)
 
 -- those who wait, where that is so of one key and nothing has changed for the others
@@ -24,8 +24,11 @@ at_each : (t s : ℕ) (old new : TableData) → AreWaiting old → times t s new
     → AreWaiting new
 at_each t s old new before own keys rows u n = each_key t s old new before own keys rows u n (is_key u n (t, s)) refl
 
+abbrev waits : Row → Bool
+waits row = is_waiting row.job.phase
+
 pub changed : (t s : ℕ) (job then : JobData) (table : TableData) (capacity : ℕ) → IsKept table capacity → find_row t s table.rows ≡ Some job → then.seq ≡ s → IsKept (change_job t s job then table) capacity
-unfolding count_waiting
+unfolding count_rows
 changed t s job then table capacity kept found named =
     let was = is_waiting job.phase in
     let is = is_waiting then.phase in
@@ -33,14 +36,13 @@ changed t s job then table capacity kept found named =
     let now : times t s table.waiting ≡ one_if was = kept.waiting t s ∙ ap (λ f. one_if (does_wait f)) found in
     let own : times t s new.waiting ≡ one_if (does_wait (find_row t s new.rows)) = then_same t s was is table.waiting now ∙ ap (λ f. one_if (does_wait f)) (sym (put_same t s job then table.rows found named)) in
     record {
-      apart = put_apart t s then table.rows named kept.apart;
       waiting = at_each t s table new kept.waiting own (λ u n e. then_other t s u n was is table.waiting e) (λ u n e. put_other t s u n then table.rows e named);
-      count = omega (arith, kept.count, then_length t s was is table.waiting now, put_count t s job then table.rows found);
+      count = omega (arith, kept.count, then_length t s was is table.waiting now, put_count waits t s job then table.rows found);
       room = omega (arith, kept.room, put_length t s then table.rows);
     }
 
 pub added : (t : ℕ) (job : JobData) (table : TableData) (capacity : ℕ) → IsKept table capacity → find_row t job.seq table.rows ≡ None → length table.rows + 1 ≤ capacity → IsKept (add_job t job table) capacity
-unfolding count_waiting
+unfolding count_rows
 added t job table capacity kept none room =
     let is = is_waiting job.phase in
     let new = add_job t job table in
@@ -48,9 +50,8 @@ added t job table capacity kept none room =
     let now : times t job.seq table.waiting ≡ 0 = kept.waiting t job.seq ∙ ap (λ f. one_if (does_wait f)) none in
     let own : times t job.seq new.waiting ≡ one_if (does_wait (find_row t job.seq new.rows)) = then_same t job.seq false is table.waiting now ∙ ap (λ f. one_if (does_wait f)) (sym (add_same row table.rows none)) in
     record {
-      apart = add_apart row table.rows none kept.apart;
       waiting = at_each t job.seq table new kept.waiting own (λ u n e. then_other t job.seq u n false is table.waiting e) (λ u n e. add_other u n row table.rows (grind (arith, nat_tests)));
-      count = omega (arith, kept.count, then_length t job.seq false is table.waiting now, add_count row table.rows);
+      count = omega (arith, kept.count, then_length t job.seq false is table.waiting now, add_count waits row table.rows);
       room = omega (arith, room, add_length row table.rows);
     }
 
@@ -60,17 +61,16 @@ out_any t s false keys now =
     let same : without t s keys ≡ keys = out_none t s keys now in
     (ap (times t s) same ∙ now, omega (arith, ap length same))
 
-pub dropped : (t s : ℕ) (job : JobData) (table : TableData) (capacity : ℕ) → IsKept table capacity → find_row t s table.rows ≡ Some job → IsKept (drop_job t s table) capacity
-unfolding count_waiting
-dropped t s job table capacity kept found =
+pub dropped : (t s : ℕ) (job : JobData) (table : TableData) (capacity : ℕ) → IsKept table capacity → AreApart table.rows → find_row t s table.rows ≡ Some job → IsKept (drop_job t s table) capacity
+unfolding count_rows
+dropped t s job table capacity kept apart found =
     let new = drop_job t s table in
     let now : times t s table.waiting ≡ one_if (is_waiting job.phase) = kept.waiting t s ∙ ap (λ f. one_if (does_wait f)) found in
     let out = out_any t s (is_waiting job.phase) table.waiting now in
-    let own : times t s new.waiting ≡ one_if (does_wait (find_row t s new.rows)) = out.0 ∙ ap (λ f. one_if (does_wait f)) (sym (drop_same t s table.rows kept.apart)) in
+    let own : times t s new.waiting ≡ one_if (does_wait (find_row t s new.rows)) = out.0 ∙ ap (λ f. one_if (does_wait f)) (sym (drop_same t s table.rows apart)) in
     record {
-      apart = drop_apart t s table.rows kept.apart;
       waiting = at_each t s table new kept.waiting own (λ u n e. out_other t s u n table.waiting e) (λ u n e. drop_other t s u n table.rows e);
-      count = omega (arith, kept.count, out.1, drop_count t s job table.rows found);
+      count = omega (arith, kept.count, out.1, drop_count waits t s job table.rows found);
       room = omega (arith, kept.room, drop_length t s job table.rows found);
     }
 
@@ -80,9 +80,17 @@ not_known t s table capacity kept none = out_none t s table.waiting (kept.waitin
 
 -- there is memory for one that begins to wait
 pub has_room : (t s : ℕ) (job : JobData) (table : TableData) (capacity : ℕ) → IsKept table capacity → find_row t s table.rows ≡ Some job → is_waiting job.phase ≡ false → length table.waiting < capacity
-unfolding count_waiting
-has_room t s job table capacity kept found not = omega (arith, kept.count, kept.room, found_count t s job table.rows found not)
+unfolding count_rows
+has_room t s job table capacity kept found not = omega (arith, kept.count, kept.room, found_count waits t s job table.rows found not)
 
 pub most_kept : (table : TableData) (capacity : ℕ) → IsKept table capacity → length table.waiting ≤ length table.rows
-unfolding count_waiting
-most_kept table capacity kept = omega (arith, kept.count, most_waiting table.rows)
+unfolding count_rows
+most_kept table capacity kept = omega (arith, kept.count, most_rows waits table.rows)
+
+-- one that is gone waits no longer
+out_then : (t s : ℕ) (was : Bool) (keys : List (ℕ × ℕ)) → times t s keys ≡ one_if was → waiting_then t s was false keys ≡ without t s keys
+out_then t s true keys now = refl
+out_then t s false keys now = sym (out_none t s keys now)
+
+pub then_out : (t s : ℕ) (job : JobData) (table : TableData) (capacity : ℕ) → IsKept table capacity → find_row t s table.rows ≡ Some job → waiting_then t s (is_waiting job.phase) false table.waiting ≡ without t s table.waiting
+then_out t s job table capacity kept found = out_then t s (is_waiting job.phase) table.waiting (kept.waiting t s ∙ ap (λ f. one_if (does_wait f)) found)

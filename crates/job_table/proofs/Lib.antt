@@ -1,7 +1,9 @@
 pub mod JobLemmas
-pub mod PlaceLemmas
 pub mod RowLemmas
+pub mod OrderLemmas
 pub mod QueueLemmas
 pub mod KeptLemmas
 pub mod WaitingLemmas
+pub mod CountLemmas
+pub mod MapLemmas
 pub mod TableLemmas

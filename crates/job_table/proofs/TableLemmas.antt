@@ -1,78 +1,159 @@
--- What the table says of itself once a row at its place has changed.
-use Rattle.std.proofs.Common.{◌≡◌, ℕ, ◌+◌, ◌≤◌, Bool, true, false, cond, suc, List, length, get_or, set, ◌∷◌, [], position, Option, Some, None, refl, sym, ap, ◌∙◌, subst, arith}
-use Rattle.std.proofs.Common.{not}
-use Rattle.std.specs.Option.{unwrap_or}
-use Rattle.std.specs.List.{insert, position_or_len}
-use Rattle.std.proofs.lemmas.Bool.Decides.{nat_tests}
-use Rattle.job_table.specs.Table.{Row, JobData, TableData, is_row, is_waiting, does_wait, find_row, put_row, add_row, comes_before, waiting_then, change_job}
-use Rattle.job_table.specs.Job.{is_turn, given_up}
+-- What a table keeps as a job changes, comes or goes, in the words of its map, its counts and its queue.
+use Rattle.std.proofs.Common.{◌≡◌, ◌==◌, ℕ, ◌+◌, ◌<◌, ◌≤◌, Bool, true, false, cond, List, length, filter, nat_eq, Option, Some, None, IsSome, refl, sym, ap, ◌∙◌, subst, arith}
+use Rattle.std.specs.Map.{lookup, set_value}
+use Rattle.std.proofs.lemmas.Bool.{eqb-true}
+use Rattle.std.proofs.lemmas.Map.Steps.{set_value_same}
+use Rattle.job_table.specs.Table.{Row, JobData, TableData, is_key, is_waiting, is_out, does_wait, find_row, put_row, drop_row, add_row, without, waiting_then, add_job, change_job, drop_job}
+use Rattle.job_table.specs.Job.{is_turn, is_here, phase_after, given_up}
+use Rattle.job_table.specs.Kept.{rows_of, counts_of, counted, moved, one_more, one_less, AreCounted, IsKept, IsHeld}
+use Rattle.job_table.specs.declared.counts.Counts.{Counts}
 use Rattle.job_table.specs.declared.phase.Phase.{Phase}
 use Rattle.job_table.specs.declared.phase.Phase.TheVariants.{Waiting, Out, Leaving, Dry, Closed, Cancelled}
-use Rattle.job_table.specs.Kept.{IsKept}
-use Rattle.job_table.proofs.PlaceLemmas.{row_at}
-use Rattle.job_table.proofs.KeptLemmas.{changed}
-
-pub found_named : (t s : ℕ) (rows : List Row) (job : JobData) → find_row t s rows ≡ Some job → job.seq ≡ s
-found_named t s [] job found = absurd (cc)
-found_named t s (row ∷ rows) job found = grind (arith, nat_tests, found_named t s rows job)
-
--- a table in which the row at a place has changed, and who waits with it
-pub record IsChange (t s : ℕ) (row then : Row) (old new : TableData) (capacity : ℕ) : Type 0 where
-  pub found : find_row t s old.rows ≡ Some row.job
-  pub tenant : row.tenant ≡ t
-  pub after : new ≡ change_job t s row.job then.job old
-  pub kept : IsKept new capacity
-
-pub change_at : (t s : ℕ) (old : TableData) (i : ℕ) (row then : Row) (was is : Bool) (waiting : List (ℕ × ℕ)) (before capacity : ℕ) → IsKept old before
-    → position (is_row t s) old.rows ≡ Some i → row ≡ get_or old.rows i row → then.tenant ≡ row.tenant → then.job.seq ≡ row.job.seq
-    → was ≡ is_waiting row.job.phase → is ≡ is_waiting then.job.phase → waiting ≡ waiting_then t s was is old.waiting → capacity ≡ before
-    → IsChange t s row then old (record { rows = set old.rows i then; waiting = waiting }) capacity
-change_at t s old i row then was is waiting before capacity kept placed here tenant seq was_is is_is queued same =
-    let it = row_at t s old.rows i row placed here in
-    let rows_are : set old.rows i then ≡ put_row t s then.job old.rows = ap (λ n. set old.rows i (record { tenant = n; job = then.job })) tenant ∙ it.changes then.job in
-    let waiting_is : waiting ≡ waiting_then t s (is_waiting row.job.phase) (is_waiting then.job.phase) old.waiting =
-    queued ∙ ap (λ b. waiting_then t s b is old.waiting) was_is ∙ ap (λ b. waiting_then t s (is_waiting row.job.phase) b old.waiting) is_is in
-    let new : TableData = record { rows = set old.rows i then; waiting = waiting } in
-    let after : new ≡ change_job t s row.job then.job old =
-    ap (λ rs. let d : TableData = record { rows = rs; waiting = waiting } in d) rows_are ∙ ap (λ ks. let d : TableData = record { rows = put_row t s then.job old.rows; waiting = ks } in d) waiting_is in
-    let named : then.job.seq ≡ s = seq ∙ found_named t s old.rows row.job it.found in
-    let then_kept = changed t s row.job then.job old before kept it.found named in
-    record {
-      found = it.found;
-      tenant = it.tenant;
-      after = after;
-      kept = subst (λ d. IsKept d capacity) (sym after) (subst (IsKept (change_job t s row.job then.job old)) (sym same) then_kept);
-    }
-
--- a row that goes before the first that it comes before
-insert_at : (new row : Row) (rows : List Row) (n : ℕ) (b : Bool) → insert rows n new ≡ add_row new rows
-    → insert (row ∷ rows) (cond (not b) (1 + n) 0) new ≡ cond b (new ∷ row ∷ rows) (row ∷ add_row new rows)
-insert_at new row rows n true later = refl
-insert_at new row rows n false later = let more : 1 + n ≡ suc n = omega arith in rw more (ap (λ xs. row ∷ xs) later)
-
-added_at : (new : Row) (rows : List Row) → insert rows (position_or_len (comes_before new.tenant new.job.seq) rows) new ≡ add_row new rows
-added_at new [] = refl
-added_at new (row ∷ rows) = insert_at new row rows (position_or_len (comes_before new.tenant new.job.seq) rows) (comes_before new.tenant new.job.seq row) (added_at new rows)
-
-pub placed_for : (p : Row → Bool) (rows : List Row) → unwrap_or (position p rows) (length rows) ≡ position_or_len p rows
-placed_for p [] = refl
-placed_for p (row ∷ rows) = grind (arith, nat_tests, placed_for p rows)
-
-pub add_at : (new : Row) (rows : List Row) → insert rows (unwrap_or (position (comes_before new.tenant new.job.seq) rows) (length rows)) new ≡ add_row new rows
-add_at new rows = ap (λ i. insert rows i new) (placed_for (comes_before new.tenant new.job.seq) rows) ∙ added_at new rows
-
--- the place of a key, as it is told
-pub placed_at : (t s : ℕ) (rows all : List Row) (o p : Option ℕ) → rows ≡ all → o ≡ position (is_row t s) rows → o ≡ p → position (is_row t s) all ≡ p
-placed_at t s rows all o p same placed is = sym (ap (position (is_row t s)) same) ∙ sym placed ∙ is
+use Rattle.job_table.proofs.OrderLemmas.{order_apart}
+use Rattle.job_table.proofs.CountLemmas.{told, told_more, recounted, has_counts, put_jobs, drop_jobs, add_jobs}
+use Rattle.job_table.proofs.MapLemmas.{Jobs, IsUpdate, named_find, named_update, rows_put, rows_drop, rows_add, rows_order}
+use Rattle.job_table.proofs.KeptLemmas.{changed, added, dropped, has_room, then_out}
 
 -- a table is its rows and those who wait
 pub same_table : (rows all : List Row) (keys waiting : List (ℕ × ℕ)) → rows ≡ all → keys ≡ waiting → record { rows = rows; waiting = keys } ≡ let d : TableData = record { rows = all; waiting = waiting } in d
 same_table rows all keys waiting r k = ap (λ rs. let d : TableData = record { rows = rs; waiting = keys } in d) r ∙ ap (λ ks. let d : TableData = record { rows = all; waiting = ks } in d) k
 
+-- the table that a map and a queue are
+abbrev pub table_of : Jobs → List (ℕ × ℕ) → TableData
+table_of jobs waiting = record { rows = rows_of jobs; waiting = waiting }
+
+-- what a job that is found in the map is in the table
+pub record IsFound (t s : ℕ) (job : JobData) (jobs : Jobs) (counts : List (ℕ × Counts)) (waiting : List (ℕ × ℕ)) (capacity : ℕ) : Type 0 where
+  pub found : find_row t s (rows_of jobs) ≡ Some job
+  pub numbered : job.seq ≡ s
+  pub there : IsSome (lookup (nat_eq t) counts)
+  pub kept : 1 ≤ (counted (lookup (nat_eq t) counts)).kept
+  pub least : is_out job.phase ≡ true → 1 ≤ (counted (lookup (nat_eq t) counts)).out
+  pub most : is_out job.phase ≡ false → (counted (lookup (nat_eq t) counts)).out < (counted (lookup (nat_eq t) counts)).kept
+  pub room : is_waiting job.phase ≡ false → length waiting < capacity
+
+pub found_in : (t s : ℕ) (job : JobData) (jobs : Jobs) (counts : List (ℕ × Counts)) (waiting : List (ℕ × ℕ)) (capacity : ℕ) → IsHeld jobs counts waiting capacity → lookup (is_key t s) jobs ≡ Some job
+    → IsFound t s job jobs counts waiting capacity
+found_in t s job jobs counts waiting capacity held there =
+    let found : find_row t s (rows_of jobs) ≡ Some job = named_find t s jobs held.named ∙ there in
+    let tell = told t s job (rows_of jobs) found in
+    let are : counted (lookup (nat_eq t) counts) ≡ counts_of t (rows_of jobs) = held.counted t in
+    record {
+      found = found;
+      numbered = held.named t s job there;
+      there = has_counts t s job counts (rows_of jobs) held.counted found;
+      kept = omega (arith, ap (λ (c : Counts). c.kept) are, tell.some);
+      least = λ e. omega (arith, ap (λ (c : Counts). c.out) are, tell.least e);
+      most = λ e. omega (arith, ap (λ (c : Counts). c.kept) are, ap (λ (c : Counts). c.out) are, tell.most e);
+      room = λ e. has_room t s job (table_of jobs waiting) capacity held.kept found e;
+    }
+
+-- the counts of jobs
+abbrev counts_by : List JobData → Counts
+counts_by jobs = record { kept = length jobs; out = length (filter (λ (job : JobData). is_out job.phase) jobs) }
+
+-- the counts say what they said, but for one tenant
+abbrev pub Recounts : ℕ → Counts → List (ℕ × Counts) → List (ℕ × Counts) → Type 0
+Recounts t new olds news = (u : ℕ) → counted (lookup (nat_eq u) news) ≡ cond (nat_eq t u) new (counted (lookup (nat_eq u) olds))
+
+-- a table in which a job has become another
+pub record IsChange (t s : ℕ) (job then : JobData) (old new : TableData) (jobs : Jobs) (counts : List (ℕ × Counts)) (capacity : ℕ) : Type 0 where
+  pub held : IsHeld jobs counts new.waiting capacity
+  pub after : new ≡ change_job t s job then old
+
+pub change_in : (t s : ℕ) (job then : JobData) (jobs news : Jobs) (counts recounts : List (ℕ × Counts)) (waiting keys : List (ℕ × ℕ)) (before capacity : ℕ) → IsHeld jobs counts waiting before
+    → lookup (is_key t s) jobs ≡ Some job → then.seq ≡ job.seq → IsUpdate t s (Some then) jobs news
+    → Recounts t (moved (is_out job.phase) (is_out then.phase) (counted (lookup (nat_eq t) counts))) counts recounts
+    → keys ≡ waiting_then t s (is_waiting job.phase) (is_waiting then.phase) waiting → capacity ≡ before
+    → IsChange t s job then (table_of jobs waiting) (table_of news keys) news recounts capacity
+change_in t s job then jobs news counts recounts waiting keys before capacity held there seq up count queue same =
+    let it = found_in t s job jobs counts waiting before held there in
+    let rows = rows_of jobs in
+    let named : then.seq ≡ s = seq ∙ it.numbered in
+    let rows_are : rows_of news ≡ put_row t s then rows = rows_put t s job then jobs news held.named there named up in
+    let after : table_of news keys ≡ change_job t s job then (table_of jobs waiting) =
+    same_table (rows_of news) (put_row t s then rows) keys (waiting_then t s (is_waiting job.phase) (is_waiting then.phase) waiting) rows_are queue in
+    let tell = told t s job rows it.found in
+    let c = counted (lookup (nat_eq t) counts) in
+    let told_new : moved (is_out job.phase) (is_out then.phase) c ≡ counts_of t (put_row t s then rows) = ap (moved (is_out job.phase) (is_out then.phase)) (held.counted t) ∙ sym (tell.put then) in
+    let counts_are : AreCounted recounts (put_row t s then rows) =
+    recounted t (moved (is_out job.phase) (is_out then.phase) c) counts recounts rows (put_row t s then rows) held.counted told_new
+    (λ u e. ap (λ jobs. counts_by jobs) (put_jobs u t s then rows e)) count in
+    record {
+      held = record {
+        named = named_update t s (Some then) jobs news held.named (λ j is. let same : j ≡ then = cc in ap (λ (j : JobData). j.seq) same ∙ named) up;
+        counted = subst (AreCounted recounts) (sym rows_are) counts_are;
+        kept = subst (λ d. IsKept d capacity) (sym after) (subst (IsKept (change_job t s job then (table_of jobs waiting))) (sym same) (changed t s job then (table_of jobs waiting) before held.kept it.found named));
+      };
+      after = after;
+    }
+
+-- a table from which a job is gone
+pub record IsDrop (t s : ℕ) (old new : TableData) (jobs : Jobs) (counts : List (ℕ × Counts)) (capacity : ℕ) : Type 0 where
+  pub held : IsHeld jobs counts new.waiting capacity
+  pub after : new ≡ drop_job t s old
+
+pub drop_in : (t s : ℕ) (job : JobData) (jobs news : Jobs) (counts recounts : List (ℕ × Counts)) (waiting keys : List (ℕ × ℕ)) (before capacity : ℕ) → IsHeld jobs counts waiting before
+    → lookup (is_key t s) jobs ≡ Some job → IsUpdate t s None jobs news → Recounts t (one_less (is_out job.phase) (counted (lookup (nat_eq t) counts))) counts recounts
+    → keys ≡ waiting_then t s (is_waiting job.phase) false waiting → capacity ≡ before → IsDrop t s (table_of jobs waiting) (table_of news keys) news recounts capacity
+drop_in t s job jobs news counts recounts waiting keys before capacity held there up count queue same =
+    let it = found_in t s job jobs counts waiting before held there in
+    let rows = rows_of jobs in
+    let rows_are : rows_of news ≡ drop_row t s rows = rows_drop t s jobs news held.named up in
+    let out : keys ≡ without t s waiting = queue ∙ then_out t s job (table_of jobs waiting) before held.kept it.found in
+    let after : table_of news keys ≡ drop_job t s (table_of jobs waiting) = same_table (rows_of news) (drop_row t s rows) keys (without t s waiting) rows_are out in
+    let tell = told t s job rows it.found in
+    let c = counted (lookup (nat_eq t) counts) in
+    let told_new : one_less (is_out job.phase) c ≡ counts_of t (drop_row t s rows) = ap (one_less (is_out job.phase)) (held.counted t) ∙ sym tell.drop in
+    let counts_are : AreCounted recounts (drop_row t s rows) =
+    recounted t (one_less (is_out job.phase) c) counts recounts rows (drop_row t s rows) held.counted told_new (λ u e. ap (λ jobs. counts_by jobs) (drop_jobs u t s rows e)) count in
+    record {
+      held = record {
+        named = named_update t s None jobs news held.named (λ j is. absurd (cc)) up;
+        counted = subst (AreCounted recounts) (sym rows_are) counts_are;
+        kept = subst (λ d. IsKept d capacity) (sym after)
+            (subst (IsKept (drop_job t s (table_of jobs waiting))) (sym same) (dropped t s job (table_of jobs waiting) before held.kept (order_apart rows (rows_order jobs)) it.found));
+      };
+      after = after;
+    }
+
+-- a table with a job more
+pub record IsAdd (t : ℕ) (job : JobData) (old new : TableData) (jobs : Jobs) (counts : List (ℕ × Counts)) (capacity : ℕ) : Type 0 where
+  pub held : IsHeld jobs counts new.waiting capacity
+  pub after : new ≡ add_job t job old
+
+pub add_in : (t : ℕ) (job : JobData) (jobs news : Jobs) (counts recounts : List (ℕ × Counts)) (waiting keys : List (ℕ × ℕ)) (before capacity : ℕ) → IsHeld jobs counts waiting before
+    → find_row t job.seq (rows_of jobs) ≡ None → length (rows_of jobs) + 1 ≤ before → IsUpdate t job.seq (Some job) jobs news
+    → Recounts t (one_more (is_out job.phase) (counted (lookup (nat_eq t) counts))) counts recounts → keys ≡ waiting_then t job.seq false (is_waiting job.phase) waiting → capacity ≡ before
+    → IsAdd t job (table_of jobs waiting) (table_of news keys) news recounts capacity
+add_in t job jobs news counts recounts waiting keys before capacity held none room up count queue same =
+    let rows = rows_of jobs in
+    let row : Row = record { tenant = t; job = job } in
+    let rows_are : rows_of news ≡ add_row row rows = rows_add t job jobs news held.named none up in
+    let after : table_of news keys ≡ add_job t job (table_of jobs waiting) = same_table (rows_of news) (add_row row rows) keys (waiting_then t job.seq false (is_waiting job.phase) waiting) rows_are queue in
+    let c = counted (lookup (nat_eq t) counts) in
+    let told_new : one_more (is_out job.phase) c ≡ counts_of t (add_row row rows) = ap (one_more (is_out job.phase)) (held.counted t) ∙ sym (told_more row rows) in
+    let counts_are : AreCounted recounts (add_row row rows) =
+    recounted t (one_more (is_out job.phase) c) counts recounts rows (add_row row rows) held.counted told_new (λ u e. ap (λ jobs. counts_by jobs) (add_jobs u row rows e)) count in
+    record {
+      held = record {
+        named = named_update t job.seq (Some job) jobs news held.named (λ j is. let same : j ≡ job = cc in ap (λ (j : JobData). j.seq) same) up;
+        counted = subst (AreCounted recounts) (sym rows_are) counts_are;
+        kept = subst (λ d. IsKept d capacity) (sym after) (subst (IsKept (add_job t job (table_of jobs waiting))) (sym same) (added t job (table_of jobs waiting) before held.kept none room));
+      };
+      after = after;
+    }
+
 -- the same table, with memory for more
-pub grown : (old new : TableData) (before capacity : ℕ) → IsKept old before → new ≡ old → before ≤ capacity → IsKept new capacity
-grown old new before capacity kept same more =
-    subst (λ d. IsKept d capacity) (sym same) (record { apart = kept.apart; waiting = kept.waiting; count = kept.count; room = omega (arith, kept.room, more) })
+pub grown : (jobs news : Jobs) (counts recounts : List (ℕ × Counts)) (waiting keys : List (ℕ × ℕ)) (before capacity : ℕ) → IsHeld jobs counts waiting before → news ≡ jobs
+    → ((u : ℕ) → counted (lookup (nat_eq u) recounts) ≡ counted (lookup (nat_eq u) counts)) → keys ≡ waiting → before ≤ capacity → IsHeld news recounts keys capacity
+grown jobs news counts recounts waiting keys before capacity held jobs_are count keys_are more =
+    subst (λ es. IsHeld es recounts keys capacity) (sym jobs_are) (subst (λ ks. IsHeld jobs recounts ks capacity) (sym keys_are)
+    (record {
+      named = held.named;
+      counted = λ u. count u ∙ held.counted u;
+      kept = record { waiting = held.kept.waiting; count = held.kept.count; room = omega (arith, held.kept.room, more) };
+    }))
 
 -- a turn that is out does not wait
 pub is_turn_not : (slice : ℕ) (phase : Phase) → is_turn slice phase ≡ true → is_waiting phase ≡ false
@@ -104,3 +185,78 @@ given_up_seq job (Leaving n) then gone = absurd (cc)
 given_up_seq job Dry then gone = ap seq_in (sym gone)
 given_up_seq job Closed then gone = absurd (cc)
 given_up_seq job Cancelled then gone = absurd (cc)
+
+-- what was not written anew is as it was
+pub unwritten : (t s : ℕ) (job then : JobData) (jobs news : Jobs) → lookup (is_key t s) jobs ≡ Some job → then ≡ job → news ≡ set_value (is_key t s) jobs then → news ≡ jobs
+unwritten t s job then jobs news there same is = is ∙ ap (set_value (is_key t s) jobs) same ∙ set_value_same (is_key t s) jobs job there
+
+pub held_as : (jobs news : Jobs) (counts : List (ℕ × Counts)) (waiting : List (ℕ × ℕ)) (capacity : ℕ) → IsHeld jobs counts waiting capacity → news ≡ jobs → IsHeld news counts waiting capacity
+held_as jobs news counts waiting capacity held same = subst (λ es. IsHeld es counts waiting capacity) (sym same) held
+
+-- counts that are told by other names
+pub recounts_as : (t : ℕ) (a b was is : Bool) (olds news : List (ℕ × Counts)) → a ≡ was → b ≡ is → Recounts t (moved a b (counted (lookup (nat_eq t) olds))) olds news
+    → Recounts t (moved was is (counted (lookup (nat_eq t) olds))) olds news
+recounts_as t a b was is olds news p q told =
+    subst (λ x. Recounts t (moved was x (counted (lookup (nat_eq t) olds))) olds news) q (subst (λ x. Recounts t (moved x b (counted (lookup (nat_eq t) olds))) olds news) p told)
+
+moved_none : (b : Bool) (c : Counts) → moved b b c ≡ c
+moved_none true c = refl
+moved_none false c = refl
+
+uncounted : (t u : ℕ) (b : Bool) → nat_eq t u ≡ b → (counts : List (ℕ × Counts)) → counted (lookup (nat_eq u) counts) ≡ cond b (counted (lookup (nat_eq t) counts)) (counted (lookup (nat_eq u) counts))
+uncounted t u true e counts = ap (λ n. counted (lookup (nat_eq n) counts)) (sym (eqb-true t u e))
+uncounted t u false e counts = refl
+
+-- counts that stay, where a turn stays out or does not go out
+pub no_recount : (t : ℕ) (was is : Bool) (counts : List (ℕ × Counts)) → was ≡ is → Recounts t (moved was is (counted (lookup (nat_eq t) counts))) counts counts
+no_recount t was is counts same u =
+    let c = counted (lookup (nat_eq t) counts) in
+    let stays : moved was is c ≡ c = ap (λ b. moved b is c) same ∙ moved_none is c in
+    uncounted t u (nat_eq t u) refl counts ∙ ap (λ x. cond (nat_eq t u) x (counted (lookup (nat_eq u) counts))) (sym stays)
+
+-- who waits, told by other names
+pub queued_as : (t s : ℕ) (a b was is : Bool) (waiting keys : List (ℕ × ℕ)) → a ≡ was → b ≡ is → keys ≡ waiting_then t s a b waiting → keys ≡ waiting_then t s was is waiting
+queued_as t s a b was is waiting keys p q told = told ∙ ap (λ x. waiting_then t s x b waiting) p ∙ ap (λ x. waiting_then t s was x waiting) q
+
+-- whose turn is out
+pub is_turn_out : (slice : ℕ) (phase : Phase) → is_turn slice phase ≡ true → is_out phase ≡ true
+is_turn_out slice Waiting turn = absurd (cc)
+is_turn_out slice (Out n) turn = refl
+is_turn_out slice (Leaving n) turn = refl
+is_turn_out slice Dry turn = absurd (cc)
+is_turn_out slice Closed turn = absurd (cc)
+is_turn_out slice Cancelled turn = absurd (cc)
+
+back_of : (closed : Bool) (left : ℕ) (b : Bool) → is_out (cond closed Closed (cond b Dry Waiting)) ≡ false
+back_of true left b = refl
+back_of false left true = refl
+back_of false left false = refl
+
+pub back_not_out : (phase : Phase) (closed : Bool) (left : ℕ) → is_out (phase_after phase closed left) ≡ false
+back_not_out Waiting closed left = back_of closed left (left == 0)
+back_not_out (Out n) closed left = back_of closed left (left == 0)
+back_not_out (Leaving n) closed left = refl
+back_not_out Dry closed left = back_of closed left (left == 0)
+back_not_out Closed closed left = back_of closed left (left == 0)
+back_not_out Cancelled closed left = back_of closed left (left == 0)
+
+pub here_not_out : (phase : Phase) → is_here phase ≡ true → is_out phase ≡ false
+here_not_out Waiting here = refl
+here_not_out (Out n) here = absurd (cc)
+here_not_out (Leaving n) here = absurd (cc)
+here_not_out Dry here = refl
+here_not_out Closed here = absurd (cc)
+here_not_out Cancelled here = absurd (cc)
+
+out_in : Option JobData → Bool
+out_in None = false
+out_in (Some job) = is_out job.phase
+
+pub given_up_out : (job : JobData) (phase : Phase) (then : JobData) → given_up job phase ≡ Some then → is_out phase ≡ is_out then.phase
+unfolding out_in
+given_up_out job Waiting then gone = ap out_in gone
+given_up_out job (Out n) then gone = ap out_in gone
+given_up_out job (Leaving n) then gone = absurd (cc)
+given_up_out job Dry then gone = ap out_in gone
+given_up_out job Closed then gone = absurd (cc)
+given_up_out job Cancelled then gone = absurd (cc)

@@ -1,5 +1,5 @@
 -- Each of those who wait is found and waits, and each job that waits stands among them.
-use Rattle.std.proofs.Common.{◌≡◌, ℕ, zero, suc, ◌==◌, ◌+◌, ◌<◌, Bool, true, false, List, [], ◌∷◌, slice_get, Option, Some, None, refl, ap, ◌∙◌, arith}
+use Rattle.std.proofs.Common.{◌≡◌, ℕ, zero, suc, ◌==◌, ◌+◌, ◌<◌, Bool, true, false, List, [], ◌∷◌, slice_get, Option, Some, None, refl, sym, ap, ◌∙◌, arith}
 use Rattle.std.proofs.lemmas.Bool.{and_parts, eqb-true}
 use Rattle.std.proofs.lemmas.Bool.Decides.{nat_tests}
 use Rattle.job_table.specs.Table.{Row, JobData, TableData, is_key, is_waiting, does_wait, find_row, AreWaiting}
@@ -64,9 +64,9 @@ pub record StandsAt (t s : ℕ) (keys : List (ℕ × ℕ)) : Type 0 where
 
 key_at : (t s : ℕ) (key : ℕ × ℕ) (keys : List (ℕ × ℕ)) (b : Bool) → is_key t s key ≡ b → (0 < times t s keys → StandsAt t s keys) → 0 < times t s (key ∷ keys) → StandsAt t s (key ∷ keys)
 key_at t s key keys true e later some =
-    let parts = and_parts (key.0 == t) (key.1 == s) e in
-    let t_is : key.0 ≡ t = eqb-true key.0 t parts.0 in
-    let s_is : key.1 ≡ s = eqb-true key.1 s parts.1 in
+    let parts = and_parts (t == key.0) (s == key.1) e in
+    let t_is : key.0 ≡ t = sym (eqb-true t key.0 parts.0) in
+    let s_is : key.1 ≡ s = sym (eqb-true s key.1 parts.1) in
     record { at = 0; here = ap (λ n. Some (n, key.1)) t_is ∙ ap (λ n. Some (t, n)) s_is }
 key_at t s key keys false e later some =
     let it = later (omega (arith, some, times_first t s key keys false e)) in

@@ -1,10 +1,54 @@
 -- What a table keeps of itself beside what contracts see.
-use Rattle.std.specs.Prelude.{◌≡◌, ℕ, ◌≤◌, filter, length}
-use Rattle.job_table.specs.Table.{Row, TableData, is_waiting, AreApart, AreWaiting}
+use Rattle.std.specs.Prelude.{◌≡◌, ℕ, ◌+◌, ◌-◌, ◌≤◌, Bool, cond, List, [], ◌∷◌, Option, Some, None, nat_eq, filter, length}
+use Rattle.std.specs.Map.{lookup}
+use Rattle.job_table.specs.Table.{JobData, Row, TableData, is_key, is_waiting, is_out, add_row, drop_row, jobs_of, AreWaiting}
+use Rattle.job_table.specs.declared.counts.Counts.{Counts}
 
--- each job is there once, those who wait are the jobs that wait, as many as there are, and there is memory for all to wait
+-- an entry of the map, as a row: the job under its key
+abbrev pub row_of : (ℕ × ℕ) × JobData → Row
+row_of entry = record { tenant = entry.0.0; job = record entry.1 { seq = entry.0.1 } }
+
+-- the entries as rows, each put in its place among those behind it: so their order in the map says nothing
+abbrev pub rows_of : List ((ℕ × ℕ) × JobData) → List Row
+rows_of [] = []
+rows_of (entry ∷ entries) = add_row (row_of entry) (drop_row entry.0.0 entry.0.1 (rows_of entries))
+
+-- each job lies under its own number
+abbrev pub AreNamed : List ((ℕ × ℕ) × JobData) → Type 0
+AreNamed entries = (t s : ℕ) (job : JobData) → lookup (is_key t s) entries ≡ Some job → job.seq ≡ s
+
+-- how many jobs a tenant has, and of how many the turn is out
+abbrev pub counts_of : ℕ → List Row → Counts
+counts_of t rows = record { kept = length (jobs_of t rows); out = length (filter (λ job. is_out job.phase) (jobs_of t rows)) }
+
+-- the counts that were found, or none
+abbrev pub counted : Option Counts → Counts
+counted None = record { kept = 0; out = 0 }
+counted (Some counts) = counts
+
+-- the counts once a job's turn has gone out or come back
+abbrev pub moved : Bool → Bool → Counts → Counts
+moved was is counts = cond is (cond was counts (record counts { out = counts.out + 1 })) (cond was (record counts { out = counts.out - 1 }) counts)
+
+-- the counts with a job more, and with one less, whose turn is out or not
+abbrev pub one_more : Bool → Counts → Counts
+one_more out counts = record { kept = counts.kept + 1; out = cond out (counts.out + 1) counts.out }
+
+abbrev pub one_less : Bool → Counts → Counts
+one_less out counts = record { kept = counts.kept - 1; out = cond out (counts.out - 1) counts.out }
+
+-- the counts are those of the rows
+abbrev pub AreCounted : List (ℕ × Counts) → List Row → Type 0
+AreCounted entries rows = (t : ℕ) → counted (lookup (nat_eq t) entries) ≡ counts_of t rows
+
+-- those who wait are the jobs that wait, as many as there are, and there is memory for all to wait
 pub record IsKept (table : TableData) (capacity : ℕ) : Type 0 where
-  pub apart : AreApart table.rows
   pub waiting : AreWaiting table
   pub count : length table.waiting ≡ length (filter (λ (row : Row). is_waiting row.job.phase) table.rows)
   pub room : length table.rows ≤ capacity
+
+-- the map of the jobs, the counts and the queue agree
+pub record IsHeld (jobs : List ((ℕ × ℕ) × JobData)) (counts : List (ℕ × Counts)) (waiting : List (ℕ × ℕ)) (capacity : ℕ) : Type 0 where
+  pub named : AreNamed jobs
+  pub counted : AreCounted counts (rows_of jobs)
+  pub kept : IsKept (record { rows = rows_of jobs; waiting = waiting }) capacity

@@ -87,7 +87,7 @@ pub record TableData : Type 0 where
 
 -- whether these are that tenant and that number
 abbrev pub is_key : ℕ → ℕ → ℕ × ℕ → Bool
-is_key t s key = (key.0 == t) && (key.1 == s)
+is_key t s key = (t == key.0) && (s == key.1)
 
 -- the keys without the first of that tenant and number
 abbrev pub without : ℕ → ℕ → List (ℕ × ℕ) → List (ℕ × ℕ)

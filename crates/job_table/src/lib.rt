@@ -7,12 +7,14 @@
 //!
 //! - `phase`: the phases of a job, and in which of them it waits, is out or has ended.
 //! - `best`: the best schedule of a job, in memory that is taken once.
+//! - `counts`: how many jobs each tenant has, and of how many the turn is out.
 //! - `job`: `Job`.
 //! - `queue`: who waits.
 //! - `table`: `JobTable`.
 #![tactic(auto)]
 
 mod best;
+mod counts;
 mod job;
 mod phase;
 mod queue;

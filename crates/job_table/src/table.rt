@@ -2,125 +2,62 @@
 ghost use Rattle.std.specs.Prelude.{◌≡◌, ◌↔◌, ◌+◌, ◌≤◌, IsTrue, IsFalse, true, if◌then◌else◌, [], ◌∷◌, ◌++◌, Some, None, IfSome, OnSome, IfNone, IfErr, OnOk, OnErr, false, length, filter, position, slice_get};
 ghost use Rattle.std.specs.Option.{option_copied};
 ghost use Rattle.strategy.specs.Outcome.{is_closed};
-ghost use Rattle.std.specs.Vec.{vec_capacity};
-ghost use Rattle.job_table.specs.Table.{AreWaiting, is_row, is_waiting, is_out, comes_before, find_row, jobs_of, add_job, drop_job};
+ghost use Rattle.job_table.specs.Table.{AreWaiting, is_out, find_row, jobs_of, add_job, drop_job};
 ghost use Rattle.job_table.specs.Job.{meaning_of, given_up, back, is_here, IsOwn, IsSent, IsBack, IsStrange, IsFunded, IsGivenUp};
 
+use crate::counts::{Counts, begin_counts, count_in, count_out, counts_in, recount};
 use crate::job::is_here;
-use crate::queue::{requeue, take_out};
+use crate::queue::requeue;
 use crate::{Job, Phase};
+use indexmap::IndexMap;
 use std::alloc::Global;
+use std::collections::VecDeque;
 use std::marker::Model;
 use strategy::Strategy;
-
-/// A job, and whose it is.
-#[derive(Drop)]
-struct Row<J> {
-    tenant: u32,
-    job: Job<J>,
-}
-
-impl<J> Model for Row<J> {
-    ghost use Rattle.job_table.specs.Table as table;
-
-    ghost Value = { table.Row };
-
-    ghost view = { λ r. record { tenant = r.tenant; job = r.job } };
-}
 
 /// All tenants' jobs, and which of them wait. Contracts see the rows in the order of tenants and numbers, and those who wait in
 /// the order in which they are to have their turns.
 #[derive(Drop)]
 pub struct JobTable<J> {
-    rows: Vec<Row<J>>,
-    waiting: Vec<(u32, u64)>,
+    jobs: IndexMap<(u32, u64), Job<J>>,
+    counts: IndexMap<u32, Counts>,
+    waiting: VecDeque<(u32, u64)>,
 }
 
 impl<J> Model for JobTable<J> {
-    ghost use Rattle.std.specs.Vec.{vec_capacity};
+    ghost use Rattle.std.specs.VecDeque.{deque_capacity};
     ghost use Rattle.job_table.specs.Table as table;
-    ghost use Rattle.job_table.specs.Kept.{IsKept};
+    ghost use Rattle.job_table.specs.Kept.{rows_of, IsHeld};
 
     ghost Value = { table.TableData };
 
-    ghost view = { λ t. record { rows = t.rows.items; waiting = t.waiting.items } };
+    ghost view = { λ t. record { rows = rows_of t.jobs.entries; waiting = t.waiting.items } };
 
-    ghost invariant = { λ t. IsKept (record { rows = t.rows.items; waiting = t.waiting.items }) (vec_capacity t.waiting) };
+    ghost invariant = { λ t. IsHeld t.jobs.entries t.counts.entries t.waiting.items (deque_capacity t.waiting) };
 }
 
-impl<J> Row<J> {
-    /// Whether the job waits.
-    fn waits(&self) -> bool
-        ensures { result ≡ is_waiting self.now.job.phase }
-    {
-        self.job.phase().is_waiting()
-    }
-}
-
-impl<J: Strategy> Row<J> {
-    /// Sends the search out, where the job waits and the search is its own.
-    fn send(&mut self, slice: u64) -> Option<J>
-        ensures waits { OnSome result (self.old.job.phase ≡ Phase.Waiting) }
-        ensures search { IfSome result (λ search. J.meaning search ≡ meaning_of self.old.tenant self.old.job) }
-        ensures going { OnSome result (is_closed self.old.job.plan self.old.job.nodes ≡ false) }
-        ensures sent { OnSome result (self.new ≡ record self.old { job = record self.old.job { phase = Phase.Out slice } }) }
-        ensures kept { IfNone result (self.new ≡ self.old) }
-    {
-        if self.job.phase() != Phase::Waiting {
-            return None;
-        }
-        self.job.send(self.tenant, slice)
-    }
-
-    /// Whether the search is the job's, after so many nodes of a turn for at most `slice`.
-    fn is_own(&self, slice: u64, ran: u64, search: &J) -> bool
-        ensures { IsTrue result ↔ IsOwn self.now.tenant slice ran (J.meaning search.now) self.now.job }
-    {
-        self.job.is_own(self.tenant, slice, ran, search)
-    }
-
-    /// Takes the search back.
-    fn take_back(&mut self, slice: u64, ran: u64, search: J)
-        requires own { IsOwn self.old.tenant slice ran (J.meaning search) self.old.job }
-        requires best { (J.meaning search).taken ≡ false }
-        ensures { self.new ≡ record self.old { job = back ran self.old.job } }
-    {
-        self.job.take_back(self.tenant, slice, ran, search);
-    }
-
-    /// Draws more quanta for the search, where it is here and its own.
-    fn fund(&mut self, quanta: u64) -> bool
-        requires { self.old.job.nodes + self.old.job.left + quanta ≤ 1000000000000 }
-        ensures here { IsTrue result → is_here self.old.job.phase ≡ true }
-        ensures funded { IsTrue result → self.new ≡ record self.old { job = record self.old.job { phase = Phase.Waiting; left = self.old.job.left + quanta } } }
-        ensures kept { IsFalse result → self.new ≡ self.old }
-    {
-        is_here(self.job.phase()) && self.job.fund(self.tenant, quanta)
-    }
-
-    /// Gives the search up, where the job is not at its end.
-    fn cancel(&mut self) -> bool
-        ensures given_up { (if result then Some self.new.job else None) ≡ given_up self.old.job self.old.job.phase }
-        ensures tenant { self.new.tenant ≡ self.old.tenant }
-        ensures kept { IsFalse result → self.new ≡ self.old }
-    {
-        self.job.cancel()
-    }
-}
-
-/// Where the row of a tenant's job of that number lies.
-fn place_of<J>(rows: &[Row<J>], tenant: u32, seq: u64) -> Option<usize>
-    ensures { result ≡ position (is_row tenant seq) rows.now }
+/// Sends a tenant's job's search out, where the job waits and the search is its own.
+fn send_waiting<J: Strategy>(job: &mut Job<J>, tenant: u32, slice: u64) -> Option<J>
+    ensures waits { OnSome result (job.old.phase ≡ Phase.Waiting) }
+    ensures search { IfSome result (λ search. J.meaning search ≡ meaning_of tenant job.old) }
+    ensures going { OnSome result (is_closed job.old.plan job.old.nodes ≡ false) }
+    ensures sent { OnSome result (job.new ≡ record job.old { phase = Phase.Out slice }) }
+    ensures kept { IfNone result (job.new ≡ job.old) }
 {
-    rows.iter()
-        .position(|row| row.tenant == tenant && row.job.seq() == seq)
+    if job.phase() != Phase::Waiting {
+        return None;
+    }
+    job.send(tenant, slice)
 }
 
-/// Where the row of a tenant's new job of that number is to lie.
-fn place_for<J>(rows: &[Row<J>], tenant: u32, seq: u64) -> Option<usize>
-    ensures { result ≡ position (comes_before tenant seq) rows.now }
+/// Draws more quanta for a tenant's job's search, where it is here and its own.
+fn fund_here<J: Strategy>(job: &mut Job<J>, tenant: u32, quanta: u64) -> bool
+    requires { job.old.nodes + job.old.left + quanta ≤ 1000000000000 }
+    ensures here { IsTrue result → is_here job.old.phase ≡ true }
+    ensures funded { IsTrue result → job.new ≡ record job.old { phase = Phase.Waiting; left = job.old.left + quanta } }
+    ensures kept { IsFalse result → job.new ≡ job.old }
 {
-    rows.iter().position(|row| tenant < row.tenant || (tenant == row.tenant && seq < row.job.seq()))
+    is_here(job.phase()) && job.fund(tenant, quanta)
 }
 
 impl<J> JobTable<J> {
@@ -129,8 +66,9 @@ impl<J> JobTable<J> {
         ensures { result ≡ record { rows = []; waiting = [] } }
     {
         JobTable {
-            rows: Vec::new(alloc),
-            waiting: Vec::new(alloc),
+            jobs: IndexMap::new(alloc),
+            counts: IndexMap::new(alloc),
+            waiting: VecDeque::new(alloc),
         }
     }
 
@@ -138,7 +76,7 @@ impl<J> JobTable<J> {
     pub fn len(&self) -> usize
         ensures { result ≡ length self.now.rows }
     {
-        self.rows.len()
+        self.jobs.len()
     }
 
     /// Adds a tenant's job, or hands it back where there is no memory for it. From then on no change of it takes memory.
@@ -148,19 +86,24 @@ impl<J> JobTable<J> {
         ensures kept { OnErr result (self.new ≡ self.old) }
         ensures back { IfErr result (λ refused. refused ≡ job) }
     {
-        let more = self.rows.len() - self.waiting.len();
+        let more = self.jobs.len() - self.waiting.len();
         let Ok(()) = self.waiting.reserve(more + 1) else {
             return Err(job);
         };
-        let seq = job.seq();
-        let waits = job.phase().is_waiting();
-        let end = self.rows.len();
-        let at = place_for(&self.rows, tenant, seq).unwrap_or(end);
-        if let Err(refused) = self.rows.insert(at, Row { tenant, job }) {
-            let Row { tenant: _, job } = refused.value;
+        let Ok(()) = begin_counts(&mut self.counts, tenant) else {
             return Err(job);
+        };
+        let (seq, phase) = (job.seq(), job.phase());
+        match self.jobs.insert((tenant, seq), job) {
+            Ok(None) => {}
+            Ok(Some(other)) => return Err(other),
+            Err(refused) => {
+                let (_, job) = refused.value;
+                return Err(job);
+            }
         }
-        requeue(&mut self.waiting, tenant, seq, false, waits);
+        count_in(&mut self.counts, tenant, phase.is_out());
+        requeue(&mut self.waiting, tenant, seq, false, phase.is_waiting());
         Ok(())
     }
 
@@ -168,38 +111,21 @@ impl<J> JobTable<J> {
     pub fn find(&self, tenant: u32, seq: u64) -> Option<&Job<J>>
         ensures { option_copied result ≡ find_row tenant seq self.now.rows }
     {
-        for row in self.rows.iter() {
-            if row.tenant == tenant && row.job.seq() == seq {
-                return Some(&row.job);
-            }
-        }
-        None
+        self.jobs.get(&(tenant, seq))
     }
 
     /// How many jobs the tenant has.
     pub fn count_of(&self, tenant: u32) -> usize
         ensures { result ≡ length (jobs_of tenant self.now.rows) }
     {
-        let mut count = 0;
-        for row in self.rows.iter() {
-            if row.tenant == tenant {
-                count += 1;
-            }
-        }
-        count
+        counts_in(&self.counts, tenant).kept
     }
 
     /// How many of the tenant's jobs have their turn out.
     pub fn out_of(&self, tenant: u32) -> usize
         ensures { result ≡ length (filter (λ job. is_out job.phase) (jobs_of tenant self.now.rows)) }
     {
-        let mut count = 0;
-        for row in self.rows.iter() {
-            if row.tenant == tenant && row.job.phase().is_out() {
-                count += 1;
-            }
-        }
-        count
+        counts_in(&self.counts, tenant).out
     }
 
     /// How many jobs wait: each job that waits stands once among them, and no other.
@@ -233,11 +159,12 @@ impl<J> JobTable<J> {
         ensures found { result ≡ find_row tenant seq self.old.rows }
         ensures rest { self.new ≡ drop_job tenant seq self.old }
     {
-        let Some(at) = place_of(&self.rows, tenant, seq) else {
+        let Some(job) = self.jobs.swap_remove(&(tenant, seq)) else {
             return None;
         };
-        let Row { tenant: _, job } = self.rows.remove(at);
-        take_out(&mut self.waiting, tenant, seq);
+        let phase = job.phase();
+        count_out(&mut self.counts, tenant, phase.is_out());
+        requeue(&mut self.waiting, tenant, seq, phase.is_waiting(), false);
         Some(job)
     }
 }
@@ -249,13 +176,13 @@ impl<J: Strategy> JobTable<J> {
         ensures sent { IfSome result (λ search. IsSent self.old tenant seq slice (J.meaning search) self.new) }
         ensures kept { IfNone result (self.new ≡ self.old) }
     {
-        let Some(at) = place_of(&self.rows, tenant, seq) else {
+        let Some(job) = self.jobs.get_mut(&(tenant, seq)) else {
             return None;
         };
-        let row = &mut self.rows[at];
-        let Some(search) = row.send(slice) else {
+        let Some(search) = send_waiting(job, tenant, slice) else {
             return None;
         };
+        recount(&mut self.counts, tenant, false, true);
         requeue(&mut self.waiting, tenant, seq, true, false);
         Some(search)
     }
@@ -276,15 +203,15 @@ impl<J: Strategy> JobTable<J> {
         ensures kept { OnErr result (self.new ≡ self.old) }
         ensures handed_back { IfErr result (λ it. it ≡ search) }
     {
-        let Some(at) = place_of(&self.rows, tenant, seq) else {
+        let Some(job) = self.jobs.get_mut(&(tenant, seq)) else {
             return Err(search);
         };
-        let row = &mut self.rows[at];
-        if !row.is_own(slice, ran, &search) {
+        if !job.is_own(tenant, slice, ran, &search) {
             return Err(search);
         }
-        row.take_back(slice, ran, search);
-        let waits = row.waits();
+        job.take_back(tenant, slice, ran, search);
+        let waits = job.phase().is_waiting();
+        recount(&mut self.counts, tenant, true, false);
         requeue(&mut self.waiting, tenant, seq, false, waits);
         Ok(())
     }
@@ -296,12 +223,11 @@ impl<J: Strategy> JobTable<J> {
         ensures funded { IsTrue result → IsFunded self.old tenant seq quanta self.new }
         ensures kept { IsFalse result → self.new ≡ self.old }
     {
-        let Some(at) = place_of(&self.rows, tenant, seq) else {
+        let Some(job) = self.jobs.get_mut(&(tenant, seq)) else {
             return false;
         };
-        let row = &mut self.rows[at];
-        let waited = row.waits();
-        if !row.fund(quanta) {
+        let waited = job.phase().is_waiting();
+        if !fund_here(job, tenant, quanta) {
             return false;
         }
         requeue(&mut self.waiting, tenant, seq, waited, true);
@@ -314,12 +240,11 @@ impl<J: Strategy> JobTable<J> {
         ensures refused { IsFalse result → IfSome (find_row tenant seq self.old.rows) (λ job. given_up job job.phase ≡ None) }
         ensures kept { IsFalse result → self.new ≡ self.old }
     {
-        let Some(at) = place_of(&self.rows, tenant, seq) else {
+        let Some(job) = self.jobs.get_mut(&(tenant, seq)) else {
             return false;
         };
-        let row = &mut self.rows[at];
-        let waited = row.waits();
-        if !row.cancel() {
+        let waited = job.phase().is_waiting();
+        if !job.cancel() {
             return false;
         }
         requeue(&mut self.waiting, tenant, seq, waited, false);

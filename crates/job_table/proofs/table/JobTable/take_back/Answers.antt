@@ -1,84 +1,161 @@
-use Rattle.std.proofs.Common.{◌≡◌, ℕ, false, Some, None, List, sym, ap, ◌∙◌, subst, position, set}
-use Rattle.std.specs.Vec.{vec_capacity}
-use Rattle.job_table.specs.Table.{Row, JobData, TableData, is_row, find_row, change_job}
+use Rattle.std.proofs.Common.{◌≡◌, ℕ, true, false, Some, None, is_some, List, refl, sym, ap, ◌∙◌, subst, deque_capacity}
+use Rattle.std.specs.Map.{lookup}
+use Rattle.job_table.specs.Table.{JobData, TableData, is_key, is_waiting, is_out, find_row, change_job}
 use Rattle.job_table.specs.Job.{IsOwn, IsBack}
-use Rattle.job_table.proofs.PlaceLemmas.{row_at, place-None}
-use Rattle.job_table.proofs.TableLemmas.{is_turn_not, change_at, placed_at, IsChange}
-use Rattle.job_table.proofs.KeptLemmas.{has_room}
+use Rattle.job_table.specs.Kept.{rows_of}
+use Rattle.job_table.specs.declared.counts.Counts.{Counts}
+use Rattle.job_table.proofs.MapLemmas.{Jobs, named_find}
+use Rattle.job_table.proofs.TableLemmas.{table_of, found_in, change_in, IsChange, same_table, unwritten, held_as, recounts_as, queued_as, is_turn_not, is_turn_out, back_not_out}
 use Rattle.job_table.proofs.table.JobTable.take_back.Goals as goal
 
 pub returns-in_default-clause-strange : goal.returns-in_default-clause-strange
-returns-in_default-clause-strange g c job found own =
+returns-in_default-clause-strange g c found_job found own =
     let t = c.args.tenant in
     let s = c.args.seq in
-    let rows : List Row = c.self.inside.rows.items in
-    let placed : position (is_row t s) rows ≡ None = placed_at t s c.deref.result.now rows c.place_of.result None c.deref.ensures.value c.place_of.ensures c.in_default.is in
-    let none : find_row t s c.args.self.now.rows ≡ None = ap (λ (d : TableData). find_row t s d.rows) (sym c.self.view_is) ∙ place-None t s rows placed in
+    let jobs : Jobs = c.self.inside.jobs.entries in
+    let counts : List (ℕ × Counts) = c.self.inside.counts.entries in
+    let waiting : List (ℕ × ℕ) = c.self.inside.waiting.items in
+    let room = deque_capacity c.self.inside.waiting in
+    let none : find_row t s c.args.self.now.rows ≡ None = ap (λ (d : TableData). find_row t s d.rows) (sym c.self.view_is) ∙ named_find t s jobs c.self.invariant.named ∙ sym c.in_default.ensures.value in
     absurd (cc)
 
-pub returns-then-not-is_own-clause-strange : goal.returns-then-not-is_own-clause-strange
-returns-then-not-is_own-clause-strange g c job found own =
+pub invariant_of-self-then-not-is_own : goal.invariant_of-self-then-not-is_own
+invariant_of-self-then-not-is_own g c =
     let t = c.args.tenant in
     let s = c.args.seq in
-    let rows : List Row = c.self.inside.rows.items in
+    let jobs : Jobs = c.self.inside.jobs.entries in
+    let counts : List (ℕ × Counts) = c.self.inside.counts.entries in
     let waiting : List (ℕ × ℕ) = c.self.inside.waiting.items in
-    let old : TableData = record { rows = rows; waiting = waiting } in
-    let row : Row = c.index_mut-row.result.now in
-    let placed : position (is_row t s) rows ≡ Some c.in-Some.at = placed_at t s c.deref.result.now rows c.place_of.result (Some c.in-Some.at) c.deref.ensures.value c.place_of.ensures c.in-Some.is in
-    let it = row_at t s rows c.in-Some.at row placed c.index_mut-row.ensures.value in
-    let same : Some row.job ≡ Some job = sym it.found ∙ ap (λ (d : TableData). find_row t s d.rows) c.self.view_is ∙ found in
-    let eq : job ≡ row.job = cc in
-    let m = g.J.Strategy.meaning c.args.search in
-    let mine : IsOwn row.tenant c.args.slice c.args.ran m row.job =
-    subst (λ (n : ℕ). IsOwn n c.args.slice c.args.ran m row.job) (sym it.tenant) (subst (λ (j : JobData). IsOwn t c.args.slice c.args.ran m j) eq own) in
+    let room = deque_capacity c.self.inside.waiting in
+    let job : JobData = c.in-Some.job.now in
+    let there : lookup (is_key t s) jobs ≡ Some job = sym c.in-Some.ensures.value in
+    let it = found_in t s job jobs counts waiting room c.self.invariant there in
+    let here : find_row t s c.args.self.now.rows ≡ Some job = ap (λ (d : TableData). find_row t s d.rows) (sym c.self.view_is) ∙ it.found in
+    let then : JobData = job in
+    let holds = c.get_mut.follows.holds then in
+    let same : (c.get_mut.follows.lender then).entries ≡ jobs = unwritten t s job then jobs (c.get_mut.follows.lender then).entries there (refl) holds.0 in
+    held_as jobs (c.get_mut.follows.lender then).entries counts waiting room c.self.invariant same
+
+pub returns-then-not-is_own-clause-kept : goal.returns-then-not-is_own-clause-kept
+returns-then-not-is_own-clause-kept g c =
+    let t = c.args.tenant in
+    let s = c.args.seq in
+    let jobs : Jobs = c.self.inside.jobs.entries in
+    let counts : List (ℕ × Counts) = c.self.inside.counts.entries in
+    let waiting : List (ℕ × ℕ) = c.self.inside.waiting.items in
+    let room = deque_capacity c.self.inside.waiting in
+    let job : JobData = c.in-Some.job.now in
+    let there : lookup (is_key t s) jobs ≡ Some job = sym c.in-Some.ensures.value in
+    let it = found_in t s job jobs counts waiting room c.self.invariant there in
+    let here : find_row t s c.args.self.now.rows ≡ Some job = ap (λ (d : TableData). find_row t s d.rows) (sym c.self.view_is) ∙ it.found in
+    let then : JobData = job in
+    let holds = c.get_mut.follows.holds then in
+    let same : (c.get_mut.follows.lender then).entries ≡ jobs = unwritten t s job then jobs (c.get_mut.follows.lender then).entries there (refl) holds.0 in
+    same_table (rows_of (c.get_mut.follows.lender then).entries) (rows_of jobs) waiting waiting (ap rows_of same) refl ∙ c.self.view_is
+
+pub returns-then-not-is_own-clause-strange : goal.returns-then-not-is_own-clause-strange
+returns-then-not-is_own-clause-strange g c other found own =
+    let t = c.args.tenant in
+    let s = c.args.seq in
+    let jobs : Jobs = c.self.inside.jobs.entries in
+    let counts : List (ℕ × Counts) = c.self.inside.counts.entries in
+    let waiting : List (ℕ × ℕ) = c.self.inside.waiting.items in
+    let room = deque_capacity c.self.inside.waiting in
+    let job : JobData = c.in-Some.job.now in
+    let there : lookup (is_key t s) jobs ≡ Some job = sym c.in-Some.ensures.value in
+    let it = found_in t s job jobs counts waiting room c.self.invariant there in
+    let here : find_row t s c.args.self.now.rows ≡ Some job = ap (λ (d : TableData). find_row t s d.rows) (sym c.self.view_is) ∙ it.found in
+    let both : Some job ≡ Some other = sym here ∙ found in
+    let eq : other ≡ job = cc in
+    let mine : IsOwn t c.args.slice c.args.ran (g.J.Strategy.meaning c.args.search) job = subst (IsOwn t c.args.slice c.args.ran (g.J.Strategy.meaning c.args.search)) eq own in
     let told = c.is_own.ensures.1 mine in
     absurd (cc)
+
+pub recount-requires-clause-there : goal.recount-requires-clause-there
+recount-requires-clause-there g c =
+    let t = c.args.tenant in
+    let s = c.args.seq in
+    let jobs : Jobs = c.self.inside.jobs.entries in
+    let counts : List (ℕ × Counts) = c.self.inside.counts.entries in
+    let waiting : List (ℕ × ℕ) = c.self.inside.waiting.items in
+    let room = deque_capacity c.self.inside.waiting in
+    let job : JobData = c.in-Some.job.now in
+    let there : lookup (is_key t s) jobs ≡ Some job = sym c.in-Some.ensures.value in
+    let it = found_in t s job jobs counts waiting room c.self.invariant there in
+    let here : find_row t s c.args.self.now.rows ≡ Some job = ap (λ (d : TableData). find_row t s d.rows) (sym c.self.view_is) ∙ it.found in
+    it.there
+
+pub recount-requires-clause-least : goal.recount-requires-clause-least
+recount-requires-clause-least g c was =
+    let t = c.args.tenant in
+    let s = c.args.seq in
+    let jobs : Jobs = c.self.inside.jobs.entries in
+    let counts : List (ℕ × Counts) = c.self.inside.counts.entries in
+    let waiting : List (ℕ × ℕ) = c.self.inside.waiting.items in
+    let room = deque_capacity c.self.inside.waiting in
+    let job : JobData = c.in-Some.job.now in
+    let there : lookup (is_key t s) jobs ≡ Some job = sym c.in-Some.ensures.value in
+    let it = found_in t s job jobs counts waiting room c.self.invariant there in
+    let here : find_row t s c.args.self.now.rows ≡ Some job = ap (λ (d : TableData). find_row t s d.rows) (sym c.self.view_is) ∙ it.found in
+    it.least (is_turn_out c.args.slice job.phase (c.is_own.ensures.0 c.if-not-is_own.false).turn)
 
 pub requeue-requires : goal.requeue-requires
 requeue-requires g c was is =
     let t = c.args.tenant in
     let s = c.args.seq in
-    let rows : List Row = c.self.inside.rows.items in
+    let jobs : Jobs = c.self.inside.jobs.entries in
+    let counts : List (ℕ × Counts) = c.self.inside.counts.entries in
     let waiting : List (ℕ × ℕ) = c.self.inside.waiting.items in
-    let old : TableData = record { rows = rows; waiting = waiting } in
-    let row : Row = c.index_mut-row.result.now in
-    let placed : position (is_row t s) rows ≡ Some c.in-Some.at = placed_at t s c.deref.result.now rows c.place_of.result (Some c.in-Some.at) c.deref.ensures.value c.place_of.ensures c.in-Some.is in
-    let found : find_row t s rows ≡ Some row.job = (row_at t s rows c.in-Some.at row placed c.index_mut-row.ensures.value).found in
-    has_room t s row.job old (vec_capacity c.self.inside.waiting) c.self.invariant found (is_turn_not c.args.slice row.job.phase (c.is_own.ensures.0 c.if-not-is_own.false).turn)
+    let room = deque_capacity c.self.inside.waiting in
+    let job : JobData = c.in-Some.job.now in
+    let there : lookup (is_key t s) jobs ≡ Some job = sym c.in-Some.ensures.value in
+    let it = found_in t s job jobs counts waiting room c.self.invariant there in
+    let here : find_row t s c.args.self.now.rows ≡ Some job = ap (λ (d : TableData). find_row t s d.rows) (sym c.self.view_is) ∙ it.found in
+    it.room (is_turn_not c.args.slice job.phase (c.is_own.ensures.0 c.if-not-is_own.false).turn)
 
 pub invariant_of-self-2 : goal.invariant_of-self-2
 invariant_of-self-2 g c =
     let t = c.args.tenant in
     let s = c.args.seq in
-    let rows : List Row = c.self.inside.rows.items in
+    let jobs : Jobs = c.self.inside.jobs.entries in
+    let counts : List (ℕ × Counts) = c.self.inside.counts.entries in
     let waiting : List (ℕ × ℕ) = c.self.inside.waiting.items in
-    let old : TableData = record { rows = rows; waiting = waiting } in
-    let row : Row = c.index_mut-row.result.now in
-    let placed : position (is_row t s) rows ≡ Some c.in-Some.at = placed_at t s c.deref.result.now rows c.place_of.result (Some c.in-Some.at) c.deref.ensures.value c.place_of.ensures c.in-Some.is in
-    let then : Row = c.take_back.new.self in
-    let it : IsChange t s row then old (record { rows = set rows c.in-Some.at then; waiting = c.requeue.new.keys.items }) (vec_capacity c.requeue.new.keys) =
-    change_at t s old c.in-Some.at row then false c.waits-waits.result c.requeue.new.keys.items (vec_capacity c.self.inside.waiting) (vec_capacity c.requeue.new.keys) c.self.invariant placed c.index_mut-row.ensures.value
-    (ap (λ (r : Row). r.tenant) c.take_back.ensures) (ap (λ (r : Row). r.job.seq) c.take_back.ensures) (sym (is_turn_not c.args.slice row.job.phase (c.is_own.ensures.0 c.if-not-is_own.false).turn)) (c.waits-waits.ensures) c.requeue.ensures.then c.requeue.ensures.capacity in
-    it.kept
+    let room = deque_capacity c.self.inside.waiting in
+    let job : JobData = c.in-Some.job.now in
+    let there : lookup (is_key t s) jobs ≡ Some job = sym c.in-Some.ensures.value in
+    let it = found_in t s job jobs counts waiting room c.self.invariant there in
+    let here : find_row t s c.args.self.now.rows ≡ Some job = ap (λ (d : TableData). find_row t s d.rows) (sym c.self.view_is) ∙ it.found in
+    let then : JobData = c.take_back.new.self in
+    let holds = c.get_mut.follows.holds then in
+    let news : Jobs = (c.get_mut.follows.lender then).entries in
+    let keys : List (ℕ × ℕ) = c.requeue.new.keys.items in
+    let up = holds.3 (ap is_some there) in
+    let gone : is_out then.phase ≡ false = ap (λ (j : JobData). is_out j.phase) c.take_back.ensures ∙ back_not_out job.phase _ _ in
+    let change : IsChange t s job then (table_of jobs waiting) (table_of news keys) news c.recount.new.counts.entries (deque_capacity c.requeue.new.keys) =
+    change_in t s job then jobs news counts c.recount.new.counts.entries waiting keys room (deque_capacity c.requeue.new.keys) c.self.invariant there
+    (ap (λ (j : JobData). j.seq) c.take_back.ensures) (λ u n. up.0 (u, n)) (recounts_as t true false (is_out job.phase) (is_out then.phase) counts c.recount.new.counts.entries (sym (is_turn_out c.args.slice job.phase (c.is_own.ensures.0 c.if-not-is_own.false).turn)) (sym gone) c.recount.ensures) (queued_as t s false c.is_waiting-waits.result (is_waiting job.phase) (is_waiting then.phase) waiting keys (sym (is_turn_not c.args.slice job.phase (c.is_own.ensures.0 c.if-not-is_own.false).turn)) (c.is_waiting-waits.ensures ∙ ap is_waiting c.phase.ensures) c.requeue.ensures.then) c.requeue.ensures.capacity in
+    change.held
 
 pub returns-clause-back : goal.returns-clause-back
 returns-clause-back g c =
     let t = c.args.tenant in
     let s = c.args.seq in
-    let rows : List Row = c.self.inside.rows.items in
+    let jobs : Jobs = c.self.inside.jobs.entries in
+    let counts : List (ℕ × Counts) = c.self.inside.counts.entries in
     let waiting : List (ℕ × ℕ) = c.self.inside.waiting.items in
-    let old : TableData = record { rows = rows; waiting = waiting } in
-    let row : Row = c.index_mut-row.result.now in
-    let placed : position (is_row t s) rows ≡ Some c.in-Some.at = placed_at t s c.deref.result.now rows c.place_of.result (Some c.in-Some.at) c.deref.ensures.value c.place_of.ensures c.in-Some.is in
-    let then : Row = c.take_back.new.self in
-    let it : IsChange t s row then old (record { rows = set rows c.in-Some.at then; waiting = c.requeue.new.keys.items }) (vec_capacity c.requeue.new.keys) =
-    change_at t s old c.in-Some.at row then false c.waits-waits.result c.requeue.new.keys.items (vec_capacity c.self.inside.waiting) (vec_capacity c.requeue.new.keys) c.self.invariant placed c.index_mut-row.ensures.value
-    (ap (λ (r : Row). r.tenant) c.take_back.ensures) (ap (λ (r : Row). r.job.seq) c.take_back.ensures) (sym (is_turn_not c.args.slice row.job.phase (c.is_own.ensures.0 c.if-not-is_own.false).turn)) (c.waits-waits.ensures) c.requeue.ensures.then c.requeue.ensures.capacity in
-    let m = g.J.Strategy.meaning c.args.search in
-    subst (λ (d : TableData). IsBack d t s c.args.slice c.args.ran m (record { rows = set rows c.in-Some.at then; waiting = c.requeue.new.keys.items })) c.self.view_is
-    (record {
-      job = row.job;
-      found = it.found;
-      own = subst (λ (n : ℕ). IsOwn n c.args.slice c.args.ran m row.job) it.tenant (c.is_own.ensures.0 c.if-not-is_own.false);
-      after = it.after ∙ ap (λ (r : Row). change_job t s row.job r.job old) c.take_back.ensures;
-    })
+    let room = deque_capacity c.self.inside.waiting in
+    let job : JobData = c.in-Some.job.now in
+    let there : lookup (is_key t s) jobs ≡ Some job = sym c.in-Some.ensures.value in
+    let it = found_in t s job jobs counts waiting room c.self.invariant there in
+    let here : find_row t s c.args.self.now.rows ≡ Some job = ap (λ (d : TableData). find_row t s d.rows) (sym c.self.view_is) ∙ it.found in
+    let then : JobData = c.take_back.new.self in
+    let holds = c.get_mut.follows.holds then in
+    let news : Jobs = (c.get_mut.follows.lender then).entries in
+    let keys : List (ℕ × ℕ) = c.requeue.new.keys.items in
+    let up = holds.3 (ap is_some there) in
+    let gone : is_out then.phase ≡ false = ap (λ (j : JobData). is_out j.phase) c.take_back.ensures ∙ back_not_out job.phase _ _ in
+    let change : IsChange t s job then (table_of jobs waiting) (table_of news keys) news c.recount.new.counts.entries (deque_capacity c.requeue.new.keys) =
+    change_in t s job then jobs news counts c.recount.new.counts.entries waiting keys room (deque_capacity c.requeue.new.keys) c.self.invariant there
+    (ap (λ (j : JobData). j.seq) c.take_back.ensures) (λ u n. up.0 (u, n)) (recounts_as t true false (is_out job.phase) (is_out then.phase) counts c.recount.new.counts.entries (sym (is_turn_out c.args.slice job.phase (c.is_own.ensures.0 c.if-not-is_own.false).turn)) (sym gone) c.recount.ensures) (queued_as t s false c.is_waiting-waits.result (is_waiting job.phase) (is_waiting then.phase) waiting keys (sym (is_turn_not c.args.slice job.phase (c.is_own.ensures.0 c.if-not-is_own.false).turn)) (c.is_waiting-waits.ensures ∙ ap is_waiting c.phase.ensures) c.requeue.ensures.then) c.requeue.ensures.capacity in
+    subst (λ (d : TableData). IsBack d t s c.args.slice c.args.ran (g.J.Strategy.meaning c.args.search) (table_of news keys)) c.self.view_is
+    (record { job = job; found = it.found; own = (c.is_own.ensures.0 c.if-not-is_own.false); after = change.after ∙ ap (λ (j : JobData). change_job t s job j (table_of jobs waiting)) c.take_back.ensures })

@@ -4,4 +4,5 @@ use Rattle.job_table.proofs.KeptLemmas.{most_kept}
 use Rattle.job_table.proofs.table.JobTable.waiting_len.Goals as goal
 
 pub returns-clause-most : goal.returns-clause-most
-returns-clause-most g c = omega (arith, most_kept _ _ c.self.invariant, ap (λ (d : TableData). length d.rows) c.self.view_is, c.len.ensures)
+returns-clause-most g c =
+    omega (arith, most_kept _ _ c.self.invariant.kept, ap (λ (d : TableData). length d.rows) c.self.view_is, c.len.ensures, c.self.inside.waiting.ok.0)
