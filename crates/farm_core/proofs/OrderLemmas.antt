@@ -103,8 +103,8 @@ add_other u t new (row ∷ rows) differ = grind (arith, nat_tests, add_other u t
 
 key_is : (t s : ℕ) (key : ℕ × ℕ) → is_key t s key ≡ true → key ≡ (t, s)
 key_is t s key is =
-    let parts = and_parts (key.0 == t) (key.1 == s) is in
-    ap {B = ℕ × ℕ} (λ n. (n, key.1)) (eqb-true key.0 t parts.0) ∙ ap {B = ℕ × ℕ} (λ n. (t, n)) (eqb-true key.1 s parts.1)
+    let parts = and_parts (t == key.0) (s == key.1) is in
+    ap {B = ℕ × ℕ} (λ n. (n, key.1)) (sym (eqb-true t key.0 parts.0)) ∙ ap {B = ℕ × ℕ} (λ n. (t, n)) (sym (eqb-true s key.1 parts.1))
 
 gone_or_not : (t s : ℕ) (keys : List (ℕ × ℕ)) → (without t s keys ≡ keys) ⊎ IsWithout t keys (without t s keys)
 gone_or_not t s [] = inl refl
