@@ -54,7 +54,8 @@ nobody_calls old new (c ∷ calls) p none run =
     ∙ purse_stays old run.0 c.tenant c.event c.answer s p (no_caller old.config p c.tenant none s.known)
 
 -- a purse with a member has that member's ledger
-with_member : (config : ConfigData) (calls : List Call) (w : World) → Run config calls w → (p t : ℕ) → t < length w.config.tenants → purse_in w.config t ≡ p → IsWhole (ledger_of (purse p w))
+with_member : (config : ConfigData) (calls : List Call) (w : World) → Run config calls w
+    → (p t : ℕ) → t < length w.config.tenants → purse_in w.config t ≡ p → IsWhole (ledger_of (purse p w))
 with_member config calls w run p t known own =
     let told : book (view t w) ≡ ledger_of (purse p w) = ledger_is t w known ∙ ap (λ (q : ℕ). ledger_of (purse q w)) own in
     subst IsWhole told (told_whole (view t w) (run_runs config calls w run t known))

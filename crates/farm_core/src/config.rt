@@ -171,6 +171,7 @@ impl Config {
     }
 
     /// How many purses there are: at least 1, and no more than tenants.
+    #[tactic(auto, using(crate::proofs::PurseCountLemmas::some_purse, crate::proofs::PurseCountLemmas::most_purses))]
     pub fn purses(&self) -> u32
         ensures exact { result ≡ purses (purse_names self.now.tenants) }
         ensures some { 0 < result }
