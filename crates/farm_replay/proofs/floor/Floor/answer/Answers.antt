@@ -8,13 +8,13 @@ use Rattle.farm_replay.proofs.floor.Floor.answer.Goals as goal
 pub returns-in-Fund-clause-told : goal.returns-in-Fund-clause-told
 returns-in-Fund-clause-told g c =
     rw c.in-Fund.is
-    (replied c.args.self.now.farm c.fund.new.self c.args.tenant (what.Fund c.in-Fund.seq c.in-Fund.quanta) (Fund c.in-Fund.seq c.in-Fund.quanta) c.fund.result c.requires.known refl (λ none room. room) c.fund.ensures)
+    (replied c.args.self.now.farm c.fund.new.self c.args.tenant (what.Fund c.in-Fund.seq c.in-Fund.quanta) (Fund c.in-Fund.seq c.in-Fund.quanta) c.fund.result c.requires.known refl (λ none room. room) c.fund.ensures.follows)
 
 pub returns-in-Fund-clause-floor : goal.returns-in-Fund-clause-floor
 returns-in-Fund-clause-floor g c =
     let know = c.know_turns.ensures in
     floor_replied g.J.Strategy.meaning know.stay know.only c.args.self.now.farm c.fund.new.self c.args.tenant (Fund c.in-Fund.seq c.in-Fund.quanta) c.fund.result know.replayed
-    (λ s. refl) (λ s. refl) c.args.self.now.held.items c.fund.ensures c.requires.floor
+    (λ s. refl) (λ s. refl) c.args.self.now.held.items c.fund.ensures.follows c.requires.floor
 
 pub returns-in-Status-clause-told : goal.returns-in-Status-clause-told
 returns-in-Status-clause-told g c =

@@ -13,10 +13,10 @@ returns-in_default-make-clause-told g c = unanswered c.args.self.now.farm c.args
 pub returns-clause-told : goal.returns-clause-told
 returns-clause-told g c =
     replied c.args.self.now.farm c.submit.new.self c.args.tenant (what.Submit c.args.plan.kind c.args.quanta c.args.plan.project) (Submit c.args.plan c.args.quanta) c.submit.result
-    c.requires.known refl (λ none room. refl) c.submit.ensures
+    c.requires.known refl (λ none room. refl) c.submit.ensures.follows
 
 pub returns-clause-floor : goal.returns-clause-floor
 returns-clause-floor g c =
     let know = c.know_turns.ensures in
     floor_replied g.J.Strategy.meaning know.stay know.only c.args.self.now.farm c.submit.new.self c.args.tenant (Submit c.args.plan c.args.quanta) c.submit.result know.replayed
-    (λ s. refl) (λ s. refl) c.args.self.now.held.items c.submit.ensures c.requires.floor
+    (λ s. refl) (λ s. refl) c.args.self.now.held.items c.submit.ensures.follows c.requires.floor
