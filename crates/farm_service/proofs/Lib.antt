@@ -1,3 +1,4 @@
+pub mod EndLemmas
 pub mod KnownLemmas
 pub mod SeatLemmas
 pub mod TillLemmas

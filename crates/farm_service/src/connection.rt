@@ -4,7 +4,8 @@ ghost use Rattle.quanta_till.specs.Lease.{empty_lease};
 ghost use Rattle.farm_core.specs.declared.entry.Event.TheVariants as event;
 ghost use Rattle.farm_service.specs.Asked.{event_in, IsAskedBy, IsSaidTo, IsSubmitted};
 ghost use Rattle.farm_service.specs.Known.{IsKnown};
-ghost use Rattle.farm_service.specs.Tills.{AreTillsOf, IsTillOf};
+ghost use Rattle.farm_pool.specs.Settle.{AreTillsOf};
+ghost use Rattle.farm_service.specs.Tills.{IsTillOf};
 
 use crate::lobby::Lobby;
 use crate::shared::{Asked, Shared};
