@@ -1,4 +1,3 @@
-pub mod EndLemmas
 pub mod KnownLemmas
 pub mod SeatLemmas
 pub mod TillLemmas
