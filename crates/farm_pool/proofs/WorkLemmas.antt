@@ -1,5 +1,5 @@
 -- What a worker's calls come to.
-use Rattle.std.proofs.Common.{◌≡◌, ℕ, ◌+◌, ◌-◌, ◌<◌, false, [], ◌∷◌, length, min, Some, refl, sym, ap, ◌∙◌, subst, arith}
+use Rattle.std.proofs.Common.{◌≡◌, ℕ, ◌+◌, ◌-◌, ◌<◌, false, List, [], ◌∷◌, length, min, Some, refl, sym, ap, ◌∙◌, subst, arith}
 use Rattle.strategy.specs.Search.{Meaning, nodes_within, ran_on}
 use Rattle.farm_core.specs.declared.turn.Turn.{Turn}
 use Rattle.farm_core.specs.Config.{ConfigData}
@@ -12,7 +12,8 @@ use Rattle.farm_pool.specs.declared.image.AnswerImage.TheVariants as told
 use Rattle.farm_pool.specs.declared.work.Deed.TheVariants.{Turned, Strayed, Waited}
 use Rattle.farm_pool.specs.Served.{Served}
 use Rattle.farm_pool.specs.Calls.{turn_image}
-use Rattle.farm_pool.specs.Worked.{PoolView, run_out, Does, Worked}
+use Rattle.farm_pool.specs.declared.work.Deed.{Deed}
+use Rattle.farm_pool.specs.Worked.{PoolView, run_out, Does, HasDone, Worked, turns_in, strangers_in}
 
 -- what is known of a turn that was sent out
 pub record IsFresh (opening : ConfigData) (i : TurnImage) : Type 0 where
@@ -50,8 +51,15 @@ image_ran meaning t u n tenant seq slice unrun ran all is =
     let e6 : u.ran ≡ k = ran ∙ ap (λ j. j + n) unrun ∙ nothing n ∙ all in
     rw (tenant, seq, slice, e6, e1, e2, e3, e4, e5) refl
 
+-- what a worker has done so far
+pub record WorkedTo (slice : ℕ) (v : PoolView) (turns strangers : ℕ) (w : PoolView) : Type 0 where
+  pub deeds : List Deed
+  pub done : HasDone slice deeds v w
+  pub turns_are : turns ≡ turns_in deeds
+  pub strangers_are : strangers ≡ strangers_in deeds
+
 -- one deed more
-pub turned_more : (slice : ℕ) (v m w : PoolView) (a b c : ℕ) → Worked slice v a b m → Does slice Turned m w → c ≡ min (a + 1) 18446744073709551615 → Worked slice v c b w
+pub turned_more : (slice : ℕ) (v m w : PoolView) (a b c : ℕ) → WorkedTo slice v a b m → Does slice Turned m w → c ≡ min (a + 1) 18446744073709551615 → WorkedTo slice v c b w
 turned_more slice v m w a b c so did is = record {
   deeds = Turned ∷ so.deeds;
   done = (m, so.done, did);
@@ -59,7 +67,7 @@ turned_more slice v m w a b c so did is = record {
   strangers_are = so.strangers_are;
 }
 
-pub strayed_more : (slice : ℕ) (v m w : PoolView) (a b c : ℕ) → Worked slice v a b m → Does slice Strayed m w → c ≡ min (b + 1) 18446744073709551615 → Worked slice v a c w
+pub strayed_more : (slice : ℕ) (v m w : PoolView) (a b c : ℕ) → WorkedTo slice v a b m → Does slice Strayed m w → c ≡ min (b + 1) 18446744073709551615 → WorkedTo slice v a c w
 strayed_more slice v m w a b c so did is = record {
   deeds = Strayed ∷ so.deeds;
   done = (m, so.done, did);
@@ -67,8 +75,12 @@ strayed_more slice v m w a b c so did is = record {
   strangers_are = is ∙ ap (λ n. min (n + 1) 18446744073709551615) so.strangers_are;
 }
 
-pub waited_more : (slice : ℕ) (v m w : PoolView) (a b : ℕ) → Worked slice v a b m → Does slice Waited m w → Worked slice v a b w
+pub waited_more : (slice : ℕ) (v m w : PoolView) (a b : ℕ) → WorkedTo slice v a b m → Does slice Waited m w → WorkedTo slice v a b w
 waited_more slice v m w a b so did = record { deeds = Waited ∷ so.deeds; done = (m, so.done, did); turns_are = so.turns_are; strangers_are = so.strangers_are }
 
-pub begun : (slice : ℕ) (v : PoolView) → Worked slice v 0 0 v
+pub begun : (slice : ℕ) (v : PoolView) → WorkedTo slice v 0 0 v
 begun slice v = record { deeds = []; done = refl; turns_are = refl; strangers_are = refl }
+
+-- and last it waits
+pub ended : (slice : ℕ) (v m w : PoolView) (a b : ℕ) → WorkedTo slice v a b m → Does slice Waited m w → Worked slice v a b w
+ended slice v m w a b so did = record { deeds = so.deeds; done = (m, so.done, did); turns_are = so.turns_are; strangers_are = so.strangers_are }

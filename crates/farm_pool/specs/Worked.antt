@@ -78,10 +78,10 @@ strangers_in (Turned ∷ deeds) = strangers_in deeds
 strangers_in (Strayed ∷ deeds) = min (strangers_in deeds + 1) 18446744073709551615
 strangers_in (Waited ∷ deeds) = strangers_in deeds
 
--- what a worker did from v to w
+-- what a worker did from v to w: these deeds, and last it found none to take, or no memory for it
 pub record Worked (slice : ℕ) (v : PoolView) (turns strangers : ℕ) (w : PoolView) : Type 0 where
   pub deeds : List Deed
-  pub done : HasDone slice deeds v w
+  pub done : HasDone slice (Waited ∷ deeds) v w
   pub turns_are : turns ≡ turns_in deeds
   pub strangers_are : strangers ≡ strangers_in deeds
 

@@ -1,12 +1,13 @@
 -- The tills of purses, by their numbers.
 use Rattle.std.proofs.Common.{◌≡◌, ℕ, zero, suc, ◌+◌, ◌<◌, List, [], ◌∷◌, ◌++◌, length, map, get_or, set, sym, ap, ◌∙◌, arith}
-use Rattle.std.proofs.lemmas.List.{map-append, length-map, get_or-map}
-use Rattle.std.proofs.lemmas.List.FromFn.{map-range_with_len_more, length-map-range_with_len, get_or-map-range_with_len}
+use Rattle.std.proofs.lemmas.List.{map-append, get_or-map}
+use Rattle.std.proofs.lemmas.List.FromFn.{map-range_with_len_more, get_or-map-range_with_len}
 use Rattle.std.specs.List.{range_with_len}
 use Rattle.quanta_till.specs.Till.{TillValue}
 use Rattle.farm_core.specs.Config.{ConfigData, lines_of, granted_by}
 use Rattle.farm_core.specs.World.{purses_in}
-use Rattle.farm_service.specs.Tills.{Opening, opening_of, opening_for, AreTillsOf}
+use Rattle.farm_pool.proofs.SettleLemmas.{tills_length}
+use Rattle.farm_pool.specs.Settle.{Opening, opening_of, opening_for, AreTillsOf}
 
 -- one till more
 pub tills_on : (config : ConfigData) (p : ℕ) (till : TillValue) (old new : List TillValue) → opening_of till ≡ opening_for config p
@@ -14,10 +15,6 @@ pub tills_on : (config : ConfigData) (p : ℕ) (till : TillValue) (old new : Lis
 tills_on config p till old new made before pushed =
     ap (map opening_of) pushed ∙ map-append opening_of old (till ∷ []) ∙ ap (λ (xs : List Opening). xs ++ opening_of till ∷ []) before
     ∙ ap (λ (x : Opening). map (opening_for config) (range_with_len 0 p) ++ x ∷ []) made ∙ sym (map-range_with_len_more (opening_for config) 0 p p (omega arith))
-
--- there is a till for each purse
-pub tills_length : (config : ConfigData) (tills : List TillValue) → AreTillsOf config tills → length tills ≡ purses_in config
-tills_length config tills are = sym (length-map tills opening_of) ∙ ap length are ∙ length-map-range_with_len (opening_for config) 0 (purses_in config)
 
 -- the till of that number is the purse's
 pub own_till : (config : ConfigData) (tills : List TillValue) (p : ℕ) (d : TillValue) → AreTillsOf config tills → p < purses_in config → opening_of (get_or tills p d) ≡ opening_for config p

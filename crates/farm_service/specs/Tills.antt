@@ -1,26 +1,26 @@
--- The tills of a service's purses.
-use Rattle.std.specs.Prelude.{◌≡◌, ℕ, List, map}
-use Rattle.std.specs.List.{range_with_len}
+-- The tills of a service's purses, and how it ends.
+use Rattle.std.specs.Prelude.{◌≡◌, ℕ, List, map, None}
+use Rattle.quanta_till.specs.Desk.{DeskValue}
 use Rattle.quanta_till.specs.Till.{TillValue}
-use Rattle.farm_core.specs.Config.{ConfigData, lines_of, granted_by}
-use Rattle.farm_core.specs.World.{purses_in, purse_in}
-
--- a till: of which purse it is, and the quanta that it was opened with
-pub record Opening : Type 0 where
-  pub purse : ℕ
-  pub granted : ℕ
-
-abbrev pub opening_of : TillValue → Opening
-opening_of till = record { purse = till.purse; granted = till.granted }
-
--- that of a purse, opened with what its members' lines grant
-abbrev pub opening_for : ConfigData → ℕ → Opening
-opening_for config p = record { purse = p; granted = granted_by (lines_of config.tenants p) }
-
--- one for each purse, in the order of their numbers
-abbrev pub AreTillsOf : ConfigData → List TillValue → Type 0
-AreTillsOf config tills = map opening_of tills ≡ map (opening_for config) (range_with_len 0 (purses_in config))
+use Rattle.farm_core.specs.Config.{ConfigData}
+use Rattle.farm_core.specs.World.{World, purse_in}
+use Rattle.farm_pool.specs.Settle.{opening_of, opening_for, books_of, words_at, AreTillsOf, AreSeated, AreLoaded, first_unsettled}
+use Rattle.farm_pool.specs.Worked.{PoolView, IsClosed}
 
 -- the till of a tenant's purse
 abbrev pub IsTillOf : ConfigData → ℕ → TillValue → Type 0
 IsTillOf config t till = opening_of till ≡ opening_for config (purse_in config t)
+
+-- a farm of the configuration, whose journal is that of a legal history, is settled with its purses' tills, whose words were loaded once
+pub record IsSettled (config : ConfigData) : Type 0 where
+  pub farm : World
+  pub seen : PoolView
+  pub tills : List TillValue
+  pub before : List DeskValue
+  pub after : List DeskValue
+  pub config_is : farm.config ≡ config
+  pub closed : IsClosed seen farm
+  pub own : AreTillsOf config tills
+  pub seated : AreSeated tills before
+  pub loaded : AreLoaded before after
+  pub settled : first_unsettled (books_of farm) (map words_at after) ≡ None

@@ -1,8 +1,11 @@
 //! One connection.
 ghost use Rattle.std.specs.Prelude.{◌≡◌, ◌<◌, length, Some, IfSome};
 ghost use Rattle.quanta_till.specs.Lease.{empty_lease};
+ghost use Rattle.farm_core.specs.declared.entry.Event.TheVariants as event;
+ghost use Rattle.farm_service.specs.Asked.{event_in, IsAskedBy, IsSaidTo, IsSubmitted};
 ghost use Rattle.farm_service.specs.Known.{IsKnown};
-ghost use Rattle.farm_service.specs.Tills.{AreTillsOf, IsTillOf};
+ghost use Rattle.farm_pool.specs.Settle.{AreTillsOf};
+ghost use Rattle.farm_service.specs.Tills.{IsTillOf};
 
 use crate::lobby::Lobby;
 use crate::shared::{Asked, Shared};
@@ -66,6 +69,7 @@ fn submit<D: Shared, R: Wait, M: Fn(Ready) -> Option<D::Search>>(
     requires till { IsTillOf (D.config shared.now) tenant branch.old }
     requires make { M.IsAlwaysCallable make.now }
     ensures own { D.owns shared.now token.new }
+    ensures told { IsSubmitted (D.tells shared.now token.old tenant) token.old (event.Submit plan quanta) result token.new }
     ensures kept { branch.new ≡ branch.old }
 {
     match search_of(alloc, branch, tenant, &plan, make) {
@@ -79,7 +83,9 @@ fn submit<D: Shared, R: Wait, M: Fn(Ready) -> Option<D::Search>>(
 }
 
 /// What a request asks for, other than that a job be submitted. A request that only a script may have is none.
-fn asked_by(asked: What) -> Option<Asked> {
+fn asked_by(asked: What) -> Option<Asked>
+    ensures { IsAskedBy asked result }
+{
     match asked {
         What::Fund { seq, quanta } => Some(Asked::Fund { seq, quanta }),
         What::Status(seq) => Some(Asked::Status(seq)),
@@ -91,7 +97,7 @@ fn asked_by(asked: What) -> Option<Asked> {
     }
 }
 
-/// Makes the call that a tenant's request asks for. Where a job may wait then, the lobby's bell is rung.
+/// Makes the call that a tenant's request asks for, and says the reply to it. Where a job may wait then, the lobby's bell is rung.
 fn answer<D: Shared, R: Wait, M: Fn(Ready) -> Option<D::Search>>(
     rt: &R,
     alloc: Global,
@@ -108,6 +114,7 @@ fn answer<D: Shared, R: Wait, M: Fn(Ready) -> Option<D::Search>>(
     requires till { IsTillOf (D.config shared.now) tenant branch.old }
     requires make { M.IsAlwaysCallable make.now }
     ensures own { D.owns shared.now token.new }
+    ensures said { IsSaidTo (D.tells shared.now token.old tenant) token.old (event_in asked) result token.new }
     ensures kept { branch.new ≡ branch.old }
 {
     if let What::Submit {

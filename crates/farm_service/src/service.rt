@@ -1,10 +1,9 @@
 //! A farm that answers requests over connections.
-ghost use Rattle.std.specs.Prelude.{◌≡◌, All, length, map, None, IfOk, OnOk};
+ghost use Rattle.std.specs.Prelude.{◌≡◌, All, map, None, IfOk, OnOk};
 ghost use Rattle.farm_core.specs.Config.{ConfigData};
-ghost use Rattle.farm_core.specs.World.{purses_in};
-ghost use Rattle.farm_pool.specs.Settle.{books_of, words_at, AreLoaded, AreSeated, first_unsettled};
+ghost use Rattle.farm_pool.specs.Settle.{books_of, words_at, AreLoaded, AreSeated, AreTillsOf, first_unsettled};
 ghost use Rattle.farm_service.specs.Part.{IsAtTills};
-ghost use Rattle.farm_service.specs.Tills.{AreTillsOf};
+ghost use Rattle.farm_service.specs.Tills.{IsSettled};
 
 use crate::connection::session;
 use crate::lobby::{Lobby, Nobody, Seat};
@@ -207,7 +206,9 @@ pub fn serve<R: Threads + Wait + Clock + Sync>(
     config: &Config,
     listener: TcpListener,
     sessions: u64,
-) -> Result<Settled, ServeFault> {
+) -> Result<Settled, ServeFault>
+    ensures { OnOk result (IsSettled config.now) }
+{
     let Ok((pool, mut pass)) = Pool::new(alloc, config) else {
         return Err(ServeFault::NoMemory);
     };
@@ -244,13 +245,13 @@ pub fn serve<R: Threads + Wait + Clock + Sync>(
     }
 }
 
-/// Settles a farm with the tills of its configuration, whose words are loaded now.
+/// Settles a farm with its purses' own tills, whose words are loaded now.
 fn settle<J: Strategy>(
     farm: Farm<J>,
     tills: &[Till],
     desks: &mut [Desk],
 ) -> Result<Settled, ServeFault>
-    requires tills { length tills.now ≡ purses_in farm.config }
+    requires tills { AreTillsOf farm.config tills.now }
     requires seated { AreSeated tills.now desks.old }
     ensures loaded { AreLoaded desks.old desks.new }
     ensures settled { OnOk result (first_unsettled (books_of farm) (map words_at desks.new) ≡ None) }

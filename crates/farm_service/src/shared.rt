@@ -2,9 +2,13 @@
 //!
 //! A pool's calls are those of a farm of boxed searches. A contract cannot be stated of a closure that makes such boxes, so what runs in threads is generic in what
 //! makes searches and in what it shares, and only `serve` names the boxes.
-ghost use Rattle.std.specs.Prelude.{◌≡◌, ◌<◌, All, length};
+ghost use Rattle.std.specs.Prelude.{◌≡◌, ℕ, ◌<◌, All, length};
 ghost use Rattle.std.specs.Vec.{vec_len, vec_capacity};
 ghost use Rattle.farm_core.specs.Config.{ConfigData};
+ghost use Rattle.farm_core.specs.declared.entry.Event.{Event};
+ghost use Rattle.farm_core.specs.declared.entry.Event.TheVariants as event;
+ghost use Rattle.farm_core.specs.declared.reply.Reply.{Reply};
+ghost use Rattle.farm_service.specs.Asked.{event_for};
 
 use farm_core::Reply;
 use farm_pool::{Command, Gate, Pool, PoolPass};
@@ -46,7 +50,9 @@ pub(crate) trait Shared {
 
     ghost owns: { Self → Self.Token → Type 0 };
 
-    /// Submits a tenant's job, with its search.
+    ghost tells: { Self → Self.Token → ℕ → Event → Reply → Self.Token → Type 0 };
+
+    /// Submits a tenant's job, with its search: the reply is to that call of the tenant.
     fn submit<R: Wait>(
         &self,
         rt: &R,
@@ -58,13 +64,15 @@ pub(crate) trait Shared {
     ) -> Reply
         requires own { owns self.now token.old }
         requires known { tenant < length (config self.now).tenants }
-        ensures { owns self.now token.new };
+        ensures own { owns self.now token.new }
+        ensures told { tells self.now token.old tenant (event.Submit plan quanta) result token.new };
 
-    /// Makes another call of a tenant.
+    /// Makes another call of a tenant: the reply is to that call.
     fn ask<R: Wait>(&self, rt: &R, token: &mut Self::Token, tenant: u32, asked: Asked) -> Reply
         requires own { owns self.now token.old }
         requires known { tenant < length (config self.now).tenants }
-        ensures { owns self.now token.new };
+        ensures own { owns self.now token.new }
+        ensures told { tells self.now token.old tenant (event_for asked) result token.new };
 
     /// Takes turns of the jobs, as long as the gate lets it.
     fn work<R: Wait, G: Gate>(&self, rt: &R, token: &mut Self::Token, gate: &G)
@@ -89,11 +97,17 @@ impl Shared for Pool {
 
     type Token = PoolPass;
 
+    ghost use Rattle.turn_lock.specs.Plays.{Called};
     ghost use Rattle.turn_lock.specs.Values.{IsPassOf};
+    ghost use Rattle.farm_pool.specs.declared.image.AnswerImage.TheVariants as told;
+    ghost use Rattle.farm_pool.specs.declared.image.CallImage.TheVariants as said;
+    ghost use Rattle.farm_pool.specs.Served.{Served};
 
     ghost config = { λ pool. pool.lock.opening };
 
     ghost owns = { λ pool pass. IsPassOf pool.lock pass };
+
+    ghost tells = { λ pool pass t e r new. Called Served pass.view (said.Asked t e) (told.Replied r) new.view };
 
     fn submit<R: Wait>(
         &self,

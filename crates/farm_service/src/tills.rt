@@ -1,9 +1,7 @@
 //! The tills of a service's purses, and a connection's desks at them.
-ghost use Rattle.std.specs.Prelude.{◌≡◌, All, length, IfOk};
+ghost use Rattle.std.specs.Prelude.{◌≡◌, All, IfOk};
 ghost use Rattle.quanta_till.specs.Lease.{empty_lease};
-ghost use Rattle.farm_core.specs.World.{purses_in};
-ghost use Rattle.farm_pool.specs.Settle.{AreSeated};
-ghost use Rattle.farm_service.specs.Tills.{AreTillsOf};
+ghost use Rattle.farm_pool.specs.Settle.{AreSeated, AreTillsOf};
 
 use farm_core::Config;
 use quanta_till::{Desk, Lease, Till};
@@ -44,7 +42,6 @@ pub(crate) fn open_tills(
     config: &Config,
 ) -> Result<(Vec<Till>, Vec<Desk>), AllocError>
     ensures tills { IfOk result (λ made. AreTillsOf config.now made.0.items) }
-    ensures count { IfOk result (λ made. length made.0.items ≡ purses_in config.now) }
     ensures seated { IfOk result (λ made. AreSeated made.0.items made.1.items) }
 {
     let mut tills = Vec::new(alloc);

@@ -1,7 +1,6 @@
 use Rattle.std.proofs.Common.{◌≡◌, length, map}
 use Rattle.std.specs.List.{range_with_len}
-use Rattle.farm_pool.specs.Settle.{AreSeated}
-use Rattle.farm_service.specs.Tills.{opening_of, opening_for}
+use Rattle.farm_pool.specs.Settle.{opening_of, opening_for, AreSeated}
 use Rattle.farm_service.proofs.tills.open_tills.Given as goal
 
 -- one for each purse so far

@@ -1,4 +1,4 @@
-use Rattle.farm_pool.proofs.WorkLemmas.{turned_more, strayed_more, waited_more}
+use Rattle.farm_pool.proofs.WorkLemmas.{turned_more, strayed_more, waited_more, ended}
 use Rattle.farm_pool.proofs.pool.Pool.work.Goals as goal
 
 pub loop-preserved-in-Turned : goal.loop-preserved-in-Turned
@@ -27,5 +27,5 @@ loop-preserved g c = record {
 
 pub returns-then-not-idle-clause-worked : goal.returns-then-not-idle-clause-worked
 returns-then-not-idle-clause-worked g c =
-    waited_more c.args.self.now.slice c.args.pass.now.view c.loop.pass.view c.do_once.new.pass.view c.loop.turns c.loop.strangers
+    ended c.args.self.now.slice c.args.pass.now.view c.loop.pass.view c.do_once.new.pass.view c.loop.turns c.loop.strangers
     c.loop.invariant.worked c.in-Waited.ensures.did
