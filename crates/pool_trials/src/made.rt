@@ -1,6 +1,7 @@
 //! A configuration, tills, and a project's search.
-ghost use Rattle.std.specs.Prelude.{◌≡◌, length, IfOk, IfSome};
+ghost use Rattle.std.specs.Prelude.{◌≡◌, true, length, IfOk, IfSome};
 ghost use Rattle.quanta_till.specs.Lease.{IsEmpty};
+ghost use Rattle.farm_pool.specs.Settle.{opening_for, opening_of};
 ghost use Rattle.strategy.specs.declared.kind.Kind.TheVariants.{RuleSpt, Tree};
 ghost use Rattle.turn_lock.specs.Values.{IsPassOf};
 
@@ -40,19 +41,28 @@ h
 3 1
 ";
 
-/// A purse's till and its desk.
+/// A purse's number, the quanta that it was granted, its till and its desk.
 #[derive(Drop)]
 pub(crate) struct Purse {
+    number: u32,
+    granted: u64,
     till: Till,
     desk: Desk,
     ghost same: { desk.id ≡ till.id },
+    ghost purse: { till.purse ≡ number },
+    ghost opened: { till.granted ≡ granted },
 }
 
 impl Purse {
     /// The till of the purse of that number with so many quanta, and its first desk.
     pub(crate) fn new(alloc: Global, number: u32, granted: u64) -> Result<Purse, AllocError> {
         let (till, desk) = Till::new(alloc, number, granted)?;
-        Ok(Purse { till, desk })
+        Ok(Purse {
+            number,
+            granted,
+            till,
+            desk,
+        })
     }
 
     /// An empty lease for a tenant.
@@ -60,6 +70,13 @@ impl Purse {
         ensures { IfOk result IsEmpty }
     {
         self.till.lease(&mut self.desk, tenant)
+    }
+
+    /// Whether its till is that of the configuration's purse of this number.
+    fn is_of(&self, config: &Config, number: u32) -> bool
+        ensures { result ≡ true → opening_of self.now.till ≡ opening_for config.now number }
+    {
+        self.number == number && self.granted == config.granted(number)
     }
 }
 
@@ -101,6 +118,7 @@ pub(crate) fn shared_config(alloc: Global) -> Result<Config, Fail> {
 /// The pool of a configuration of two tenants, and its first pass.
 pub(crate) fn pool_of(alloc: Global, config: &Config) -> Option<(Pool, PoolPass)>
     ensures own { IfSome result (λ made. IsPassOf made.0.lock made.1) }
+    ensures opening { IfSome result (λ made. made.0.lock.opening ≡ config.now) }
     ensures two { IfSome result (λ made. length made.0.lock.opening.tenants ≡ 2) }
 {
     if config.tenants().len() != 2 {
@@ -149,13 +167,16 @@ pub(crate) fn patient_of(
 }
 
 /// How a farm of two purses is settled with them.
-#[tactic(auto, using(crate::proofs::SeatLemmas::two_seated))]
+#[tactic(auto, using(crate::proofs::SeatLemmas::two_seated, crate::proofs::SeatLemmas::two_tills))]
 pub(crate) fn settle(
+    config: &Config,
     farm: Farm<Box<dyn Strategy>>,
     first: Purse,
     second: Purse,
-) -> Option<Result<Settled, Unsettled>> {
-    if farm.purses() != 2 {
+) -> Option<Result<Settled, Unsettled>>
+    requires { farm.config ≡ config.now }
+{
+    if config.purses() != 2 || !first.is_of(config, 0) || !second.is_of(config, 1) {
         return None;
     }
     let tills = [first.till, second.till];
@@ -164,12 +185,15 @@ pub(crate) fn settle(
 }
 
 /// How a farm of one purse is settled with it.
-#[tactic(auto, using(crate::proofs::SeatLemmas::one_seated))]
+#[tactic(auto, using(crate::proofs::SeatLemmas::one_seated, crate::proofs::SeatLemmas::one_till))]
 pub(crate) fn settle_shared(
+    config: &Config,
     farm: Farm<Box<dyn Strategy>>,
     purse: Purse,
-) -> Option<Result<Settled, Unsettled>> {
-    if farm.purses() != 1 {
+) -> Option<Result<Settled, Unsettled>>
+    requires { farm.config ≡ config.now }
+{
+    if config.purses() != 1 || !purse.is_of(config, 0) {
         return None;
     }
     let tills = [purse.till];

@@ -5,7 +5,7 @@ use crate::made::{
     Purse, config_of, patient_of, pool_of, settle, settle_shared, shared_config, tree_of,
 };
 use farm_core::{Line, Reply};
-use farm_pool::{Command, Settled, Unsettled, WorkEnd};
+use farm_pool::{Command, Unsettled, WorkEnd};
 use job_table::Phase;
 use std::sync::Arc;
 use std::test::Fail;
@@ -103,7 +103,7 @@ fn two_workers_of_two_tenants_settle(rt: HostRuntime) -> Result<(), Fail> {
     assert!(rt; one.strangers == 0 && two.strangers == 0);
     assert!(rt; is_closed(&pool.call(&rt, &mut pass, A, Command::Status(1))));
     let farm = pool.close(pass).ok_or("a farm")?;
-    assert!(rt; settle(farm, a, b) == Some(Ok(Settled)));
+    assert!(rt; matches!(settle(&config, farm, a, b), Some(Ok(_))));
     Ok(())
 }
 
@@ -186,7 +186,7 @@ fn two_searches_run_at_once(rt: HostRuntime) -> Result<(), Fail> {
     assert!(rt; one.turns.saturating_add(two.turns) == 4);
     assert!(rt; one.strangers == 0 && two.strangers == 0);
     let farm = pool.close(pass).ok_or("a farm")?;
-    assert!(rt; settle(farm, a, b) == Some(Ok(Settled)));
+    assert!(rt; matches!(settle(&config, farm, a, b), Some(Ok(_))));
     Ok(())
 }
 
@@ -225,7 +225,7 @@ fn four_workers_of_one_purse_settle(rt: HostRuntime) -> Result<(), Fail> {
     assert!(rt; is_closed(&pool.call(&rt, &mut pass, A, Command::Status(1))));
     assert!(rt; is_ledger(&pool.call(&rt, &mut pass, B, Command::Ledger), 20, 7, 0, 13));
     let farm = pool.close(pass).ok_or("a farm")?;
-    assert!(rt; settle_shared(farm, purse) == Some(Ok(Settled)));
+    assert!(rt; matches!(settle_shared(&config, farm, purse), Some(Ok(_))));
     Ok(())
 }
 
@@ -275,7 +275,7 @@ fn no_entries_for_a_turn(rt: HostRuntime) -> Result<(), Fail> {
     );
     assert!(rt; pool.work(&rt, &mut pass, &Open) == IDLE);
     let farm = pool.close(pass).ok_or("a farm")?;
-    assert!(rt; settle(farm, a, b) == Some(Err(Unsettled::Held(0, 6))));
+    assert!(rt; settle(&config, farm, a, b) == Some(Err(Unsettled::Held(0, 6))));
     Ok(())
 }
 
@@ -298,7 +298,7 @@ fn no_worker(rt: HostRuntime) -> Result<(), Fail> {
         },
     );
     let farm = pool.close(pass).ok_or("a farm")?;
-    assert!(rt; settle(farm, a, b) == Some(Err(Unsettled::Held(0, 6))));
+    assert!(rt; settle(&config, farm, a, b) == Some(Err(Unsettled::Held(0, 6))));
     Ok(())
 }
 
@@ -334,6 +334,6 @@ fn a_second_pass_sees_the_first_ones_job(rt: HostRuntime) -> Result<(), Fail> {
         )
     );
     let farm = pool.close(first).ok_or("a farm")?;
-    assert!(rt; settle(farm, a, b) == Some(Err(Unsettled::Held(0, 6))));
+    assert!(rt; settle(&config, farm, a, b) == Some(Err(Unsettled::Held(0, 6))));
     Ok(())
 }
