@@ -201,13 +201,15 @@ impl<J: Strategy> Farm<J> {
         if !is_slice(slice) {
             return None;
         }
+        let mut at = self.jobs.first_waiting();
         for i in 0..self.jobs.waiting_len() {
-            let Some((tenant, seq)) = self.jobs.waiting(i) else {
+            let Some((tenant, seq)) = at else {
                 return None;
             };
             if self.has_room(tenant, 2) {
                 return Some((tenant, seq));
             }
+            at = self.jobs.next_waiting(tenant, seq);
         }
         None
     }

@@ -2,8 +2,12 @@ pub mod JobLemmas
 pub mod RowLemmas
 pub mod OrderLemmas
 pub mod QueueLemmas
+pub mod LinkLemmas
+pub mod EntryLemmas
+pub mod LineLemmas
 pub mod KeptLemmas
 pub mod WaitingLemmas
 pub mod CountLemmas
 pub mod MapLemmas
 pub mod TableLemmas
+pub mod WholeLemmas

@@ -1,7 +1,5 @@
 -- How often a key stands among those who wait once a job has changed.
-use Rattle.std.proofs.Common.{◌≡◌, ℕ, ◌+◌, ◌<◌, ◌≤◌, zero, suc, Bool, true, false, List, [], ◌∷◌, ◌++◌, filter, length, position, get_or, take, drop, Option, Some, None, IsSome, OnSome, refl, ap, arith}
-use Rattle.std.specs.List.{position_or_len}
-use Rattle.std.proofs.lemmas.List.Quantifiers.{position-Some}
+use Rattle.std.proofs.Common.{◌≡◌, ℕ, ◌+◌, ◌<◌, Bool, true, false, List, [], ◌∷◌, ◌++◌, filter, length, refl, arith}
 use Rattle.std.proofs.lemmas.Bool.Decides.{nat_tests}
 use Rattle.job_table.specs.Table.{is_key, without, waiting_then}
 use Rattle.job_table.proofs.RowLemmas.{one_if}
@@ -9,6 +7,10 @@ use Rattle.job_table.proofs.RowLemmas.{one_if}
 -- how often a key stands there
 abbrev pub times : ℕ → ℕ → List (ℕ × ℕ) → ℕ
 times t s keys = length (filter (is_key t s) keys)
+
+pub times_first : (t s : ℕ) (key : ℕ × ℕ) (keys : List (ℕ × ℕ)) (b : Bool) → is_key t s key ≡ b → times t s (key ∷ keys) ≡ times t s keys + one_if b
+times_first t s key keys true e = grind arith
+times_first t s key keys false e = grind arith
 
 pub key_is : (t s : ℕ) → is_key t s (t, s) ≡ true
 key_is t s = grind (arith, nat_tests)
@@ -59,30 +61,7 @@ then_length t s true false keys now = omega (arith, out_length t s keys now)
 then_length t s false true keys now = omega (arith, push_length keys (t, s))
 then_length t s false false keys now = refl
 
-out_at : (t s : ℕ) (keys : List (ℕ × ℕ)) (i : ℕ) (d : ℕ × ℕ) → i < length keys → is_key t s (get_or keys i d) ≡ true → ((n : ℕ) → n < i → is_key t s (get_or keys n d) ≡ false)
-    → take i keys ++ drop (suc i) keys ≡ without t s keys
-out_at t s [] i d lt here before = absurd (omega arith)
-out_at t s (k ∷ ks) zero d lt here before = rw here refl
-out_at t s (k ∷ ks) (suc i) d lt here before =
-    let not_first : is_key t s k ≡ false = before 0 (omega arith) in
-    rw not_first (ap (λ xs. k ∷ xs) (out_at t s ks i d (omega arith) here (λ n lt'. before (suc n) (omega arith))))
-
-pub taken_out : (t s : ℕ) (keys : List (ℕ × ℕ)) (i : ℕ) → position (is_key t s) keys ≡ Some i → take i keys ++ drop (suc i) keys ≡ without t s keys
-taken_out t s keys i placed =
-    let h = position-Some (is_key t s) keys i (0, 0) placed in
-    out_at t s keys i (0, 0) h.0 h.1 h.2
-
-none_out : (t s : ℕ) (keys : List (ℕ × ℕ)) → length keys ≤ position_or_len (is_key t s) keys → keys ≡ without t s keys
-none_out t s [] past = refl
-none_out t s (k ∷ ks) past = grind (arith, nat_tests, none_out t s ks)
-
-pub not_there : (t s : ℕ) (keys : List (ℕ × ℕ)) → position (is_key t s) keys ≡ None → keys ≡ without t s keys
-not_there t s keys e = none_out t s keys (grind (arith, nat_tests))
-
--- what is so where an answer comes is so, for an answer comes
-pub at_some : {X : Type 0} (o : Option X) (P : Type 0) → IsSome o → OnSome o P → P
-at_some None P some on = absurd (cc)
-at_some (Some x) P some on = on
-
-pub within : (t s : ℕ) (keys : List (ℕ × ℕ)) (i : ℕ) → position (is_key t s) keys ≡ Some i → i < length keys
-within t s keys i placed = (position-Some (is_key t s) keys i (0, 0) placed).0
+-- among no keys none stands
+pub one_left : (t s : ℕ) (keys : List (ℕ × ℕ)) → times t s keys ≡ 1 → 0 < length keys
+one_left t s [] one = absurd (omega (arith, one))
+one_left t s (key ∷ keys) one = omega arith

@@ -1,8 +1,7 @@
 -- What a table keeps as a job changes, comes or goes, in the words of its map, its counts and its queue.
-use Rattle.std.proofs.Common.{◌≡◌, ◌==◌, ℕ, ◌+◌, ◌<◌, ◌≤◌, Bool, true, false, cond, List, length, filter, nat_eq, Option, Some, None, IsSome, refl, sym, ap, ◌∙◌, subst, arith}
-use Rattle.std.specs.Map.{lookup, set_value}
+use Rattle.std.proofs.Common.{◌≡◌, ◌==◌, ℕ, ◌+◌, ◌^◌, ◌<◌, ◌≤◌, Bool, true, false, cond, List, length, filter, nat_eq, Option, Some, None, IsSome, refl, sym, ap, ◌∙◌, subst, arith}
+use Rattle.std.specs.Map.{lookup}
 use Rattle.std.proofs.lemmas.Bool.{eqb-true}
-use Rattle.std.proofs.lemmas.Map.Steps.{set_value_same}
 use Rattle.job_table.specs.Table.{Row, JobData, TableData, is_key, is_waiting, is_out, does_wait, find_row, put_row, drop_row, add_row, without, waiting_then, add_job, change_job, drop_job}
 use Rattle.job_table.specs.Job.{is_turn, is_here, phase_after, given_up}
 use Rattle.job_table.specs.Kept.{rows_of, counts_of, counted, moved, one_more, one_less, AreCounted, IsKept, IsHeld}
@@ -23,18 +22,18 @@ abbrev pub table_of : Jobs → List (ℕ × ℕ) → TableData
 table_of jobs waiting = record { rows = rows_of jobs; waiting = waiting }
 
 -- what a job that is found in the map is in the table
-pub record IsFound (t s : ℕ) (job : JobData) (jobs : Jobs) (counts : List (ℕ × Counts)) (waiting : List (ℕ × ℕ)) (capacity : ℕ) : Type 0 where
+pub record IsFound (t s : ℕ) (job : JobData) (jobs : Jobs) (counts : List (ℕ × Counts)) (waiting : List (ℕ × ℕ)) : Type 0 where
   pub found : find_row t s (rows_of jobs) ≡ Some job
   pub numbered : job.seq ≡ s
   pub there : IsSome (lookup (nat_eq t) counts)
   pub kept : 1 ≤ (counted (lookup (nat_eq t) counts)).kept
   pub least : is_out job.phase ≡ true → 1 ≤ (counted (lookup (nat_eq t) counts)).out
   pub most : is_out job.phase ≡ false → (counted (lookup (nat_eq t) counts)).out < (counted (lookup (nat_eq t) counts)).kept
-  pub room : is_waiting job.phase ≡ false → length waiting < capacity
+  pub room : is_waiting job.phase ≡ false → length waiting < 2 ^ 63
 
-pub found_in : (t s : ℕ) (job : JobData) (jobs : Jobs) (counts : List (ℕ × Counts)) (waiting : List (ℕ × ℕ)) (capacity : ℕ) → IsHeld jobs counts waiting capacity → lookup (is_key t s) jobs ≡ Some job
-    → IsFound t s job jobs counts waiting capacity
-found_in t s job jobs counts waiting capacity held there =
+pub found_in : (t s : ℕ) (job : JobData) (jobs : Jobs) (counts : List (ℕ × Counts)) (waiting : List (ℕ × ℕ)) → IsHeld jobs counts waiting → lookup (is_key t s) jobs ≡ Some job
+    → IsFound t s job jobs counts waiting
+found_in t s job jobs counts waiting held there =
     let found : find_row t s (rows_of jobs) ≡ Some job = named_find t s jobs held.named ∙ there in
     let tell = told t s job (rows_of jobs) found in
     let are : counted (lookup (nat_eq t) counts) ≡ counts_of t (rows_of jobs) = held.counted t in
@@ -45,7 +44,7 @@ found_in t s job jobs counts waiting capacity held there =
       kept = omega (arith, ap (λ (c : Counts). c.kept) are, tell.some);
       least = λ e. omega (arith, ap (λ (c : Counts). c.out) are, tell.least e);
       most = λ e. omega (arith, ap (λ (c : Counts). c.kept) are, ap (λ (c : Counts). c.out) are, tell.most e);
-      room = λ e. has_room t s job (table_of jobs waiting) capacity held.kept found e;
+      room = λ e. has_room t s job (table_of jobs waiting) held.kept found e;
     }
 
 -- the counts of jobs
@@ -57,17 +56,17 @@ abbrev pub Recounts : ℕ → Counts → List (ℕ × Counts) → List (ℕ × C
 Recounts t new olds news = (u : ℕ) → counted (lookup (nat_eq u) news) ≡ cond (nat_eq t u) new (counted (lookup (nat_eq u) olds))
 
 -- a table in which a job has become another
-pub record IsChange (t s : ℕ) (job then : JobData) (old new : TableData) (jobs : Jobs) (counts : List (ℕ × Counts)) (capacity : ℕ) : Type 0 where
-  pub held : IsHeld jobs counts new.waiting capacity
+pub record IsChange (t s : ℕ) (job then : JobData) (old new : TableData) (jobs : Jobs) (counts : List (ℕ × Counts)) : Type 0 where
+  pub held : IsHeld jobs counts new.waiting
   pub after : new ≡ change_job t s job then old
 
-pub change_in : (t s : ℕ) (job then : JobData) (jobs news : Jobs) (counts recounts : List (ℕ × Counts)) (waiting keys : List (ℕ × ℕ)) (before capacity : ℕ) → IsHeld jobs counts waiting before
+pub change_in : (t s : ℕ) (job then : JobData) (jobs news : Jobs) (counts recounts : List (ℕ × Counts)) (waiting keys : List (ℕ × ℕ)) → IsHeld jobs counts waiting
     → lookup (is_key t s) jobs ≡ Some job → then.seq ≡ job.seq → IsUpdate t s (Some then) jobs news
     → Recounts t (moved (is_out job.phase) (is_out then.phase) (counted (lookup (nat_eq t) counts))) counts recounts
-    → keys ≡ waiting_then t s (is_waiting job.phase) (is_waiting then.phase) waiting → capacity ≡ before
-    → IsChange t s job then (table_of jobs waiting) (table_of news keys) news recounts capacity
-change_in t s job then jobs news counts recounts waiting keys before capacity held there seq up count queue same =
-    let it = found_in t s job jobs counts waiting before held there in
+    → keys ≡ waiting_then t s (is_waiting job.phase) (is_waiting then.phase) waiting
+    → IsChange t s job then (table_of jobs waiting) (table_of news keys) news recounts
+change_in t s job then jobs news counts recounts waiting keys held there seq up count queue =
+    let it = found_in t s job jobs counts waiting held there in
     let rows = rows_of jobs in
     let named : then.seq ≡ s = seq ∙ it.numbered in
     let rows_are : rows_of news ≡ put_row t s then rows = rows_put t s job then jobs news held.named there named up in
@@ -83,24 +82,24 @@ change_in t s job then jobs news counts recounts waiting keys before capacity he
       held = record {
         named = named_update t s (Some then) jobs news held.named (λ j is. let same : j ≡ then = cc in ap (λ (j : JobData). j.seq) same ∙ named) up;
         counted = subst (AreCounted recounts) (sym rows_are) counts_are;
-        kept = subst (λ d. IsKept d capacity) (sym after) (subst (IsKept (change_job t s job then (table_of jobs waiting))) (sym same) (changed t s job then (table_of jobs waiting) before held.kept it.found named));
+        kept = subst IsKept (sym after) (changed t s job then (table_of jobs waiting) held.kept it.found named);
       };
       after = after;
     }
 
 -- a table from which a job is gone
-pub record IsDrop (t s : ℕ) (old new : TableData) (jobs : Jobs) (counts : List (ℕ × Counts)) (capacity : ℕ) : Type 0 where
-  pub held : IsHeld jobs counts new.waiting capacity
+pub record IsDrop (t s : ℕ) (old new : TableData) (jobs : Jobs) (counts : List (ℕ × Counts)) : Type 0 where
+  pub held : IsHeld jobs counts new.waiting
   pub after : new ≡ drop_job t s old
 
-pub drop_in : (t s : ℕ) (job : JobData) (jobs news : Jobs) (counts recounts : List (ℕ × Counts)) (waiting keys : List (ℕ × ℕ)) (before capacity : ℕ) → IsHeld jobs counts waiting before
+pub drop_in : (t s : ℕ) (job : JobData) (jobs news : Jobs) (counts recounts : List (ℕ × Counts)) (waiting keys : List (ℕ × ℕ)) → IsHeld jobs counts waiting
     → lookup (is_key t s) jobs ≡ Some job → IsUpdate t s None jobs news → Recounts t (one_less (is_out job.phase) (counted (lookup (nat_eq t) counts))) counts recounts
-    → keys ≡ waiting_then t s (is_waiting job.phase) false waiting → capacity ≡ before → IsDrop t s (table_of jobs waiting) (table_of news keys) news recounts capacity
-drop_in t s job jobs news counts recounts waiting keys before capacity held there up count queue same =
-    let it = found_in t s job jobs counts waiting before held there in
+    → keys ≡ waiting_then t s (is_waiting job.phase) false waiting → IsDrop t s (table_of jobs waiting) (table_of news keys) news recounts
+drop_in t s job jobs news counts recounts waiting keys held there up count queue =
+    let it = found_in t s job jobs counts waiting held there in
     let rows = rows_of jobs in
     let rows_are : rows_of news ≡ drop_row t s rows = rows_drop t s jobs news held.named up in
-    let out : keys ≡ without t s waiting = queue ∙ then_out t s job (table_of jobs waiting) before held.kept it.found in
+    let out : keys ≡ without t s waiting = queue ∙ then_out t s job (table_of jobs waiting) held.kept it.found in
     let after : table_of news keys ≡ drop_job t s (table_of jobs waiting) = same_table (rows_of news) (drop_row t s rows) keys (without t s waiting) rows_are out in
     let tell = told t s job rows it.found in
     let c = counted (lookup (nat_eq t) counts) in
@@ -111,22 +110,21 @@ drop_in t s job jobs news counts recounts waiting keys before capacity held ther
       held = record {
         named = named_update t s None jobs news held.named (λ j is. absurd (cc)) up;
         counted = subst (AreCounted recounts) (sym rows_are) counts_are;
-        kept = subst (λ d. IsKept d capacity) (sym after)
-            (subst (IsKept (drop_job t s (table_of jobs waiting))) (sym same) (dropped t s job (table_of jobs waiting) before held.kept (order_apart rows (rows_order jobs)) it.found));
+        kept = subst IsKept (sym after) (dropped t s job (table_of jobs waiting) held.kept (order_apart rows (rows_order jobs)) it.found);
       };
       after = after;
     }
 
 -- a table with a job more
-pub record IsAdd (t : ℕ) (job : JobData) (old new : TableData) (jobs : Jobs) (counts : List (ℕ × Counts)) (capacity : ℕ) : Type 0 where
-  pub held : IsHeld jobs counts new.waiting capacity
+pub record IsAdd (t : ℕ) (job : JobData) (old new : TableData) (jobs : Jobs) (counts : List (ℕ × Counts)) : Type 0 where
+  pub held : IsHeld jobs counts new.waiting
   pub after : new ≡ add_job t job old
 
-pub add_in : (t : ℕ) (job : JobData) (jobs news : Jobs) (counts recounts : List (ℕ × Counts)) (waiting keys : List (ℕ × ℕ)) (before capacity : ℕ) → IsHeld jobs counts waiting before
-    → find_row t job.seq (rows_of jobs) ≡ None → length (rows_of jobs) + 1 ≤ before → IsUpdate t job.seq (Some job) jobs news
-    → Recounts t (one_more (is_out job.phase) (counted (lookup (nat_eq t) counts))) counts recounts → keys ≡ waiting_then t job.seq false (is_waiting job.phase) waiting → capacity ≡ before
-    → IsAdd t job (table_of jobs waiting) (table_of news keys) news recounts capacity
-add_in t job jobs news counts recounts waiting keys before capacity held none room up count queue same =
+pub add_in : (t : ℕ) (job : JobData) (jobs news : Jobs) (counts recounts : List (ℕ × Counts)) (waiting keys : List (ℕ × ℕ)) → IsHeld jobs counts waiting
+    → find_row t job.seq (rows_of jobs) ≡ None → length (rows_of jobs) + 1 ≤ 2 ^ 63 → IsUpdate t job.seq (Some job) jobs news
+    → Recounts t (one_more (is_out job.phase) (counted (lookup (nat_eq t) counts))) counts recounts → keys ≡ waiting_then t job.seq false (is_waiting job.phase) waiting
+    → IsAdd t job (table_of jobs waiting) (table_of news keys) news recounts
+add_in t job jobs news counts recounts waiting keys held none room up count queue =
     let rows = rows_of jobs in
     let row : Row = record { tenant = t; job = job } in
     let rows_are : rows_of news ≡ add_row row rows = rows_add t job jobs news held.named none up in
@@ -139,21 +137,15 @@ add_in t job jobs news counts recounts waiting keys before capacity held none ro
       held = record {
         named = named_update t job.seq (Some job) jobs news held.named (λ j is. let same : j ≡ job = cc in ap (λ (j : JobData). j.seq) same) up;
         counted = subst (AreCounted recounts) (sym rows_are) counts_are;
-        kept = subst (λ d. IsKept d capacity) (sym after) (subst (IsKept (add_job t job (table_of jobs waiting))) (sym same) (added t job (table_of jobs waiting) before held.kept none room));
+        kept = subst IsKept (sym after) (added t job (table_of jobs waiting) held.kept none room);
       };
       after = after;
     }
 
--- the same table, with memory for more
-pub grown : (jobs news : Jobs) (counts recounts : List (ℕ × Counts)) (waiting keys : List (ℕ × ℕ)) (before capacity : ℕ) → IsHeld jobs counts waiting before → news ≡ jobs
-    → ((u : ℕ) → counted (lookup (nat_eq u) recounts) ≡ counted (lookup (nat_eq u) counts)) → keys ≡ waiting → before ≤ capacity → IsHeld news recounts keys capacity
-grown jobs news counts recounts waiting keys before capacity held jobs_are count keys_are more =
-    subst (λ es. IsHeld es recounts keys capacity) (sym jobs_are) (subst (λ ks. IsHeld jobs recounts ks capacity) (sym keys_are)
-    (record {
-      named = held.named;
-      counted = λ u. count u ∙ held.counted u;
-      kept = record { waiting = held.kept.waiting; count = held.kept.count; room = omega (arith, held.kept.room, more) };
-    }))
+-- the same table, with the same counts kept elsewhere
+pub begun : (jobs : Jobs) (counts recounts : List (ℕ × Counts)) (waiting : List (ℕ × ℕ)) → IsHeld jobs counts waiting → ((u : ℕ) → counted (lookup (nat_eq u) recounts) ≡ counted (lookup (nat_eq u) counts))
+    → IsHeld jobs recounts waiting
+begun jobs counts recounts waiting held count = record { named = held.named; counted = λ u. count u ∙ held.counted u; kept = held.kept }
 
 -- a turn that is out does not wait
 pub is_turn_not : (slice : ℕ) (phase : Phase) → is_turn slice phase ≡ true → is_waiting phase ≡ false
@@ -186,13 +178,6 @@ given_up_seq job Dry then gone = ap seq_in (sym gone)
 given_up_seq job Closed then gone = absurd (cc)
 given_up_seq job Cancelled then gone = absurd (cc)
 
--- what was not written anew is as it was
-pub unwritten : (t s : ℕ) (job then : JobData) (jobs news : Jobs) → lookup (is_key t s) jobs ≡ Some job → then ≡ job → news ≡ set_value (is_key t s) jobs then → news ≡ jobs
-unwritten t s job then jobs news there same is = is ∙ ap (set_value (is_key t s) jobs) same ∙ set_value_same (is_key t s) jobs job there
-
-pub held_as : (jobs news : Jobs) (counts : List (ℕ × Counts)) (waiting : List (ℕ × ℕ)) (capacity : ℕ) → IsHeld jobs counts waiting capacity → news ≡ jobs → IsHeld news counts waiting capacity
-held_as jobs news counts waiting capacity held same = subst (λ es. IsHeld es counts waiting capacity) (sym same) held
-
 -- counts that are told by other names
 pub recounts_as : (t : ℕ) (a b was is : Bool) (olds news : List (ℕ × Counts)) → a ≡ was → b ≡ is → Recounts t (moved a b (counted (lookup (nat_eq t) olds))) olds news
     → Recounts t (moved was is (counted (lookup (nat_eq t) olds))) olds news
@@ -213,10 +198,6 @@ no_recount t was is counts same u =
     let c = counted (lookup (nat_eq t) counts) in
     let stays : moved was is c ≡ c = ap (λ b. moved b is c) same ∙ moved_none is c in
     uncounted t u (nat_eq t u) refl counts ∙ ap (λ x. cond (nat_eq t u) x (counted (lookup (nat_eq u) counts))) (sym stays)
-
--- who waits, told by other names
-pub queued_as : (t s : ℕ) (a b was is : Bool) (waiting keys : List (ℕ × ℕ)) → a ≡ was → b ≡ is → keys ≡ waiting_then t s a b waiting → keys ≡ waiting_then t s was is waiting
-queued_as t s a b was is waiting keys p q told = told ∙ ap (λ x. waiting_then t s x b waiting) p ∙ ap (λ x. waiting_then t s was x waiting) q
 
 -- whose turn is out
 pub is_turn_out : (slice : ℕ) (phase : Phase) → is_turn slice phase ≡ true → is_out phase ≡ true

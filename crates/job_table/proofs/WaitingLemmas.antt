@@ -1,12 +1,12 @@
 -- Each of those who wait is found and waits, and each job that waits stands among them.
-use Rattle.std.proofs.Common.{◌≡◌, ℕ, zero, suc, ◌==◌, ◌+◌, ◌<◌, Bool, true, false, List, [], ◌∷◌, slice_get, Option, Some, None, refl, sym, ap, ◌∙◌, arith}
+use Rattle.std.proofs.Common.{◌≡◌, ℕ, zero, suc, ◌==◌, ◌<◌, Bool, true, false, List, [], ◌∷◌, slice_get, Option, Some, None, refl, sym, ap, ◌∙◌, arith}
 use Rattle.std.proofs.lemmas.Bool.{and_parts, eqb-true}
 use Rattle.std.proofs.lemmas.Bool.Decides.{nat_tests}
 use Rattle.job_table.specs.Table.{Row, JobData, TableData, is_key, is_waiting, does_wait, find_row, AreWaiting}
 use Rattle.job_table.specs.declared.phase.Phase.{Phase}
 use Rattle.job_table.specs.declared.phase.Phase.TheVariants.{Waiting, Out, Leaving, Dry, Closed, Cancelled}
 use Rattle.job_table.proofs.RowLemmas.{one_if}
-use Rattle.job_table.proofs.QueueLemmas.{times}
+use Rattle.job_table.proofs.QueueLemmas.{times, times_first}
 
 -- the tenant's job of that number waits
 pub record DoesWait (t s : ℕ) (rows : List Row) : Type 0 where
@@ -31,12 +31,8 @@ seq_in : Option (ℕ × ℕ) → ℕ
 seq_in None = 0
 seq_in (Some k) = k.1
 
-times_first : (t s : ℕ) (key : ℕ × ℕ) (keys : List (ℕ × ℕ)) (b : Bool) → is_key t s key ≡ b → times t s (key ∷ keys) ≡ times t s keys + one_if b
-times_first t s key keys true e = grind arith
-times_first t s key keys false e = grind arith
-
 -- a key that stands at a place stands there at least once
-stands : (keys : List (ℕ × ℕ)) (i t s : ℕ) → slice_get keys i ≡ Some (t, s) → 0 < times t s keys
+pub stands : (keys : List (ℕ × ℕ)) (i t s : ℕ) → slice_get keys i ≡ Some (t, s) → 0 < times t s keys
 unfolding tenant_in seq_in
 stands [] i t s here = absurd (cc)
 stands (key ∷ keys) zero t s here =

@@ -1,8 +1,11 @@
 -- What a table keeps of itself beside what contracts see.
-use Rattle.std.specs.Prelude.{◌≡◌, ℕ, ◌+◌, ◌-◌, ◌≤◌, Bool, cond, List, [], ◌∷◌, Option, Some, None, nat_eq, filter, length}
+use Rattle.std.specs.Prelude.{◌≡◌, ℕ, ◌+◌, ◌-◌, ◌^◌, ◌≤◌, Bool, cond, List, [], ◌∷◌, Option, Some, None, nat_eq, filter, length}
 use Rattle.std.specs.Map.{lookup}
 use Rattle.job_table.specs.Table.{JobData, Row, TableData, is_key, is_waiting, is_out, add_row, drop_row, jobs_of, AreWaiting}
+use Rattle.job_table.specs.Queue.{jobs_in, line_of, IsLinked}
 use Rattle.job_table.specs.declared.counts.Counts.{Counts}
+use Rattle.job_table.specs.declared.queue.Linked.{Linked}
+use Rattle.job_table.specs.declared.queue.Queue.{Queue}
 
 -- an entry of the map, as a row: the job under its key
 abbrev pub row_of : (ℕ × ℕ) × JobData → Row
@@ -41,14 +44,19 @@ one_less out counts = record { kept = counts.kept - 1; out = cond out (counts.ou
 abbrev pub AreCounted : List (ℕ × Counts) → List Row → Type 0
 AreCounted entries rows = (t : ℕ) → counted (lookup (nat_eq t) entries) ≡ counts_of t rows
 
--- those who wait are the jobs that wait, as many as there are, and there is memory for all to wait
-pub record IsKept (table : TableData) (capacity : ℕ) : Type 0 where
+-- those who wait are the jobs that wait, as many as there are, and the jobs can be counted
+pub record IsKept (table : TableData) : Type 0 where
   pub waiting : AreWaiting table
   pub count : length table.waiting ≡ length (filter (λ (row : Row). is_waiting row.job.phase) table.rows)
-  pub room : length table.rows ≤ capacity
+  pub few : length table.rows ≤ 2 ^ 63
 
--- the map of the jobs, the counts and the queue agree
-pub record IsHeld (jobs : List ((ℕ × ℕ) × JobData)) (counts : List (ℕ × Counts)) (waiting : List (ℕ × ℕ)) (capacity : ℕ) : Type 0 where
+-- the jobs, the counts and those who wait agree
+pub record IsHeld (jobs : List ((ℕ × ℕ) × JobData)) (counts : List (ℕ × Counts)) (waiting : List (ℕ × ℕ)) : Type 0 where
   pub named : AreNamed jobs
   pub counted : AreCounted counts (rows_of jobs)
-  pub kept : IsKept (record { rows = rows_of jobs; waiting = waiting }) capacity
+  pub kept : IsKept (record { rows = rows_of jobs; waiting = waiting })
+
+-- the same of a map, with the links that make the queue
+pub record IsTable {J : Type 0} (entries : List ((ℕ × ℕ) × Linked J)) (counts : List (ℕ × Counts)) (queue : Queue) : Type 0 where
+  pub held : IsHeld (jobs_in entries) counts (line_of entries queue)
+  pub linked : IsLinked entries queue (line_of entries queue)

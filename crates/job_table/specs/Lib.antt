@@ -1,3 +1,4 @@
 pub mod Table
 pub mod Job
+pub mod Queue
 pub mod Kept

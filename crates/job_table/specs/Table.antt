@@ -94,6 +94,15 @@ abbrev pub without : ℕ → ℕ → List (ℕ × ℕ) → List (ℕ × ℕ)
 without t s [] = []
 without t s (key ∷ keys) = cond (is_key t s key) keys (key ∷ without t s keys)
 
+-- the first of the keys, and the one that stands behind a tenant's number
+abbrev pub first_of : List (ℕ × ℕ) → Option (ℕ × ℕ)
+first_of [] = None
+first_of (key ∷ keys) = Some key
+
+abbrev pub behind : ℕ → ℕ → List (ℕ × ℕ) → Option (ℕ × ℕ)
+behind t s [] = None
+behind t s (key ∷ keys) = cond (is_key t s key) (first_of keys) (behind t s keys)
+
 -- who waits once a job has changed: one that begins to wait stands last, one that waits no longer is gone, and all others keep their places
 abbrev pub waiting_then : ℕ → ℕ → Bool → Bool → List (ℕ × ℕ) → List (ℕ × ℕ)
 waiting_then t s was is keys = cond is (cond was keys (keys ++ (t, s) ∷ [])) (cond was (without t s keys) keys)

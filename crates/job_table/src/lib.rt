@@ -9,7 +9,7 @@
 //! - `best`: the best schedule of a job, in memory that is taken once.
 //! - `counts`: how many jobs each tenant has, and of how many the turn is out.
 //! - `job`: `Job`.
-//! - `queue`: who waits.
+//! - `queue`: who waits, linked through the jobs.
 //! - `table`: `JobTable`.
 #![tactic(auto)]
 

@@ -1,37 +1,154 @@
-//! Who waits, in the order in which turns are taken.
-ghost use Rattle.std.specs.Prelude.{◌≡◌, ◌<◌, true, false, length, position};
-ghost use Rattle.std.specs.VecDeque.{deque_capacity};
-ghost use Rattle.job_table.specs.Table.{is_key, without, waiting_then};
+//! Who waits: a queue through the jobs, in the order in which turns are taken. Each job names its neighbours by their keys.
+ghost use Rattle.std.specs.Prelude.{◌≡◌, ℕ, ◌<◌, ◌^◌, cond, is_some, true, false, length, filter, option_map};
+ghost use Rattle.job_table.specs.Table.{is_key, waiting_then};
+ghost use Rattle.job_table.specs.Queue.{jobs_in, links_at, line_of, IsLinked, AreRelinked, with_first, with_last, joined, one_gone, lengthened, one_come};
 
-use std::collections::VecDeque;
+use crate::Job;
+use indexmap::IndexMap;
+use std::mem;
 
-/// Where a tenant and a number stand first.
-fn place_in(keys: &VecDeque<(u32, u64)>, tenant: u32, seq: u64) -> Option<usize>
-    ensures { result ≡ position (is_key tenant seq) keys.now.items }
-{
-    keys.iter().position(|key| tenant == key.0 && seq == key.1)
+/// The keys of a job's neighbours among those who wait, where there are any.
+#[derive(Clone, Copy)]
+pub(crate) struct Links {
+    pub(crate) before: Option<(u32, u64)>,
+    pub(crate) behind: Option<(u32, u64)>,
 }
 
-/// Takes a tenant's number out, where it stands first.
-fn take_out(keys: &mut VecDeque<(u32, u64)>, tenant: u32, seq: u64)
-    ensures out { keys.new.items ≡ without tenant seq keys.old.items }
-    ensures capacity { deque_capacity keys.new ≡ deque_capacity keys.old }
+/// The links of a job that does not wait.
+pub(crate) const NO_LINKS: Links = Links {
+    before: None,
+    behind: None,
+};
+
+/// A job and its links.
+#[derive(Drop)]
+pub(crate) struct Linked<J> {
+    pub(crate) job: Job<J>,
+    pub(crate) links: Links,
+}
+
+/// Who waits first and last, and how many wait.
+#[derive(Clone, Copy)]
+pub(crate) struct Queue {
+    pub(crate) first: Option<(u32, u64)>,
+    pub(crate) last: Option<(u32, u64)>,
+    pub(crate) len: usize,
+}
+
+/// Gives a job other links, and hands out those that it had.
+fn relink<J>(jobs: &mut IndexMap<(u32, u64), Linked<J>>, tenant: u32, seq: u64, to: Links) -> Links
+    ensures had { (links : Links) → links_at tenant seq jobs.old.entries ≡ Some links → result ≡ links }
+    ensures links { AreRelinked (Some (tenant, seq)) (λ links. to) jobs.old.entries jobs.new.entries }
+    ensures jobs { jobs_in jobs.new.entries ≡ jobs_in jobs.old.entries }
 {
-    if let Some(at) = place_in(keys, tenant, seq) {
-        keys.remove(at);
+    match jobs.get_mut(&(tenant, seq)) {
+        Some(linked) => mem::replace(&mut linked.links, to),
+        None => to,
     }
 }
 
-/// Puts a job that begins to wait last, and takes one that waits no longer out. Takes no memory.
-pub(crate) fn requeue(keys: &mut VecDeque<(u32, u64)>, tenant: u32, seq: u64, was: bool, is: bool)
-    requires { was ≡ false → is ≡ true → length keys.old.items < deque_capacity keys.old }
-    ensures then { keys.new.items ≡ waiting_then tenant seq was is keys.old.items }
-    ensures capacity { deque_capacity keys.new ≡ deque_capacity keys.old }
+/// Tells who stands behind a key, or first where none is given.
+fn put_behind<J>(
+    jobs: &mut IndexMap<(u32, u64), Linked<J>>,
+    queue: &mut Queue,
+    key: Option<(u32, u64)>,
+    to: Option<(u32, u64)>,
+)
+    ensures links { AreRelinked key (λ links. record links { behind = to }) jobs.old.entries jobs.new.entries }
+    ensures jobs { jobs_in jobs.new.entries ≡ jobs_in jobs.old.entries }
+    ensures queue { queue.new ≡ with_first key to queue.old }
 {
-    if is && !was {
-        keys.push_back_reserved((tenant, seq));
+    match key {
+        Some(key) => {
+            if let Some(linked) = jobs.get_mut(&key) {
+                linked.links.behind = to;
+            }
+        }
+        None => queue.first = to,
     }
-    if was && !is {
-        take_out(keys, tenant, seq);
+}
+
+/// Tells who stands before a key, or last where none is given.
+fn put_before<J>(
+    jobs: &mut IndexMap<(u32, u64), Linked<J>>,
+    queue: &mut Queue,
+    key: Option<(u32, u64)>,
+    to: Option<(u32, u64)>,
+)
+    ensures links { AreRelinked key (λ links. record links { before = to }) jobs.old.entries jobs.new.entries }
+    ensures jobs { jobs_in jobs.new.entries ≡ jobs_in jobs.old.entries }
+    ensures queue { queue.new ≡ with_last key to queue.old }
+{
+    match key {
+        Some(key) => {
+            if let Some(linked) = jobs.get_mut(&key) {
+                linked.links.before = to;
+            }
+        }
+        None => queue.last = to,
+    }
+}
+
+/// Joins the neighbours of a job that had these links and stands in the queue no longer.
+pub(crate) fn unlink<J>(jobs: &mut IndexMap<(u32, u64), Linked<J>>, queue: &mut Queue, links: Links)
+    requires { 0 < queue.old.len }
+    ensures links { (t s : ℕ) → links_at t s jobs.new.entries ≡ option_map (joined links t s) (links_at t s jobs.old.entries) }
+    ensures jobs { jobs_in jobs.new.entries ≡ jobs_in jobs.old.entries }
+    ensures queue { queue.new ≡ one_gone links queue.old }
+{
+    put_behind(jobs, queue, links.before, links.behind);
+    put_before(jobs, queue, links.behind, links.before);
+    queue.len -= 1;
+}
+
+/// Puts a job that does not stand in the queue behind the last.
+fn link_last<J>(
+    jobs: &mut IndexMap<(u32, u64), Linked<J>>,
+    queue: &mut Queue,
+    tenant: u32,
+    seq: u64,
+)
+    requires { queue.old.len < 2 ^ 63 }
+    ensures links { (t s : ℕ) → links_at t s jobs.new.entries ≡ option_map (lengthened tenant seq queue.old.last t s) (links_at t s jobs.old.entries) }
+    ensures jobs { jobs_in jobs.new.entries ≡ jobs_in jobs.old.entries }
+    ensures queue { queue.new ≡ one_come tenant seq queue.old }
+{
+    let key = Some((tenant, seq));
+    let last = queue.last;
+    let links = Links {
+        before: last,
+        behind: None,
+    };
+    relink(jobs, tenant, seq, links);
+    put_behind(jobs, queue, last, key);
+    queue.last = key;
+    queue.len += 1;
+}
+
+/// Puts a job that begins to wait last, and takes one that waits no longer out. Takes no memory, and time that does not
+/// depend on how many wait.
+pub(crate) fn requeue<J>(
+    jobs: &mut IndexMap<(u32, u64), Linked<J>>,
+    queue: &mut Queue,
+    tenant: u32,
+    seq: u64,
+    was: bool,
+    is: bool,
+)
+    requires linked { IsLinked jobs.old.entries queue.old (line_of jobs.old.entries queue.old) }
+    requires there { is_some (links_at tenant seq jobs.old.entries) ≡ true }
+    requires stood { length (filter (is_key tenant seq) (line_of jobs.old.entries queue.old)) ≡ cond was 1 0 }
+    requires few { was ≡ false → is ≡ true → length (line_of jobs.old.entries queue.old) < 2 ^ 63 }
+    ensures linked { IsLinked jobs.new.entries queue.new (waiting_then tenant seq was is (line_of jobs.old.entries queue.old)) }
+    ensures jobs { jobs_in jobs.new.entries ≡ jobs_in jobs.old.entries }
+{
+    if was == is {
+        return;
+    }
+    if is {
+        link_last(jobs, queue, tenant, seq);
+    } else {
+        let links = relink(jobs, tenant, seq, NO_LINKS);
+        unlink(jobs, queue, links);
     }
 }

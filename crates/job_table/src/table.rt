@@ -1,17 +1,16 @@
 //! The table of all tenants' jobs.
-ghost use Rattle.std.specs.Prelude.{◌≡◌, ◌↔◌, ◌+◌, ◌≤◌, IsTrue, IsFalse, true, if◌then◌else◌, [], ◌∷◌, ◌++◌, Some, None, IfSome, OnSome, IfNone, IfErr, OnOk, OnErr, false, length, filter, position, slice_get};
+ghost use Rattle.std.specs.Prelude.{◌≡◌, ◌↔◌, ◌+◌, ◌≤◌, IsTrue, IsFalse, true, [], Some, None, IfSome, OnSome, IfNone, IfErr, OnOk, OnErr, false, length, filter, slice_get};
 ghost use Rattle.std.specs.Option.{option_copied};
 ghost use Rattle.strategy.specs.Outcome.{is_closed};
-ghost use Rattle.job_table.specs.Table.{AreWaiting, is_out, find_row, jobs_of, add_job, drop_job};
+ghost use Rattle.job_table.specs.Table.{AreWaiting, behind, is_out, find_row, jobs_of, add_job, drop_job};
 ghost use Rattle.job_table.specs.Job.{meaning_of, given_up, back, is_here, IsOwn, IsSent, IsBack, IsStrange, IsFunded, IsGivenUp};
 
 use crate::counts::{Counts, begin_counts, count_in, count_out, counts_in, recount};
 use crate::job::is_here;
-use crate::queue::requeue;
+use crate::queue::{Linked, NO_LINKS, Queue, requeue, unlink};
 use crate::{Job, Phase};
 use indexmap::IndexMap;
 use std::alloc::Global;
-use std::collections::VecDeque;
 use std::marker::Model;
 use strategy::Strategy;
 
@@ -19,21 +18,22 @@ use strategy::Strategy;
 /// the order in which they are to have their turns.
 #[derive(Drop)]
 pub struct JobTable<J> {
-    jobs: IndexMap<(u32, u64), Job<J>>,
+    jobs: IndexMap<(u32, u64), Linked<J>>,
     counts: IndexMap<u32, Counts>,
-    waiting: VecDeque<(u32, u64)>,
+    queue: Queue,
 }
 
 impl<J> Model for JobTable<J> {
-    ghost use Rattle.std.specs.VecDeque.{deque_capacity};
     ghost use Rattle.job_table.specs.Table as table;
-    ghost use Rattle.job_table.specs.Kept.{rows_of, IsHeld};
 
     ghost Value = { table.TableData };
 
-    ghost view = { λ t. record { rows = rows_of t.jobs.entries; waiting = t.waiting.items } };
+    ghost use Rattle.job_table.specs.Queue.{jobs_in, line_of};
+    ghost use Rattle.job_table.specs.Kept.{rows_of, IsTable};
 
-    ghost invariant = { λ t. IsHeld t.jobs.entries t.counts.entries t.waiting.items (deque_capacity t.waiting) };
+    ghost view = { λ t. record { rows = rows_of (jobs_in t.jobs.entries); waiting = line_of t.jobs.entries t.queue } };
+
+    ghost invariant = { λ t. IsTable t.jobs.entries t.counts.entries t.queue };
 }
 
 /// Sends a tenant's job's search out, where the job waits and the search is its own.
@@ -68,7 +68,11 @@ impl<J> JobTable<J> {
         JobTable {
             jobs: IndexMap::new(alloc),
             counts: IndexMap::new(alloc),
-            waiting: VecDeque::new(alloc),
+            queue: Queue {
+                first: None,
+                last: None,
+                len: 0,
+            },
         }
     }
 
@@ -86,24 +90,32 @@ impl<J> JobTable<J> {
         ensures kept { OnErr result (self.new ≡ self.old) }
         ensures back { IfErr result (λ refused. refused ≡ job) }
     {
-        let more = self.jobs.len() - self.waiting.len();
-        let Ok(()) = self.waiting.reserve(more + 1) else {
-            return Err(job);
-        };
         let Ok(()) = begin_counts(&mut self.counts, tenant) else {
             return Err(job);
         };
+        let _jobs = self.jobs.len();
         let (seq, phase) = (job.seq(), job.phase());
-        match self.jobs.insert((tenant, seq), job) {
+        let linked = Linked {
+            job,
+            links: NO_LINKS,
+        };
+        match self.jobs.insert((tenant, seq), linked) {
             Ok(None) => {}
-            Ok(Some(other)) => return Err(other),
+            Ok(Some(other)) => return Err(other.job),
             Err(refused) => {
-                let (_, job) = refused.value;
-                return Err(job);
+                let (_, linked) = refused.value;
+                return Err(linked.job);
             }
         }
         count_in(&mut self.counts, tenant, phase.is_out());
-        requeue(&mut self.waiting, tenant, seq, false, phase.is_waiting());
+        requeue(
+            &mut self.jobs,
+            &mut self.queue,
+            tenant,
+            seq,
+            false,
+            phase.is_waiting(),
+        );
         Ok(())
     }
 
@@ -111,7 +123,10 @@ impl<J> JobTable<J> {
     pub fn find(&self, tenant: u32, seq: u64) -> Option<&Job<J>>
         ensures { option_copied result ≡ find_row tenant seq self.now.rows }
     {
-        self.jobs.get(&(tenant, seq))
+        match self.jobs.get(&(tenant, seq)) {
+            Some(linked) => Some(&linked.job),
+            None => None,
+        }
     }
 
     /// How many jobs the tenant has.
@@ -134,16 +149,23 @@ impl<J> JobTable<J> {
         ensures most { result ≤ length self.now.rows }
         ensures waiting { AreWaiting self.now }
     {
-        self.waiting.len()
+        self.queue.len
     }
 
     /// The tenant and the number of the i-th waiting job, from 0, in the order in which they are to have their turns; `None`
-    /// from their number on. Takes no memory.
+    /// from their number on. Goes over those before it. Takes no memory.
     pub fn waiting(&self, i: usize) -> Option<(u32, u64)>
         ensures key { result ≡ slice_get self.now.waiting i }
         ensures waiting { AreWaiting self.now }
     {
-        self.waiting.get(i).copied()
+        let mut at = self.first_waiting();
+        for k in 0..i {
+            let Some((tenant, seq)) = at else {
+                return None;
+            };
+            at = self.next_waiting(tenant, seq);
+        }
+        at
     }
 
     /// The first of the waiting jobs.
@@ -151,7 +173,18 @@ impl<J> JobTable<J> {
         ensures key { result ≡ slice_get self.now.waiting 0 }
         ensures waiting { AreWaiting self.now }
     {
-        self.waiting(0)
+        self.queue.first
+    }
+
+    /// The one that stands behind a waiting job; `None` behind the last, and where the job is unknown or does not wait.
+    pub fn next_waiting(&self, tenant: u32, seq: u64) -> Option<(u32, u64)>
+        ensures key { result ≡ behind tenant seq self.now.waiting }
+        ensures waiting { AreWaiting self.now }
+    {
+        match self.jobs.get(&(tenant, seq)) {
+            Some(linked) => linked.links.behind,
+            None => None,
+        }
     }
 
     /// Takes a tenant's job of that number out of the table. The others keep their order.
@@ -159,12 +192,15 @@ impl<J> JobTable<J> {
         ensures found { result ≡ find_row tenant seq self.old.rows }
         ensures rest { self.new ≡ drop_job tenant seq self.old }
     {
-        let Some(job) = self.jobs.swap_remove(&(tenant, seq)) else {
+        let Some(Linked { job, links }) = self.jobs.swap_remove(&(tenant, seq)) else {
             return None;
         };
         let phase = job.phase();
         count_out(&mut self.counts, tenant, phase.is_out());
-        requeue(&mut self.waiting, tenant, seq, phase.is_waiting(), false);
+        if !phase.is_waiting() {
+            return Some(job);
+        }
+        unlink(&mut self.jobs, &mut self.queue, links);
         Some(job)
     }
 }
@@ -176,14 +212,14 @@ impl<J: Strategy> JobTable<J> {
         ensures sent { IfSome result (λ search. IsSent self.old tenant seq slice (J.meaning search) self.new) }
         ensures kept { IfNone result (self.new ≡ self.old) }
     {
-        let Some(job) = self.jobs.get_mut(&(tenant, seq)) else {
+        let Some(linked) = self.jobs.get_mut(&(tenant, seq)) else {
             return None;
         };
-        let Some(search) = send_waiting(job, tenant, slice) else {
+        let Some(search) = send_waiting(&mut linked.job, tenant, slice) else {
             return None;
         };
         recount(&mut self.counts, tenant, false, true);
-        requeue(&mut self.waiting, tenant, seq, true, false);
+        requeue(&mut self.jobs, &mut self.queue, tenant, seq, true, false);
         Some(search)
     }
 
@@ -203,16 +239,17 @@ impl<J: Strategy> JobTable<J> {
         ensures kept { OnErr result (self.new ≡ self.old) }
         ensures handed_back { IfErr result (λ it. it ≡ search) }
     {
-        let Some(job) = self.jobs.get_mut(&(tenant, seq)) else {
+        let Some(linked) = self.jobs.get_mut(&(tenant, seq)) else {
             return Err(search);
         };
+        let job = &mut linked.job;
         if !job.is_own(tenant, slice, ran, &search) {
             return Err(search);
         }
         job.take_back(tenant, slice, ran, search);
         let waits = job.phase().is_waiting();
         recount(&mut self.counts, tenant, true, false);
-        requeue(&mut self.waiting, tenant, seq, false, waits);
+        requeue(&mut self.jobs, &mut self.queue, tenant, seq, false, waits);
         Ok(())
     }
 
@@ -223,14 +260,15 @@ impl<J: Strategy> JobTable<J> {
         ensures funded { IsTrue result → IsFunded self.old tenant seq quanta self.new }
         ensures kept { IsFalse result → self.new ≡ self.old }
     {
-        let Some(job) = self.jobs.get_mut(&(tenant, seq)) else {
+        let Some(linked) = self.jobs.get_mut(&(tenant, seq)) else {
             return false;
         };
+        let job = &mut linked.job;
         let waited = job.phase().is_waiting();
         if !fund_here(job, tenant, quanta) {
             return false;
         }
-        requeue(&mut self.waiting, tenant, seq, waited, true);
+        requeue(&mut self.jobs, &mut self.queue, tenant, seq, waited, true);
         true
     }
 
@@ -240,14 +278,15 @@ impl<J: Strategy> JobTable<J> {
         ensures refused { IsFalse result → IfSome (find_row tenant seq self.old.rows) (λ job. given_up job job.phase ≡ None) }
         ensures kept { IsFalse result → self.new ≡ self.old }
     {
-        let Some(job) = self.jobs.get_mut(&(tenant, seq)) else {
+        let Some(linked) = self.jobs.get_mut(&(tenant, seq)) else {
             return false;
         };
+        let job = &mut linked.job;
         let waited = job.phase().is_waiting();
         if !job.cancel() {
             return false;
         }
-        requeue(&mut self.waiting, tenant, seq, waited, false);
+        requeue(&mut self.jobs, &mut self.queue, tenant, seq, waited, false);
         true
     }
 }

@@ -5,4 +5,4 @@ use Rattle.job_table.proofs.table.JobTable.waiting_len.Goals as goal
 
 pub returns-clause-most : goal.returns-clause-most
 returns-clause-most g c =
-    omega (arith, most_kept _ _ c.self.invariant.kept, ap (λ (d : TableData). length d.rows) c.self.view_is, c.len.ensures, c.self.inside.waiting.ok.0)
+    omega (arith, most_kept _ c.self.invariant.held.kept, ap (λ (d : TableData). length d.rows) c.self.view_is, c.self.invariant.linked.len)

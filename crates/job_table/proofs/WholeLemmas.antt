@@ -1,0 +1,251 @@
+-- What a table keeps as a job changes, comes or goes, in the words of its map and its queue.
+use Rattle.std.proofs.Common.{◌≡◌, ℕ, zero, suc, [], ◌∷◌, slice_get, add-one, ◌+◌, ◌^◌, ◌≤◌, Bool, true, false, cond, List, length, nat_eq, Option, Some, None, is_some, option_map, refl, sym, ap, ◌∙◌, subst, arith}
+use Rattle.std.specs.Map.{lookup, set_value, keys_of}
+use Rattle.std.specs.List.{IsDistinct}
+use Rattle.std.proofs.lemmas.Map.Steps.{set_value_same}
+use Rattle.job_table.specs.Table.{JobData, TableData, first_of, behind, AreWaiting, is_key, is_waiting, is_out, does_wait, find_row, waiting_then, add_job, change_job, drop_job}
+use Rattle.job_table.specs.Queue.{jobs_in, links_at, line_of, links_in, no_links, IsLinked}
+use Rattle.job_table.specs.Kept.{rows_of, counted, moved, one_more, one_less, IsHeld, IsTable}
+use Rattle.job_table.specs.declared.counts.Counts.{Counts}
+use Rattle.job_table.specs.declared.queue.Links.{Links}
+use Rattle.job_table.specs.declared.queue.Linked.{Linked}
+use Rattle.job_table.specs.declared.queue.Queue.{Queue}
+use Rattle.job_table.proofs.RowLemmas.{one_if}
+use Rattle.job_table.proofs.QueueLemmas.{times, key_is}
+use Rattle.job_table.proofs.LinkLemmas.{once_rest, once_first, ahead_none, behind_none}
+use Rattle.job_table.proofs.EntryLemmas.{jobs_lookup}
+use Rattle.job_table.proofs.LineLemmas.{HasLeft, at_key, same_links, line_is}
+use Rattle.job_table.proofs.MapLemmas.{IsUpdate, named_find, key_eq, rows_length}
+use Rattle.job_table.proofs.WaitingLemmas.{stands}
+use Rattle.job_table.proofs.TableLemmas.{table_of, found_in, IsFound, change_in, IsChange, drop_in, IsDrop, add_in, IsAdd, Recounts}
+
+-- the table that a map and a queue are
+abbrev pub whole : {J : Type 0} → List ((ℕ × ℕ) × Linked J) → Queue → TableData
+whole es queue = record { rows = rows_of (jobs_in es); waiting = line_of es queue }
+
+pub job_there : {J : Type 0} (t s : ℕ) (es : List ((ℕ × ℕ) × Linked J)) (o : Option (Linked J)) → lookup (is_key t s) es ≡ o → lookup (is_key t s) (jobs_in es) ≡ option_map (λ e. e.job) o
+job_there t s es o there = jobs_lookup (is_key t s) es ∙ ap (option_map (λ e. e.job)) there
+
+-- what a job that is found in the map is in the table
+pub found_whole : {J : Type 0} (t s : ℕ) (old : Linked J) (es : List ((ℕ × ℕ) × Linked J)) (queue : Queue) (counts : List (ℕ × Counts)) → IsTable es counts queue → lookup (is_key t s) es ≡ Some old
+    → IsFound t s old.job (jobs_in es) counts (line_of es queue)
+found_whole t s old es queue counts table there = found_in t s old.job (jobs_in es) counts (line_of es queue) table.held (job_there t s es (Some old) there)
+
+pub none_whole : {J : Type 0} (t s : ℕ) (es : List ((ℕ × ℕ) × Linked J)) (queue : Queue) (counts : List (ℕ × Counts)) → IsTable es counts queue → lookup (is_key t s) es ≡ None → find_row t s (rows_of (jobs_in es)) ≡ None
+none_whole t s es queue counts table gone = named_find t s (jobs_in es) table.held.named ∙ job_there t s es None gone
+
+-- how often a tenant's number stands among those who wait
+pub stood_whole : {J : Type 0} (t s : ℕ) (es : List ((ℕ × ℕ) × Linked J)) (queue : Queue) (counts : List (ℕ × Counts)) (o : Option JobData) → IsTable es counts queue → find_row t s (rows_of (jobs_in es)) ≡ o
+    → times t s (line_of es queue) ≡ one_if (does_wait o)
+stood_whole t s es queue counts o table found = table.held.kept.waiting t s ∙ ap (λ f. one_if (does_wait f)) found
+
+-- an entry that was not written anew is as it was
+pub unwritten : {X : Type 0} (test : ℕ × ℕ → Bool) (es news : List ((ℕ × ℕ) × X)) (old then : X) → lookup test es ≡ Some old → then ≡ old → news ≡ set_value test es then → news ≡ es
+unwritten test es news old then there same is = is ∙ ap (set_value test es) same ∙ set_value_same test es old there
+
+pub same_job : {J : Type 0} (old : Linked J) (then : JobData) → then ≡ old.job → record old { job = then } ≡ old
+same_job old then same = ap (λ j. record old { job = j }) same
+
+pub table_as : {J : Type 0} (es news : List ((ℕ × ℕ) × Linked J)) (queue : Queue) (counts : List (ℕ × Counts)) → IsTable es counts queue → news ≡ es → IsTable news counts queue
+table_as es news queue counts table same = subst (λ xs. IsTable xs counts queue) (sym same) table
+
+-- the map once a job is written into it, before the queue is told
+pub record IsWritten {J : Type 0} (t s : ℕ) (then : JobData) (es mid : List ((ℕ × ℕ) × Linked J)) (queue : Queue) : Type 0 where
+  pub line : line_of mid queue ≡ line_of es queue
+  pub linked : IsLinked mid queue (line_of mid queue)
+  pub there : is_some (links_at t s mid) ≡ true
+  pub jobs : IsUpdate t s (Some then) (jobs_in es) (jobs_in mid)
+
+option_case : {X Y : Type 0} (f : X → Y) (b : Bool) (o was : Option X) → option_map f (cond b o was) ≡ cond b (option_map f o) (option_map f was)
+option_case f true o was = refl
+option_case f false o was = refl
+
+jobs_update : {J : Type 0} (t s : ℕ) (o : Option (Linked J)) (es news : List ((ℕ × ℕ) × Linked J)) → ((u n : ℕ) → lookup (is_key u n) news ≡ cond (is_key t s (u, n)) o (lookup (is_key u n) es))
+    → IsUpdate t s (option_map (λ e. e.job) o) (jobs_in es) (jobs_in news)
+jobs_update {J = J} t s o es news up u n =
+    job_there u n news (cond (is_key t s (u, n)) o (lookup (is_key u n) es)) (up u n) ∙ option_case (λ (e : Linked J). e.job) (is_key t s (u, n)) o (lookup (is_key u n) es) ∙ ap (cond (is_key t s (u, n)) (option_map (λ e. e.job) o)) (sym (jobs_lookup (is_key u n) es))
+
+linked_line : {J : Type 0} (es mid : List ((ℕ × ℕ) × Linked J)) (queue : Queue) (keys : List (ℕ × ℕ)) → IsLinked mid queue keys → IsLinked mid queue (line_of mid queue)
+linked_line es mid queue keys linked = subst (IsLinked mid queue) (sym (line_is mid queue keys linked)) linked
+
+links_case : {J : Type 0} (old : Linked J) (then : JobData) (b : Bool) (was : Option (Linked J)) → was ≡ Some old → option_map (λ e. e.links) (cond b (Some (record old { job = then })) was) ≡ option_map (λ e. e.links) was
+links_case old then true was is = ap (option_map (λ e. e.links)) (sym is)
+links_case old then false was is = refl
+
+same_links_at : {J : Type 0} (t s : ℕ) (old : Linked J) (then : JobData) (es mid : List ((ℕ × ℕ) × Linked J)) → lookup (is_key t s) es ≡ Some old
+    → ((u n : ℕ) → lookup (is_key u n) mid ≡ cond (is_key t s (u, n)) (Some (record old { job = then })) (lookup (is_key u n) es)) → (u n : ℕ) → links_at u n mid ≡ links_at u n es
+same_links_at t s old then es mid there up u n = ap (option_map (λ e. e.links)) (up u n) ∙ at_key t s u n (is_key t s (u, n)) refl (λ v m. option_map (λ e. e.links) (cond (is_key t s (v, m)) (Some (record old { job = then })) (lookup (is_key v m) es)) ≡ links_at v m es)
+    (links_case old then (is_key t s (t, s)) (lookup (is_key t s) es) there) (λ e. ap (λ b. option_map (λ e. e.links) (cond b (Some (record old { job = then })) (lookup (is_key u n) es))) e)
+
+-- links that are the same in another map
+linked_same : {J : Type 0} (es mid : List ((ℕ × ℕ) × Linked J)) (queue : Queue) (keys : List (ℕ × ℕ)) → IsLinked es queue keys → ((u n : ℕ) → links_at u n mid ≡ links_at u n es) → IsLinked mid queue keys
+linked_same es mid queue keys linked same = record {
+  first = linked.first;
+  last = linked.last;
+  len = linked.len;
+  once = linked.once;
+  there = λ u n one. ap is_some (same u n) ∙ linked.there u n one;
+  links = λ u n l is. linked.links u n l (sym (same u n) ∙ is);
+}
+
+pub written : {J : Type 0} (t s : ℕ) (old : Linked J) (then : JobData) (es mid : List ((ℕ × ℕ) × Linked J)) (queue : Queue) → IsLinked es queue (line_of es queue) → lookup (is_key t s) es ≡ Some old
+    → ((u n : ℕ) → lookup (is_key u n) mid ≡ cond (is_key t s (u, n)) (Some (record old { job = then })) (lookup (is_key u n) es)) → IsWritten t s then es mid queue
+written t s old then es mid queue linked there up =
+    let same = same_links_at t s old then es mid there up in
+    let now : IsLinked mid queue (line_of es queue) = linked_same es mid queue (line_of es queue) linked same in
+    record {
+      line = line_is mid queue (line_of es queue) now;
+      linked = linked_line es mid queue (line_of es queue) now;
+      there = ap is_some (same t s) ∙ ap (λ o. is_some (option_map (λ e. e.links) o)) there;
+      jobs = jobs_update t s (Some (record old { job = then })) es mid up;
+    }
+
+-- a queue in which a job does not stand, where that has come or is gone
+pub kept_without : {J : Type 0} (t s : ℕ) (es mid : List ((ℕ × ℕ) × Linked J)) (queue : Queue) (keys : List (ℕ × ℕ)) → IsLinked es queue keys → times t s keys ≡ 0 → HasLeft t s es mid → IsLinked mid queue keys
+kept_without t s es mid queue keys linked none gone = record {
+  first = linked.first;
+  last = linked.last;
+  len = linked.len;
+  once = linked.once;
+  there = λ u n. at_key t s u n (is_key t s (u, n)) refl (λ v m. times v m keys ≡ 1 → is_some (links_at v m mid) ≡ true) (λ one. absurd (omega (arith, none, one))) (λ e one. ap is_some (gone.others u n e) ∙ linked.there u n one);
+  links = λ u n. at_key t s u n (is_key t s (u, n)) refl (λ v m. (l : Links) → links_at v m mid ≡ Some l → l ≡ links_in v m keys)
+      (λ l is. gone.own l is ∙ same_links no_links (links_in t s keys) (sym (ahead_none None t s keys none)) (sym (behind_none t s keys none)))
+      (λ e l is. linked.links u n l (sym (gone.others u n e) ∙ is));
+}
+
+-- all others' entries are as they were
+others_stay : {J : Type 0} (t s : ℕ) (o : Option (Linked J)) (es mid : List ((ℕ × ℕ) × Linked J)) → ((u n : ℕ) → lookup (is_key u n) mid ≡ cond (is_key t s (u, n)) o (lookup (is_key u n) es)) → (u n : ℕ) → is_key t s (u, n) ≡ false
+    → links_at u n mid ≡ links_at u n es
+others_stay t s o es mid up u n e = ap (option_map (λ e. e.links)) (up u n ∙ ap (λ b. cond b o (lookup (is_key u n) es)) e)
+
+own_entry : {J : Type 0} (t s : ℕ) (o : Option (Linked J)) (es mid : List ((ℕ × ℕ) × Linked J)) → ((u n : ℕ) → lookup (is_key u n) mid ≡ cond (is_key t s (u, n)) o (lookup (is_key u n) es)) → lookup (is_key t s) mid ≡ o
+own_entry t s o es mid up = up t s ∙ ap (λ b. cond b o (lookup (is_key t s) es)) (key_is t s)
+
+pub come : {J : Type 0} (t s : ℕ) (job : JobData) (fresh : Linked J) (es mid : List ((ℕ × ℕ) × Linked J)) (queue : Queue) → IsLinked es queue (line_of es queue) → times t s (line_of es queue) ≡ 0 → fresh.job ≡ job → fresh.links ≡ no_links
+    → ((u n : ℕ) → lookup (is_key u n) mid ≡ cond (is_key t s (u, n)) (Some fresh) (lookup (is_key u n) es)) → IsWritten t s job es mid queue
+come t s job fresh es mid queue linked none is_job bare up =
+    let own = own_entry t s (Some fresh) es mid up in
+    let now : IsLinked mid queue (line_of es queue) =
+    kept_without t s es mid queue (line_of es queue) linked none (record { own = λ l is. bare_links fresh l bare (sym (ap (option_map (λ e. e.links)) own) ∙ is); others = others_stay t s (Some fresh) es mid up }) in
+    record {
+      line = line_is mid queue (line_of es queue) now;
+      linked = linked_line es mid queue (line_of es queue) now;
+      there = ap (λ o. is_some (option_map (λ e. e.links) o)) own;
+      jobs = subst (λ j. IsUpdate t s (Some j) (jobs_in es) (jobs_in mid)) is_job (jobs_update t s (Some fresh) es mid up);
+    }
+  where
+    bare_links : {J : Type 0} (fresh : Linked J) (l : Links) → fresh.links ≡ no_links → Some fresh.links ≡ Some l → l ≡ no_links
+    bare_links fresh l bare is = let same : fresh.links ≡ l = cc in sym same ∙ bare
+
+pub gone_out : {J : Type 0} (t s : ℕ) (es mid : List ((ℕ × ℕ) × Linked J)) → ((u n : ℕ) → lookup (is_key u n) mid ≡ cond (is_key t s (u, n)) None (lookup (is_key u n) es)) → HasLeft t s es mid
+gone_out t s es mid up = record {
+  own = λ l is. let none : links_at t s mid ≡ None = ap (option_map (λ e. e.links)) (own_entry t s None es mid up) in absurd (cc);
+  others = others_stay t s None es mid up;
+}
+
+-- a table that is another one now
+pub record IsAfter {J : Type 0} (after : TableData) (es : List ((ℕ × ℕ) × Linked J)) (counts : List (ℕ × Counts)) (queue : Queue) : Type 0 where
+  pub table : IsTable es counts queue
+  pub is : whole es queue ≡ after
+
+after_as : {J : Type 0} (after : TableData) (mid news : List ((ℕ × ℕ) × Linked J)) (counts : List (ℕ × Counts)) (new : Queue) → jobs_in news ≡ jobs_in mid → IsHeld (jobs_in mid) counts (line_of news new)
+    → IsLinked news new (line_of news new) → table_of (jobs_in mid) (line_of news new) ≡ after → IsAfter after news counts new
+after_as after mid news counts new same held linked is = record {
+  table = record { held = subst (λ js. IsHeld js counts (line_of news new)) (sym same) held; linked = linked };
+  is = ap (λ js. table_of js (line_of news new)) same ∙ is;
+}
+
+pub changed_whole : {J : Type 0} (t s : ℕ) (old : Linked J) (then : JobData) (es mid news : List ((ℕ × ℕ) × Linked J)) (queue new : Queue) (counts recounts : List (ℕ × Counts)) (was is : Bool) → IsTable es counts queue
+    → lookup (is_key t s) es ≡ Some old → then.seq ≡ old.job.seq → IsWritten t s then es mid queue → Recounts t (moved (is_out old.job.phase) (is_out then.phase) (counted (lookup (nat_eq t) counts))) counts recounts
+    → was ≡ is_waiting old.job.phase → is ≡ is_waiting then.phase → jobs_in news ≡ jobs_in mid → IsLinked news new (waiting_then t s was is (line_of mid queue)) → IsAfter (change_job t s old.job then (whole es queue)) news recounts new
+changed_whole t s old then es mid news queue new counts recounts was is table there seq done count p q same linked =
+    let keys : line_of news new ≡ waiting_then t s (is_waiting old.job.phase) (is_waiting then.phase) (line_of es queue) =
+    line_is news new (waiting_then t s was is (line_of mid queue)) linked ∙ ap (waiting_then t s was is) done.line ∙ ap (λ x. waiting_then t s x is (line_of es queue)) p ∙ ap (λ x. waiting_then t s (is_waiting old.job.phase) x (line_of es queue)) q in
+    let change : IsChange t s old.job then (table_of (jobs_in es) (line_of es queue)) (table_of (jobs_in mid) (line_of news new)) (jobs_in mid) recounts =
+    change_in t s old.job then (jobs_in es) (jobs_in mid) counts recounts (line_of es queue) (line_of news new) table.held (job_there t s es (Some old) there) seq done.jobs count keys in
+    after_as (change_job t s old.job then (whole es queue)) mid news recounts new same change.held (linked_line es news new (waiting_then t s was is (line_of mid queue)) linked) change.after
+
+pub added_whole : {J : Type 0} (t : ℕ) (job : JobData) (es mid news : List ((ℕ × ℕ) × Linked J)) (queue new : Queue) (counts recounts : List (ℕ × Counts)) (is : Bool) → IsHeld (jobs_in es) counts (line_of es queue)
+    → find_row t job.seq (rows_of (jobs_in es)) ≡ None → length (rows_of (jobs_in es)) + 1 ≤ 2 ^ 63 → IsWritten t job.seq job es mid queue → Recounts t (one_more (is_out job.phase) (counted (lookup (nat_eq t) counts))) counts recounts
+    → is ≡ is_waiting job.phase → jobs_in news ≡ jobs_in mid → IsLinked news new (waiting_then t job.seq false is (line_of mid queue)) → IsAfter (add_job t job (whole es queue)) news recounts new
+added_whole t job es mid news queue new counts recounts is held none room done count q same linked =
+    let keys : line_of news new ≡ waiting_then t job.seq false (is_waiting job.phase) (line_of es queue) =
+    line_is news new (waiting_then t job.seq false is (line_of mid queue)) linked ∙ ap (waiting_then t job.seq false is) done.line ∙ ap (λ x. waiting_then t job.seq false x (line_of es queue)) q in
+    let add : IsAdd t job (table_of (jobs_in es) (line_of es queue)) (table_of (jobs_in mid) (line_of news new)) (jobs_in mid) recounts =
+    add_in t job (jobs_in es) (jobs_in mid) counts recounts (line_of es queue) (line_of news new) held none room done.jobs count keys in
+    after_as (add_job t job (whole es queue)) mid news recounts new same add.held (linked_line es news new (waiting_then t job.seq false is (line_of mid queue)) linked) add.after
+
+pub dropped_whole : {J : Type 0} (t s : ℕ) (old : Linked J) (es mid news : List ((ℕ × ℕ) × Linked J)) (queue new : Queue) (counts recounts : List (ℕ × Counts)) → IsTable es counts queue → lookup (is_key t s) es ≡ Some old
+    → ((u n : ℕ) → lookup (is_key u n) mid ≡ cond (is_key t s (u, n)) None (lookup (is_key u n) es)) → Recounts t (one_less (is_out old.job.phase) (counted (lookup (nat_eq t) counts))) counts recounts
+    → jobs_in news ≡ jobs_in mid → IsLinked news new (waiting_then t s (is_waiting old.job.phase) false (line_of es queue)) → IsAfter (drop_job t s (whole es queue)) news recounts new
+dropped_whole t s old es mid news queue new counts recounts table there up count same linked =
+    let drop : IsDrop t s (table_of (jobs_in es) (line_of es queue)) (table_of (jobs_in mid) (line_of news new)) (jobs_in mid) recounts =
+    drop_in t s old.job (jobs_in es) (jobs_in mid) counts recounts (line_of es queue) (line_of news new) table.held (job_there t s es (Some old) there) (jobs_update t s None es mid up) count
+    (line_is news new (waiting_then t s (is_waiting old.job.phase) false (line_of es queue)) linked) in
+    after_as (drop_job t s (whole es queue)) mid news recounts new same drop.held (linked_line es news new (waiting_then t s (is_waiting old.job.phase) false (line_of es queue)) linked) drop.after
+
+-- as many rows as entries
+jobs_keys : {J : Type 0} (es : List ((ℕ × ℕ) × Linked J)) → keys_of (jobs_in es) ≡ keys_of es
+jobs_keys [] = refl
+jobs_keys (e ∷ es) = ap (λ ks. e.0 ∷ ks) (jobs_keys es)
+
+jobs_length : {J : Type 0} (es : List ((ℕ × ℕ) × Linked J)) → length (jobs_in es) ≡ length es
+jobs_length [] = refl
+jobs_length (e ∷ es) = grind (arith, jobs_length es)
+
+pub rows_count : {J : Type 0} (es : List ((ℕ × ℕ) × Linked J)) → IsDistinct key_eq (keys_of es) → length (rows_of (jobs_in es)) ≡ length es
+rows_count es distinct = rows_length (jobs_in es) (subst (IsDistinct key_eq) (sym (jobs_keys es)) distinct) ∙ jobs_length es
+
+none_back : {J : Type 0} (o : Option (Linked J)) → option_map (λ e. e.job) o ≡ None → o ≡ None
+none_back None none = refl
+none_back (Some e) none = absurd (cc)
+
+pub job_gone : {J : Type 0} (t s : ℕ) (es : List ((ℕ × ℕ) × Linked J)) (queue : Queue) (counts : List (ℕ × Counts)) → IsTable es counts queue → find_row t s (rows_of (jobs_in es)) ≡ None → lookup (is_key t s) es ≡ None
+job_gone t s es queue counts table none = none_back (lookup (is_key t s) es) (sym (jobs_lookup (is_key t s) es) ∙ sym (named_find t s (jobs_in es) table.held.named) ∙ none)
+
+later_case : (t s : ℕ) (key : ℕ × ℕ) (keys : List (ℕ × ℕ)) (i : ℕ) (b : Bool) → is_key t s key ≡ b → ((u n : ℕ) → times u n (key ∷ keys) ≤ 1) → slice_get keys i ≡ Some (t, s) → b ≡ false
+later_case t s key keys i true e once here = absurd (omega (arith, once_first t s key keys once e, stands keys i t s here))
+later_case t s key keys i false e once here = refl
+
+first_is : (keys : List (ℕ × ℕ)) → first_of keys ≡ slice_get keys 0
+first_is [] = refl
+first_is (key ∷ keys) = refl
+
+next_here : (keys : List (ℕ × ℕ)) (i t s : ℕ) → ((u n : ℕ) → times u n keys ≤ 1) → slice_get keys i ≡ Some (t, s) → behind t s keys ≡ slice_get keys (suc i)
+next_here [] i t s once here = absurd (cc)
+next_here (key ∷ keys) zero t s once here =
+    let same : key ≡ (t, s) = cc in
+    let is : is_key t s key ≡ true = ap (is_key t s) same ∙ key_is t s in
+    ap (λ b. cond b (first_of keys) (behind t s keys)) is ∙ first_is keys
+next_here (key ∷ keys) (suc i) t s once here =
+    let not : is_key t s key ≡ false = later_case t s key keys i (is_key t s key) refl once here in
+    ap (λ b. cond b (first_of keys) (behind t s keys)) not ∙ next_here keys i t s (once_rest key keys once) here
+
+-- who stands behind one at a place
+pub next_at : (keys : List (ℕ × ℕ)) (i t s : ℕ) → ((u n : ℕ) → times u n keys ≤ 1) → slice_get keys i ≡ Some (t, s) → behind t s keys ≡ slice_get keys (i + 1)
+next_at keys i t s once here = rw add-one (next_here keys i t s once here)
+
+pub past_none : (keys : List (ℕ × ℕ)) (k i : ℕ) → k ≤ i → slice_get keys k ≡ None → slice_get keys i ≡ None
+past_none [] k i le none = refl
+past_none (key ∷ keys) zero i le none = absurd (cc)
+past_none (key ∷ keys) (suc k) zero le none = absurd (omega (arith, le))
+past_none (key ∷ keys) (suc k) (suc i) le none = past_none keys k i (omega (arith, le)) none
+
+one_most : (b : Bool) → one_if b ≤ 1
+one_most true = omega arith
+one_most false = omega arith
+
+pub once_waiting : (table : TableData) → AreWaiting table → (t s : ℕ) → times t s table.waiting ≤ 1
+once_waiting table are t s = omega (arith, are t s, one_most (does_wait (find_row t s table.rows)))
+
+-- the empty table
+pub empty_table : {J : Type 0} (es : List ((ℕ × ℕ) × Linked J)) (counts : List (ℕ × Counts)) → es ≡ [] → counts ≡ [] → IsTable es counts (record { first = None; last = None; len = 0 })
+empty_table {J = J} es counts e c = subst (λ xs. IsTable xs counts (record { first = None; last = None; len = 0 })) (sym e) (subst (λ xs. IsTable {J = J} [] xs (record { first = None; last = None; len = 0 })) (sym c)
+    (record {
+      held = record {
+        named = λ t s job is. absurd (cc);
+        counted = λ t. refl;
+        kept = record { waiting = λ t s. refl; count = refl; few = omega arith };
+      };
+      linked = record { first = refl; last = refl; len = refl; once = λ t s. omega arith; there = λ t s one. absurd (omega (arith, one)); links = λ t s l is. absurd (cc) };
+    }))
