@@ -14,11 +14,13 @@
 #![tactic(auto)]
 
 mod board;
+mod members;
 mod order;
 mod place;
 mod profile;
 mod stock;
 mod sums;
+mod waiting;
 mod walk;
 
 pub use board::Board;

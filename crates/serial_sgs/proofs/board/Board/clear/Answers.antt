@@ -1,0 +1,16 @@
+use Rattle.std.proofs.Common.{◌≡◌, [], arith, ◌∙◌}
+use Rattle.mrcpsp.specs.Project.{renewables}
+use Rattle.serial_sgs.proofs.KeptLemmas.{kept_nil, table_short}
+use Rattle.serial_sgs.proofs.board.Board.clear.Goals as goal
+
+pub invariant_of-self : goal.invariant_of-self
+invariant_of-self c =
+    let b = c.self.inside in
+    let was = c.self.invariant in
+    rw c.clear.ensures.items
+    (kept_nil b.project b.measures _ c.restart.new.self b.at_least c.begin.new.points.items _ b.before.items b.after.items b.executable.items b.finishes.items was.board.project (omega (arith, c.clear.ensures.capacity, was.memory)) was.measured (rw c.deref.ensures.value at c.restart.ensures) was.least_of_all was.before was.after was.executable was.noted (c.begin.ensures.profile (renewables b.project) was.board.project.few_renewable) c.begin.ensures.one (omega (arith, c.begin.ensures.memory, was.roomy)))
+
+pub restart-requires-clause-short : goal.restart-requires-clause-short
+restart-requires-clause-short c =
+    let b = c.self.inside in
+    rw c.deref.ensures.value (table_short b.project b.before.items c.self.invariant.board.project.few c.self.invariant.before)

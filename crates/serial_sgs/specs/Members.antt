@@ -1,0 +1,17 @@
+-- Sets of activities as words of 64 bits each: bit `j % 64` of word `j / 64` tells of activity j.
+use Rattle.std.specs.Prelude.{◌≡◌, ℕ, ◌/◌, ◌%◌, ◌<◌, ◌≤◌, ◌==◌, Bool, true, false, List, get_or}
+use Rattle.std.specs.Int.{bit_at}
+
+unfoldable pub has : List ℕ → ℕ → Bool
+has words j = bit_at (get_or words (j / 64) 0) (j % 64) == 1
+
+-- no member from `from` on
+abbrev pub IsOver : List ℕ → ℕ → Type 0
+IsOver words from = (i : ℕ) → from ≤ i → i < 256 → has words i ≡ false
+
+-- the least member from `from` on
+pub record IsNext (words : List ℕ) (from j : ℕ) : Type 0 where
+  pub above : from ≤ j
+  pub below : j < 256
+  pub member : has words j ≡ true
+  pub first : (i : ℕ) → from ≤ i → i < j → has words i ≡ false

@@ -1,0 +1,68 @@
+//! Sets of activities, a bit for each.
+ghost use Rattle.std.specs.Prelude.{◌≡◌, ℕ, ◌*◌, ◌<◌, ◌≤◌, true, false, MatchOption};
+ghost use Rattle.serial_sgs.specs.Members.{has, IsNext, IsOver};
+
+/// Puts an activity in.
+fn put_in(words: &mut [u64; 4], activity: usize)
+    requires { activity < 256 }
+    ensures own { has words.new activity ≡ true }
+    ensures others { (j : ℕ) → (j ≡ activity → ⊥) → has words.new j ≡ has words.old j }
+{
+    words[activity / 64] |= 1 << (activity % 64);
+}
+
+/// Takes an activity out.
+fn take_out(words: &mut [u64; 4], activity: usize)
+    requires { activity < 256 }
+    ensures own { has words.new activity ≡ false }
+    ensures others { (j : ℕ) → (j ≡ activity → ⊥) → has words.new j ≡ has words.old j }
+{
+    words[activity / 64] &= !(1 << (activity % 64));
+}
+
+/// Puts an activity in where it is to be a member, else takes it out.
+pub(crate) fn keep_in(words: &mut [u64; 4], activity: usize, is_member: bool)
+    requires { activity < 256 }
+    ensures own { has words.new activity ≡ is_member }
+    ensures others { (j : ℕ) → (j ≡ activity → ⊥) → has words.new j ≡ has words.old j }
+{
+    if is_member {
+        put_in(words, activity);
+    } else {
+        take_out(words, activity);
+    }
+}
+
+/// Whether an activity is a member.
+pub(crate) fn is_in(words: &[u64; 4], activity: usize) -> bool
+    requires { activity < 256 }
+    ensures { result ≡ has words.now activity }
+{
+    (words[activity / 64] >> (activity % 64)) & 1 == 1
+}
+
+/// The least member of the words from this one on.
+fn first_in(words: &[u64; 4], first: usize) -> Option<usize>
+    requires { first ≤ 4 }
+    ensures { MatchOption result (IsOver words.now (first * 64)) (IsNext words.now (first * 64)) }
+{
+    for word in first..4 {
+        let bits = words[word];
+        if bits != 0 {
+            return Some(word * 64 + bits.trailing_zeros() as usize);
+        }
+    }
+    None
+}
+
+/// The least member from an activity on.
+pub(crate) fn next_in(words: &[u64; 4], from: usize) -> Option<usize>
+    requires { from < 256 }
+    ensures { MatchOption result (IsOver words.now from) (IsNext words.now from) }
+{
+    let rest = words[from / 64] >> (from % 64);
+    if rest != 0 {
+        return Some(from + rest.trailing_zeros() as usize);
+    }
+    first_in(words, from / 64 + 1)
+}

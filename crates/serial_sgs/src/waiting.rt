@@ -1,0 +1,182 @@
+//! Who is placed, how many predecessors of each activity are not, and who may come next.
+ghost use Rattle.std.specs.Prelude.{◌≡◌, ◌<◌, ◌≤◌, true, false, All, IfOk, MatchOption, get_or, length, replicate, set};
+ghost use Rattle.serial_sgs.specs.Waiting.{AreOthers, IsFirst, IsLess, IsNextOpen, NoneIsOpen, is_open};
+
+use crate::members::{is_in, keep_in, next_in};
+use mrcpsp::Sequence;
+use std::alloc::{AllocError, Global};
+use std::marker::Model;
+
+/// A mark and a count of missing predecessors for each activity, and the set of those that may come next: they are not
+/// marked, and miss nobody.
+#[derive(Drop)]
+pub(crate) struct Waiting {
+    placed: Vec<bool>,
+    missing: Vec<u32>,
+    eligible: [u64; 4],
+}
+
+/// As many zeros.
+pub(crate) fn zeros(alloc: Global, size: usize) -> Result<Vec<u32>, AllocError>
+    ensures { IfOk result (λ list. list.items ≡ replicate size 0) }
+{
+    Ok(vec![in alloc; 0; size]?)
+}
+
+/// As many marks, all of them set.
+fn all_marked(alloc: Global, size: usize) -> Result<Vec<bool>, AllocError>
+    ensures { IfOk result (λ marks. marks.items ≡ replicate size true) }
+{
+    Ok(vec![in alloc; true; size]?)
+}
+
+impl Model for Waiting {
+    ghost use Rattle.serial_sgs.specs.Waiting.{WaitingData, IsWaiting};
+
+    ghost Value = { WaitingData };
+
+    ghost view = { λ w. record { flags = w.placed.items; missing = w.missing.items } };
+
+    ghost invariant = { λ w. IsWaiting (record { flags = w.placed.items; missing = w.missing.items }) w.eligible };
+}
+
+impl Waiting {
+    /// Nobody is placed, of so many activities with these predecessors; or an error where there is no memory.
+    pub(crate) fn new(alloc: Global, before: &[Sequence<u32>]) -> Result<Waiting, AllocError>
+        requires few { length before.now ≤ 255 }
+        requires short { All (λ list. length list ≤ 202) before.now }
+        ensures { IfOk result (IsFirst before.now) }
+    {
+        let size = before.len();
+        let placed = all_marked(alloc, size)?;
+        let missing = zeros(alloc, size)?;
+        let mut waiting = Waiting {
+            placed,
+            missing,
+            eligible: [0; 4],
+        };
+        waiting.restart(before);
+        Ok(waiting)
+    }
+
+    /// Notes of one activity whether it is placed, and how many predecessors it misses.
+    fn note(&mut self, activity: usize, is_placed: bool, missing: u32)
+        requires { activity < length self.old.flags }
+        ensures exact { self.new ≡ record { flags = set self.old.flags activity is_placed; missing = set self.old.missing activity missing } }
+        ensures same { length self.new.missing ≡ length self.new.flags }
+    {
+        self.placed[activity] = is_placed;
+        self.missing[activity] = missing;
+        keep_in(&mut self.eligible, activity, !is_placed && missing == 0);
+    }
+
+    /// Notes of one activity whether it is placed.
+    fn note_placed(&mut self, activity: usize, is_placed: bool)
+        requires { activity < length self.old.flags }
+        ensures { self.new ≡ record self.old { flags = set self.old.flags activity is_placed } }
+    {
+        self.placed[activity] = is_placed;
+        let is_member = !is_placed && self.missing[activity] == 0;
+        keep_in(&mut self.eligible, activity, is_member);
+    }
+
+    /// Notes of one activity how many predecessors it misses.
+    fn note_missing(&mut self, activity: usize, missing: u32)
+        requires { activity < length self.old.flags }
+        ensures exact { self.new ≡ record self.old { missing = set self.old.missing activity missing } }
+        ensures same { length self.new.missing ≡ length self.new.flags }
+    {
+        self.missing[activity] = missing;
+        let is_member = missing == 0 && !self.placed[activity];
+        keep_in(&mut self.eligible, activity, is_member);
+    }
+
+    /// Nobody is placed any more. These are the predecessors of each activity.
+    pub(crate) fn restart(&mut self, before: &[Sequence<u32>])
+        requires count { length before.now ≡ length self.old.flags }
+        requires short { All (λ list. length list ≤ 202) before.now }
+        ensures { IsFirst before.now self.new }
+    {
+        for activity in 0..before.len() {
+            let missing = before[activity].as_slice().len();
+            self.note(activity, false, missing as u32);
+        }
+    }
+
+    /// How many activities there are.
+    pub(crate) fn count(&self) -> usize
+        ensures { result ≡ length self.now.flags }
+    {
+        self.placed.len()
+    }
+
+    /// Whether an activity is placed.
+    pub(crate) fn is_placed(&self, activity: usize) -> bool
+        requires { activity < length self.now.flags }
+        ensures { result ≡ get_or self.now.flags activity false }
+    {
+        self.placed[activity]
+    }
+
+    /// The marks of those that are placed.
+    pub(crate) fn marks(&self) -> &[bool]
+        ensures { result.now ≡ self.now.flags }
+    {
+        self.placed.as_slice()
+    }
+
+    /// Whether an activity may come next.
+    pub(crate) fn is_open(&self, activity: usize) -> bool
+        requires { activity < length self.now.flags }
+        ensures { result ≡ is_open self.now activity }
+    {
+        is_in(&self.eligible, activity)
+    }
+
+    /// The first activity, from one on, that may come next.
+    pub(crate) fn next_open(&self, from: usize) -> Option<usize>
+        requires { from ≤ length self.now.flags }
+        ensures { MatchOption result (NoneIsOpen self.now from) (IsNextOpen self.now from) }
+    {
+        next_in(&self.eligible, from)
+    }
+
+    /// How many predecessors an activity misses.
+    fn missed_by(&self, activity: usize) -> u32
+        requires { activity < length self.now.flags }
+        ensures exact { result ≡ get_or self.now.missing activity 0 }
+        ensures same { length self.now.missing ≡ length self.now.flags }
+    {
+        self.missing[activity]
+    }
+
+    /// Notes that an activity is placed, for which these wait.
+    pub(crate) fn mark(&mut self, activity: usize, after: &[u32])
+        requires inside { activity < length self.old.flags }
+        requires others { AreOthers (length self.old.flags) after.now }
+        requires some { All (λ s. 0 < get_or self.old.missing s 0) after.now }
+        ensures marks { self.new.flags ≡ set self.old.flags activity true }
+        ensures less { IsLess after.now self.old.missing self.new.missing }
+    {
+        self.note_placed(activity, true);
+        for other in after {
+            let missing = self.missed_by(*other as usize);
+            self.note_missing(*other as usize, missing - 1);
+        }
+    }
+
+    /// Takes back that an activity is placed, for which these wait.
+    pub(crate) fn unmark(&mut self, activity: usize, after: &[u32])
+        requires inside { activity < length self.old.flags }
+        requires others { AreOthers (length self.old.flags) after.now }
+        requires few { All (λ s. get_or self.old.missing s 0 < 1000000) after.now }
+        ensures marks { self.new.flags ≡ set self.old.flags activity false }
+        ensures less { IsLess after.now self.new.missing self.old.missing }
+    {
+        self.note_placed(activity, false);
+        for other in after {
+            let missing = self.missed_by(*other as usize);
+            self.note_missing(*other as usize, missing + 1);
+        }
+    }
+}
