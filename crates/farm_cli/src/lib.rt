@@ -18,7 +18,7 @@ mod summary;
 
 pub use arguments::{Task, farm_command, parse_words};
 pub use farm_config::{ConfigFault, Key, read_config};
-pub use farm_replay::{Notes, ReplayFault, replay, replay_noting};
+pub use farm_replay::{Notes, ReplayFault, Watches, replay, replay_noting};
 pub use farm_service::{ServeFault, serve};
 pub use input::{MOST_BYTES, read_front, read_whole};
 pub use program::{run, run_words};

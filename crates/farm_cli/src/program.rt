@@ -9,7 +9,7 @@ use crate::summary::summarize;
 use farm_config::{ConfigFault, place_of, read_config};
 use farm_core::Config;
 use farm_pool::Settled;
-use farm_replay::{Notes, ReplayFault, replay_noting};
+use farm_replay::{Notes, ReplayFault, Watches, replay_noting};
 use farm_service::{ServeFault, serve};
 use file_words::{reason, tell_unread};
 use psplib_mm::read;
@@ -179,7 +179,8 @@ fn replay_to<R: Runtime + AllocGlobal, S: Read + Drop>(
     let Ok(mut output) = BufWriter::new(rt.alloc(), io::writer(rt)) else {
         return Err(ReplayFault::NoMemory);
     };
-    let ended = replay_noting(rt.alloc(), config, script, &mut output, notes);
+    let mut watches = Watches::new();
+    let ended = replay_noting(rt.alloc(), config, script, &mut output, &mut watches, notes);
     match output.flush() {
         Ok(()) => ended,
         Err(_) => Err(ReplayFault::Write),

@@ -1,12 +1,12 @@
 -- The lines of an output's bytes are its reply lines, since no reply has a line feed, and so one tenant's bytes are those of its own requests.
-use Rattle.std.proofs.Common.{◌≡◌, ℕ, zero, suc, ◌==◌, ◌&&◌, ◌/◌, ◌%◌, ◌+◌, Bool, true, false, not, cond, filter, List, [], ◌∷◌, ◌++◌, map, Option, Some, None, refl, sym, ap, ◌∙◌, subst, arith, append_assoc, ◌||◌}
+use Rattle.std.proofs.Common.{◌≡◌, ℕ, zero, suc, ◌==◌, ◌/◌, ◌%◌, ◌+◌, Bool, true, false, not, cond, filter, List, [], ◌∷◌, ◌++◌, map, Option, Some, None, refl, sym, ap, ◌∙◌, subst, arith, append_assoc, ◌||◌}
 use Rattle.std.specs.Prelude.{if◌then◌else◌, codes, decimal}
 use Rattle.std.specs.Fmt.{digits, digits_onto, digit_glyph}
 use Rattle.std.specs.List.{list_all, list_any, flat_map}
 use Rattle.std.proofs.lemmas.Bool.{and_parts}
 use Rattle.std.proofs.lemmas.Bool.Decides.{nat_tests}
 use Rattle.std.proofs.lemmas.List.Folds.{list_all-append}
-use Rattle.psplib_mm.specs.FaultText.{section_text, limit_text, fault_text}
+use Rattle.psplib_mm.specs.FaultText.{section_text, limit_text}
 use Rattle.psplib_mm.specs.declared.fault.MmFault.{MmFault}
 use Rattle.psplib_mm.specs.declared.fault.MmFault.TheVariants as fault
 use Rattle.psplib_mm.specs.declared.fault.SectionName.{SectionName}
@@ -26,12 +26,11 @@ use Rattle.farm_core.specs.declared.reply.Reply.{Reply}
 use Rattle.farm_core.specs.declared.reply.Reply.TheVariants as reply
 use Rattle.session_lines.specs.declared.said.Said.{Said}
 use Rattle.session_lines.specs.declared.said.Said.TheVariants as said
-use Rattle.session_lines.specs.ReplyText.{phase_text, verdict_text, best_text, line_text as known_text, place_text, places_text, schedule_text, book_text, reply_text, file_text, said_text, who_text, reply_line}
-use Rattle.session_lines.specs.Script.{lines_of, onto, requests_of}
+use Rattle.session_lines.specs.ReplyText.{phase_text, verdict_text, best_text, line_text as known_text, place_text, places_text, schedule_text, book_text, reply_text, file_text, said_text, who_text}
+use Rattle.session_lines.specs.Script.{lines_of, requests_of}
 use Rattle.farm_replay.specs.Output.{Parts, Saying, Marked, next, items_of, opening, lines_for, line_text, output_of}
 use Rattle.farm_replay.proofs.BeginLemmas.{IsNamed, AreNamed, name_parts, next_named, script_named, line_begins}
 use Rattle.farm_replay.specs.Isolation.{whose, is_of, is_members, own_lines, own_requests}
-use Rattle.farm_replay.specs.Begins.{begins_with}
 use Rattle.farm_replay.specs.Bytes.{LinesAreReplies, AreNamesOf, begins_with_any, lines_beginning, EachOutputIsAlone, OutputsAreIsolated}
 use Rattle.farm_replay.proofs.IsolationLemmas.{each_replays_alone, replays_are_isolated}
 

@@ -1,5 +1,5 @@
 -- Why a purse's lines are those of its members' own requests.
-use Rattle.std.proofs.Common.{◌≡◌, ◌≢◌, ℕ, ◌==◌, Bool, true, false, cond, List, [], ◌∷◌, filter, Option, Some, None, refl, sym, ap, ◌∙◌, subst, eq-eqb, ⊎_elim}
+use Rattle.std.proofs.Common.{◌≡◌, ℕ, ◌==◌, Bool, true, false, cond, List, [], ◌∷◌, filter, Option, Some, None, refl, sym, ap, ◌∙◌, eq-eqb, ⊎_elim}
 use Rattle.std.specs.Prelude.{Result, Ok, Err, is_some}
 use Rattle.std.proofs.lemmas.Bool.{eqb-true, both_ways}
 use Rattle.std.proofs.lemmas.List.Quantifiers.{position-Some}
@@ -8,14 +8,14 @@ use Rattle.farm_core.specs.Config.{ConfigData, no_terms, purse_names}
 use Rattle.farm_core.specs.Name.{same_bytes}
 use Rattle.farm_core.proofs.NameLemmas.{same_bytes_is}
 use Rattle.farm_core.proofs.SharingLemmas.{apart}
-use Rattle.farm_core.specs.Tenant.{Tenant, Purse, seat, with_seat}
+use Rattle.farm_core.specs.Tenant.{Purse, seat, with_seat}
 use Rattle.farm_core.specs.World.{terms_in, purse_in, place_in}
 use Rattle.farm_core.specs.Laws.{IsLone}
 use Rattle.session_lines.specs.declared.request.Request.{Request}
 use Rattle.session_lines.specs.declared.request.LineFault.{LineFault}
 use Rattle.farm_session.specs.Heard.{is_named, number_of}
-use Rattle.farm_replay.specs.Output.{Told, told_under, Parts, opening, part_of, with_tenant, Saying, Next, asked, answered, is_answering, unread, unless_unread, Marked, next, lines_for}
-use Rattle.farm_replay.specs.Isolation.{who_in, who_first, whose, is_of, place_if, seat_of, is_members, own_lines, own_requests, EachReplaysAlone, ReplaysAreIsolated, lone_lines, lone_requests, EachLoneReplaysAlone}
+use Rattle.farm_replay.specs.Output.{Told, told_under, Parts, opening, part_of, Saying, Next, asked, answered, is_answering, unread, unless_unread, Marked, next, lines_for}
+use Rattle.farm_replay.specs.Isolation.{who_in, who_first, whose, is_of, place_if, seat_of, is_members, own_lines, own_requests, EachReplaysAlone, ReplaysAreIsolated, EachLoneReplaysAlone}
 
 -- ---- names
 

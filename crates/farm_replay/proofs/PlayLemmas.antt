@@ -1,5 +1,5 @@
 -- How a replay goes on from request to request.
-use Rattle.std.proofs.Common.{◌≡◌, ◌≢◌, ℕ, ◌+◌, ◌≤◌, ◌==◌, Bool, true, false, cond, List, [], ◌∷◌, ◌++◌, length, Option, Some, None, refl, sym, ap, ◌∙◌, subst, arith, ⊎_elim, eq-eqb, append_assoc, append-nil, length-append, ◌<◌}
+use Rattle.std.proofs.Common.{◌≡◌, ◌≢◌, ℕ, ◌+◌, ◌≤◌, ◌==◌, Bool, true, false, cond, List, [], ◌∷◌, ◌++◌, length, Option, Some, None, refl, sym, ap, ◌∙◌, subst, arith, ◌⊎◌, inl, inr, add-one, ⊎_elim, eq-eqb, append_assoc, append-nil, length-append, ◌<◌}
 use Rattle.std.specs.Prelude.{Result, Ok, Err, IfSome, IfErr, OnOk, ⊤}
 use Rattle.std.specs.List.{flat_map}
 use Rattle.std.specs.Io.KnownBytes.{Keeps, Appends}
@@ -21,6 +21,7 @@ use Rattle.session_lines.specs.declared.request.LineFault.{LineFault}
 use Rattle.session_lines.specs.declared.request.LineFault.TheVariants.{Eof, Read, TooLong, Syntax, File, NoMemory}
 use Rattle.session_lines.specs.declared.said.Said.{Said}
 use Rattle.session_lines.specs.declared.said.Said.TheVariants as said
+use Rattle.session_lines.specs.Cause.{HasCause, lines_after, IsPast, IsGivenUp}
 use Rattle.session_lines.specs.Known.{Goes, AppendsPart}
 use Rattle.session_lines.specs.Laws.{EachInTurn, from_first}
 use Rattle.session_lines.specs.ReplyText.{reply_line}
@@ -28,9 +29,10 @@ use Rattle.session_lines.specs.Script.{Item, lines_of, first, first_of, requests
 use Rattle.farm_replay.specs.declared.script.ReplayFault.{ReplayFault}
 use Rattle.farm_replay.specs.declared.script.ReplayFault.TheVariants as fault
 use Rattle.farm_session.specs.declared.heard.Heard.TheVariants as heard
-use Rattle.farm_replay.specs.Output.{Told, told_under, Parts, opening, part_of, with_tenant, Saying, Next, asked, Refused, Nowhere, Reading, Answering, Marked, next, lines_for, parts_after, line_text, output_of, items_of, IsWritten, IsCutBy, IsCutOff}
+use Rattle.farm_replay.specs.Output.{Told, told_under, Parts, opening, part_of, with_tenant, Saying, Next, asked, Refused, Nowhere, Reading, Answering, Marked, next, lines_for, parts_after, line_text, output_of, items_of, IsWritten, lines_past, IsLongNext, IsCutBy, IsCutOff, unwatched}
 use Rattle.farm_session.specs.Heard.{number_of, heard_for, heard_of}
-use Rattle.farm_replay.specs.Replay.{GoesOn}
+use Rattle.farm_replay.specs.Replay.{GoesOn, end_of}
+use Rattle.farm_replay.specs.declared.watches.Watches.{Watches}
 use Rattle.farm_replay.specs.Floor.{IsTold}
 
 -- ---- known bytes
@@ -104,6 +106,7 @@ pub record IsPlayed (config : ConfigData) (xs ys : List ℕ) (old new : Option (
   pub parts : (p : ℕ) → purse p w ≡ parts_after config (opening config) requests p
   pub written : Appends old new (output_of config requests)
   pub reads : requests_of xs ≡ items_of requests ++ requests_of ys
+  pub left : lines_past count (lines_of xs) ≡ lines_of ys
 
 -- the next request is cut from the bytes
 pub record IsNext (m : Marked) (ys zs : List ℕ) : Type 0 where
@@ -128,42 +131,46 @@ play_on turns config xs ys zs old mid new count w w' line it m n by written = re
   written = subst (Appends old new) (ap (λ l. output_of config it.requests ++ line_text l) (sym by.says) ∙ output_more config it.requests m)
       (appends_on old mid new (output_of config it.requests) (line_text line) it.written written);
   reads = it.reads ∙ ap (λ l. items_of it.requests ++ l) (reads_next turns m ys zs n) ∙ items_more it.requests m (requests_of zs);
+  left = ap (λ k. lines_past k (lines_of xs)) (add-one count) ∙ ap (λ l. lines_after (first None l)) it.left ∙ ap lines_after n.cut;
 }
 
 -- a part of its line was written, and no more
 cut_by_write : EachInTurn → (config : ConfigData) (xs ys zs : List ℕ) (old mid new : Option (List ℕ)) (count : ℕ) (w w' : World) (line : Saying) (it : IsPlayed config xs ys old mid count w) (m : Marked)
-    → IsNext m ys zs → IsAnsweredBy config (parts_after config (opening config) it.requests) m line w' → AppendsPart mid new (line_text line) → IsCutOff config fault.Write xs old new
-cut_by_write turns config xs ys zs old mid new count w w' line it m n by part = record {
+    → IsNext m ys zs → IsAnsweredBy config (parts_after config (opening config) it.requests) m line w' → AppendsPart mid new (line_text line) → (seen : Watches) → seen.writes.failed ≡ true → IsCutOff config fault.Write seen xs old new
+cut_by_write turns config xs ys zs old mid new count w w' line it m n by part seen failed = record {
   requests = it.requests;
   rest = m.item ∷ requests_of zs;
   part = part.part;
   all = ap (λ l. items_of it.requests ++ l) (sym (reads_next turns m ys zs n)) ∙ sym it.reads;
   written = appends_on old mid new (output_of config it.requests) part.part it.written part.written;
-  cause = record { refused = m.refused; item = m.item; more = requests_of zs; behind = part.rest; first = refl; line = ap line_text by.says ∙ part.split };
+  cause = (failed, record { refused = m.refused; item = m.item; more = requests_of zs; behind = part.rest; first = refl; line = ap line_text by.says ∙ part.split });
 }
 
 -- nothing of its line was written
 cut_before : EachInTurn → (config : ConfigData) (xs ys zs : List ℕ) (old new : Option (List ℕ)) (count : ℕ) (w : World) (it : IsPlayed config xs ys old new count w) (m : Marked)
-    → IsNext m ys zs → IsCutOff config fault.Write xs old new
-cut_before turns config xs ys zs old new count w it m n = record {
+    → IsNext m ys zs → (seen : Watches) → seen.writes.failed ≡ true → IsCutOff config fault.Write seen xs old new
+cut_before turns config xs ys zs old new count w it m n seen failed = record {
   requests = it.requests;
   rest = m.item ∷ requests_of zs;
   part = [];
   all = ap (λ l. items_of it.requests ++ l) (sym (reads_next turns m ys zs n)) ∙ sym it.reads;
   written = subst (Appends old new) (sym (append-nil (output_of config it.requests))) it.written;
-  cause = record {
-    refused = m.refused;
-    item = m.item;
-    more = requests_of zs;
-    behind = line_text (next config (parts_after config (opening config) it.requests) m).line;
-    first = refl;
-    line = refl;
-  };
+  cause = (
+    failed,
+    record {
+      refused = m.refused;
+      item = m.item;
+      more = requests_of zs;
+      behind = line_text (next config (parts_after config (opening config) it.requests) m).line;
+      first = refl;
+      line = refl;
+    },
+  );
 }
 
-cut_between : (config : ConfigData) (xs ys : List ℕ) (old new : Option (List ℕ)) (count : ℕ) (w : World) (why : ReplayFault) (it : IsPlayed config xs ys old new count w)
-    → IsCutBy why config it.requests (requests_of ys) [] → IsCutOff config why xs old new
-cut_between config xs ys old new count w why it cause = record {
+cut_between : (config : ConfigData) (xs ys : List ℕ) (old new : Option (List ℕ)) (count : ℕ) (w : World) (why : ReplayFault) (seen : Watches) (it : IsPlayed config xs ys old new count w)
+    → IsCutBy why seen config xs it.requests (requests_of ys) [] → IsCutOff config why seen xs old new
+cut_between config xs ys old new count w why seen it cause = record {
   requests = it.requests;
   rest = requests_of ys;
   part = [];
@@ -307,14 +314,14 @@ Played config first now old new count w = Goes first now (λ xs ys. IsPlayed con
 
 pub play_begins : (config : ConfigData) (a old : Option (List ℕ)) (w : World) → w.config ≡ config → ((p : ℕ) → purse p w ≡ opening config p) → Played config a a old old 0 w
 play_begins config a old w is parts =
-    goes_same a (λ xs ys. IsPlayed config xs ys old old 0 w) (λ xs. record { requests = []; number = refl; of_config = is; parts = parts; written = appends_none old; reads = refl })
+    goes_same a (λ xs ys. IsPlayed config xs ys old old 0 w) (λ xs. record { requests = []; number = refl; of_config = is; parts = parts; written = appends_none old; reads = refl; left = refl })
 
 -- what was written is sent on its way, and the same bytes are left to be read
 pub played_sent : (config : ConfigData) (a b c old mid new : Option (List ℕ)) (count : ℕ) (w : World) → c ≡ b → Keeps mid new → Played config a b old mid count w → Played config a c old new count w
 played_sent config a b c old mid new count w same kept played =
     subst (λ r. Played config a r old new count w) (sym same)
     (goes_to a b (λ xs ys. IsPlayed config xs ys old mid count w) (λ xs ys. IsPlayed config xs ys old new count w) played
-    (λ xs ys it. record { requests = it.requests; number = it.number; of_config = it.of_config; parts = it.parts; written = appends_kept old mid new (output_of config it.requests) it.written kept; reads = it.reads }))
+    (λ xs ys it. record { requests = it.requests; number = it.number; of_config = it.of_config; parts = it.parts; written = appends_kept old mid new (output_of config it.requests) it.written kept; reads = it.reads; left = it.left }))
 
 answered_settled : (config : ConfigData) (xs ys zs : List ℕ) (old mid : Option (List ℕ)) (count : ℕ) (w : World) (line : Saying) (it : IsPlayed config xs ys old mid count w) (s : IsSettled config line ys zs)
     → IsAnsweredBy config (parts_after config (opening config) it.requests) s.request line w
@@ -331,12 +338,12 @@ settled_on turns config a b c old mid new count w answer who words is takes play
 
 pub settled_cut : EachInTurn → (config : ConfigData) (a b c old mid new : Option (List ℕ)) (count : ℕ) (w : World) (answer : Result Request LineFault) (who : Option (List ℕ)) (words : Said)
     → heard.Told who words ≡ heard_of config answer → Takes 100000000 None b c answer → Played config a b old mid count w → AppendsPart mid new (reply_line who words)
-    → IfSome a (λ xs. IsCutOff config fault.Write xs old new)
-settled_cut turns config a b c old mid new count w answer who words is takes played part =
-    known_first a c (λ xs zs. IsCutOff config fault.Write xs old new) (λ xs. IsCutOff config fault.Write xs old new)
-    (goes_on a b c (λ xs ys. IsPlayed config xs ys old mid count w) (IsSettled config (record { who = who; said = words })) (λ xs zs. IsCutOff config fault.Write xs old new)
+    → (seen : Watches) → seen.writes.failed ≡ true → IfSome a (λ xs. IsCutOff config fault.Write seen xs old new)
+settled_cut turns config a b c old mid new count w answer who words is takes played part seen failed =
+    known_first a c (λ xs zs. IsCutOff config fault.Write seen xs old new) (λ xs. IsCutOff config fault.Write seen xs old new)
+    (goes_on a b c (λ xs ys. IsPlayed config xs ys old mid count w) (IsSettled config (record { who = who; said = words })) (λ xs zs. IsCutOff config fault.Write seen xs old new)
     played (told_takes config 100000000 b c answer who words is takes)
-    (λ xs ys zs it s. cut_by_write turns config xs ys zs old mid new count w w (record { who = who; said = words }) it s.request s.cut (answered_settled config xs ys zs old mid count w (record { who = who; said = words }) it s) part))
+    (λ xs ys zs it s. cut_by_write turns config xs ys zs old mid new count w w (record { who = who; said = words }) it s.request s.cut (answered_settled config xs ys zs old mid count w (record { who = who; said = words }) it s) part seen failed))
     (λ xs zs known it. it)
 
 abbrev marked : Bool → Refused
@@ -403,23 +410,23 @@ asked_on turns config a b c old mid new count w w' answer t who what words is ta
 
 pub asked_cut : EachInTurn → (config : ConfigData) (a b c old mid new : Option (List ℕ)) (count : ℕ) (w w' : World) (answer : Result Request LineFault) (t : ℕ) (who : List ℕ) (what : What) (words : Said)
     → heard.Asked t who what ≡ heard_of config answer → Takes 100000000 None b c answer → IsTold w t what words w' → Played config a b old mid count w → AppendsPart mid new (reply_line (Some who) words)
-    → IfSome a (λ xs. IsCutOff config fault.Write xs old new)
-asked_cut turns config a b c old mid new count w w' answer t who what words is takes told played part =
-    known_first a c (λ xs zs. IsCutOff config fault.Write xs old new) (λ xs. IsCutOff config fault.Write xs old new)
-    (goes_on a b c (λ xs ys. IsPlayed config xs ys old mid count w) (IsAsked config t who what) (λ xs zs. IsCutOff config fault.Write xs old new)
+    → (seen : Watches) → seen.writes.failed ≡ true → IfSome a (λ xs. IsCutOff config fault.Write seen xs old new)
+asked_cut turns config a b c old mid new count w w' answer t who what words is takes told played part seen failed =
+    known_first a c (λ xs zs. IsCutOff config fault.Write seen xs old new) (λ xs. IsCutOff config fault.Write seen xs old new)
+    (goes_on a b c (λ xs ys. IsPlayed config xs ys old mid count w) (IsAsked config t who what) (λ xs zs. IsCutOff config fault.Write seen xs old new)
     played (asked_takes config 100000000 b c answer t who what is takes)
     (λ xs ys zs it s. cut_by_write turns config xs ys zs old mid new count w w' (record { who = Some who; said = words }) it (record { item = s.item; refused = marked told.refused }) (record { cut = s.cut })
-    (answered_asked config xs ys zs old mid count w w' t who what words it s told) part))
+    (answered_asked config xs ys zs old mid count w w' t who what words it s told) part seen failed))
     (λ xs zs known it. it)
 
 -- nothing could be sent before it is answered
 pub asked_unsent : EachInTurn → (config : ConfigData) (a b c old new : Option (List ℕ)) (count : ℕ) (w : World) (answer : Result Request LineFault) (t : ℕ) (who : List ℕ) (what : What)
-    → heard.Asked t who what ≡ heard_of config answer → Takes 100000000 None b c answer → Played config a b old new count w → IfSome a (λ xs. IsCutOff config fault.Write xs old new)
-asked_unsent turns config a b c old new count w answer t who what is takes played =
-    known_first a c (λ xs zs. IsCutOff config fault.Write xs old new) (λ xs. IsCutOff config fault.Write xs old new)
-    (goes_on a b c (λ xs ys. IsPlayed config xs ys old new count w) (IsAsked config t who what) (λ xs zs. IsCutOff config fault.Write xs old new)
+    → heard.Asked t who what ≡ heard_of config answer → Takes 100000000 None b c answer → Played config a b old new count w → (seen : Watches) → seen.writes.failed ≡ true → IfSome a (λ xs. IsCutOff config fault.Write seen xs old new)
+asked_unsent turns config a b c old new count w answer t who what is takes played seen failed =
+    known_first a c (λ xs zs. IsCutOff config fault.Write seen xs old new) (λ xs. IsCutOff config fault.Write seen xs old new)
+    (goes_on a b c (λ xs ys. IsPlayed config xs ys old new count w) (IsAsked config t who what) (λ xs zs. IsCutOff config fault.Write seen xs old new)
     played (asked_takes config 100000000 b c answer t who what is takes)
-    (λ xs ys zs it s. cut_before turns config xs ys zs old new count w it (record { item = s.item; refused = Nowhere }) (record { cut = s.cut })))
+    (λ xs ys zs it s. cut_before turns config xs ys zs old new count w it (record { item = s.item; refused = Nowhere }) (record { cut = s.cut }) seen failed))
     (λ xs zs known it. it)
 
 pub play_over : EachInTurn → (config : ConfigData) (a b c old new : Option (List ℕ)) (count : ℕ) (w : World) (answer : Result Request LineFault) → count ≤ 1000000 → heard.Over ≡ heard_of config answer
@@ -430,36 +437,105 @@ play_over turns config a b c old new count w answer most is takes played =
     (λ xs ys zs it none. played_whole config xs ys old new count w most none it))
     (λ xs zs known it. it)
 
-pub play_broken : (config : ConfigData) (a b old new : Option (List ℕ)) (count : ℕ) (w : World) → Played config a b old new count w → IfSome a (λ xs. IsCutOff config fault.Read xs old new)
-play_broken config a b old new count w played =
-    known_first a b (λ xs ys. IsPlayed config xs ys old new count w) (λ xs. IsCutOff config fault.Read xs old new) played (λ xs ys known it. cut_between config xs ys old new count w fault.Read it refl)
+-- the next request is too long, as the bytes that are left tell
+long_next : (config : ConfigData) (xs ys : List ℕ) (old new : Option (List ℕ)) (count : ℕ) (w : World) (it : IsPlayed config xs ys old new count w) → IsPast 100000000 None (lines_of ys) → IsLongNext xs it.requests
+long_next config xs ys old new count w it long = subst (IsPast 100000000 None) (sym it.left ∙ ap (λ n. lines_past n (lines_of xs)) (sym it.number)) long
+
+broken_by : (config : ConfigData) (xs ys : List ℕ) (old new : Option (List ℕ)) (count : ℕ) (w : World) (failed : Bool) (it : IsPlayed config xs ys old new count w)
+    → (failed ≡ true) ⊎ IsPast 100000000 None (lines_of ys) → (failed ≡ true) ⊎ IsLongNext xs it.requests
+broken_by config xs ys old new count w failed it (inl h) = inl h
+broken_by config xs ys old new count w failed it (inr h) = inr (long_next config xs ys old new count w it h)
+
+-- what was heard tells that the read was given up
+given_up : (config : ConfigData) (failed : Bool) (old : Option (List ℕ)) (answer : Result Request LineFault) → heard.Broken ≡ heard_of config answer → IsGivenUp 100000000 None failed old answer
+    → HasCause failed old (λ bytes. IsPast 100000000 None (lines_of bytes))
+given_up config failed old (Ok request) is h = absurd (nowhere (number_of request.who config) is)
+  where
+    nowhere : (n : Option ℕ) → heard.Broken ≡ heard_for request.who request.what n → ⊥
+    nowhere None e = cc
+    nowhere (Some t) e = cc
+given_up config failed old (Err Eof) is h = absurd (cc)
+given_up config failed old (Err Read) is h = h
+given_up config failed old (Err (TooLong w)) is h = absurd (cc)
+given_up config failed old (Err (Syntax w)) is h = absurd (cc)
+given_up config failed old (Err (File w why)) is h = absurd (cc)
+given_up config failed old (Err (NoMemory w)) is h = absurd (cc)
+
+cause_at : (failed : Bool) (b : Option (List ℕ)) (ys : List ℕ) (P : List ℕ → Type 0) → b ≡ Some ys → HasCause failed b P → (failed ≡ true) ⊎ P ys
+cause_at failed b ys P known (inl h) = inl h
+cause_at failed b ys P known (inr h) = inr (subst (λ o. IfSome o P) known h)
+
+pub play_broken : (config : ConfigData) (a b old new : Option (List ℕ)) (count : ℕ) (w : World) (answer : Result Request LineFault) (seen : Watches) → heard.Broken ≡ heard_of config answer
+    → IsGivenUp 100000000 None seen.reads.failed b answer → Played config a b old new count w → IfSome a (λ xs. IsCutOff config fault.Read seen xs old new)
+play_broken config a b old new count w answer seen is cause played =
+    known_first a b (λ xs ys. IsPlayed config xs ys old new count w) (λ xs. IsCutOff config fault.Read seen xs old new) played
+    (λ xs ys known it. cut_between config xs ys old new count w fault.Read seen it
+    (refl, broken_by config xs ys old new count w seen.reads.failed it (cause_at seen.reads.failed b ys (λ bytes. IsPast 100000000 None (lines_of bytes)) known (given_up config seen.reads.failed b answer is cause))))
 
 pub play_ends : (config : ConfigData) (a b old new : Option (List ℕ)) (count : ℕ) (w : World) → count ≤ 1000000 → Played config a b old new count w → IfSome b (λ ys. requests_of ys ≡ []) → IfSome a (λ xs. IsWritten config xs old new)
 play_ends config a b old new count w most played over =
     known_first a b (λ xs ys. IsPlayed config xs ys old new count w) (λ xs. IsWritten config xs old new) played
     (λ xs ys known it. played_whole config xs ys old new count w most (subst (λ o. IfSome o (λ ys. requests_of ys ≡ [])) known over) it)
 
-pub play_stops : (config : ConfigData) (a b old new : Option (List ℕ)) (w : World) (why : ReplayFault) → Played config a b old new 1000000 w → IfSome b (λ ys. GoesOn why ys)
-    → IfSome a (λ xs. IsCutOff config why xs old new)
-play_stops config a b old new w why played stops =
-    known_first a b (λ xs ys. IsPlayed config xs ys old new 1000000 w) (λ xs. IsCutOff config why xs old new) played
-    (λ xs ys known it. cut_between config xs ys old new 1000000 w why it (cause why xs ys it (subst (λ o. IfSome o (λ ys. GoesOn why ys)) known stops)))
+-- there is one request more
+one_more : EachInTurn → (old new : Option (List ℕ)) (answer : Result Request LineFault) → Goes old new (λ xs ys. Cuts 100000000 (first None (lines_of xs)) answer xs ys) → IfSome old (λ bytes. requests_of bytes ≢ [])
+one_more turns old new answer takes =
+    known_first old new (λ xs ys. Cuts 100000000 (first None (lines_of xs)) answer xs ys) (λ bytes. requests_of bytes ≢ []) takes
+    (λ xs ys known it none. let some : requests_of xs ≡ it.item ∷ requests_of ys = turns xs ∙ ap from_first it.cut in absurd (cc))
+
+pub play_stops : (config : ConfigData) (a b old new : Option (List ℕ)) (w : World) (why : ReplayFault) (seen : Watches) → Played config a b old new 1000000 w → IfSome b (λ ys. GoesOn why seen.reads.failed ys)
+    → IfSome a (λ xs. IsCutOff config why seen xs old new)
+play_stops config a b old new w why seen played stops =
+    known_first a b (λ xs ys. IsPlayed config xs ys old new 1000000 w) (λ xs. IsCutOff config why seen xs old new) played
+    (λ xs ys known it. cut_between config xs ys old new 1000000 w why seen it (cause why xs ys it (subst (λ o. IfSome o (λ ys. GoesOn why seen.reads.failed ys)) known stops)))
   where
-    cause : (why : ReplayFault) (xs ys : List ℕ) (it : IsPlayed config xs ys old new 1000000 w) → GoesOn why ys → IsCutBy why config it.requests (requests_of ys) []
-    cause fault.Read xs ys it h = refl
+    cause : (why : ReplayFault) (xs ys : List ℕ) (it : IsPlayed config xs ys old new 1000000 w) → GoesOn why seen.reads.failed ys → IsCutBy why seen config xs it.requests (requests_of ys) []
+    cause fault.Read xs ys it h = (refl, broken_by config xs ys old new 1000000 w seen.reads.failed it h)
     cause fault.Write xs ys it h = absurd h
     cause fault.Requests xs ys it h = (refl, it.number, h)
     cause fault.NoMemory xs ys it h = absurd h
+
+-- what is read after the last request that may be
+pub end_stops : EachInTurn → (old new : Option (List ℕ)) (failed : Bool) (answer : Result Request LineFault) → Takes 100000000 None old new answer → IsGivenUp 100000000 None failed old answer
+    → IfErr (end_of answer) (λ why. IfSome old (λ bytes. GoesOn why failed bytes))
+end_stops turns old new failed (Err Eof) takes cause = tt
+end_stops turns old new failed (Err Read) takes cause = known old cause
+  where
+    known : (old : Option (List ℕ)) → HasCause failed old (λ bytes. IsPast 100000000 None (lines_of bytes)) → IfSome old (λ bytes. GoesOn fault.Read failed bytes)
+    known None h = tt
+    known (Some xs) (inl h) = inl h
+    known (Some xs) (inr h) = inr h
+end_stops turns old new failed (Ok request) takes cause = one_more turns old new (Ok request) takes
+end_stops turns old new failed (Err (TooLong w)) takes cause = one_more turns old new (Err (TooLong w)) takes
+end_stops turns old new failed (Err (Syntax w)) takes cause = one_more turns old new (Err (Syntax w)) takes
+end_stops turns old new failed (Err (File w why)) takes cause = one_more turns old new (Err (File w why)) takes
+end_stops turns old new failed (Err (NoMemory w)) takes cause = one_more turns old new (Err (NoMemory w)) takes
 
 pub play_written : (config : ConfigData) (a b old new : Option (List ℕ)) (count : ℕ) (w : World) (result : Result ⊤ ReplayFault) → count ≤ 1000000 → Played config a b old new count w
     → OnOk result (IfSome b (λ ys. requests_of ys ≡ [])) → OnOk result (IfSome a (λ xs. IsWritten config xs old new))
 play_written config a b old new count w (Ok u) most played over = play_ends config a b old new count w most played over
 play_written config a b old new count w (Err why) most played over = tt
 
-pub play_cut : (config : ConfigData) (a b old new : Option (List ℕ)) (w : World) (result : Result ⊤ ReplayFault) → Played config a b old new 1000000 w
-    → IfErr result (λ why. IfSome b (λ ys. GoesOn why ys)) → IfErr result (λ why. IfSome a (λ xs. IsCutOff config why xs old new))
-play_cut config a b old new w (Ok u) played stops = tt
-play_cut config a b old new w (Err why) played stops = play_stops config a b old new w why played stops
+pub play_cut : (config : ConfigData) (a b old new : Option (List ℕ)) (w : World) (seen : Watches) (result : Result ⊤ ReplayFault) → Played config a b old new 1000000 w
+    → IfErr result (λ why. IfSome b (λ ys. GoesOn why seen.reads.failed ys)) → IfErr result (λ why. IfSome a (λ xs. IsCutOff config why seen xs old new))
+play_cut config a b old new w seen (Ok u) played stops = tt
+play_cut config a b old new w seen (Err why) played stops = play_stops config a b old new w why seen played stops
+
+-- where nobody asks, what was seen is not told
+unseen : (config : ConfigData) (why : ReplayFault) (seen : Watches) (xs : List ℕ) (old new : Option (List ℕ)) → IsCutOff config why seen xs old new → IsCutOff config why unwatched xs old new
+unseen config why seen xs old new it = record { requests = it.requests; rest = it.rest; part = it.part; all = it.all; written = it.written; cause = cause why it.cause }
+  where
+    cause : (why : ReplayFault) → IsCutBy why seen config xs it.requests it.rest it.part → IsCutBy why unwatched config xs it.requests it.rest it.part
+    cause fault.Read h = (h.0, inl refl)
+    cause fault.Write h = (refl, h.1)
+    cause fault.Requests h = h
+    cause fault.NoMemory h = h
+
+pub play_unseen : (config : ConfigData) (a old new : Option (List ℕ)) (seen : Watches) (result : Result ⊤ ReplayFault)
+    → IfErr result (λ why. IfSome a (λ xs. IsCutOff config why seen xs old new)) → IfErr result (λ why. IfSome a (λ xs. IsCutOff config why unwatched xs old new))
+play_unseen config a old new seen (Ok u) cut = tt
+play_unseen config None old new seen (Err why) cut = tt
+play_unseen config (Some xs) old new seen (Err why) cut = unseen config why seen xs old new cut
 
 -- in a new farm no purse has done anything yet
 pub begun : (config : ConfigData) (w : World) → FarmsAreReplayed → w ≡ opened config → (p : ℕ) → purse p w ≡ opening config p

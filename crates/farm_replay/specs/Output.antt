@@ -1,5 +1,5 @@
 -- What a replay writes: one line for each request of its script, which the farm's steps give.
-use Rattle.std.specs.Prelude.{◌≡◌, ◌≢◌, ℕ, Bool, true, false, not, cond, ◌&&◌, ◌==◌, ◌≤◌, List, [], ◌∷◌, ◌++◌, Option, Some, None, Result, Ok, Err, length, map}
+use Rattle.std.specs.Prelude.{◌≡◌, ◌≢◌, ◌⊎◌, ℕ, zero, suc, Bool, true, false, not, cond, ◌&&◌, ◌==◌, ◌≤◌, List, [], ◌∷◌, ◌++◌, Option, Some, None, Result, Ok, Err, length, map}
 use Rattle.std.specs.Io.KnownBytes.{Appends}
 use Rattle.std.specs.List.{flat_map}
 use Rattle.farm_core.specs.declared.entry.Event.TheVariants as event
@@ -18,10 +18,12 @@ use Rattle.session_lines.specs.declared.request.LineFault.TheVariants.{Eof, Read
 use Rattle.session_lines.specs.declared.said.Said.{Said}
 use Rattle.session_lines.specs.declared.said.Said.TheVariants as said
 use Rattle.session_lines.specs.ReplyText.{reply_line}
-use Rattle.session_lines.specs.Script.{Item, requests_of}
+use Rattle.session_lines.specs.Cause.{lines_after, IsPast}
+use Rattle.session_lines.specs.Script.{Item, lines_of, first, requests_of}
 use Rattle.farm_session.specs.Heard.{number_of}
 use Rattle.farm_replay.specs.declared.script.ReplayFault.{ReplayFault}
 use Rattle.farm_replay.specs.declared.script.ReplayFault.TheVariants as fault
+use Rattle.farm_replay.specs.declared.watches.Watches.{Watches}
 
 -- ---- one tenant
 
@@ -193,18 +195,31 @@ pub record IsPartOfNext (config : ConfigData) (before : List Marked) (rest : Lis
   pub first : rest ≡ item ∷ more
   pub line : line_text (next config (parts_after config (opening config) before) (record { item = item; refused = refused })).line ≡ part ++ behind
 
--- what was written after the lines of these requests, and how many there are, by the fault
-abbrev pub IsCutBy : ReplayFault → ConfigData → List Marked → List Item → List ℕ → Type 0
-IsCutBy fault.Read config requests rest part = part ≡ []
-IsCutBy fault.Write config requests rest part = IsPartOfNext config requests rest part
-IsCutBy fault.Requests config requests rest part = (part ≡ []) × (length requests ≡ 1000000) × (rest ≢ [])
-IsCutBy fault.NoMemory config requests rest part = (part ≡ []) × (requests ≡ [])
+-- the lines that are left of a script after so many requests
+abbrev pub lines_past : ℕ → List (List ℕ) → List (List ℕ)
+lines_past zero lines = lines
+lines_past (suc n) lines = lines_after (first None (lines_past n lines))
+
+-- the request after these has more than 100,000,000 bytes
+abbrev pub IsLongNext : List ℕ → List Marked → Type 0
+IsLongNext script requests = IsPast 100000000 None (lines_past (length requests) (lines_of script))
+
+-- why a replay ends after these requests, by its fault and by whether a read or a write has failed, and what was written after their lines
+abbrev pub IsCutBy : ReplayFault → Watches → ConfigData → List ℕ → List Marked → List Item → List ℕ → Type 0
+IsCutBy fault.Read seen config script requests rest part = (part ≡ []) × ((seen.reads.failed ≡ true) ⊎ IsLongNext script requests)
+IsCutBy fault.Write seen config script requests rest part = (seen.writes.failed ≡ true) × IsPartOfNext config requests rest part
+IsCutBy fault.Requests seen config script requests rest part = (part ≡ []) × (length requests ≡ 1000000) × (rest ≢ [])
+IsCutBy fault.NoMemory seen config script requests rest part = (part ≡ []) × (requests ≡ [])
 
 -- the output of a script's first requests was written, and after a failed write a part of the next line
-pub record IsCutOff (config : ConfigData) (fault : ReplayFault) (script : List ℕ) (old new : Option (List ℕ)) : Type 0 where
+pub record IsCutOff (config : ConfigData) (fault : ReplayFault) (seen : Watches) (script : List ℕ) (old new : Option (List ℕ)) : Type 0 where
   pub requests : List Marked
   pub rest : List Item
   pub part : List ℕ
   pub all : items_of requests ++ rest ≡ requests_of script
   pub written : Appends old new (output_of config requests ++ part)
-  pub cause : IsCutBy fault config requests rest part
+  pub cause : IsCutBy fault seen config script requests rest part
+
+-- where nobody asks whether a read or a write has failed, each may have
+abbrev pub unwatched : Watches
+unwatched = record { reads = record { failed = true }; writes = record { failed = true } }

@@ -7,6 +7,7 @@
 //! - `script`: `replay`, one request after another.
 //! - `reader`: the script's bytes, with the numbers of their lines.
 //! - `sending`: when replies go out.
+//! - `watches`: whether a read or a write has failed.
 //! - `notes`: what is noted beside the replies.
 //! - `floor`: the farm with the turns that the script holds.
 //! - `counter`: the purses' tills.
@@ -20,6 +21,8 @@ mod notes;
 mod reader;
 mod script;
 mod sending;
+mod watches;
 
 pub use notes::{Notes, is_refused};
 pub use script::{ReplayFault, replay, replay_noting};
+pub use watches::Watches;

@@ -1,12 +1,12 @@
 //! Scripts of requests, run one after another on a farm of one thread.
-ghost use Rattle.std.specs.Prelude.{◌≡◌, [], length, map, IfSome, IfErr, OnOk};
+ghost use Rattle.std.specs.Prelude.{◌≡◌, [], true, length, map, IfSome, IfErr, OnOk, OnErr};
 ghost use Rattle.farm_core.specs.World.{opened};
 ghost use Rattle.session_lines.specs.Known.{Writes};
 ghost use Rattle.session_lines.specs.ReplyText.{reply_line};
 ghost use Rattle.session_lines.specs.Script.{requests_of};
 ghost use Rattle.farm_replay.specs.Counter.{counter_of, counters_of};
 ghost use Rattle.farm_replay.specs.Floor.{IsFloor};
-ghost use Rattle.farm_replay.specs.Output.{IsWritten, IsCutOff};
+ghost use Rattle.farm_replay.specs.Output.{IsWritten, IsCutOff, unwatched};
 ghost use Rattle.farm_replay.specs.Reader.{script_rest};
 ghost use Rattle.farm_replay.specs.Replay.{end_of, GoesOn};
 
@@ -15,11 +15,13 @@ use crate::floor::Floor;
 use crate::notes::Notes;
 use crate::reader::Script;
 use crate::sending::{send_before_nodes, send_before_wait};
+use crate::watches::Watches;
 use farm_core::laws::farms_are_replayed;
 use farm_core::{Config, Name};
 use farm_session::{Heard, Ready, hear};
+use io_watch::Watch;
 use session_lines::laws::requests_come_in_turn;
-use session_lines::{LineFault, Request, Said, read_request, write_reply};
+use session_lines::{LineFault, Request, Said, read_watched, write_watched};
 use std::alloc::Global;
 use std::io::{Read, Write};
 use strategy::{Kind, Strategy};
@@ -45,11 +47,17 @@ pub enum ReplayFault {
 }
 
 /// Writes a reply line.
-fn tell<W: Write>(writer: &mut W, who: Option<Name>, said: Said) -> Result<(), ReplayFault>
+fn tell<W: Write>(
+    writer: &mut W,
+    watch: &mut Watch,
+    who: Option<Name>,
+    said: Said,
+) -> Result<(), ReplayFault>
     ensures writes { Writes result (W.contents writer.old) (W.contents writer.new) (reply_line who said) }
     ensures fault { IfErr result (λ fault. fault ≡ ReplayFault.Write) }
+    ensures cause { OnErr result (watch.new.failed ≡ true) }
 {
-    match write_reply(writer, who, &said) {
+    match write_watched(writer, watch, who, &said) {
         Ok(()) => Ok(()),
         Err(_) => Err(ReplayFault::Write),
     }
@@ -67,12 +75,12 @@ fn ended(read: Result<Request, LineFault>) -> Result<(), ReplayFault>
 }
 
 /// Whether a script ends here, or goes on past its last request that may be.
-fn end<R: Read>(alloc: Global, script: &mut R) -> Result<(), ReplayFault>
+fn end<R: Read>(alloc: Global, script: &mut R, watch: &mut Watch) -> Result<(), ReplayFault>
     ensures over { OnOk result (IfSome (R.remaining script.old) (λ bytes. requests_of bytes ≡ [])) }
-    ensures fault { IfErr result (λ fault. IfSome (R.remaining script.old) (λ bytes. GoesOn fault bytes)) }
+    ensures fault { IfErr result (λ fault. IfSome (R.remaining script.old) (λ bytes. GoesOn fault watch.new.failed bytes)) }
 {
     requests_come_in_turn();
-    ended(read_request(alloc, script))
+    ended(read_watched(alloc, script, watch))
 }
 
 /// Answers the requests of a script, one line each. Replies go out before a request is waited for, and before one runs nodes.
@@ -83,6 +91,7 @@ fn play<J: Strategy, R: Read, W: Write, M: Fn(Ready) -> Option<J>>(
     counters: &mut [Counter],
     script: &mut Script<R>,
     writer: &mut W,
+    watches: &mut Watches,
     notes: &mut Notes,
     make: &M,
 ) -> Result<(), ReplayFault>
@@ -91,7 +100,7 @@ fn play<J: Strategy, R: Read, W: Write, M: Fn(Ready) -> Option<J>>(
     requires make { M.IsAlwaysCallable make.now }
     requires floor { IsFloor J.meaning floor.old.farm floor.old.held.items }
     ensures written { OnOk result (IfSome (script_rest R.remaining script.old) (λ bytes. IsWritten config.now bytes (W.contents writer.old) (W.contents writer.new))) }
-    ensures cut_off { IfErr result (λ fault. IfSome (script_rest R.remaining script.old) (λ bytes. IsCutOff config.now fault bytes (W.contents writer.old) (W.contents writer.new))) }
+    ensures cut_off { IfErr result (λ fault. IfSome (script_rest R.remaining script.old) (λ bytes. IsCutOff config.now fault watches.new bytes (W.contents writer.old) (W.contents writer.new))) }
     ensures floor { IsFloor J.meaning floor.new.farm floor.new.held.items }
 {
     requests_come_in_turn();
@@ -99,45 +108,47 @@ fn play<J: Strategy, R: Read, W: Write, M: Fn(Ready) -> Option<J>>(
     for _answered in 0..MOST_REQUESTS {
         send_before_wait(script, writer);
         script.begin();
-        match hear(config, read_request(alloc, script)) {
+        match hear(config, read_watched(alloc, script, &mut watches.reads)) {
             Heard::Over => return Ok(()),
             Heard::Broken => return Err(ReplayFault::Read),
             Heard::Told(who, said) => {
                 notes.add(script.line(), script.is_doubtful(), &said);
-                if let Err(fault) = tell(writer, who, said) {
+                if let Err(fault) = tell(writer, &mut watches.writes, who, said) {
                     return Err(fault);
                 }
             }
             Heard::Asked(tenant, who, asked) => {
-                if let Err(fault) = send_before_nodes(&asked, writer) {
+                if let Err(fault) = send_before_nodes(&asked, writer, &mut watches.writes) {
                     return Err(fault);
                 }
                 let purse = config.purse_of(tenant);
                 let counter = &mut counters[purse as usize];
                 let said = floor.answer(alloc, counter, tenant, asked, make);
                 notes.add(script.line(), script.is_doubtful(), &said);
-                if let Err(fault) = tell(writer, Some(who), said) {
+                if let Err(fault) = tell(writer, &mut watches.writes, Some(who), said) {
                     return Err(fault);
                 }
             }
         }
     }
-    end(alloc, script)
+    end(alloc, script, &mut watches.reads)
 }
 
 /// Runs a script of requests on a new farm of the configuration, and writes one reply line for each. Turns that the script still
 /// holds at its end are given back unrun. After a fault the lines of the requests before it stand whole; after `Write` a front part
-/// of the next line stands behind them. Replies go out before the script is waited for, and before a turn is run. What a writer of scripts
-/// may want to look at is noted.
+/// of the next line stands behind them. `Read` comes only where a read has failed or a request has more than 100,000,000 bytes, `Write`
+/// only where a write has failed or took nothing. Replies go out before the script is waited for, and before a turn is run. What a
+/// writer of scripts may want to look at is noted.
 pub fn replay_noting<R: Read + Drop, W: Write>(
     alloc: Global,
     config: &Config,
     reader: R,
     writer: &mut W,
+    watches: &mut Watches,
     notes: &mut Notes,
 ) -> Result<(), ReplayFault>
     ensures written { OnOk result (IfSome (R.remaining reader) (λ script. IsWritten config.now script (W.contents writer.old) (W.contents writer.new))) }
-    ensures cut_off { IfErr result (λ fault. IfSome (R.remaining reader) (λ script. IsCutOff config.now fault script (W.contents writer.old) (W.contents writer.new))) }
+    ensures cut_off { IfErr result (λ fault. IfSome (R.remaining reader) (λ script. IsCutOff config.now fault watches.new script (W.contents writer.old) (W.contents writer.new))) }
 {
     let Ok(mut script) = Script::new(alloc, reader) else {
         return Err(ReplayFault::NoMemory);
@@ -171,6 +182,7 @@ pub fn replay_noting<R: Read + Drop, W: Write>(
         &mut counters,
         &mut script,
         writer,
+        watches,
         notes,
         &make,
     );
@@ -178,7 +190,7 @@ pub fn replay_noting<R: Read + Drop, W: Write>(
     ended
 }
 
-/// The same, without notes.
+/// The same, without notes, and where nobody asks whether a read or a write has failed.
 pub fn replay<R: Read + Drop, W: Write>(
     alloc: Global,
     config: &Config,
@@ -186,8 +198,9 @@ pub fn replay<R: Read + Drop, W: Write>(
     writer: &mut W,
 ) -> Result<(), ReplayFault>
     ensures written { OnOk result (IfSome (R.remaining reader) (λ script. IsWritten config.now script (W.contents writer.old) (W.contents writer.new))) }
-    ensures cut_off { IfErr result (λ fault. IfSome (R.remaining reader) (λ script. IsCutOff config.now fault script (W.contents writer.old) (W.contents writer.new))) }
+    ensures cut_off { IfErr result (λ fault. IfSome (R.remaining reader) (λ script. IsCutOff config.now fault unwatched script (W.contents writer.old) (W.contents writer.new))) }
 {
     let mut notes = Notes::default();
-    replay_noting(alloc, config, reader, writer, &mut notes)
+    let mut watches = Watches::new();
+    replay_noting(alloc, config, reader, writer, &mut watches, &mut notes)
 }

@@ -1,9 +1,10 @@
 //! When replies go out: before a wait for more of the script, and before nodes are run.
-ghost use Rattle.std.specs.Prelude.{◌≡◌, IfErr};
+ghost use Rattle.std.specs.Prelude.{◌≡◌, true, IfErr, OnErr};
 ghost use Rattle.std.specs.Io.KnownBytes.{Keeps};
 
 use crate::reader::Script;
 use crate::script::ReplayFault;
+use io_watch::Watch;
 use session_lines::What;
 use std::io::{Read, Write};
 
@@ -18,14 +19,19 @@ pub(crate) fn send_before_wait<R: Read, W: Write>(script: &Script<R>, writer: &m
 }
 
 /// Sends the replies that were gathered, where the request may run nodes.
-pub(crate) fn send_before_nodes<W: Write>(asked: &What, writer: &mut W) -> Result<(), ReplayFault>
+pub(crate) fn send_before_nodes<W: Write>(
+    asked: &What,
+    writer: &mut W,
+    watch: &mut Watch,
+) -> Result<(), ReplayFault>
     ensures kept { Keeps (W.contents writer.old) (W.contents writer.new) }
     ensures fault { IfErr result (λ fault. fault ≡ ReplayFault.Write) }
+    ensures cause { OnErr result (watch.new.failed ≡ true) }
 {
     if !matches!(asked, What::Turn { .. } | What::Give(_)) {
         return Ok(());
     }
-    match writer.flush() {
+    match watch.flush(writer) {
         Ok(()) => Ok(()),
         Err(_) => Err(ReplayFault::Write),
     }

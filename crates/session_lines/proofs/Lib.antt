@@ -5,4 +5,5 @@ pub mod LineLemmas
 pub mod ScanLemmas
 pub mod TextLemmas
 pub mod ReadLemmas
+pub mod CauseLemmas
 mod LawLemmas

@@ -88,7 +88,7 @@ some_kept n (x ∷ xs) = grind (arith, nat_tests)
 pub kept_some : (raw kept : List ℕ) → kept ≡ take 4099 raw → not (length kept == 0) ≡ nat_lt 0 (length raw)
 kept_some raw kept e = ap (λ l. not (length l == 0)) e ∙ sym (some_kept 4098 raw)
 
-some_through : (xs : List ℕ) → nat_lt 0 (length xs) ≡ nat_lt 0 (length (take_through 10 xs))
+pub some_through : (xs : List ℕ) → nat_lt 0 (length xs) ≡ nat_lt 0 (length (take_through 10 xs))
 some_through [] = refl
 some_through (x ∷ xs) = elim (x == 10) as (λ t. nat_lt 0 (suc (length xs)) ≡ nat_lt 0 (length (cond t (x ∷ []) (x ∷ take_through 10 xs)))) [ true ↦ grind (arith, nat_tests) | false ↦ grind (arith, nat_tests) ]
 

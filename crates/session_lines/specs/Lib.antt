@@ -3,5 +3,6 @@ pub mod Part
 pub mod ReplyText
 pub mod RequestLine
 pub mod Script
+pub mod Cause
 pub mod Taken
 pub mod Laws

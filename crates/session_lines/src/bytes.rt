@@ -1,13 +1,15 @@
 //! Bytes and lines of a reader, with no memory.
-ghost use Rattle.std.specs.Prelude.{◌≡◌, ◌+◌, Bool, true, false, not, ◌&&◌, ◌||◌, ◌==◌, take, [], ◌∷◌, ◌++◌, IfOk, MatchOption, nat_lt, length, if◌then◌else◌};
+ghost use Rattle.std.specs.Prelude.{◌≡◌, ◌≢◌, ◌+◌, ◌<◌, Bool, true, false, not, ◌&&◌, ◌||◌, ◌==◌, take, [], ◌∷◌, ◌++◌, IfOk, OnErr, MatchOption, nat_lt, length, if◌then◌else◌};
 ghost use Rattle.std.specs.Io.KnownBytes.{Consumes, IsAtEnd};
 ghost use Rattle.psplib_mm.specs.Text.{is_blank};
+ghost use Rattle.session_lines.specs.Cause.{HasCause, IsLonger};
 ghost use Rattle.session_lines.specs.Known.{Goes};
 ghost use Rattle.session_lines.specs.Taken.{TakesLine};
 
 use crate::words::is_blank;
 use arrayvec::ArrayVec;
-use std::io::{ErrorKind, Read};
+use io_watch::Watch;
+use std::io::Read;
 
 /// The reader failed, or more bytes came than may.
 #[derive(Clone, Copy, Debug, PartialEq, Eq)]
@@ -66,50 +68,52 @@ impl Line {
     }
 }
 
-/// The next byte, or `None` at the end. A read that a signal interrupts is made again. `left` is how
-/// many bytes may still come.
-pub fn next_byte<R: Read>(reader: &mut R, left: &mut u64) -> Result<Option<u8>, ReadFault>
-    ensures { IfOk result (λ found. MatchOption found
+/// The next byte, or `None` at the end. `left` is how many bytes may still come.
+pub fn next_byte<R: Read>(
+    reader: &mut R,
+    watch: &mut Watch,
+    left: &mut u64,
+) -> Result<Option<u8>, ReadFault>
+    ensures byte { IfOk result (λ found. MatchOption found
         (Consumes (R.remaining reader.old) (R.remaining reader.new) []
         × IsAtEnd (R.remaining reader.new) × (left.new ≡ left.old))
         (λ b. Consumes (R.remaining reader.old) (R.remaining reader.new) (b ∷ [])
         × (left.new + 1 ≡ left.old))) }
+    ensures cause { OnErr result (HasCause watch.new.failed (R.remaining reader.old)
+        (λ bytes. (left.old ≡ 0) × (bytes ≢ []))) }
 {
     let mut one = [0u8; 1];
-    for _ in 0..u64::MAX {
-        match reader.read(&mut one) {
-            Ok(0) => return Ok(None),
-            Ok(_) => {
-                if *left == 0 {
-                    return Err(ReadFault);
-                }
-                *left -= 1;
-                return Ok(Some(one[0]));
+    match watch.read(reader, &mut one) {
+        Ok(0) => Ok(None),
+        Ok(_) => {
+            if *left == 0 {
+                return Err(ReadFault);
             }
-            Err(error) => {
-                if error.kind() != ErrorKind::Interrupted {
-                    return Err(ReadFault);
-                }
-            }
+            *left -= 1;
+            Ok(Some(one[0]))
         }
+        Err(_) => Err(ReadFault),
     }
-    Err(ReadFault)
 }
 
 /// Takes the next line. `false` where there is none: the input is at its end.
 pub fn next_line<R: Read>(
     reader: &mut R,
+    watch: &mut Watch,
     left: &mut u64,
     line: &mut Line,
 ) -> Result<bool, ReadFault>
     requires kept { line.old.kept.items ≡ [] }
     requires blank { line.old.is_blank ≡ true }
     requires returns { line.old.returns ≡ false }
-    ensures { IfOk result (λ found. Goes (R.remaining reader.old) (R.remaining reader.new)
+    ensures taken { IfOk result (λ found. Goes (R.remaining reader.old) (R.remaining reader.new)
         (TakesLine line.new.kept.items line.new.is_blank found left.old left.new)) }
+    ensures fewer { IfOk result (λ found. found ≡ true → left.new < left.old) }
+    ensures cause { OnErr result (HasCause watch.new.failed (R.remaining reader.old)
+        (IsLonger left.old)) }
 {
-    for _ in 0..u64::MAX {
-        match next_byte(reader, left)? {
+    loop {
+        match next_byte(reader, watch, left)? {
             None => return Ok(!line.kept.is_empty()),
             Some(b'\n') => {
                 line.keep(b'\n');
@@ -118,5 +122,4 @@ pub fn next_line<R: Read>(
             Some(byte) => line.push(byte),
         }
     }
-    Err(ReadFault)
 }

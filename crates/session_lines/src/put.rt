@@ -1,10 +1,11 @@
 //! Bytes and numbers to a writer, with no memory.
-ghost use Rattle.std.specs.Prelude.{decimal};
+ghost use Rattle.std.specs.Prelude.{◌≡◌, decimal, true, OnErr};
 ghost use Rattle.session_lines.specs.Known.{Writes};
 ghost use Rattle.session_lines.specs.Part.{part_text, parts_text};
 
+use io_watch::Watch;
 use itoa::Buffer;
-use std::io::{ErrorKind, Write};
+use std::io::Write;
 
 /// The writer failed, or took no byte.
 #[derive(Clone, Copy, Debug, PartialEq, Eq)]
@@ -20,43 +21,42 @@ pub enum Part<'a> {
 }
 
 /// Writes bytes. After a fault some of them may have gone out, from the front.
-pub fn put<W: Write>(writer: &mut W, bytes: &[u8]) -> Result<(), WriteFault>
-    ensures { Writes result (W.contents writer.old) (W.contents writer.new) bytes.now }
+pub fn put<W: Write>(writer: &mut W, watch: &mut Watch, bytes: &[u8]) -> Result<(), WriteFault>
+    ensures writes { Writes result (W.contents writer.old) (W.contents writer.new) bytes.now }
+    ensures cause { OnErr result (watch.new.failed ≡ true) }
 {
     let mut rest = bytes;
-    for _ in 0..u64::MAX {
-        if rest.is_empty() {
-            return Ok(());
-        }
-        match writer.write(rest) {
-            Ok(0) => return Err(WriteFault),
-            Ok(n) => rest = &rest[n..],
-            Err(error) => {
-                if error.kind() != ErrorKind::Interrupted {
-                    return Err(WriteFault);
-                }
-            }
+    while !rest.is_empty() {
+        match watch.write(writer, rest) {
+            Ok(count) => rest = &rest[count..],
+            Err(_) => return Err(WriteFault),
         }
     }
-    Err(WriteFault)
+    Ok(())
 }
 
-fn put_part<W: Write>(writer: &mut W, part: Part<'_>) -> Result<(), WriteFault>
-    ensures { Writes result (W.contents writer.old) (W.contents writer.new) (part_text part.entry) }
+fn put_part<W: Write>(writer: &mut W, watch: &mut Watch, part: Part<'_>) -> Result<(), WriteFault>
+    ensures writes { Writes result (W.contents writer.old) (W.contents writer.new) (part_text part.entry) }
+    ensures cause { OnErr result (watch.new.failed ≡ true) }
 {
     match part {
-        Part::Text(bytes) => put(writer, bytes),
-        Part::Number(number) => put(writer, Buffer::new().format(number).as_bytes()),
+        Part::Text(bytes) => put(writer, watch, bytes),
+        Part::Number(number) => put(writer, watch, Buffer::new().format(number).as_bytes()),
     }
 }
 
 /// Writes parts, one after the other. After a fault some bytes of them may have gone out, from the
 /// front.
-pub fn put_parts<W: Write>(writer: &mut W, parts: &[Part<'_>]) -> Result<(), WriteFault>
-    ensures { Writes result (W.contents writer.old) (W.contents writer.new) (parts_text parts.now) }
+pub fn put_parts<W: Write>(
+    writer: &mut W,
+    watch: &mut Watch,
+    parts: &[Part<'_>],
+) -> Result<(), WriteFault>
+    ensures writes { Writes result (W.contents writer.old) (W.contents writer.new) (parts_text parts.now) }
+    ensures cause { OnErr result (watch.new.failed ≡ true) }
 {
     for part in parts {
-        if let Err(fault) = put_part(writer, *part) {
+        if let Err(fault) = put_part(writer, watch, *part) {
             return Err(fault);
         }
     }

@@ -1,5 +1,6 @@
 //! Requests of a reader.
 ghost use Rattle.std.specs.Prelude.{◌≡◌, ◌≤◌, None, Some};
+ghost use Rattle.session_lines.specs.Cause.{IsGivenUp};
 ghost use Rattle.session_lines.specs.Script.{Takes, opened};
 ghost use Rattle.session_lines.specs.Taken.{judged_by};
 
@@ -7,6 +8,7 @@ use crate::bytes::{Line, next_line};
 use crate::line::{Head, Meaning, read_line};
 use crate::request::{LineFault, Request};
 use crate::text::{Text, is_long, shown};
+use io_watch::Watch;
 use std::alloc::Global;
 use std::io::Read;
 
@@ -32,16 +34,19 @@ fn judge(line: &Line) -> Meaning
 fn read_text<R: Read>(
     alloc: Global,
     reader: &mut R,
+    watch: &mut Watch,
     left: &mut u64,
     head: Head,
 ) -> Result<Request, LineFault>
-    ensures { Takes left.old (Some (opened head)) (R.remaining reader.old) (R.remaining reader.new)
+    ensures takes { Takes left.old (Some (opened head)) (R.remaining reader.old) (R.remaining reader.new)
+        result }
+    ensures cause { IsGivenUp left.old (Some (opened head)) watch.new.failed (R.remaining reader.old)
         result }
 {
     let mut text = Text::new(alloc, head);
-    for _ in 0..u64::MAX {
+    loop {
         let mut line = Line::new();
-        let Ok(found) = next_line(reader, left, &mut line) else {
+        let Ok(found) = next_line(reader, watch, left, &mut line) else {
             return Err(LineFault::Read);
         };
         if !found {
@@ -52,17 +57,22 @@ fn read_text<R: Read>(
             return text.submit(alloc);
         }
     }
-    Err(LineFault::Read)
 }
 
 /// Takes the bytes of the next request, which may have so many.
-pub fn read_within<R: Read>(alloc: Global, reader: &mut R, most: u64) -> Result<Request, LineFault>
-    ensures { Takes most None (R.remaining reader.old) (R.remaining reader.new) result }
+pub fn read_within<R: Read>(
+    alloc: Global,
+    reader: &mut R,
+    watch: &mut Watch,
+    most: u64,
+) -> Result<Request, LineFault>
+    ensures takes { Takes most None (R.remaining reader.old) (R.remaining reader.new) result }
+    ensures cause { IsGivenUp most None watch.new.failed (R.remaining reader.old) result }
 {
     let mut left = most;
-    for _ in 0..u64::MAX {
+    loop {
         let mut line = Line::new();
-        let Ok(found) = next_line(reader, &mut left, &mut line) else {
+        let Ok(found) = next_line(reader, watch, &mut left, &mut line) else {
             return Err(LineFault::Read);
         };
         if !found {
@@ -71,19 +81,31 @@ pub fn read_within<R: Read>(alloc: Global, reader: &mut R, most: u64) -> Result<
         match judge(&line) {
             Meaning::Blank => {}
             Meaning::Whole(request) => return Ok(request),
-            Meaning::Opens(head) => return read_text(alloc, reader, &mut left, head),
+            Meaning::Opens(head) => return read_text(alloc, reader, watch, &mut left, head),
             Meaning::Long => return Err(LineFault::TooLong(None)),
             Meaning::Bad(who) => return Err(LineFault::Syntax(who)),
         }
     }
-    Err(LineFault::Read)
 }
 
-/// Takes the bytes of the next request, with the blank lines before it, and leaves the rest. Where a
-/// line or a text is no request, its bytes are taken too; what is left after `LineFault::Read` is not
-/// known. Only a submit takes memory. It reads byte by byte, so hand in a reader that reads ahead.
+/// Takes the bytes of the next request, with the blank lines before it, through a watch, and leaves the rest. Where a
+/// line or a text is no request, its bytes are taken too; what is left after `LineFault::Read` is not known, and it
+/// comes only where a read failed or the request has more than 100,000,000 bytes. Only a submit takes memory. It reads
+/// byte by byte, so hand in a reader that reads ahead.
+pub fn read_watched<R: Read>(
+    alloc: Global,
+    reader: &mut R,
+    watch: &mut Watch,
+) -> Result<Request, LineFault>
+    ensures takes { Takes 100000000 None (R.remaining reader.old) (R.remaining reader.new) result }
+    ensures cause { IsGivenUp 100000000 None watch.new.failed (R.remaining reader.old) result }
+{
+    read_within(alloc, reader, watch, MOST_BYTES)
+}
+
+/// The same, where nobody asks whether a read failed.
 pub fn read_request<R: Read>(alloc: Global, reader: &mut R) -> Result<Request, LineFault>
     ensures { Takes 100000000 None (R.remaining reader.old) (R.remaining reader.new) result }
 {
-    read_within(alloc, reader, MOST_BYTES)
+    read_watched(alloc, reader, &mut Watch::new())
 }

@@ -1,5 +1,5 @@
 //! The text of a submit.
-ghost use Rattle.std.specs.Prelude.{◌≡◌, ◌-◌, ◌==◌, ◌||◌, ◌++◌, false, true, List, ℕ, take, Err};
+ghost use Rattle.std.specs.Prelude.{◌≡◌, ◌≢◌, ◌-◌, ◌==◌, ◌||◌, ◌++◌, false, true, List, ℕ, take, Err};
 ghost use Rattle.session_lines.specs.Script.{TextData, opened, whole_text, cut_text, Answers, is_long, shown};
 ghost use Rattle.session_lines.specs.Taken.{IsText, unread};
 
@@ -113,7 +113,8 @@ impl Text {
 
     /// The submit of a text that is whole, or why there is none.
     pub fn submit(self, alloc: Global) -> Result<Request, LineFault>
-        ensures { (said : TextData) → IsText self said → Answers (whole_text said) result }
+        ensures answers { (said : TextData) → IsText self said → Answers (whole_text said) result }
+        ensures judged { result ≢ Err LineFault.Read }
     {
         let Text {
             head,
@@ -149,7 +150,8 @@ impl Text {
 
     /// Why there is no submit where the input's end cuts the text.
     pub fn cut(self) -> LineFault
-        ensures { (said : TextData) → IsText self said → Answers (cut_text said) (Err result) }
+        ensures answers { (said : TextData) → IsText self said → Answers (cut_text said) (Err result) }
+        ensures judged { result ≢ LineFault.Read }
     {
         let who = self.head.who;
         if self.is_refused {

@@ -1,4 +1,4 @@
-use Rattle.std.proofs.Common.{◌≡◌, ℕ, ap, ◌∙◌}
+use Rattle.std.proofs.Common.{ℕ, ap, ◌∙◌}
 use Rattle.farm_replay.specs.Counter.{CounterData}
 use Rattle.farm_replay.proofs.CounterLemmas.{tills_on}
 use Rattle.farm_replay.proofs.counter.open_counters.Goals as goal

@@ -4,7 +4,7 @@ use Rattle.farm_core.specs.World.{purse_in, opened}
 use Rattle.farm_replay.specs.Counter.{counter_of, counter_for}
 use Rattle.farm_replay.specs.Floor.{IsFloor}
 use Rattle.farm_replay.specs.Reader.{script_rest}
-use Rattle.farm_replay.proofs.PlayLemmas.{Played, begun, play_begins, settled_on, settled_cut, asked_known, asked_on, asked_cut, asked_unsent, played_sent, play_over, play_written, play_cut}
+use Rattle.farm_replay.proofs.PlayLemmas.{Played, begun, play_begins, settled_on, settled_cut, asked_known, asked_on, asked_cut, asked_unsent, played_sent, play_over, play_broken, play_written, play_cut}
 use Rattle.farm_replay.proofs.script.play.Goals as goal
 use Rattle.farm_replay.proofs.script.play.Goals.{in-Told+in_default, in-Asked+in_default-send_before_nodes+in_default-tell}
 
@@ -20,44 +20,44 @@ loop-answered-init g c = (
 
 pub returns-in-Over-clause-written : goal.returns-in-Over-clause-written
 returns-in-Over-clause-written g c =
-    play_over c.requests_come_in_turn.ensures c.args.config.now (script_rest g.R.Read.remaining c.args.script.now) (script_rest g.R.Read.remaining c.begin.new.self) (script_rest g.R.Read.remaining c.read_request.new.reader)
-    (g.W.Write.contents c.args.writer.now) (g.W.Write.contents c.send_before_wait.new.writer) c.loop-answered._answered c.loop-answered.floor.farm c.read_request.result (omega arith) (cc (c.in-Over.is, c.hear.ensures))
-    c.read_request.ensures (played_sent c.args.config.now (script_rest g.R.Read.remaining c.args.script.now) (script_rest g.R.Read.remaining c.loop-answered.script) (script_rest g.R.Read.remaining c.begin.new.self)
+    play_over c.requests_come_in_turn.ensures c.args.config.now (script_rest g.R.Read.remaining c.args.script.now) (script_rest g.R.Read.remaining c.begin.new.self) (script_rest g.R.Read.remaining c.read_watched.new.reader)
+    (g.W.Write.contents c.args.writer.now) (g.W.Write.contents c.send_before_wait.new.writer) c.loop-answered._answered c.loop-answered.floor.farm c.read_watched.result (omega arith) (cc (c.in-Over.is, c.hear.ensures))
+    c.read_watched.ensures.takes (played_sent c.args.config.now (script_rest g.R.Read.remaining c.args.script.now) (script_rest g.R.Read.remaining c.loop-answered.script) (script_rest g.R.Read.remaining c.begin.new.self)
     (g.W.Write.contents c.args.writer.now) (g.W.Write.contents c.loop-answered.writer) (g.W.Write.contents c.send_before_wait.new.writer) c.loop-answered._answered c.loop-answered.floor.farm c.begin.ensures
     c.send_before_wait.ensures c.loop-answered.invariant.3)
 
 pub returns-in-Err-clause-cut_off : goal.returns-in-Err-clause-cut_off
 returns-in-Err-clause-cut_off g c =
     rw c.in-Err.ensures.fault
-    (settled_cut c.requests_come_in_turn.ensures c.args.config.now (script_rest g.R.Read.remaining c.args.script.now) (script_rest g.R.Read.remaining c.begin.new.self) (script_rest g.R.Read.remaining c.read_request.new.reader)
-    (g.W.Write.contents c.args.writer.now) (g.W.Write.contents c.send_before_wait.new.writer) (g.W.Write.contents c.tell.new.writer) c.loop-answered._answered c.loop-answered.floor.farm c.read_request.result
-    c.in-Told.who c.in-Told.said (cc (c.in-Told.is, c.hear.ensures)) c.read_request.ensures (played_sent c.args.config.now (script_rest g.R.Read.remaining c.args.script.now) (script_rest g.R.Read.remaining c.loop-answered.script) (script_rest g.R.Read.remaining c.begin.new.self)
+    (settled_cut c.requests_come_in_turn.ensures c.args.config.now (script_rest g.R.Read.remaining c.args.script.now) (script_rest g.R.Read.remaining c.begin.new.self) (script_rest g.R.Read.remaining c.read_watched.new.reader)
+    (g.W.Write.contents c.args.writer.now) (g.W.Write.contents c.send_before_wait.new.writer) (g.W.Write.contents c.tell.new.writer) c.loop-answered._answered c.loop-answered.floor.farm c.read_watched.result
+    c.in-Told.who c.in-Told.said (cc (c.in-Told.is, c.hear.ensures)) c.read_watched.ensures.takes (played_sent c.args.config.now (script_rest g.R.Read.remaining c.args.script.now) (script_rest g.R.Read.remaining c.loop-answered.script) (script_rest g.R.Read.remaining c.begin.new.self)
     (g.W.Write.contents c.args.writer.now) (g.W.Write.contents c.loop-answered.writer) (g.W.Write.contents c.send_before_wait.new.writer) c.loop-answered._answered c.loop-answered.floor.farm c.begin.ensures
-    c.send_before_wait.ensures c.loop-answered.invariant.3) c.in-Err.ensures.writes.err)
+    c.send_before_wait.ensures c.loop-answered.invariant.3) c.in-Err.ensures.writes.err _ c.in-Err.ensures.cause)
 
 pub returns-in-Err-send_before_nodes-clause-cut_off : goal.returns-in-Err-send_before_nodes-clause-cut_off
 returns-in-Err-send_before_nodes-clause-cut_off g c =
     rw c.in-Err-send_before_nodes.ensures.fault
-    (asked_unsent c.requests_come_in_turn.ensures c.args.config.now (script_rest g.R.Read.remaining c.args.script.now) (script_rest g.R.Read.remaining c.begin.new.self) (script_rest g.R.Read.remaining c.read_request.new.reader)
-    (g.W.Write.contents c.args.writer.now) (g.W.Write.contents c.send_before_nodes.new.writer) c.loop-answered._answered c.loop-answered.floor.farm c.read_request.result
-    c.in-Asked.tenant c.in-Asked.who c.in-Asked.asked (cc (c.in-Asked.is, c.hear.ensures)) c.read_request.ensures
+    (asked_unsent c.requests_come_in_turn.ensures c.args.config.now (script_rest g.R.Read.remaining c.args.script.now) (script_rest g.R.Read.remaining c.begin.new.self) (script_rest g.R.Read.remaining c.read_watched.new.reader)
+    (g.W.Write.contents c.args.writer.now) (g.W.Write.contents c.send_before_nodes.new.writer) c.loop-answered._answered c.loop-answered.floor.farm c.read_watched.result
+    c.in-Asked.tenant c.in-Asked.who c.in-Asked.asked (cc (c.in-Asked.is, c.hear.ensures)) c.read_watched.ensures.takes
     (played_sent c.args.config.now (script_rest g.R.Read.remaining c.args.script.now) (script_rest g.R.Read.remaining c.begin.new.self) (script_rest g.R.Read.remaining c.begin.new.self)
     (g.W.Write.contents c.args.writer.now) (g.W.Write.contents c.send_before_wait.new.writer) (g.W.Write.contents c.send_before_nodes.new.writer) c.loop-answered._answered c.loop-answered.floor.farm refl
     c.send_before_nodes.ensures.kept (played_sent c.args.config.now (script_rest g.R.Read.remaining c.args.script.now) (script_rest g.R.Read.remaining c.loop-answered.script) (script_rest g.R.Read.remaining c.begin.new.self)
     (g.W.Write.contents c.args.writer.now) (g.W.Write.contents c.loop-answered.writer) (g.W.Write.contents c.send_before_wait.new.writer) c.loop-answered._answered c.loop-answered.floor.farm c.begin.ensures
-    c.send_before_wait.ensures c.loop-answered.invariant.3)))
+    c.send_before_wait.ensures c.loop-answered.invariant.3)) _ c.in-Err-send_before_nodes.ensures.cause)
 
 pub returns-in-Err-tell-clause-cut_off : goal.returns-in-Err-tell-clause-cut_off
 returns-in-Err-tell-clause-cut_off g c =
     rw c.in-Err-tell.ensures.fault
-    (asked_cut c.requests_come_in_turn.ensures c.args.config.now (script_rest g.R.Read.remaining c.args.script.now) (script_rest g.R.Read.remaining c.begin.new.self) (script_rest g.R.Read.remaining c.read_request.new.reader)
+    (asked_cut c.requests_come_in_turn.ensures c.args.config.now (script_rest g.R.Read.remaining c.args.script.now) (script_rest g.R.Read.remaining c.begin.new.self) (script_rest g.R.Read.remaining c.read_watched.new.reader)
     (g.W.Write.contents c.args.writer.now) (g.W.Write.contents c.send_before_nodes.new.writer) (g.W.Write.contents c.tell-in-Asked.new.writer) c.loop-answered._answered c.loop-answered.floor.farm
-    c.answer-said.new.self.farm c.read_request.result c.in-Asked.tenant c.in-Asked.who c.in-Asked.asked c.answer-said.result (cc (c.in-Asked.is, c.hear.ensures)) c.read_request.ensures
+    c.answer-said.new.self.farm c.read_watched.result c.in-Asked.tenant c.in-Asked.who c.in-Asked.asked c.answer-said.result (cc (c.in-Asked.is, c.hear.ensures)) c.read_watched.ensures.takes
     c.answer-said.ensures.told (played_sent c.args.config.now (script_rest g.R.Read.remaining c.args.script.now) (script_rest g.R.Read.remaining c.begin.new.self) (script_rest g.R.Read.remaining c.begin.new.self)
     (g.W.Write.contents c.args.writer.now) (g.W.Write.contents c.send_before_wait.new.writer) (g.W.Write.contents c.send_before_nodes.new.writer) c.loop-answered._answered c.loop-answered.floor.farm refl
     c.send_before_nodes.ensures.kept (played_sent c.args.config.now (script_rest g.R.Read.remaining c.args.script.now) (script_rest g.R.Read.remaining c.loop-answered.script) (script_rest g.R.Read.remaining c.begin.new.self)
     (g.W.Write.contents c.args.writer.now) (g.W.Write.contents c.loop-answered.writer) (g.W.Write.contents c.send_before_wait.new.writer) c.loop-answered._answered c.loop-answered.floor.farm c.begin.ensures
-    c.send_before_wait.ensures c.loop-answered.invariant.3)) c.in-Err-tell.ensures.writes.err)
+    c.send_before_wait.ensures c.loop-answered.invariant.3)) c.in-Err-tell.ensures.writes.err _ c.in-Err-tell.ensures.cause)
 
 pub loop-answered-preserved : goal.loop-answered-preserved
 loop-answered-preserved g c =
@@ -68,9 +68,9 @@ loop-answered-preserved g c =
         ap (map counter_of) w.counters-is ∙ inv.1,
         subst (λ x. IsFloor g.J.Strategy.meaning x.farm x.held.items) (sym w.floor-is) inv.2,
         rw (w.floor-is, w.writer-is)
-            (settled_on c.requests_come_in_turn.ensures c.args.config.now (script_rest g.R.Read.remaining c.args.script.now) (script_rest g.R.Read.remaining c.begin.new.self) (script_rest g.R.Read.remaining c.read_request.new.reader)
-            (g.W.Write.contents c.args.writer.now) (g.W.Write.contents c.send_before_wait.new.writer) (g.W.Write.contents w.tell.new.writer) c.loop-answered._answered c.loop-answered.floor.farm c.read_request.result
-            w.in-Told.who w.in-Told.said (cc (w.in-Told.is, c.hear.ensures)) c.read_request.ensures (played_sent c.args.config.now (script_rest g.R.Read.remaining c.args.script.now) (script_rest g.R.Read.remaining c.loop-answered.script) (script_rest g.R.Read.remaining c.begin.new.self)
+            (settled_on c.requests_come_in_turn.ensures c.args.config.now (script_rest g.R.Read.remaining c.args.script.now) (script_rest g.R.Read.remaining c.begin.new.self) (script_rest g.R.Read.remaining c.read_watched.new.reader)
+            (g.W.Write.contents c.args.writer.now) (g.W.Write.contents c.send_before_wait.new.writer) (g.W.Write.contents w.tell.new.writer) c.loop-answered._answered c.loop-answered.floor.farm c.read_watched.result
+            w.in-Told.who w.in-Told.said (cc (w.in-Told.is, c.hear.ensures)) c.read_watched.ensures.takes (played_sent c.args.config.now (script_rest g.R.Read.remaining c.args.script.now) (script_rest g.R.Read.remaining c.loop-answered.script) (script_rest g.R.Read.remaining c.begin.new.self)
             (g.W.Write.contents c.args.writer.now) (g.W.Write.contents c.loop-answered.writer) (g.W.Write.contents c.send_before_wait.new.writer) c.loop-answered._answered c.loop-answered.floor.farm c.begin.ensures
             c.send_before_wait.ensures c.loop-answered.invariant.3) w.in_default.ensures.writes.ok),
       )
@@ -81,14 +81,14 @@ loop-answered-preserved g c =
             ∙ kept_tills c.loop-answered.counters w.purse_of-purse.result w.index-counters-purse.result w.answer-said.new.counter
             (subst (λ n. n < length c.loop-answered.counters) (sym w.purse_of-purse.ensures.exact)
             (tills_length c.args.config.now c.loop-answered.counters w.in-Asked.tenant inv.1
-            (known_number w.in-Asked.who c.args.config.now w.in-Asked.tenant (asked_known c.args.config.now c.read_request.result w.in-Asked.tenant w.in-Asked.who w.in-Asked.asked (cc (w.in-Asked.is, c.hear.ensures))))))
+            (known_number w.in-Asked.who c.args.config.now w.in-Asked.tenant (asked_known c.args.config.now c.read_watched.result w.in-Asked.tenant w.in-Asked.who w.in-Asked.asked (cc (w.in-Asked.is, c.hear.ensures))))))
             w.index-counters-purse.is w.answer-said.ensures.counter)
             ∙ inv.1,
         subst (λ x. IsFloor g.J.Strategy.meaning x.farm x.held.items) (sym w.floor-is) w.answer-said.ensures.floor,
         rw (w.floor-is, w.writer-is)
-            (asked_on c.requests_come_in_turn.ensures c.args.config.now (script_rest g.R.Read.remaining c.args.script.now) (script_rest g.R.Read.remaining c.begin.new.self) (script_rest g.R.Read.remaining c.read_request.new.reader)
+            (asked_on c.requests_come_in_turn.ensures c.args.config.now (script_rest g.R.Read.remaining c.args.script.now) (script_rest g.R.Read.remaining c.begin.new.self) (script_rest g.R.Read.remaining c.read_watched.new.reader)
             (g.W.Write.contents c.args.writer.now) (g.W.Write.contents w.send_before_nodes.new.writer) (g.W.Write.contents w.tell-in-Asked.new.writer) c.loop-answered._answered c.loop-answered.floor.farm
-            w.answer-said.new.self.farm c.read_request.result w.in-Asked.tenant w.in-Asked.who w.in-Asked.asked w.answer-said.result (cc (w.in-Asked.is, c.hear.ensures)) c.read_request.ensures
+            w.answer-said.new.self.farm c.read_watched.result w.in-Asked.tenant w.in-Asked.who w.in-Asked.asked w.answer-said.result (cc (w.in-Asked.is, c.hear.ensures)) c.read_watched.ensures.takes
             w.answer-said.ensures.told (played_sent c.args.config.now (script_rest g.R.Read.remaining c.args.script.now) (script_rest g.R.Read.remaining c.begin.new.self) (script_rest g.R.Read.remaining c.begin.new.self)
             (g.W.Write.contents c.args.writer.now) (g.W.Write.contents c.send_before_wait.new.writer) (g.W.Write.contents w.send_before_nodes.new.writer) c.loop-answered._answered c.loop-answered.floor.farm refl
             w.send_before_nodes.ensures.kept (played_sent c.args.config.now (script_rest g.R.Read.remaining c.args.script.now) (script_rest g.R.Read.remaining c.loop-answered.script) (script_rest g.R.Read.remaining c.begin.new.self)
@@ -106,19 +106,27 @@ pub returns-clause-cut_off : goal.returns-clause-cut_off
 returns-clause-cut_off g c =
     let all : c.loop-answered._answered ≡ 1000000 = omega arith in
     play_cut c.args.config.now (script_rest g.R.Read.remaining c.args.script.now) (script_rest g.R.Read.remaining c.loop-answered.script) (g.W.Write.contents c.args.writer.now) (g.W.Write.contents c.loop-answered.writer)
-    c.loop-answered.floor.farm c.end.result
+    c.loop-answered.floor.farm _ c.end.result
     (subst (λ n. Played c.args.config.now (script_rest g.R.Read.remaining c.args.script.now) (script_rest g.R.Read.remaining c.loop-answered.script) (g.W.Write.contents c.args.writer.now) (g.W.Write.contents c.loop-answered.writer) n c.loop-answered.floor.farm)
     all c.loop-answered.invariant.3) c.end.ensures.fault
 
 pub bounds-counters-purse : goal.bounds-counters-purse
 bounds-counters-purse g c =
     let few = tills_length c.args.config.now c.loop-answered.counters c.in-Asked.tenant c.loop-answered.invariant.1
-    (known_number c.in-Asked.who c.args.config.now c.in-Asked.tenant (asked_known c.args.config.now c.read_request.result c.in-Asked.tenant c.in-Asked.who c.in-Asked.asked (cc (c.in-Asked.is, c.hear.ensures)))) in
+    (known_number c.in-Asked.who c.args.config.now c.in-Asked.tenant (asked_known c.args.config.now c.read_watched.result c.in-Asked.tenant c.in-Asked.who c.in-Asked.asked (cc (c.in-Asked.is, c.hear.ensures)))) in
     omega (arith, few, c.purse_of-purse.ensures.exact)
 
 pub answer-said-requires-clause-counter : goal.answer-said-requires-clause-counter
 answer-said-requires-clause-counter g c κs within =
-    let known = known_number c.in-Asked.who c.args.config.now c.in-Asked.tenant (asked_known c.args.config.now c.read_request.result c.in-Asked.tenant c.in-Asked.who c.in-Asked.asked (cc (c.in-Asked.is, c.hear.ensures))) in
+    let known = known_number c.in-Asked.who c.args.config.now c.in-Asked.tenant (asked_known c.args.config.now c.read_watched.result c.in-Asked.tenant c.in-Asked.who c.in-Asked.asked (cc (c.in-Asked.is, c.hear.ensures))) in
     ap (λ p. counter_of (get_or c.loop-answered.counters p c.index-counters-purse.result)) c.purse_of-purse.ensures.exact
     ∙ own_till c.args.config.now c.loop-answered.counters c.in-Asked.tenant c.index-counters-purse.result c.loop-answered.invariant.1 known
     ∙ ap (λ k. counter_for k (purse_in k c.in-Asked.tenant)) (sym c.loop-answered.invariant.0)
+
+pub returns-in-Broken-clause-cut_off : goal.returns-in-Broken-clause-cut_off
+returns-in-Broken-clause-cut_off g c =
+    play_broken c.args.config.now (script_rest g.R.Read.remaining c.args.script.now) (script_rest g.R.Read.remaining c.begin.new.self) (g.W.Write.contents c.args.writer.now) (g.W.Write.contents c.send_before_wait.new.writer)
+    c.loop-answered._answered c.loop-answered.floor.farm c.read_watched.result _ (cc (c.in-Broken.is, c.hear.ensures)) c.read_watched.ensures.cause
+    (played_sent c.args.config.now (script_rest g.R.Read.remaining c.args.script.now) (script_rest g.R.Read.remaining c.loop-answered.script) (script_rest g.R.Read.remaining c.begin.new.self)
+    (g.W.Write.contents c.args.writer.now) (g.W.Write.contents c.loop-answered.writer) (g.W.Write.contents c.send_before_wait.new.writer) c.loop-answered._answered c.loop-answered.floor.farm c.begin.ensures
+    c.send_before_wait.ensures c.loop-answered.invariant.3)

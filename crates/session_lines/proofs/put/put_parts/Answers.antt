@@ -3,8 +3,8 @@ use Rattle.session_lines.proofs.put.put_parts.Goals as goal
 
 pub loop-part-preserved : goal.loop-part-preserved
 loop-part-preserved g c =
-    parts_to (g.W.Write.contents c.args.writer.now) (g.W.Write.contents c.loop-part.writer) (g.W.Write.contents c.put_part.new.writer) c.args.parts.now c.loop-part.part-index _ c.loop-part-test.true c.loop-part.invariant (rw c.in_default.is at c.put_part.ensures).ok
+    parts_to (g.W.Write.contents c.args.writer.now) (g.W.Write.contents c.loop-part.writer) (g.W.Write.contents c.put_part.new.writer) c.args.parts.now c.loop-part.part-index _ c.loop-part-test.true c.loop-part.invariant (rw c.in_default.is at c.put_part.ensures.writes).ok
 
-pub returns-in-Err : goal.returns-in-Err
-returns-in-Err g c =
-    part_at c.in-Err.fault (g.W.Write.contents c.args.writer.now) (g.W.Write.contents c.loop-part.writer) (g.W.Write.contents c.put_part.new.writer) c.args.parts.now c.loop-part.part-index _ c.loop-part-test.true c.loop-part.invariant c.in-Err.ensures
+pub returns-in-Err-clause-writes : goal.returns-in-Err-clause-writes
+returns-in-Err-clause-writes g c =
+    part_at c.in-Err.fault (g.W.Write.contents c.args.writer.now) (g.W.Write.contents c.loop-part.writer) (g.W.Write.contents c.put_part.new.writer) c.args.parts.now c.loop-part.part-index _ c.loop-part-test.true c.loop-part.invariant c.in-Err.ensures.writes

@@ -4,5 +4,8 @@ use Rattle.session_lines.proofs.ReadLemmas.{GoesOn}
 use Rattle.session_lines.proofs.reading.read_within.Given as goal
 
 -- all lines so far were blank
-abbrev pub invariant-loop : goal.invariant-loop
-invariant-loop g l = Goes (g.R.Read.remaining l.initial.reader) (g.R.Read.remaining l.reader) (GoesOn None l.initial.left l.left)
+abbrev pub invariant-loop-found : goal.invariant-loop-found
+invariant-loop-found g l = Goes (g.R.Read.remaining l.initial.reader) (g.R.Read.remaining l.reader) (GoesOn None l.initial.left l.left)
+
+abbrev pub decreases-loop-found : goal.decreases-loop-found
+decreases-loop-found g l = l.left

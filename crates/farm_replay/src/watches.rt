@@ -1,0 +1,27 @@
+//! Whether the reader or the writer of a replay has failed.
+ghost use Rattle.std.specs.Prelude.{◌≡◌, false};
+
+use io_watch::Watch;
+
+/// The watches through which a replay reads its script and writes its replies: after `Read` and `Write` they tell contracts
+/// whether a read or a write has failed.
+#[derive(Debug, Drop)]
+pub struct Watches {
+    /// Of the script's reader.
+    pub(crate) reads: Watch,
+    /// Of the replies' writer.
+    pub(crate) writes: Watch,
+}
+
+impl Watches {
+    /// Watches through which nothing has failed.
+    pub fn new() -> Watches
+        ensures reads { result.reads.failed ≡ false }
+        ensures writes { result.writes.failed ≡ false }
+    {
+        Watches {
+            reads: Watch::new(),
+            writes: Watch::new(),
+        }
+    }
+}

@@ -1,0 +1,122 @@
+-- Why a request is not read.
+use Rattle.std.proofs.Common.{◌≡◌, ◌≢◌, ℕ, suc, ◌+◌, ◌<◌, ◌≤◌, inl, inr, Bool, true, false, cond, ◌==◌, eqb, List, [], ◌∷◌, length, Option, Some, None, Result, Ok, Err, OnErr, refl, sym, ap, ◌∙◌, arith, length-append}
+use Rattle.std.proofs.lemmas.Bool.{lt-ltb, ltb-true}
+use Rattle.std.specs.Io.BufRead.{take_through, drop_through}
+use Rattle.session_lines.specs.declared.request.Request.{Request}
+use Rattle.session_lines.specs.declared.request.LineFault.{LineFault}
+use Rattle.session_lines.specs.declared.request.LineFault.TheVariants.{Eof, Read, TooLong, Syntax, File, NoMemory}
+use Rattle.session_lines.specs.declared.line.Meaning.{Meaning}
+use Rattle.session_lines.specs.declared.line.Meaning.TheVariants.{Blank, Whole, Opens, Long, Bad}
+use Rattle.session_lines.specs.declared.text.Text.{Text}
+use Rattle.session_lines.specs.Cause.{HasCause, IsLonger, size_of, lines_after, IsPast, IsGivenUp}
+use Rattle.session_lines.specs.Known.{Goes}
+use Rattle.session_lines.specs.Script.{TextData, onto, lines_of, judged, opened, with_line, whole_text, found, begins, first}
+use Rattle.session_lines.proofs.ReadLemmas.{lines-step, GoesOn, InText}
+use Rattle.session_lines.proofs.ScanLemmas.{InLine, Scans, some_through}
+
+-- ---- how many bytes lines have
+
+size-onto : (x : ℕ) (lines : List (List ℕ)) → size_of (onto x lines) ≡ suc (size_of lines)
+size-onto x [] = refl
+size-onto x (line ∷ lines) = omega arith
+
+size-lines : (xs : List ℕ) → size_of (lines_of xs) ≡ length xs
+size-lines [] = refl
+size-lines (x ∷ xs) = go (eqb x 10) (size-lines xs)
+  where
+    go : (b : Bool) → size_of (lines_of xs) ≡ length xs → size_of (cond b ((x ∷ []) ∷ lines_of xs) (onto x (lines_of xs))) ≡ suc (length xs)
+    go true h = omega (arith, h)
+    go false h = size-onto x (lines_of xs) ∙ ap suc h
+
+-- ---- the first request has the first line at least
+
+abbrev Within : List (List ℕ) → Type 0
+Within lines = (text : Option TextData) → size_of (lines_after (first text lines)) ≤ size_of lines
+
+fewer-begins : (m : Meaning) (lines : List (List ℕ)) → Within lines → size_of (lines_after (begins m lines (first None lines) (λ head. first (Some (opened head)) lines))) ≤ size_of lines
+fewer-begins Blank lines h = h None
+fewer-begins (Whole request) lines h = omega arith
+fewer-begins (Opens head) lines h = h (Some (opened head))
+fewer-begins Long lines h = omega arith
+fewer-begins (Bad who) lines h = omega arith
+
+fewer-after : (text : Option TextData) (line : List ℕ) (lines : List (List ℕ)) → Within lines → size_of (lines_after (first text (line ∷ lines))) ≤ size_of lines
+fewer-after None line lines h = fewer-begins (judged line) lines h
+fewer-after (Some text) line lines h = go (with_line text line) ((with_line text line).left == 0)
+  where
+    go : (more : TextData) (b : Bool) → size_of (lines_after (cond b (found (whole_text more) lines) (first (Some more) lines))) ≤ size_of lines
+    go more true = omega arith
+    go more false = h (Some more)
+
+within : (lines : List (List ℕ)) → Within lines
+within [] None = omega arith
+within [] (Some text) = omega arith
+within (line ∷ lines) text = let h = fewer-after text line lines (within lines) in omega (arith, h)
+
+-- bytes whose first line is too long for what is left
+past : (text now : Option TextData) (most left : ℕ) (xs ys : List ℕ) → first text (lines_of xs) ≡ first now (lines_of ys) → length xs + left ≡ length ys + most → IsLonger left ys → IsPast most text (lines_of xs)
+past text now most left xs [] same paid long = absurd (omega (arith, long))
+past text now most left xs (y ∷ ys) same paid long =
+    let rest = drop_through 10 (y ∷ ys) in
+    let all : length (take_through 10 (y ∷ ys)) + size_of (lines_of rest) ≡ length (y ∷ ys) = sym (ap size_of (lines-step y ys)) ∙ size-lines (y ∷ ys) in
+    let few : size_of (lines_after (first now (take_through 10 (y ∷ ys) ∷ lines_of rest))) ≤ size_of (lines_of rest) = fewer-after now (take_through 10 (y ∷ ys)) (lines_of rest) (within (lines_of rest)) in
+    let is : size_of (lines_after (first text (lines_of xs))) ≡ size_of (lines_after (first now (take_through 10 (y ∷ ys) ∷ lines_of rest))) = ap (λ f. size_of (lines_after f)) (same ∙ ap (first now) (lines-step y ys)) in
+    let bytes = size-lines xs in
+    omega (arith, all, few, is, paid, long, bytes)
+
+-- ---- a cause is one of all bytes before
+
+pub on_err : {T E : Type 0} (P : Type 0) (result : Result T E) → P → OnErr result P
+on_err P (Ok x) p = tt
+on_err P (Err e) p = p
+
+pub cause_before : (failed : Bool) (a b : Option (List ℕ)) (P : List ℕ → List ℕ → Type 0) (Q R : List ℕ → Type 0) → ((xs ys : List ℕ) → P xs ys → Q ys → R xs) → Goes a b P → HasCause failed b Q → HasCause failed a R
+cause_before failed a b P Q R f p (inl h) = inl h
+cause_before failed None b P Q R f p (inr q) = inr tt
+cause_before failed (Some xs) (Some ys) P Q R f p (inr q) = inr (f xs ys p q)
+cause_before failed (Some xs) None P Q R f p (inr q) = absurd p
+
+-- a byte that is one too many, after those of its line
+longer : (before left : ℕ) (raw xs ys : List ℕ) → length raw + left ≡ before → InLine raw xs ys → (left ≡ 0) × (ys ≢ []) → IsLonger before xs
+longer before left raw xs [] paid line (none, some) = absurd (some refl)
+longer before left raw xs (y ∷ ys) paid line (none, some) =
+    let here : 0 < length (take_through 10 (y ∷ ys)) = ltb-true 0 (length (take_through 10 (y ∷ ys))) (sym (some_through (y ∷ ys)) ∙ lt-ltb 0 (suc (length ys)) (omega arith)) in
+    let all : length (take_through 10 xs) ≡ length raw + length (take_through 10 (y ∷ ys)) = ap length line.through ∙ length-append raw (take_through 10 (y ∷ ys)) in
+    omega (arith, here, all, paid, none)
+
+pub longer_line : (failed : Bool) (before left : ℕ) (raw : List ℕ) (a b : Option (List ℕ)) → length raw + left ≡ before → Scans raw a b → HasCause failed b (λ bytes. (left ≡ 0) × (bytes ≢ [])) → HasCause failed a (IsLonger before)
+longer_line failed before left raw a b paid = cause_before failed a b (InLine raw) _ _ (λ xs ys. longer before left raw xs ys paid)
+
+pub past_between : (failed : Bool) (now : Option TextData) (most left : ℕ) (a b : Option (List ℕ)) → Goes a b (GoesOn now most left) → HasCause failed b (IsLonger left) → HasCause failed a (λ xs. IsPast most None (lines_of xs))
+past_between failed now most left a b = cause_before failed a b (GoesOn now most left) _ _ (λ xs ys p. past None now most left xs ys p.same p.paid)
+
+pub past_in_text : (failed : Bool) (text : Option TextData) (kept : Text) (most left : ℕ) (a b : Option (List ℕ)) → Goes a b (InText text kept most left) → HasCause failed b (IsLonger left) → HasCause failed a (λ xs. IsPast most text (lines_of xs))
+past_in_text failed text kept most left a b = cause_before failed a b (InText text kept most left) _ _ (λ xs ys p. past text (Some p.said) most left xs ys p.same p.paid)
+
+-- ---- answers
+
+pub not_given_up : (most : ℕ) (text : Option TextData) (failed : Bool) (old : Option (List ℕ)) (answer : Result Request LineFault) → answer ≢ Err Read → IsGivenUp most text failed old answer
+not_given_up most text failed old (Ok request) h = tt
+not_given_up most text failed old (Err Eof) h = tt
+not_given_up most text failed old (Err Read) h = absurd (h refl)
+not_given_up most text failed old (Err (TooLong who)) h = tt
+not_given_up most text failed old (Err (Syntax who)) h = tt
+not_given_up most text failed old (Err (File who f)) h = tt
+not_given_up most text failed old (Err (NoMemory who)) h = tt
+
+past-head : (text : Option TextData) (most left : ℕ) (xs ys : List ℕ) → GoesOn text most left xs ys → IsPast left text (lines_of ys) → IsPast most None (lines_of xs)
+past-head text most left xs ys p q =
+    let is : size_of (lines_after (first None (lines_of xs))) ≡ size_of (lines_after (first text (lines_of ys))) = ap (λ f. size_of (lines_after f)) p.same in
+    let before = size-lines xs in
+    let after = size-lines ys in
+    omega (arith, is, p.paid, q, before, after)
+
+-- a submit is given up with its text
+pub head_given_up : (failed : Bool) (text : Option TextData) (most left : ℕ) (a b : Option (List ℕ)) (answer : Result Request LineFault) → Goes a b (GoesOn text most left) → IsGivenUp left text failed b answer → IsGivenUp most None failed a answer
+head_given_up failed text most left a b (Ok request) p q = tt
+head_given_up failed text most left a b (Err Eof) p q = tt
+head_given_up failed text most left a b (Err Read) p q = cause_before failed a b (GoesOn text most left) _ _ (past-head text most left) p q
+head_given_up failed text most left a b (Err (TooLong who)) p q = tt
+head_given_up failed text most left a b (Err (Syntax who)) p q = tt
+head_given_up failed text most left a b (Err (File who f)) p q = tt
+head_given_up failed text most left a b (Err (NoMemory who)) p q = tt

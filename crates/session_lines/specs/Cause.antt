@@ -1,0 +1,34 @@
+-- Why a request is not read: the reader failed, or the request is too long.
+use Rattle.std.specs.Prelude.{◌≡◌, ℕ, ◌+◌, ◌<◌, ◌⊎◌, Bool, true, List, [], ◌∷◌, length, Option, Some, None, Result, Err, IfSome, ⊤}
+use Rattle.std.specs.Io.BufRead.{take_through}
+use Rattle.session_lines.specs.declared.request.Request.{Request}
+use Rattle.session_lines.specs.declared.request.LineFault.{LineFault}
+use Rattle.session_lines.specs.declared.request.LineFault.TheVariants.{Read}
+use Rattle.session_lines.specs.Script.{TextData, Found, lines_of, first}
+
+-- a read failed, or the bytes that were left before, where these are known, are such
+abbrev pub HasCause : Bool → Option (List ℕ) → (List ℕ → Type 0) → Type 0
+HasCause failed old P = (failed ≡ true) ⊎ IfSome old P
+
+-- the first line of these bytes has more than so many, with its end
+abbrev pub IsLonger : ℕ → List ℕ → Type 0
+IsLonger most bytes = most < length (take_through 10 bytes)
+
+-- how many bytes lines have
+abbrev pub size_of : List (List ℕ) → ℕ
+size_of [] = 0
+size_of (line ∷ lines) = length line + size_of lines
+
+-- the lines after the first request
+abbrev pub lines_after : Option Found → List (List ℕ)
+lines_after None = []
+lines_after (Some found) = found.rest
+
+-- the first request of these lines has more than so many bytes, with the blank lines before it; the first lines may belong to a text
+abbrev pub IsPast : ℕ → Option TextData → List (List ℕ) → Type 0
+IsPast most text lines = size_of (lines_after (first text lines)) + most < size_of lines
+
+-- a read is given up only where the reader failed or the request has more than so many bytes
+abbrev pub IsGivenUp : ℕ → Option TextData → Bool → Option (List ℕ) → Result Request LineFault → Type 0
+IsGivenUp most text failed old (Err Read) = HasCause failed old (λ bytes. IsPast most text (lines_of bytes))
+IsGivenUp most text failed old answer = ⊤
