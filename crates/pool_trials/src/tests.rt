@@ -4,7 +4,7 @@ use crate::gates::{Meeting, Open, Pair};
 use crate::made::{
     Purse, config_of, patient_of, pool_of, settle, settle_shared, shared_config, tree_of,
 };
-use farm_core::{Line, Reply};
+use farm_core::Reply;
 use farm_pool::{Command, Unsettled, WorkEnd};
 use job_table::Phase;
 use std::sync::Arc;
@@ -15,34 +15,32 @@ const A: u32 = 0;
 
 const B: u32 = 1;
 
-// The line in a reply.
-fn line_in(reply: &Reply) -> Option<&Line> {
-    match reply {
-        Reply::Line(line) => Some(line),
-        _ => None,
-    }
-}
-
 // Whether it is the line of a job that has run all nine nodes of the diamond's tree.
 fn is_closed(reply: &Reply) -> bool {
-    line_in(reply).is_some_and(|line| {
-        matches!(line.phase, Phase::Closed)
-            && line.nodes == 9
-            && line.left == 0
-            && line.best == Some(4)
-            && line.verdict == Verdict::Optimal
-    })
+    match reply {
+        Reply::Line(line) => {
+            matches!(line.phase, Phase::Closed)
+                && line.nodes == 9
+                && line.left == 0
+                && line.best == Some(4)
+                && line.verdict == Verdict::Optimal
+        }
+        _ => false,
+    }
 }
 
 // Whether it is the line of a job of six quanta that has not run.
 fn is_waiting(reply: &Reply) -> bool {
-    line_in(reply).is_some_and(|line| {
-        matches!(line.phase, Phase::Waiting)
-            && line.nodes == 0
-            && line.left == 6
-            && line.best == None
-            && line.verdict == Verdict::Going
-    })
+    match reply {
+        Reply::Line(line) => {
+            matches!(line.phase, Phase::Waiting)
+                && line.nodes == 0
+                && line.left == 6
+                && line.best == None
+                && line.verdict == Verdict::Going
+        }
+        _ => false,
+    }
 }
 
 // Whether a ledger has these quanta granted, free, held and spent.
@@ -63,11 +61,10 @@ fn turns_of(ends: (WorkEnd, WorkEnd)) -> u64 {
     ends.0.turns.saturating_add(ends.1.turns)
 }
 
-// A worker that did nothing.
-const IDLE: WorkEnd = WorkEnd {
-    turns: 0,
-    strangers: 0,
-};
+// Whether a worker did nothing.
+fn is_idle(end: &WorkEnd) -> bool {
+    end.turns == 0 && end.strangers == 0
+}
 
 #[test]
 fn two_workers_of_two_tenants_settle(rt: HostRuntime) -> Result<(), Fail> {
@@ -250,7 +247,7 @@ fn each_turn_is_counted_once(rt: HostRuntime) -> Result<(), Fail> {
     let end = pool.work(&rt, &mut pass, &Open);
     assert!(rt; end.turns == 5 && end.strangers == 0);
     assert!(rt; is_closed(&pool.call(&rt, &mut pass, A, Command::Status(1))));
-    assert!(rt; pool.work(&rt, &mut pass, &Open) == IDLE);
+    assert!(rt; is_idle(&pool.work(&rt, &mut pass, &Open)));
     Ok(())
 }
 
@@ -273,9 +270,14 @@ fn no_entries_for_a_turn(rt: HostRuntime) -> Result<(), Fail> {
             search,
         },
     );
-    assert!(rt; pool.work(&rt, &mut pass, &Open) == IDLE);
+    assert!(rt; is_idle(&pool.work(&rt, &mut pass, &Open)));
     let farm = pool.close(pass).ok_or("a farm")?;
-    assert!(rt; settle(&config, farm, a, b) == Some(Err(Unsettled::Held(0, 6))));
+    assert!(rt;
+        matches!(
+            settle(&config, farm, a, b),
+            Some(Err(Unsettled::Held(0, 6)))
+        )
+    );
     Ok(())
 }
 
@@ -298,7 +300,12 @@ fn no_worker(rt: HostRuntime) -> Result<(), Fail> {
         },
     );
     let farm = pool.close(pass).ok_or("a farm")?;
-    assert!(rt; settle(&config, farm, a, b) == Some(Err(Unsettled::Held(0, 6))));
+    assert!(rt;
+        matches!(
+            settle(&config, farm, a, b),
+            Some(Err(Unsettled::Held(0, 6)))
+        )
+    );
     Ok(())
 }
 
@@ -334,6 +341,11 @@ fn a_second_pass_sees_the_first_ones_job(rt: HostRuntime) -> Result<(), Fail> {
         )
     );
     let farm = pool.close(first).ok_or("a farm")?;
-    assert!(rt; settle(&config, farm, a, b) == Some(Err(Unsettled::Held(0, 6))));
+    assert!(rt;
+        matches!(
+            settle(&config, farm, a, b),
+            Some(Err(Unsettled::Held(0, 6)))
+        )
+    );
     Ok(())
 }
