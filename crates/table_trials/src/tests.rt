@@ -1,8 +1,6 @@
 //! The trials.
-use crate::both::{cancel_and_fund, remove_all, turns_and_back};
 use crate::cancels::{CASES, cancel_in};
 use crate::made::{CHAIN, DIAMOND, insert, search_of};
-use crate::plain::{self, PlainTable};
 use crate::turns::{FRESH, Line, fund, line_of, run, turn};
 use job_table::{JobTable, Phase};
 use quanta_till::Till;
@@ -208,32 +206,5 @@ fn cancels_at_every_phase(rt: HostRuntime) -> Result<(), Fail> {
             "{case:?}"
         );
     }
-    Ok(())
-}
-
-/// After each call the table tells the same as a plain list, whose phases are worked by hand.
-#[test]
-fn the_table_and_a_plain_one(rt: HostRuntime) -> Result<(), Fail> {
-    let alloc = rt.alloc();
-    let (till, mut desk) = Till::new(alloc, 0, 100)?;
-    let (mut table, mut plain) = (JobTable::new(alloc), PlainTable::new(alloc));
-    let jobs: [(u32, u32, u32); 3] = [(0, 1, 6), (1, 1, 6), (0, 2, 2)];
-    for key in jobs.iter() {
-        let search = search_of(alloc, DIAMOND, till.lease(&mut desk, key.0)?)?;
-        let boxed: Box<dyn Strategy> = Box::new(alloc, search)?;
-        insert(
-            alloc,
-            &mut table,
-            key.0,
-            u64::from(key.1),
-            u64::from(key.2),
-            boxed,
-        )?;
-        plain.set(key.0, u64::from(key.1), Phase::Waiting)?;
-        plain::compare(&rt, &table, &plain);
-    }
-    turns_and_back(&rt, &mut table, &mut plain)?;
-    cancel_and_fund(&rt, &mut table, &mut plain)?;
-    remove_all(&rt, &mut table, &mut plain)?;
     Ok(())
 }
