@@ -6,7 +6,7 @@ use std::rt::Runtime;
 use std::{env, io};
 
 /// The version of the program, and the kit by which it was proved.
-const VERSION: &str = "farm 0.1.0 (rattle-kit-13b logic dac8208d650f15bf)";
+const VERSION: &str = "farm 0.1.0 (rattle-kit-13f logic dac8208d650f15bf)";
 
 /// What the program is, for its help.
 const ABOUT: &str = "\

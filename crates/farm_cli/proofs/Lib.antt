@@ -1,3 +1,5 @@
 pub mod InputLemmas
 pub mod CommandLineLemmas
 pub mod CommandLineExamples
+pub mod CheckLemmas
+pub mod ReplayLemmas

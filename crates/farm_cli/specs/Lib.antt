@@ -1,3 +1,5 @@
 pub mod Summary
 pub mod CommandLine
 pub mod Strict
+pub mod Checked
+pub mod Replayed

@@ -1,5 +1,5 @@
 -- With which status a replay ends that answered all requests.
-use Rattle.std.specs.Prelude.{ℕ, Bool, true, false, Option, Some, None}
+use Rattle.std.specs.Prelude.{ℕ, Bool, true, Option, Some}
 
 -- 1 where refused requests are asked for and the line of one is known
 abbrev pub replay_status : Bool → Option ℕ → ℕ

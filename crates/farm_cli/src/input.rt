@@ -2,9 +2,8 @@
 ghost use Rattle.std.specs.Prelude.{◌≡◌, ◌<◌, ◌≤◌, length, IfOk, IfSome, MatchOption, take};
 
 use std::alloc::Global;
+use std::io;
 use std::io::Read;
-use std::rt::Files;
-use std::{fs, io};
 
 /// The most bytes that are read of an input: one more than a text may have.
 pub const MOST_BYTES: u64 = 1_048_577;
@@ -30,13 +29,4 @@ pub fn read_whole<R: Read + Drop>(alloc: Global, reader: R) -> io::Result<Option
         return Ok(None);
     }
     Ok(Some(bytes))
-}
-
-/// The first bytes of the file at the path, or of standard input at `-`.
-pub(crate) fn read_path<R: Files + Input + AllocGlobal>(rt: &R, path: &str) -> io::Result<Vec<u8>> {
-    if path == "-" {
-        return read_front(rt.alloc(), rt.reader());
-    }
-    let file = fs::open(rt, path)?;
-    read_front(rt.alloc(), file)
 }

@@ -1,19 +1,18 @@
 //! The programs: what each task does, and the status that it ends with.
 ghost use Rattle.std.specs.Prelude.{◌≡◌, ◌≤◌, OnOk, OnErr};
 ghost use Rattle.std.specs.Process.{exit_status};
-ghost use Rattle.farm_cli.specs.Strict.{replay_status};
 
 use crate::arguments::{Task, parse_words};
-use crate::input::{read_path, read_whole};
-use crate::summary::summarize;
-use farm_config::{ConfigFault, place_of, read_config};
+use crate::checking::check_to;
+use crate::input::read_whole;
+use crate::replaying::{replay_to, tell_config_fault};
+use farm_config::read_config;
 use farm_core::Config;
 use farm_pool::Settled;
-use farm_replay::{Notes, ReplayFault, Watches, replay_noting};
+use farm_replay::{Notes, Watches};
 use farm_service::{ServeFault, serve};
 use file_words::{reason, tell_unread};
-use psplib_mm::read;
-use std::io::{BufWriter, Eprint, Print, Read, Write};
+use std::io::{BufWriter, Eprint, Print, Read};
 use std::net::{Ipv4Addr, Net, SocketAddr, TcpListener, TcpStream};
 use std::process::ExitCode;
 use std::rt::{Files, Runtime};
@@ -79,68 +78,43 @@ pub fn run_words<
     }
 }
 
-/// Tells the fault of a configuration, and on a second line where it lies and what is wanted there.
-fn tell_config_fault<R: AllocGlobal + Eprint>(rt: &R, bytes: &[u8], fault: ConfigFault) {
-    let _ = eprintln!(rt; "farm: config {fault}");
-    if let Some(place) = place_of(rt.alloc(), bytes, fault) {
-        let wanted = place.wanted(fault);
-        let _ = eprintln!(rt; "farm: why: {place}: {wanted}");
-    }
-}
-
-/// Prints what the project of a file holds, or the fault of the file.
-fn run_check<R: Runtime + AllocGlobal>(rt: &R, file: &str) -> ExitCode
-    ensures { exit_status result ≤ 1 }
-{
-    let text = match read_path(rt, file) {
-        Ok(text) => text,
-        Err(error) => {
-            tell_unread(rt, file, reason(error.kind()));
-            return ExitCode::FAILURE;
-        }
-    };
-    match read(rt.alloc(), &text) {
-        Ok(project) => {
-            let summary = summarize(&project);
-            match println!(rt; "{summary}") {
-                Ok(()) => ExitCode::SUCCESS,
-                Err(_) => ExitCode::FAILURE,
-            }
-        }
-        Err(fault) => {
-            let _ = eprintln!(rt; "farm: no file {fault}");
-            ExitCode::FAILURE
-        }
-    }
-}
-
-/// The configuration in the file at the path, or the text for standard error.
-fn config_at<R: Files + AllocGlobal + Eprint>(rt: &R, path: &str) -> Option<Config> {
-    let bytes = match fs::open(rt, path) {
+/// The bytes of the file at the path. `None` is told on standard error.
+fn bytes_at<R: Files + AllocGlobal + Eprint>(rt: &R, path: &str) -> Option<Vec<u8>> {
+    let read = match fs::open(rt, path) {
         Ok(file) => read_whole(rt.alloc(), file),
         Err(error) => Err(error),
     };
-    let bytes = match bytes {
-        Ok(Some(bytes)) => bytes,
+    match read {
+        Ok(Some(bytes)) => Some(bytes),
         Ok(None) => {
             tell_unread(rt, path, "it has more than 1048576 bytes");
-            return None;
+            None
         }
         Err(error) => {
             tell_unread(rt, path, reason(error.kind()));
-            return None;
-        }
-    };
-    match read_config(rt.alloc(), &bytes) {
-        Ok(config) => Some(config),
-        Err(fault) => {
-            tell_config_fault(rt, &bytes, fault);
             None
         }
     }
 }
 
-/// Replays a script on a farm of the configuration, and prints the replies.
+/// Prints what the project of a file holds, or the fault of the file.
+fn run_check<R: Runtime + AllocGlobal>(rt: &R, path: &str) -> ExitCode
+    ensures { exit_status result ≤ 1 }
+{
+    let mut output = io::writer(rt);
+    if path == "-" {
+        return check_to(rt, path, rt.reader(), &mut output);
+    }
+    match fs::open(rt, path) {
+        Ok(file) => check_to(rt, path, file, &mut output),
+        Err(error) => {
+            tell_unread(rt, path, reason(error.kind()));
+            ExitCode::FAILURE
+        }
+    }
+}
+
+/// Replays a script on a farm of the configuration in the file at the path, and prints the replies.
 fn run_replay<R: Runtime + AllocGlobal>(
     rt: &R,
     config: &str,
@@ -149,19 +123,19 @@ fn run_replay<R: Runtime + AllocGlobal>(
 ) -> ExitCode
     ensures { exit_status result ≤ 1 }
 {
-    let Some(config) = config_at(rt, config) else {
+    let Some(text) = bytes_at(rt, config) else {
         return ExitCode::FAILURE;
     };
-    let mut notes = Notes::default();
+    // (before the script is opened, which may wait)
+    if let Err(fault) = read_config(rt.alloc(), &text) {
+        tell_config_fault(rt, &text, fault);
+        return ExitCode::FAILURE;
+    }
     if script == "-" {
-        let ended = replay_to(rt, &config, rt.reader(), &mut notes);
-        return end_replay(rt, ended, notes, is_strict);
+        return print_replay(rt, &text, rt.reader(), is_strict);
     }
     match fs::open(rt, script) {
-        Ok(file) => {
-            let ended = replay_to(rt, &config, file, &mut notes);
-            end_replay(rt, ended, notes, is_strict)
-        }
+        Ok(file) => print_replay(rt, &text, file, is_strict),
         Err(error) => {
             tell_unread(rt, script, reason(error.kind()));
             ExitCode::FAILURE
@@ -169,51 +143,42 @@ fn run_replay<R: Runtime + AllocGlobal>(
     }
 }
 
-/// Replays a script to standard output, through a buffer that is written out at the end and after a fault.
-fn replay_to<R: Runtime + AllocGlobal, S: Read + Drop>(
+/// Replays a script to standard output.
+fn print_replay<R: Runtime + AllocGlobal, S: Read + Drop>(
     rt: &R,
-    config: &Config,
+    text: &[u8],
     script: S,
-    notes: &mut Notes,
-) -> Result<(), ReplayFault> {
-    let Ok(mut output) = BufWriter::new(rt.alloc(), io::writer(rt)) else {
-        return Err(ReplayFault::NoMemory);
-    };
-    let mut watches = Watches::new();
-    let ended = replay_noting(rt.alloc(), config, script, &mut output, &mut watches, notes);
-    match output.flush() {
-        Ok(()) => ended,
-        Err(_) => Err(ReplayFault::Write),
-    }
-}
-
-/// The status of a replay, with its fault on standard error, and what was noted of its script.
-fn end_replay<R: Eprint>(
-    rt: &R,
-    ended: Result<(), ReplayFault>,
-    notes: Notes,
     is_strict: bool,
 ) -> ExitCode
-    ensures ok { OnOk ended (exit_status result ≡ replay_status is_strict notes.refused) }
-    ensures fault { OnErr ended (exit_status result ≡ 1) }
+    ensures { exit_status result ≤ 1 }
 {
-    let status = match (ended, notes.refused) {
-        (Err(fault), _) => {
-            let _ = eprintln!(rt; "farm: replay {fault}");
-            ExitCode::FAILURE
-        }
-        (Ok(()), Some(line)) if is_strict => {
-            let _ = eprintln!(rt; "farm: refused at line {line}");
-            ExitCode::FAILURE
-        }
-        (Ok(()), _) => ExitCode::SUCCESS,
+    let Ok(mut output) = BufWriter::new(rt.alloc(), io::writer(rt)) else {
+        let _ = eprintln!(rt; "farm: replay NoMemory");
+        return ExitCode::FAILURE;
     };
-    if let Some(line) = notes.doubtful {
-        let _ = eprintln!(rt;
-            "farm: line {line}: the text of this submit ends with a line that begins with '@'; is its count of lines right?"
-        );
+    let mut watches = Watches::new();
+    let mut notes = Notes::default();
+    replay_to(
+        rt,
+        text,
+        script,
+        is_strict,
+        &mut output,
+        &mut watches,
+        &mut notes,
+    )
+}
+
+/// The configuration in the file at the path. `None` is told on standard error.
+fn config_at<R: Files + AllocGlobal + Eprint>(rt: &R, path: &str) -> Option<Config> {
+    let bytes = bytes_at(rt, path)?;
+    match read_config(rt.alloc(), &bytes) {
+        Ok(config) => Some(config),
+        Err(fault) => {
+            tell_config_fault(rt, &bytes, fault);
+            None
+        }
     }
-    status
 }
 
 /// Serves a farm of the configuration at a port of this machine, which is printed first, until so many connections have ended.

@@ -1,31 +1,30 @@
 -- What their gifts make of the jobs of a purse's members, once they are at rest.
-use Rattle.std.proofs.Common.{◌≡◌, ◌≢◌, ℕ, ◌+◌, ◌-◌, ◌<◌, ◌≤◌, List, [], ◌∷◌, ◌++◌, length, map, get_or, Bool, true, false, cond, ◌&&◌, ◌==◌, nat_le, nat_lt, Option, Some, None, refl, sym, ap, ◌∙◌, subst, arith, ⊎_elim, ◌⊎◌, eq-eqb}
-use Rattle.std.specs.Prelude.{option_map, ⊤}
+use Rattle.std.proofs.Common.{◌≡◌, ◌≢◌, ℕ, ◌+◌, ◌-◌, ◌<◌, ◌≤◌, List, [], ◌∷◌, ◌++◌, length, map, get_or, Bool, true, false, cond, ◌==◌, Some, refl, sym, ap, ◌∙◌, subst, arith, ⊎_elim, ◌⊎◌, eq-eqb}
+use Rattle.std.specs.Prelude.{⊤}
 use Rattle.std.specs.List.{sum_by}
-use Rattle.std.proofs.lemmas.Bool.{cond_both, cond-true, cases_lt, cases_Bool, and_parts, both_ways, eqb-true}
+use Rattle.std.proofs.lemmas.Bool.{cond_both, cond-true, cases_lt, cases_Bool, both_ways, eqb-true}
 use Rattle.std.proofs.lemmas.Bool.Decides.{nat_tests}
 use Rattle.std.proofs.lemmas.List.{length-map, get_or-map}
 use Rattle.std.proofs.lemmas.List.Sums.{sum_by-cons, sum_by-set, get_or-le-sum_by}
 use mathlib.Core.List.{map-map}
 use Rattle.mrcpsp.specs.Numbers.{first_from}
-use Rattle.mrcpsp.specs.Schedule.{makespan}
-use Rattle.strategy.specs.Outcome.{best_after, is_closed, verdict_after}
+use Rattle.strategy.specs.Outcome.{is_closed}
 use Rattle.strategy.specs.declared.plan.Plan.{Plan}
 use Rattle.job_table.specs.Table.{JobData, is_waiting, is_out, is_ended}
-use Rattle.job_table.specs.Job.{given_up, is_here, phase_after, back}
+use Rattle.job_table.specs.Job.{is_here, phase_after, back}
 use Rattle.job_table.specs.declared.phase.Phase.{Phase}
 use Rattle.job_table.specs.declared.phase.Phase.TheVariants.{Waiting, Out, Leaving, Dry, Closed, Cancelled}
 use Rattle.farm_core.specs.declared.config.TenantLine.{TenantLine}
 use Rattle.farm_core.specs.declared.entry.Event.{Event}
 use Rattle.farm_core.specs.declared.entry.Event.TheVariants.{Submit, Fund, Status, Fetch, Cancel, Forget, Ledger, Take, Give}
-use Rattle.farm_core.specs.declared.reply.Reply.{Reply}
 use Rattle.farm_core.specs.declared.reply.Reply.TheVariants as reply
 use Rattle.farm_core.specs.Purses.{purse_of, members_of}
 use Rattle.farm_core.specs.Config.{ConfigData, purse_names, lines_of, granted_by}
-use Rattle.farm_core.specs.Tenant.{Tenant, Member, Purse, new_member, newcomers, held_by, no_member, seat, own_of, with_seat, book, held, free, find_job, put_job, drop_job, line_of}
-use Rattle.farm_core.specs.Step.{Answer, Replied, Sent, NoTurn, Step, step, has_room, is_amount, is_slice, unnoted, noted, changed, fresh_job, submitted, about, funded, fetched, cancelled_as, cancelled, forgotten, commanded, taken, may_have_run, gave}
+use Rattle.farm_core.specs.Tenant.{Tenant, Member, Purse, new_member, newcomers, held_by, no_member, seat, own_of, with_seat, held, find_job, put_job, line_of}
+use Rattle.farm_core.specs.Step.{Answer, Replied, Sent, NoTurn, Step, Changes, done, step, fresh_job, may_have_run}
 use Rattle.farm_core.specs.World.{World, Call, Steps, Leads, Run, opened, opened_purse, member, purse, view, purse_in, place_in}
 use Rattle.farm_core.specs.Need.{nodes_for, asked, asked_by, are_gifts, AreAtRest, members_in, AllMembers, HasRested, AreAlike, EachEndsAlike}
+use Rattle.farm_core.proofs.DecisionLemmas.{Cases, each_decision, unasked}
 use Rattle.farm_core.proofs.PlaceLemmas.{same_below}
 use Rattle.farm_core.proofs.SeatLemmas.{named, place_known, held_whole, own_seen, each_view_is_a_seat, same_book, purse_after, purse_stays}
 use Rattle.farm_core.proofs.AloneLemmas.{member_opened, purse_opened, config_opened}
@@ -135,27 +134,6 @@ used_more x k t used it = record { next = it.next; jobs = it.jobs; spent = it.sp
 none_before : (plan : Plan) → Unclosed plan 0
 none_before plan j l = absurd (omega arith)
 
-submit_on : (x : Gifts) (k : ℕ) (t : Tenant) (plan : Plan) (quanta : ℕ) → Stood x k t → GoesOn x k (Submit plan quanta) (step t (Submit plan quanta))
-unfolding submitted
-submit_on x k t plan quanta it =
-    let e : Event = Submit plan quanta in
-    let job : JobData = fresh_job t plan quanta in
-    let s1 : Step = record { answer = Replied (reply.Job t.next); after = record t { used = t.used + 1; next = t.next + 1; jobs = t.jobs ++ job ∷ [] } } in
-    let s2 : Step = cond (nat_le quanta (free t)) s1 (noted t (reply.NoShort (free t))) in
-    let s3 : Step = cond (nat_lt (length t.jobs) t.terms.jobs) s2 (noted t reply.NoJobs) in
-    let s4 : Step = cond (is_amount quanta) s3 (noted t reply.NoAmount) in
-    let gift : Gift = record { seq = x.next; plan = plan; given = quanta } in
-    let stands : Stands gift job = record { seq = sym it.next; plan = refl; has = (omega arith, none_before plan) } in
-    cond_both (has_room 1 t) s4 (unnoted t (Replied reply.NoRoom)) (GoesOn x k e)
-    (λ _. cond_both (is_amount quanta) s3 (noted t reply.NoAmount) (GoesOn x k e)
-    (λ _. cond_both (nat_lt (length t.jobs) t.terms.jobs) s2 (noted t reply.NoJobs) (GoesOn x k e)
-    (λ _. cond_both (nat_le quanta (free t)) s1 (noted t (reply.NoShort (free t))) (GoesOn x k e)
-    (λ _ _. record { next = omega (arith, it.next); jobs = given_push gift job x.all t.jobs stands it.jobs; spent = omega (arith, it.spent, nodes_push job t.jobs) })
-    (λ _ _. used_more x k t (t.used + 1) it))
-    (λ _ _. used_more x k t (t.used + 1) it))
-    (λ _ _. used_more x k t (t.used + 1) it))
-    (λ _ _. it)
-
 -- a job that is not out and not over has what it was given
 stands_there : (phase : Phase) (plan : Plan) (nodes left given : ℕ) → is_out phase ≡ false → is_ended phase ≡ false → StandsIn phase plan nodes left given → (nodes + left ≡ given) × Unclosed plan nodes
 stands_there Waiting plan nodes left given o e h = h
@@ -169,64 +147,6 @@ found_is : (s : ℕ) (jobs : List JobData) (job : JobData) → find_job s jobs �
 found_is s [] job found = absurd (cc)
 found_is s (one ∷ jobs) job found = grind (arith, nat_tests, found_is s jobs job)
 
-fund_on : (x : Gifts) (k : ℕ) (t : Tenant) (s quanta : ℕ) (job : JobData) → find_job s t.jobs ≡ Some job → Stood x k t → GoesOn x k (Fund s quanta) (funded t quanta job)
-unfolding funded
-fund_on x k t s quanta job found it =
-    let e : Event = Fund s quanta in
-    let new : JobData = record job { phase = Waiting; left = job.left + quanta } in
-    let s1 : Step = changed t new (Replied (reply.Line (line_of new))) in
-    let s2 : Step = cond (nat_le quanta (free t)) s1 (noted t (reply.NoShort (free t))) in
-    let s3 : Step = cond (is_amount quanta) s2 (noted t reply.NoAmount) in
-    let s4 : Step = cond (is_ended job.phase) (noted t reply.NoOver) s3 in
-    let seq = found_is s t.jobs job found in
-    cond_both (is_out job.phase) (noted t reply.NoBusy) s4 (GoesOn x k e) (λ _ _. used_more x k t (t.used + 1) it)
-    (λ here. cond_both (is_ended job.phase) (noted t reply.NoOver) s3 (GoesOn x k e) (λ _ _. used_more x k t (t.used + 1) it)
-    (λ going. cond_both (is_amount quanta) s2 (noted t reply.NoAmount) (GoesOn x k e)
-    (λ _. cond_both (nat_le quanta (free t)) s1 (noted t (reply.NoShort (free t))) (GoesOn x k e)
-    (λ _ _.
-    let more : (h : Gift) → Stands h job → Stands (record h { given = h.given + quanta }) new =
-    λ h one. let had = stands_there job.phase job.plan job.nodes job.left h.given here going one.has in record { seq = one.seq; plan = one.plan; has = (omega (arith, had.0), had.1) } in
-    subst (λ (n : ℕ). Stood (record x { all = add_gift s quanta x.all }) k (record t { used = t.used + 1; jobs = put_job n new t.jobs })) (sym seq)
-    (record {
-      next = it.next;
-      jobs = given_more s quanta job new x.all t.jobs found more it.jobs;
-      spent = omega (arith, it.spent, nodes_put s job new t.jobs found);
-    }))
-    (λ _ _. used_more x k t (t.used + 1) it))
-    (λ _ _. used_more x k t (t.used + 1) it)))
-
-about_on : (x : Gifts) (k : ℕ) (e : Event) (t : Tenant) (s : ℕ) (found : Option JobData) (f : JobData → Step) → find_job s t.jobs ≡ found → asked e (Replied reply.NoUnknown) ≡ [] → Stood x k t
-    → ((job : JobData) → find_job s t.jobs ≡ Some job → GoesOn x k e (f job)) → GoesOn x k e (about t found f)
-about_on x k e t s None f is none it each = λ _. rw none (used_more x k t (t.used + 1) it)
-about_on x k e t s (Some job) f is none it each = each job is
-
-command_on : (x : Gifts) (k : ℕ) (e : Event) (t : Tenant) (s : ℕ) (f : JobData → Step) → asked e (Replied reply.NoUnknown) ≡ [] → asked e (Replied reply.NoRoom) ≡ [] → Stood x k t
-    → ((job : JobData) → find_job s t.jobs ≡ Some job → GoesOn x k e (f job)) → GoesOn x k e (commanded t (about t (find_job s t.jobs) f))
-command_on x k e t s f none room it each =
-    cond_both (has_room 1 t) (about t (find_job s t.jobs) f) (unnoted t (Replied reply.NoRoom)) (GoesOn x k e)
-    (λ _. about_on x k e t s (find_job s t.jobs) f refl none it each) (λ _ _. rw room it)
-
-fetch_on : (x : Gifts) (k : ℕ) (t : Tenant) (s : ℕ) (job : JobData) → Stood x k t → GoesOn x k (Fetch s) (fetched t job)
-unfolding fetched
-fetch_on x k t s job it =
-    let best = best_after job.plan job.nodes in
-    let told : Reply = reply.Best job.seq best (option_map (makespan job.plan.project) best) (verdict_after job.plan job.nodes) in
-    cond_both (is_out job.phase) (noted t reply.NoBusy) (noted t told) (GoesOn x k (Fetch s)) (λ _ _. used_more x k t (t.used + 1) it) (λ _ _. used_more x k t (t.used + 1) it)
-
-cancelled_on : (x : Gifts) (k : ℕ) (t : Tenant) (s : ℕ) (new : Option JobData) → Stood x k t → GoesOn x k (Cancel s) (cancelled_as t new)
-cancelled_on x k t s None it = λ _. used_more x k t (t.used + 1) it
-cancelled_on x k t s (Some new) it = λ no. absurd (cc)
-
-cancel_on : (x : Gifts) (k : ℕ) (t : Tenant) (s : ℕ) (job : JobData) → Stood x k t → GoesOn x k (Cancel s) (cancelled t job)
-unfolding cancelled
-cancel_on x k t s job it = cancelled_on x k t s (given_up job job.phase) it
-
-forget_on : (x : Gifts) (k : ℕ) (t : Tenant) (s : ℕ) (job : JobData) → Stood x k t → GoesOn x k (Forget s) (forgotten t job)
-unfolding forgotten
-forget_on x k t s job it =
-    let gone : Step = record { answer = Replied (reply.Forgotten job.seq); after = record t { used = t.used + 1; jobs = drop_job job.seq t.jobs } } in
-    cond_both (is_ended job.phase) gone (noted t reply.NoBusy) (GoesOn x k (Forget s)) (λ _ no. absurd (cc)) (λ _ _. used_more x k t (t.used + 1) it)
-
 waiting_stands : (phase : Phase) (plan : Plan) (nodes left given : ℕ) → is_waiting phase ≡ true → StandsIn phase plan nodes left given → (nodes + left ≡ given) × Unclosed plan nodes
 waiting_stands Waiting plan nodes left given w h = h
 waiting_stands (Out slice) plan nodes left given w h = absurd (cc)
@@ -234,19 +154,6 @@ waiting_stands (Leaving slice) plan nodes left given w h = absurd (cc)
 waiting_stands Dry plan nodes left given w h = absurd (cc)
 waiting_stands Closed plan nodes left given w h = absurd (cc)
 waiting_stands Cancelled plan nodes left given w h = absurd (cc)
-
-taken_on : (x : Gifts) (k : ℕ) (t : Tenant) (s slice : ℕ) (found : Option JobData) → find_job s t.jobs ≡ found → Stood x k t → GoesOn x k (Take s slice) (taken t slice found)
-taken_on x k t s slice None is it = λ _. it
-taken_on x k t s slice (Some job) is it =
-    let new : JobData = record job { phase = Out slice } in
-    let seq = found_is s t.jobs job is in
-    cond_both (is_waiting job.phase && is_slice slice && has_room 2 t) (changed t new (Sent (line_of new))) (unnoted t NoTurn) (GoesOn x k (Take s slice))
-    (λ may _.
-    let waits = (and_parts (is_waiting job.phase) (is_slice slice) (and_parts (is_waiting job.phase && is_slice slice) (has_room 2 t) may).0).0 in
-    let same : (h : Gift) → Stands h job → Stands h new = λ h one. record { seq = one.seq; plan = one.plan; has = waiting_stands job.phase job.plan job.nodes job.left h.given waits one.has } in
-    subst (λ (n : ℕ). Stood x k (record t { used = t.used + 1; jobs = put_job n new t.jobs })) (sym seq)
-    (record { next = it.next; jobs = given_put s job new x.all t.jobs is same it.jobs; spent = omega (arith, it.spent, nodes_put s job new t.jobs is) }))
-    (λ _ _. it)
 
 -- the job after a turn, by where it stood
 back_stands : (phase : Phase) (job : JobData) (ran given : ℕ) → may_have_run ran job phase ≡ true → StandsIn phase job.plan job.nodes job.left given
@@ -271,32 +178,47 @@ back_stands Dry job ran given may h = absurd (cc)
 back_stands Closed job ran given may h = absurd (cc)
 back_stands Cancelled job ran given may h = absurd (cc)
 
-gave_on : (x : Gifts) (k : ℕ) (t : Tenant) (s ran : ℕ) (found : Option JobData) → find_job s t.jobs ≡ found → Stood x k t → GoesOn x k (Give s ran) (gave t ran found)
-gave_on x k t s ran None is it = λ _. it
-gave_on x k t s ran (Some job) is it =
-    let new : JobData = back ran job in
-    let s1 : Step = record { answer = Replied (reply.Ran ran (line_of new)); after = record t { spent = t.spent + ran; used = t.used + 1; jobs = put_job new.seq new t.jobs } } in
-    let seq = found_is s t.jobs job is in
-    cond_both (may_have_run ran job job.phase) s1 (unnoted t NoTurn) (GoesOn x k (Give s ran))
-    (λ may _.
-    let same : (h : Gift) → Stands h job → Stands h new = λ h one. record { seq = one.seq; plan = one.plan; has = back_stands job.phase job ran h.given may one.has } in
-    subst (λ (n : ℕ). Stood x k (record t { spent = t.spent + ran; used = t.used + 1; jobs = put_job n new t.jobs })) (sym seq)
-    (record { next = it.next; jobs = given_put s job new x.all t.jobs is same it.jobs; spent = omega (arith, it.spent, nodes_put s job new t.jobs is) }))
-    (λ _ _. it)
+-- one job changed, that stands with what it was given
+changed_on : (x y : Gifts) (k : ℕ) (t : Tenant) (s ran : ℕ) (job new : JobData) (answer : Answer) → find_job s t.jobs ≡ Some job → new.seq ≡ job.seq → new.nodes ≡ job.nodes + ran → y.next ≡ x.next
+    → AreGiven y.all (put_job s new t.jobs) → Stood x k t → Stood y k (done t (Changes new ran answer)).after
+changed_on x y k t s ran job new answer found named nodes next given it =
+    let seq : new.seq ≡ s = named ∙ found_is s t.jobs job found in
+    subst (λ (n : ℕ). Stood y k (record t { spent = t.spent + ran; used = t.used + 1; jobs = put_job n new t.jobs })) (sym seq)
+    (record { next = omega (arith, it.next, next); jobs = given; spent = omega (arith, it.spent, nodes_put s job new t.jobs found, nodes) })
+
+-- what is asked for nothing leaves all as it stands
+stays_on : (x : Gifts) (k : ℕ) (t : Tenant) (events : List Event) → events ≡ [] → Stood x k t → Stood (give_on x events) k t
+stays_on x k t events none it = rw none it
+
+goes_on : (x : Gifts) (k : ℕ) (t : Tenant) → Stood x k t → Cases t (λ e f. GoesOn x k e (done t f))
+goes_on x k t it = record {
+  full = λ e _. stays_on x k t (asked e (Replied reply.NoRoom)) (unasked e).0 it;
+  idle = λ e _. stays_on x k t (asked e NoTurn) (unasked e).1 it;
+  notes = λ e answer room note _. stays_on x k (record t { used = t.used + 1 }) (asked e (Replied answer)) note.asked (used_more x k t (t.used + 1) it);
+  adds = λ plan quanta room some _.
+      let job : JobData = fresh_job t plan quanta in
+      let gift : Gift = record { seq = x.next; plan = plan; given = quanta } in
+      let stands : Stands gift job = record { seq = sym it.next; plan = refl; has = (omega arith, none_before plan) } in
+      record { next = omega (arith, it.next); jobs = given_push gift job x.all t.jobs stands it.jobs; spent = omega (arith, it.spent, nodes_push job t.jobs) };
+  funds = λ s quanta job room found can _.
+      let new : JobData = record job { phase = Waiting; left = job.left + quanta } in
+      let more : (h : Gift) → Stands h job → Stands (record h { given = h.given + quanta }) new =
+      λ h one. let had = stands_there job.phase job.plan job.nodes job.left h.given can.here can.going one.has in record { seq = one.seq; plan = one.plan; has = (omega (arith, had.0), had.1) } in
+      changed_on x (record x { all = add_gift s quanta x.all }) k t s 0 job new (Replied (reply.Line (line_of new))) found refl (omega arith) refl (given_more s quanta job new x.all t.jobs found more it.jobs) it;
+  cancels = λ s job new room found gone no. absurd (cc);
+  drops = λ s job room found ended no. absurd (cc);
+  takes = λ s slice job room found waits _.
+      let new : JobData = record job { phase = Out slice } in
+      let same : (h : Gift) → Stands h job → Stands h new = λ h one. record { seq = one.seq; plan = one.plan; has = waiting_stands job.phase job.plan job.nodes job.left h.given waits one.has } in
+      changed_on x x k t s 0 job new (Sent (line_of new)) found refl (omega arith) refl (given_put s job new x.all t.jobs found same it.jobs) it;
+  gives = λ s ran job found may _.
+      let new : JobData = back ran job in
+      let same : (h : Gift) → Stands h job → Stands h new = λ h one. record { seq = one.seq; plan = one.plan; has = back_stands job.phase job ran h.given may one.has } in
+      changed_on x x k t s ran job new (Replied (reply.Ran ran (line_of new))) found refl refl refl (given_put s job new x.all t.jobs found same it.jobs) it;
+}
 
 step_on : (x : Gifts) (k : ℕ) (t : Tenant) (e : Event) → Stood x k t → GoesOn x k e (step t e)
-step_on x k t (Submit plan quanta) it = submit_on x k t plan quanta it
-step_on x k t (Fund s quanta) it = command_on x k (Fund s quanta) t s (funded t quanta) refl refl it (λ job found. fund_on x k t s quanta job found it)
-step_on x k t (Status s) it =
-    let tell : JobData → Step = λ job. noted t (reply.Line (line_of job)) in
-    command_on x k (Status s) t s tell refl refl it (λ job found _. used_more x k t (t.used + 1) it)
-step_on x k t (Fetch s) it = command_on x k (Fetch s) t s (fetched t) refl refl it (λ job found. fetch_on x k t s job it)
-step_on x k t (Cancel s) it = command_on x k (Cancel s) t s (cancelled t) refl refl it (λ job found. cancel_on x k t s job it)
-step_on x k t (Forget s) it = command_on x k (Forget s) t s (forgotten t) refl refl it (λ job found. forget_on x k t s job it)
-step_on x k t Ledger it =
-    cond_both (has_room 1 t) (noted t (reply.Ledger (book t))) (unnoted t (Replied reply.NoRoom)) (GoesOn x k Ledger) (λ _ _. used_more x k t (t.used + 1) it) (λ _ _. it)
-step_on x k t (Take s slice) it = taken_on x k t s slice (find_job s t.jobs) refl it
-step_on x k t (Give s ran) it = gave_on x k t s ran (find_job s t.jobs) refl it
+step_on x k t e it = each_decision t (λ e f. GoesOn x k e (done t f)) (goes_on x k t it) e
 
 give_more_on : (x : Gifts) (a b : List Event) → give_on x (a ++ b) ≡ give_on (give_on x a) b
 give_more_on x [] b = refl

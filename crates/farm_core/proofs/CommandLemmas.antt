@@ -20,7 +20,7 @@ use Rattle.farm_core.specs.Step.{Replied, has_room, is_amount}
 use Rattle.farm_core.specs.World.{World, table_of, account_of, member, view}
 use Rattle.farm_core.specs.Farm.{IsFarm, IsGivenUpTo, owed, owed_in}
 use Rattle.farm_core.proofs.ViewLemmas.{found_own}
-use Rattle.farm_core.proofs.MoveLemmas.{IsMove, account_in, spent_in}
+use Rattle.farm_core.proofs.MoveLemmas.{IsMove, account_in}
 use Rattle.farm_core.proofs.NeedLemmas.{AreBelow}
 use Rattle.farm_core.proofs.OrderLemmas.{changed_turns}
 use Rattle.farm_core.proofs.RunningLemmas.{found_seq, paid_found, found_held}
@@ -51,7 +51,7 @@ forget_moves w t s capacity account line farm l is room line_is ended =
     let it = told (view t w) s line line_is in
     let ended_is : is_ended it.job.phase ≡ true = ap (λ (x : Line). is_ended x.phase) it.line_is ∙ ended in
     let none : it.job.left ≡ 0 = (paid_found (view t w).spent s (view t w).jobs it.job it.found (running_in w t capacity farm l).jobs).1 ended_is in
-    dropped_moves w t s capacity account it.job (Forget s) (Replied (reply.Forgotten s)) farm l is (own_row w t s it.job it.found) none (forget_steps (view t w) s it.job room it.found ended_is) refl tt
+    dropped_moves w t s capacity account it.job (Forget s) farm l is (own_row w t s it.job it.found) none (forget_steps (view t w) s it.job room it.found ended_is) tt
 
 gone_owed : (job new : JobData) (phase : Phase) → given_up job phase ≡ Some new → owed_in new.phase + 1 ≤ owed_in phase
 gone_owed job new Waiting gone = let same : record job { phase = Cancelled; left = 0 } ≡ new = cc in omega (arith, ap (λ (j : JobData). owed_in j.phase) same)
@@ -90,14 +90,13 @@ cancel_moves w t s freed capacity account line all farm l is room up did =
     let there = own_row w t s up.job up.found in
     let most = freed_most w t s freed capacity account line farm l is up in
     let whole = whole_in w t capacity account farm l is in
-    let spent = spent_in w t capacity account farm l is in
     let steps = cancel_steps (view t w) s up.job new room up.found gone in
     let after : TableData = change_job t s up.job new (table_of w) in
     let after_is : all ≡ after = did.after ∙ ap (λ (j : JobData). change_job t s j new (table_of w)) job_is in
     let moves : IsMove w t after (record account { book = after_free_up freed account.book; used = account.used + 1 }) (Cancel s) (Replied (reply.Line line)) =
     subst (λ (x : Line). IsMove w t after (record account { book = after_free_up freed account.book; used = account.used + 1 }) (Cancel s) (Replied (reply.Line x))) line_is
-    (changed_moves w t s capacity account up.job new (after_free_up freed account.book) (Cancel s) (Replied (reply.Line (line_of new))) farm l is there (given_up_seq up.job new gone)
-    (rw spent steps) refl refl (omega (arith, left, most)) (omega (arith, whole, most)) tt) in
+    (changed_moves w t s capacity account up.job new 0 (after_free_up freed account.book) (Cancel s) (Replied (reply.Line (line_of new))) farm l is there (given_up_seq up.job new gone)
+    steps (omega arith) refl refl (omega (arith, left, most)) (omega (arith, whole, most)) tt) in
     record {
       moves = subst (λ (d : TableData). IsMove w t d (record account { book = after_free_up freed account.book; used = account.used + 1 }) (Cancel s) (Replied (reply.Line line))) (sym after_is) moves;
       turns = changed_turns w t s up.job new all there (given_up_seq up.job new gone ∙ found_seq s (view t w).jobs up.job up.found) after_is;
@@ -131,12 +130,11 @@ fund_moves w t s quanta capacity account line all farm l is room line_is here go
     let free_is : account.book.free ≡ free (view t w) = ap (λ (b : BookData). b.free) a.book in
     let steps = fund_steps (view t w) s quanta it.job room it.found here_is going_is amount (omega (arith, some, free_is)) in
     let whole = whole_in w t capacity account farm l is in
-    let spent = spent_in w t capacity account farm l is in
     let told_is : line_of new ≡ record line { phase = Waiting; left = line.left + quanta } = ap (λ (x : Line). let y : Line = record x { phase = Waiting; left = x.left + quanta } in y) it.line_is in
     let then : Account = record account { book = after_hold quanta account.book; used = account.used + 1 } in
     let moves : IsMove w t after then (Fund s quanta) (Replied (reply.Line (line_of new))) =
-    changed_moves w t s capacity account it.job new (after_hold quanta account.book) (Fund s quanta) (Replied (reply.Line (line_of new))) farm l is there refl
-    (rw spent steps) refl refl (omega arith) (omega (arith, whole, some)) tt in
+    changed_moves w t s capacity account it.job new 0 (after_hold quanta account.book) (Fund s quanta) (Replied (reply.Line (line_of new))) farm l is there refl
+    steps (omega arith) refl refl (omega arith) (omega (arith, whole, some)) tt in
     record {
       moves = rw (after_is, ← told_is) moves;
       turns = changed_turns w t s it.job new all there (found_seq s (view t w).jobs it.job it.found) after_is;
@@ -189,8 +187,8 @@ submit_moves w t capacity quanta account plan farm l is room amount more some pl
     let free_is = free_in w t capacity account farm l is in
     let steps = submit_steps (view t w) plan quanta room amount more (omega (arith, some, free_is)) in
     let new : JobData = record { seq = account.next; plan = plan; phase = Waiting; nodes = 0; left = quanta } in
-    added_moves w t capacity account new (after_hold quanta account.book) (Submit plan quanta) (Replied (reply.Job account.next)) farm l is refl
-    (rw a.next steps) refl refl refl refl (omega (arith, whole_in w t capacity account farm l is, some)) planned
+    added_moves w t capacity account new (after_hold quanta account.book) (Submit plan quanta) farm l is refl
+    (rw a.next steps) refl refl refl (omega (arith, whole_in w t capacity account farm l is, some)) planned
 
 pub owed_add : (new : Row) (rows : List Row) → owed (add_row new rows) ≡ owed rows + owed_in new.job.phase
 owed_add new [] = omega arith

@@ -26,7 +26,7 @@ use Rattle.farm_core.specs.declared.reply.Reply.TheVariants as reply
 use Rattle.std.specs.List.{range_with_len}
 use Rattle.farm_core.specs.Purses.{first_member, purse_of}
 use Rattle.farm_core.specs.Tenant.{newcomers, newcomer, held, free, book, kept, line_of, nodes_of_turn}
-use Rattle.farm_core.specs.Step.{Answer, Replied, Sent, NoTurn, submitted, funded, fetched, cancelled, forgotten, has_room}
+use Rattle.farm_core.specs.Step.{Answer, Replied, Sent, NoTurn, to_submit, to_fund, to_fetch, to_cancel, to_forget, has_room}
 use Rattle.farm_core.specs.Turn.{IsFirstReady}
 use Rattle.farm_core.specs.World.{World, Asked, member, purse, view, KeepsOrder, answers_alone}
 use Rattle.farm_core.specs.Laws.{answers_by}
@@ -101,7 +101,7 @@ cancelled_while_out : answers_by (newcomer (terms 100 1 14)) cancelling ≡
     ∷ Replied reply.NoAmount
     ∷ Replied reply.NoRoom
     ∷ []
-unfolding newcomer submitted funded fetched cancelled forgotten held free book kept line_of nodes_of_turn best_after is_closed verdict_after pass chosen_at eligible_ones allowed_modes is_allowed_mode placed_from lft duration size modes renewables nonrenewables mode_count successors request consumption capacity stock precedes load shortest least placed_use placed_consumption are_ready fits is_allowed earliest is_eligible is_executable reserve is_affordable schedule_of makespan finish start_of mode_of tail bound
+unfolding newcomer to_submit to_fund to_fetch to_cancel to_forget held free book kept line_of nodes_of_turn best_after is_closed verdict_after pass chosen_at eligible_ones allowed_modes is_allowed_mode placed_from lft duration size modes renewables nonrenewables mode_count successors request consumption capacity stock precedes load shortest least placed_use placed_consumption are_ready fits is_allowed earliest is_eligible is_executable reserve is_affordable schedule_of makespan finish start_of mode_of tail bound
 cancelled_while_out = refl
 
 -- ---- a search to its end, by turns of which one is given back unrun: 10 quanta, 1 job, 20 entries
@@ -137,7 +137,7 @@ searched_to_the_end : answers_by (newcomer (terms 10 1 20)) finishing ≡
     ∷ Replied (reply.Forgotten 1)
     ∷ Replied (reply.Job 2)
     ∷ []
-unfolding newcomer submitted funded fetched cancelled forgotten held free book kept line_of nodes_of_turn best_after is_closed verdict_after tree.best_after tree.is_closed tree.all_visits tree.candidates tree.is_pruned tree.updated tree.visit_one pass chosen_at eligible_ones allowed_modes is_allowed_mode placed_from lft duration size modes renewables nonrenewables mode_count successors request consumption capacity stock precedes load shortest least placed_use placed_consumption last_start are_ready fits is_allowed earliest is_eligible is_executable reserve is_affordable tail schedule_of makespan finish start_of mode_of bound
+unfolding newcomer to_submit to_fund to_fetch to_cancel to_forget held free book kept line_of nodes_of_turn best_after is_closed verdict_after tree.best_after tree.is_closed tree.all_visits tree.candidates tree.is_pruned tree.updated tree.visit_one pass chosen_at eligible_ones allowed_modes is_allowed_mode placed_from lft duration size modes renewables nonrenewables mode_count successors request consumption capacity stock precedes load shortest least placed_use placed_consumption last_start are_ready fits is_allowed earliest is_eligible is_executable reserve is_affordable tail schedule_of makespan finish start_of mode_of bound
 searched_to_the_end = refl
 
 -- ---- a job that runs dry and is funded, and the entry that is kept for a give: 3 quanta, 2 jobs, 8 entries
@@ -171,7 +171,7 @@ dry_and_funded : answers_by (newcomer (terms 3 2 8)) running_dry ≡
     ∷ Replied (reply.Ran 1 (line 1 Closed 3 0 (Some 5) Optimal))
     ∷ Replied reply.NoRoom
     ∷ []
-unfolding newcomer submitted funded fetched cancelled forgotten held free book kept line_of nodes_of_turn best_after is_closed verdict_after pass chosen_at eligible_ones allowed_modes is_allowed_mode placed_from lft duration size modes renewables nonrenewables mode_count successors request consumption capacity stock precedes load shortest least placed_use placed_consumption are_ready fits is_allowed earliest is_eligible is_executable reserve is_affordable schedule_of makespan finish start_of mode_of tail bound
+unfolding newcomer to_submit to_fund to_fetch to_cancel to_forget held free book kept line_of nodes_of_turn best_after is_closed verdict_after pass chosen_at eligible_ones allowed_modes is_allowed_mode placed_from lft duration size modes renewables nonrenewables mode_count successors request consumption capacity stock precedes load shortest least placed_use placed_consumption are_ready fits is_allowed earliest is_eligible is_executable reserve is_affordable schedule_of makespan finish start_of mode_of tail bound
 dry_and_funded = refl
 
 -- ---- two members of one purse of 6 and 4 quanta: each has its own numbers, and what one holds and spends the other has less
@@ -201,7 +201,7 @@ shared_purse : answers_alone (newcomers (terms 6 2 100 ∷ terms 4 2 100 ∷ [])
     ∷ Replied (reply.Job 1)
     ∷ ledger 10 0 8 2
     ∷ []
-unfolding newcomers submitted funded fetched cancelled forgotten held free book kept line_of nodes_of_turn best_after is_closed verdict_after tree.best_after tree.is_closed tree.all_visits tree.candidates tree.is_pruned tree.updated tree.visit_one pass chosen_at eligible_ones allowed_modes is_allowed_mode placed_from lft duration size modes renewables nonrenewables mode_count successors request consumption capacity stock precedes load shortest least placed_use placed_consumption last_start are_ready fits is_allowed earliest is_eligible is_executable reserve is_affordable tail schedule_of makespan finish start_of mode_of bound
+unfolding newcomers to_submit to_fund to_fetch to_cancel to_forget held free book kept line_of nodes_of_turn best_after is_closed verdict_after tree.best_after tree.is_closed tree.all_visits tree.candidates tree.is_pruned tree.updated tree.visit_one pass chosen_at eligible_ones allowed_modes is_allowed_mode placed_from lft duration size modes renewables nonrenewables mode_count successors request consumption capacity stock precedes load shortest least placed_use placed_consumption last_start are_ready fits is_allowed earliest is_eligible is_executable reserve is_affordable tail schedule_of makespan finish start_of mode_of bound
 shared_purse = refl
 
 -- the purse that tenants share is found by its name, which may be a tenant's; purses are numbered by their first members

@@ -21,7 +21,7 @@ use Rattle.farm_core.specs.Step.{Replied, Sent, NoTurn, is_slice, has_room, may_
 use Rattle.farm_core.specs.World.{World, table_of, account_of, view, Follows}
 use Rattle.farm_core.specs.Farm.{IsFarm, owed, owed_in}
 use Rattle.farm_core.specs.Turn.{IsTurn, IsReady}
-use Rattle.farm_core.proofs.MoveLemmas.{IsMove, account_in, spent_in, stays_follows}
+use Rattle.farm_core.proofs.MoveLemmas.{IsMove, account_in, stays_follows}
 use Rattle.farm_core.proofs.RunningLemmas.{found_held, after_back}
 use Rattle.farm_core.proofs.FarmLemmas.{owed-most}
 use Rattle.farm_core.proofs.StepLemmas.{told, untold, take_none, take_not, take_steps, give_steps}
@@ -77,10 +77,9 @@ take_moves w t s slice capacity account line m all farm l is line_is may did =
     let may_wait = and_parts (is_waiting line.phase) (is_slice slice) may_is.0 in
     let waits : is_waiting it.job.phase ≡ true = ap (λ (x : Line). is_waiting x.phase) it.line_is ∙ may_wait.0 in
     let steps = take_steps (view t w) s slice it.job it.found waits may_wait.1 may_is.1 in
-    let spent = spent_in w t capacity account farm l is in
     let whole = whole_in w t capacity account farm l is in
     let moves : IsMove w t after (record account { book = account.book; used = account.used + 1 }) (Take s slice) (Sent (line_of new)) =
-    changed_moves w t s capacity account it.job new account.book (Take s slice) (Sent (line_of new)) farm l is there refl (rw spent steps) refl refl refl whole tt in
+    changed_moves w t s capacity account it.job new 0 account.book (Take s slice) (Sent (line_of new)) farm l is there refl steps (omega arith) refl refl refl whole tt in
     record {
       job = it.job;
       found = it.found;
@@ -181,13 +180,12 @@ give_moves w t s slice ran capacity account m all farm l is turn did =
     let spent : ran ≤ account.book.held = omega (arith, most, ran_is.1) in
     let left_most : new.left ≤ job.left - ran = stands.2 in
     let freed : job.left - ran - new.left ≤ account.book.held - ran = omega (arith, most, ran_is.1) in
-    let spent_is = spent_in w t capacity account farm l is in
     let whole = whole_in w t capacity account farm l is in
     let then : BookData = settled_book ran job account.book in
     let steps = give_steps (view t w) s ran job own may in
     let after : TableData = change_job t s job new (table_of w) in
     let moves : IsMove w t after (record account { book = then; used = account.used + 1 }) (Give s ran) (Replied (reply.Ran ran (line_of new))) =
-    changed_moves w t s capacity account job new then (Give s ran) (Replied (reply.Ran ran (line_of new))) farm l is did.found refl (rw spent_is steps) refl refl
+    changed_moves w t s capacity account job new ran then (Give s ran) (Replied (reply.Ran ran (line_of new))) farm l is did.found refl steps (omega arith) refl refl
     (omega (arith, most, ran_is.1, left_most)) (omega (arith, whole, spent, freed)) tt in
     record {
       job = job;

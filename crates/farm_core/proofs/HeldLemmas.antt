@@ -1,11 +1,10 @@
 -- What each call does to a turn that is out, and which call makes one.
-use Rattle.std.proofs.Common.{◌≡◌, ◌≢◌, ℕ, ◌+◌, ◌≤◌, min, List, [], ◌∷◌, ◌++◌, length, true, false, cond, ◌&&◌, ◌==◌, nat_le, nat_lt, Option, Some, None, refl, sym, ap, ◌∙◌, subst, arith, ⊎_elim, ◌⊎◌, inl, inr, eq-eqb, ◌<◌}
-use Rattle.std.specs.Prelude.{option_map, ⊤}
+use Rattle.std.proofs.Common.{◌≡◌, ◌≢◌, ℕ, ◌+◌, ◌≤◌, min, List, [], ◌∷◌, ◌++◌, length, true, false, cond, ◌&&◌, ◌==◌, Option, Some, None, refl, sym, ap, ◌∙◌, subst, arith, ⊎_elim, ◌⊎◌, inl, inr, eq-eqb, ◌<◌}
+use Rattle.std.specs.Prelude.{⊤}
 use Rattle.std.proofs.lemmas.Bool.{cond_both, cases_eq, eqb-true, and_parts, both_ways}
 use Rattle.std.proofs.lemmas.Bool.Decides.{nat_tests}
 use Rattle.mrcpsp.specs.Numbers.{first_from}
-use Rattle.mrcpsp.specs.Schedule.{makespan}
-use Rattle.strategy.specs.Outcome.{best_after, is_closed, verdict_after}
+use Rattle.strategy.specs.Outcome.{is_closed}
 use Rattle.strategy.specs.Search.{Meaning, nodes_within}
 use Rattle.strategy.specs.declared.plan.Plan.{Plan}
 use Rattle.job_table.specs.Table.{JobData, is_waiting, is_out, is_ended}
@@ -13,15 +12,18 @@ use Rattle.job_table.specs.Job.{given_up, is_turn, back}
 use Rattle.job_table.specs.declared.phase.Phase.{Phase}
 use Rattle.job_table.specs.declared.phase.Phase.TheVariants.{Waiting, Out, Leaving, Dry, Closed, Cancelled}
 use Rattle.farm_core.specs.declared.entry.Event.{Event}
-use Rattle.farm_core.specs.declared.entry.Event.TheVariants.{Submit, Fund, Status, Fetch, Cancel, Forget, Ledger, Take, Give}
+use Rattle.farm_core.specs.declared.entry.Event.TheVariants.{Submit, Fund, Cancel, Forget, Take, Give}
 use Rattle.farm_core.specs.declared.reply.Line.{Line}
 use Rattle.farm_core.specs.declared.reply.Reply.{Reply}
 use Rattle.farm_core.specs.declared.reply.Reply.TheVariants as reply
-use Rattle.farm_core.specs.Tenant.{Tenant, Purse, seat, book, free, find_job, put_job, drop_job, line_of, nodes_of_turn, nodes_out_in}
-use Rattle.farm_core.specs.Step.{Replied, Sent, NoTurn, Step, step, has_room, is_amount, is_slice, unnoted, noted, changed, fresh_job, submitted, about, funded, fetched, cancelled_as, cancelled, forgotten, commanded, taken, may_have_run, gave}
+use Rattle.farm_core.specs.Tenant.{Tenant, Purse, seat, find_job, put_job, drop_job, line_of, nodes_of_turn, nodes_out_in}
+use Rattle.farm_core.specs.Step as effect
+use Rattle.farm_core.specs.Step.{Replied, Sent, NoTurn, Step, Effect, Nothing, done, step, has_room, is_slice, fresh_job, to_take, may_have_run, to_give, about}
 use Rattle.farm_core.specs.Config.{lines_of}
 use Rattle.farm_core.specs.World.{World, purse_in, place_in, opened_purse, view, events_of, after_alone, IsReplayed}
 use Rattle.farm_core.specs.Held.{is_out_of, takes, gives, nodes_out, TakenTurnsAreHeld, TakenJobsWereNotOut, TurnsStayHeld, HeldTurnsAreNoStrangers, HeldTurnsRunTheirNodes, OnlyTakenJobsAreOut, GivenJobsAreNotOut}
+use Rattle.farm_core.specs.Turn.{IsTaken}
+use Rattle.farm_core.proofs.DecisionLemmas.{Cases, each_decision}
 use Rattle.farm_core.proofs.CommandLemmas.{own_row}
 use Rattle.farm_core.proofs.PlaceLemmas.{first_from-most}
 use Rattle.farm_core.proofs.SeatLemmas.{each_view_is_a_seat, steps_of, jobs_stay}
@@ -120,59 +122,6 @@ push_change distinct s e new jobs None is quiet =
 push_change distinct s e new jobs (Some job) is quiet =
     subst (λ (o : Option JobData). IsChange distinct s e (find_job s jobs) o) (is ∙ sym (push_found s new jobs job is)) (stays_so distinct s e (find_job s jobs))
 
-submit_changes : (s : ℕ) (t : Tenant) (plan : Plan) (quanta : ℕ) → Changes s (Submit plan quanta) t (step t (Submit plan quanta))
-unfolding submitted
-submit_changes s t plan quanta =
-    let e : Event = Submit plan quanta in
-    let job : JobData = fresh_job t plan quanta in
-    let s1 : Step = record { answer = Replied (reply.Job t.next); after = record t { used = t.used + 1; next = t.next + 1; jobs = t.jobs ++ job ∷ [] } } in
-    let s2 : Step = cond (nat_le quanta (free t)) s1 (noted t (reply.NoShort (free t))) in
-    let s3 : Step = cond (nat_lt (length t.jobs) t.terms.jobs) s2 (noted t reply.NoJobs) in
-    let s4 : Step = cond (is_amount quanta) s3 (noted t reply.NoAmount) in
-    cond_both (has_room 1 t) s4 (unnoted t (Replied reply.NoRoom)) (Changes s e t)
-    (λ _. cond_both (is_amount quanta) s3 (noted t reply.NoAmount) (Changes s e t)
-    (λ _. cond_both (nat_lt (length t.jobs) t.terms.jobs) s2 (noted t reply.NoJobs) (Changes s e t)
-    (λ _. cond_both (nat_le quanta (free t)) s1 (noted t (reply.NoShort (free t))) (Changes s e t)
-    (λ _. push_change (AreDistinct t.jobs) s e job t.jobs (find_job s t.jobs) refl refl) (λ _. stays s e t))
-    (λ _. stays s e t))
-    (λ _. stays s e t))
-    (λ _. stays s e t)
-
-about_changes : (s n : ℕ) (e : Event) (t : Tenant) (found : Option JobData) (f : JobData → Step) → find_job n t.jobs ≡ found
-    → ((job : JobData) → find_job n t.jobs ≡ Some job → Changes s e t (f job)) → Changes s e t (about t found f)
-about_changes s n e t None f is each = stays s e t
-about_changes s n e t (Some job) f is each = each job is
-
-command_changes : (s n : ℕ) (e : Event) (t : Tenant) (f : JobData → Step) → ((job : JobData) → find_job n t.jobs ≡ Some job → Changes s e t (f job))
-    → Changes s e t (commanded t (about t (find_job n t.jobs) f))
-command_changes s n e t f each =
-    cond_both (has_room 1 t) (about t (find_job n t.jobs) f) (unnoted t (Replied reply.NoRoom)) (Changes s e t)
-    (λ _. about_changes s n e t (find_job n t.jobs) f refl each) (λ _. stays s e t)
-
-fund_changes : (s n quanta : ℕ) (t : Tenant) (job : JobData) → find_job n t.jobs ≡ Some job → Changes s (Fund n quanta) t (funded t quanta job)
-unfolding funded
-fund_changes s n quanta t job found =
-    let e : Event = Fund n quanta in
-    let new : JobData = record job { phase = Waiting; left = job.left + quanta } in
-    let s1 : Step = changed t new (Replied (reply.Line (line_of new))) in
-    let s2 : Step = cond (nat_le quanta (free t)) s1 (noted t (reply.NoShort (free t))) in
-    let s3 : Step = cond (is_amount quanta) s2 (noted t reply.NoAmount) in
-    let s4 : Step = cond (is_ended job.phase) (noted t reply.NoOver) s3 in
-    cond_both (is_out job.phase) (noted t reply.NoBusy) s4 (Changes s e t) (λ _. stays s e t)
-    (λ here. cond_both (is_ended job.phase) (noted t reply.NoOver) s3 (Changes s e t) (λ _. stays s e t)
-    (λ _. cond_both (is_amount quanta) s2 (noted t reply.NoAmount) (Changes s e t)
-    (λ _. cond_both (nat_le quanta (free t)) s1 (noted t (reply.NoShort (free t))) (Changes s e t)
-    (λ _. put_change (AreDistinct t.jobs) s n e job new t.jobs found refl (λ _. is_quiet (AreDistinct t.jobs) s e (Some job) (Some new) here (λ _. refl)))
-    (λ _. stays s e t))
-    (λ _. stays s e t)))
-
-fetch_changes : (s n : ℕ) (t : Tenant) (job : JobData) → Changes s (Fetch n) t (fetched t job)
-unfolding fetched
-fetch_changes s n t job =
-    let best = best_after job.plan job.nodes in
-    let told : Reply = reply.Best job.seq best (option_map (makespan job.plan.project) best) (verdict_after job.plan job.nodes) in
-    cond_both (is_out job.phase) (noted t reply.NoBusy) (noted t told) (Changes s (Fetch n) t) (λ _. stays s (Fetch n) t) (λ _. stays s (Fetch n) t)
-
 -- a job that is given up is out as before
 abbrev IsGone : Type 0 → ℕ → Event → JobData → Option JobData → Type 0
 IsGone distinct s e job None = ⊤
@@ -195,15 +144,6 @@ gone_change distinct s e job Dry is = is_quiet distinct s e (Some job) (Some (re
 gone_change distinct s e job Closed is = tt
 gone_change distinct s e job Cancelled is = tt
 
-cancelled_changes : (s n : ℕ) (t : Tenant) (job : JobData) (new : Option JobData) → find_job n t.jobs ≡ Some job → given_up job job.phase ≡ new → IsGone (AreDistinct t.jobs) s (Cancel n) job new
-    → Changes s (Cancel n) t (cancelled_as t new)
-cancelled_changes s n t job None found gone change = stays s (Cancel n) t
-cancelled_changes s n t job (Some new) found gone change = put_change (AreDistinct t.jobs) s n (Cancel n) job new t.jobs found (given_up_seq job new gone) (λ _. change)
-
-cancel_changes : (s n : ℕ) (t : Tenant) (job : JobData) → find_job n t.jobs ≡ Some job → Changes s (Cancel n) t (cancelled t job)
-unfolding cancelled
-cancel_changes s n t job found = cancelled_changes s n t job (given_up job job.phase) found refl (gone_change (AreDistinct t.jobs) s (Cancel n) job job.phase refl)
-
 not_out : (phase : Phase) → is_ended phase ≡ true → is_out phase ≡ false
 not_out Waiting ended = refl
 not_out (Out slice) ended = absurd (cc)
@@ -223,17 +163,6 @@ drop_change s n e job jobs found quiet =
     subst (λ (o : Option JobData). IsChange (AreDistinct jobs) s e (find_job s jobs) o) (sym (drop_other s n jobs other)) (stays_so (AreDistinct jobs) s e (find_job s jobs)))
     (cases_eq s n)
 
-forget_changes : (s n : ℕ) (t : Tenant) (job : JobData) → find_job n t.jobs ≡ Some job → Changes s (Forget n) t (forgotten t job)
-unfolding forgotten
-forget_changes s n t job found =
-    let gone : Step = record { answer = Replied (reply.Forgotten job.seq); after = record t { used = t.used + 1; jobs = drop_job job.seq t.jobs } } in
-    let named : job.seq ≡ n = found_seq n t.jobs job found in
-    cond_both (is_ended job.phase) gone (noted t reply.NoBusy) (Changes s (Forget n) t)
-    (λ ended.
-    subst (λ k. IsChange (AreDistinct t.jobs) s (Forget n) (find_job s t.jobs) (find_job s (drop_job k t.jobs))) (sym named)
-    (drop_change s n (Forget n) job t.jobs found (not_out job.phase ended)))
-    (λ _. stays s (Forget n) t)
-
 waits_here : (phase : Phase) → is_waiting phase ≡ true → is_out phase ≡ false
 waits_here Waiting w = refl
 waits_here (Out slice) w = absurd (cc)
@@ -241,21 +170,6 @@ waits_here (Leaving slice) w = absurd (cc)
 waits_here Dry w = refl
 waits_here Closed w = refl
 waits_here Cancelled w = refl
-
-take_changes : (s n slice : ℕ) (t : Tenant) (found : Option JobData) → find_job n t.jobs ≡ found → Changes s (Take n slice) t (taken t slice found)
-take_changes s n slice t None is = stays s (Take n slice) t
-take_changes s n slice t (Some job) is =
-    let new : JobData = record job { phase = Out slice } in
-    cond_both (is_waiting job.phase && is_slice slice && has_room 2 t) (changed t new (Sent (line_of new))) (unnoted t NoTurn) (Changes s (Take n slice) t)
-    (λ may.
-    let waits : is_waiting job.phase ≡ true = (and_parts (is_waiting job.phase) (is_slice slice) (and_parts (is_waiting job.phase && is_slice slice) (has_room 2 t) may).0).0 in
-    let here : is_out job.phase ≡ false = waits_here job.phase waits in
-    put_change (AreDistinct t.jobs) s n (Take n slice) job new t.jobs is refl
-    (λ same. record {
-      stays = λ one is_one out other. let one_is : job ≡ one = cc in absurd (both_ways (is_out one.phase) (sym (ap (λ (j : JobData). is_out j.phase) one_is) ∙ here) out);
-      goes = λ _ _. inr (eq-eqb n s (sym same));
-    }))
-    (λ _. stays s (Take n slice) t)
 
 -- a phase is out or counts for none
 counted : (phase : Phase) → out_in phase ≡ 0 → is_out phase ≡ false
@@ -271,31 +185,39 @@ back_here ran job =
     let stands = after_back job.phase (is_closed job.plan (job.nodes + ran)) ran job.left in
     counted (back ran job).phase stands.0
 
-give_changes : (s n ran : ℕ) (t : Tenant) (found : Option JobData) → find_job n t.jobs ≡ found → Changes s (Give n ran) t (gave t ran found)
-give_changes s n ran t None is = stays s (Give n ran) t
-give_changes s n ran t (Some job) is =
-    let new : JobData = back ran job in
-    let s1 : Step = record { answer = Replied (reply.Ran ran (line_of new)); after = record t { spent = t.spent + ran; used = t.used + 1; jobs = put_job new.seq new t.jobs } } in
-    cond_both (may_have_run ran job job.phase) s1 (unnoted t NoTurn) (Changes s (Give n ran) t)
-    (λ _. put_change (AreDistinct t.jobs) s n (Give n ran) job new t.jobs is refl
-    (λ same. record {
-      stays = λ one is_one out other. absurd (both_ways (n == s) other (eq-eqb n s (sym same)));
-      goes = λ _ out. absurd (both_ways (is_out new.phase) (back_here ran job) out);
-    }))
-    (λ _. stays s (Give n ran) t)
+changes : (s : ℕ) (t : Tenant) → Cases t (λ e f. Changes s e t (done t f))
+changes s t = record {
+  full = λ e. stays s e t;
+  idle = λ e. stays s e t;
+  notes = λ e answer room note. stays s e t;
+  adds = λ plan quanta room some. push_change (AreDistinct t.jobs) s (Submit plan quanta) (fresh_job t plan quanta) t.jobs (find_job s t.jobs) refl refl;
+  funds = λ n quanta job room found can.
+      let new : JobData = record job { phase = Waiting; left = job.left + quanta } in
+      put_change (AreDistinct t.jobs) s n (Fund n quanta) job new t.jobs found refl (λ _. is_quiet (AreDistinct t.jobs) s (Fund n quanta) (Some job) (Some new) can.here (λ _. refl));
+  cancels = λ n job new room found gone.
+      put_change (AreDistinct t.jobs) s n (Cancel n) job new t.jobs found (given_up_seq job new gone)
+      (λ _. subst (IsGone (AreDistinct t.jobs) s (Cancel n) job) gone (gone_change (AreDistinct t.jobs) s (Cancel n) job job.phase refl));
+  drops = λ n job room found ended.
+      subst (λ k. IsChange (AreDistinct t.jobs) s (Forget n) (find_job s t.jobs) (find_job s (drop_job k t.jobs))) (sym (found_seq n t.jobs job found))
+      (drop_change s n (Forget n) job t.jobs found (not_out job.phase ended));
+  takes = λ n slice job room found waits.
+      let here : is_out job.phase ≡ false = waits_here job.phase waits in
+      put_change (AreDistinct t.jobs) s n (Take n slice) job (record job { phase = Out slice }) t.jobs found refl
+      (λ same. record {
+        stays = λ one is_one out other. let one_is : job ≡ one = cc in absurd (both_ways (is_out one.phase) (sym (ap (λ (j : JobData). is_out j.phase) one_is) ∙ here) out);
+        goes = λ _ _. inr (eq-eqb n s (sym same));
+      });
+  gives = λ n ran job found may.
+      let new : JobData = back ran job in
+      put_change (AreDistinct t.jobs) s n (Give n ran) job new t.jobs found refl
+      (λ same. record {
+        stays = λ one is_one out other. absurd (both_ways (n == s) other (eq-eqb n s (sym same)));
+        goes = λ _ out. absurd (both_ways (is_out new.phase) (back_here ran job) out);
+      });
+}
 
 pub step_changes : (s : ℕ) (t : Tenant) (e : Event) → Changes s e t (step t e)
-step_changes s t (Submit plan quanta) = submit_changes s t plan quanta
-step_changes s t (Fund n quanta) = command_changes s n (Fund n quanta) t (funded t quanta) (λ job found. fund_changes s n quanta t job found)
-step_changes s t (Status n) =
-    let tell : JobData → Step = λ job. noted t (reply.Line (line_of job)) in
-    command_changes s n (Status n) t tell (λ job found. stays s (Status n) t)
-step_changes s t (Fetch n) = command_changes s n (Fetch n) t (fetched t) (λ job found. fetch_changes s n t job)
-step_changes s t (Cancel n) = command_changes s n (Cancel n) t (cancelled t) (λ job found. cancel_changes s n t job found)
-step_changes s t (Forget n) = command_changes s n (Forget n) t (forgotten t) (λ job found. forget_changes s n t job found)
-step_changes s t Ledger = cond_both (has_room 1 t) (noted t (reply.Ledger (book t))) (unnoted t (Replied reply.NoRoom)) (Changes s Ledger t) (λ _. stays s Ledger t) (λ _. stays s Ledger t)
-step_changes s t (Take n slice) = take_changes s n slice t (find_job n t.jobs) refl
-step_changes s t (Give n ran) = give_changes s n ran t (find_job n t.jobs) refl
+step_changes s t e = each_decision t (λ e f. Changes s e t (done t f)) (changes s t) e
 
 -- a phase in which a turn for some slice is out
 turn_out : (slice : ℕ) (phase : Phase) → is_turn slice phase ≡ true → is_out phase ≡ true
@@ -329,38 +251,41 @@ turns_stay_held old new t e answer h u s slice m it other =
     (cases_eq u t)
 
 -- a turn was sent, and not refused
-sent : (t : Tenant) (s slice : ℕ) (job : JobData) (line : Line) → find_job s t.jobs ≡ Some job → Sent line ≡ (taken t slice (Some job)).answer
-    → find_job s (taken t slice (Some job)).after.jobs ≡ Some (record job { phase = Out slice })
-sent t s slice job line found =
+record WasSent (t : Tenant) (s slice : ℕ) (job : JobData) (f : Effect) : Type 0 where
+  here : is_out job.phase ≡ false
+  out : find_job s (done t f).after.jobs ≡ Some (record job { phase = Out slice })
+
+was_sent : (t : Tenant) (s slice : ℕ) (job : JobData) (line : Line) → find_job s t.jobs ≡ Some job → Sent line ≡ (done t (to_take t slice job)).answer → WasSent t s slice job (to_take t slice job)
+was_sent t s slice job line found =
     let new : JobData = record job { phase = Out slice } in
-    cond_both (is_waiting job.phase && is_slice slice && has_room 2 t) (changed t new (Sent (line_of new))) (unnoted t NoTurn)
-    (λ (it : Step). Sent line ≡ it.answer → find_job s it.after.jobs ≡ Some new)
-    (λ _ _. let seq : job.seq ≡ s = found_seq s t.jobs job found in ap (λ k. find_job s (put_job k new t.jobs)) seq ∙ put_own s job new t.jobs found seq)
+    let seq : job.seq ≡ s = found_seq s t.jobs job found in
+    cond_both (is_waiting job.phase && is_slice slice && has_room 2 t) (effect.Changes new 0 (Sent (line_of new))) (Nothing NoTurn)
+    (λ (f : Effect). Sent line ≡ (done t f).answer → WasSent t s slice job f)
+    (λ may _. record {
+      here = waits_here job.phase (and_parts (is_waiting job.phase) (is_slice slice) (and_parts (is_waiting job.phase && is_slice slice) (has_room 2 t) may).0).0;
+      out = ap (λ k. find_job s (put_job k new t.jobs)) seq ∙ put_own s job new t.jobs found seq;
+    })
     (λ _ is. absurd (cc))
 
-waited : (t : Tenant) (slice : ℕ) (job : JobData) (line : Line) → Sent line ≡ (taken t slice (Some job)).answer → is_out job.phase ≡ false
-waited t slice job line =
-    let new : JobData = record job { phase = Out slice } in
-    cond_both (is_waiting job.phase && is_slice slice && has_room 2 t) (changed t new (Sent (line_of new))) (unnoted t NoTurn) (λ (it : Step). Sent line ≡ it.answer → is_out job.phase ≡ false)
-    (λ may _. waits_here job.phase (and_parts (is_waiting job.phase) (is_slice slice) (and_parts (is_waiting job.phase && is_slice slice) (has_room 2 t) may).0).0)
-    (λ _ is. absurd (cc))
+taken_was_sent : (old new : World) (t s slice : ℕ) (m : Meaning) → (it : IsTaken old t s slice m new) → WasSent (view t old) s slice it.job (to_take (view t old) slice it.job)
+taken_was_sent old new t s slice m it =
+    was_sent (view t old) s slice it.job (line_of (record it.job { phase = Out slice })) it.found
+    (it.follows.answer_is ∙ ap (λ (there : Option JobData). (done (view t old) (about (Nothing NoTurn) (to_take (view t old) slice) there)).answer) it.found)
 
 pub taken_jobs_were_not_out : TakenJobsWereNotOut
-taken_jobs_were_not_out old new t s slice m it =
-    let out : JobData = record it.job { phase = Out slice } in
-    let stepped : step (view t old) (Take s slice) ≡ taken (view t old) slice (Some it.job) = ap (taken (view t old) slice) it.found in
-    ap is_out_of it.found ∙ waited (view t old) slice it.job (line_of out) (it.follows.answer_is ∙ ap (λ (x : Step). x.answer) stepped)
+taken_jobs_were_not_out old new t s slice m it = ap is_out_of it.found ∙ (taken_was_sent old new t s slice m it).here
+
+-- and its job is out
+pub taken_out : (old new : World) (t s slice : ℕ) (m : Meaning) → (it : IsTaken old t s slice m new) → find_job s (view t new).jobs ≡ Some (record it.job { phase = Out slice })
+taken_out old new t s slice m it =
+    ap (λ (v : Tenant). find_job s v.jobs) it.follows.own
+    ∙ ap (λ (there : Option JobData). find_job s (done (view t old) (about (Nothing NoTurn) (to_take (view t old) slice) there)).after.jobs) it.found ∙ (taken_was_sent old new t s slice m it).out
 
 pub taken_turns_are_held : TakenTurnsAreHeld
 taken_turns_are_held old new t s slice m it =
-    let out : JobData = record it.job { phase = Out slice } in
-    let stepped : step (view t old) (Take s slice) ≡ taken (view t old) slice (Some it.job) = ap (taken (view t old) slice) it.found in
-    let jobs : (view t new).jobs ≡ (taken (view t old) slice (Some it.job)).after.jobs = ap (λ (v : Tenant). v.jobs) it.follows.own ∙ ap (λ (x : Step). x.after.jobs) stepped in
-    let found : find_job s (view t new).jobs ≡ Some out =
-    ap (find_job s) jobs ∙ sent (view t old) s slice it.job (line_of out) it.found (it.follows.answer_is ∙ ap (λ (x : Step). x.answer) stepped) in
     record {
-      job = out;
-      found = found;
+      job = record it.job { phase = Out slice };
+      found = taken_out old new t s slice m it;
       own = record {
         turn = eq-eqb slice slice refl;
         owner = ap (λ (x : Meaning). x.tenant) it.search;
@@ -429,18 +354,18 @@ only_taken_jobs_are_out old new t e answer replayed h u s out =
     (cases_eq u t)
 
 -- a turn was given, and not refused
-given_back : (t : Tenant) (s ran : ℕ) (found : Option JobData) (answer : Reply) → find_job s t.jobs ≡ found → Replied answer ≡ (gave t ran found).answer
-    → is_out_of (find_job s (gave t ran found).after.jobs) ≡ false
-given_back t s ran None answer is told = absurd (cc)
-given_back t s ran (Some job) answer is told =
-    let new : JobData = back ran job in
-    let s1 : Step = record { answer = Replied (reply.Ran ran (line_of new)); after = record t { spent = t.spent + ran; used = t.used + 1; jobs = put_job new.seq new t.jobs } } in
-    cond_both (may_have_run ran job job.phase) s1 (unnoted t NoTurn) (λ (it : Step). Replied answer ≡ it.answer → is_out_of (find_job s it.after.jobs) ≡ false)
-    (λ _ _.
-    let seq : job.seq ≡ s = found_seq s t.jobs job is in
-    ap is_out_of (ap (λ k. find_job s (put_job k new t.jobs)) seq ∙ put_own s job new t.jobs is seq) ∙ back_here ran job)
-    (λ _ e. absurd (cc)) told
+given_back : (t : Tenant) (s ran : ℕ) (answer : Reply) → Replied answer ≡ (step t (Give s ran)).answer → is_out_of (find_job s (step t (Give s ran)).after.jobs) ≡ false
+given_back t s ran answer = by (find_job s t.jobs) refl
+  where
+    by : (found : Option JobData) → find_job s t.jobs ≡ found → let it : Step = done t (about (Nothing NoTurn) (to_give ran) found) in Replied answer ≡ it.answer → is_out_of (find_job s it.after.jobs) ≡ false
+    by None is told = absurd (cc)
+    by (Some job) is told =
+        let new : JobData = back ran job in
+        cond_both (may_have_run ran job job.phase) (effect.Changes new ran (Replied (reply.Ran ran (line_of new)))) (Nothing NoTurn)
+        (λ (f : Effect). Replied answer ≡ (done t f).answer → is_out_of (find_job s (done t f).after.jobs) ≡ false)
+        (λ _ _. let seq : job.seq ≡ s = found_seq s t.jobs job is in ap is_out_of (ap (λ k. find_job s (put_job k new t.jobs)) seq ∙ put_own s job new t.jobs is seq) ∙ back_here ran job)
+        (λ _ e. absurd (cc)) told
 
 pub given_jobs_are_not_out : GivenJobsAreNotOut
 given_jobs_are_not_out old new t s ran reply h =
-    ap (λ (v : Tenant). is_out_of (find_job s v.jobs)) h.own ∙ given_back (view t old) s ran (find_job s (view t old).jobs) reply refl h.answer_is
+    ap (λ (v : Tenant). is_out_of (find_job s v.jobs)) h.own ∙ given_back (view t old) s ran reply h.answer_is

@@ -5,6 +5,7 @@ pub mod PursesLemmas
 pub mod SeatLemmas
 pub mod PurseCountLemmas
 pub mod AloneLemmas
+pub mod DecisionLemmas
 pub mod ReplayLemmas
 pub mod TruthLemmas
 pub mod RunLemmas
@@ -17,6 +18,7 @@ pub mod AlikeLemmas
 pub mod ViewLemmas
 pub mod FarmLemmas
 pub mod MoveLemmas
+pub mod PassedLemmas
 pub mod StepLemmas
 pub mod OrderLemmas
 pub mod ChangeLemmas

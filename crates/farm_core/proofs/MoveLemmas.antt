@@ -11,8 +11,8 @@ use Rattle.tenant_book.specs.Book.{BookData}
 use Rattle.farm_core.specs.declared.account.Numbers.{Numbers}
 use Rattle.farm_core.specs.Config.{ConfigData, purse_names}
 use Rattle.farm_core.specs.declared.reply.Reply.TheVariants as reply
-use Rattle.farm_core.specs.Tenant.{Tenant, Member, book, held, free}
-use Rattle.farm_core.specs.Step.{Answer, Replied, Step, step, noted, unnoted, has_room}
+use Rattle.farm_core.specs.Tenant.{Tenant, Member, book, held, free, kept}
+use Rattle.farm_core.specs.Step.{Answer, Replied, Effect, Nothing, Notes, done, decided, step, has_room}
 use Rattle.farm_core.specs.World.{World, table_of, Call, Leads, Run, Steps, new_numbers, no_book, opened, purse_in, account_of, member, view, entries_of, is_noted, entry_of, KeepsOrder, Follows, IsOnlyNoted}
 use Rattle.farm_core.specs.Truth.{IsPlanned, ArePlanned}
 use Rattle.farm_core.specs.Farm.{IsAccount, IsFarm, IsReached, AreFrom, AreOf, owed, IsReply}
@@ -25,7 +25,7 @@ use Rattle.farm_core.proofs.ReplayLemmas.{no_more, replayed_on}
 abbrev pub moved_view : World → ℕ → TableData → Account → Tenant
 moved_view w t all account = record (view t w) { spent = account.book.spent; next = account.next; used = length (entries_of t w.journal) + 1; jobs = jobs_of t all.rows }
 
--- a call that leaves an entry, and then this table and this account
+-- a call that leaves an entry, and then this table and this account; of the entries that are kept for gives at most one is free again
 pub record IsMove (w : World) (t : ℕ) (all : TableData) (account : Account) (event : Event) (answer : Answer) : Type 0 where
   pub known : IsKnown w t
   pub planned : IsPlanned event
@@ -33,6 +33,7 @@ pub record IsMove (w : World) (t : ℕ) (all : TableData) (account : Account) (e
   pub after : (step (view t w) event).after ≡ moved_view w t all account
   pub noted : is_noted answer ≡ true
   pub told_of : IsAccount (moved_view w t all account) account
+  pub kept_less : kept (view t w) ≤ kept (moved_view w t all account) + 1
   pub others : (u : ℕ) → u ≢ t → jobs_of u all.rows ≡ jobs_of u w.rows
   pub order : KeepsOrder t w.waiting all.waiting
   pub whose : AreOf (length w.numbers) all.rows
@@ -186,11 +187,11 @@ reply_is w t event (reply.NoShort free) new told h = h
 reply_is w t event reply.NoMemory new told h = absurd (cc)
 
 -- a call that changes nothing and leaves no entry
-pub stays_follows : (w : World) (t : ℕ) (event : Event) (answer : Answer) → t < length w.config.tenants → step (view t w) event ≡ unnoted (view t w) answer → is_noted answer ≡ false → Follows w t event answer w
-stays_follows w t event answer known steps told = record {
+pub stays_follows : (w : World) (t : ℕ) (event : Event) (answer : Answer) → t < length w.config.tenants → decided (view t w) event ≡ Nothing answer → is_noted answer ≡ false → Follows w t event answer w
+stays_follows w t event answer known decides told = record {
   known = known;
-  answer_is = sym (ap (λ (s : Step). s.answer) steps);
-  own = sym (ap (λ (s : Step). s.after) steps);
+  answer_is = sym (ap (λ (f : Effect). (done (view t w) f).answer) decides);
+  own = sym (ap (λ (f : Effect). (done (view t w) f).after) decides);
   others = λ u differ. refl;
   purses = λ q differ. refl;
   order = inl refl;
@@ -201,18 +202,19 @@ stays_follows w t event answer known steps told = record {
 -- a command that changes nothing but the journal
 pub noted_moves : (w : World) (t capacity : ℕ) (account : Account) (event : Event) (answer : Reply) → IsFarm w capacity → t < length w.config.tenants → account ≡ account_of w t
     → has_room 1 (view t w) ≡ true → IsOnlyNoted (view t w) event answer → IsPlanned event → IsMove w t (table_of w) (record account { used = account.used + 1 }) event (Replied answer)
-unfolding view member book held free
+unfolding view member book held free kept
 noted_moves w t capacity account event answer farm l is room it planned =
     let a = account_in w t capacity account farm l is in
     let spent = spent_in w t capacity account farm l is in
-    let steps : step (view t w) event ≡ noted (view t w) answer = it.steps ∙ cond-true (has_room 1 (view t w)) (noted (view t w) answer) (unnoted (view t w) (Replied reply.NoRoom)) room in
+    let decides : decided (view t w) event ≡ Notes answer = it.decides ∙ cond-true (has_room 1 (view t w)) (Notes answer) (Nothing (Replied reply.NoRoom)) room in
     record {
       known = known_in w t capacity farm l;
       planned = planned;
-      told = sym (ap (λ (s : Step). s.answer) steps);
-      after = ap (λ (s : Step). s.after) steps ∙ rw (spent, a.next) refl;
+      told = sym (ap (λ (f : Effect). (done (view t w) f).answer) decides);
+      after = ap (λ (f : Effect). (done (view t w) f).after) decides ∙ rw (spent, a.next) refl;
       noted = it.noted;
       told_of = record { book = a.book ∙ rw spent refl; next = refl; used = omega (arith, a.used) };
+      kept_less = omega arith;
       others = λ u differ. refl;
       order = inl refl;
       whose = farm.whose;

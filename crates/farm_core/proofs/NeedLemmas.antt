@@ -1,27 +1,26 @@
 -- How many nodes a tenant's jobs have run.
-use Rattle.std.proofs.Common.{◌≡◌, ◌≢◌, ℕ, zero, suc, ◌+◌, ◌-◌, ◌<◌, ◌≤◌, min, List, [], ◌∷◌, ◌++◌, length, Bool, true, false, cond, ◌&&◌, ◌||◌, ◌==◌, nat_le, nat_lt, Option, Some, None, refl, sym, ◌∙◌, subst, arith, ⊎_elim, ◌⊎◌, inl, inr, eq-eqb, map, get_or, set, ap}
-use Rattle.std.specs.Prelude.{option_map, ⊤}
-use Rattle.std.proofs.lemmas.Bool.{cond_both, cond-true, cond-false, cases_lt, cases_Bool, eqb-true, or_cases, and_parts, both_ways}
+use Rattle.std.proofs.Common.{◌≡◌, ◌≢◌, ℕ, zero, suc, ◌+◌, ◌-◌, ◌<◌, ◌≤◌, min, List, [], ◌∷◌, ◌++◌, Bool, true, false, cond, ◌||◌, ◌==◌, Option, Some, None, refl, sym, ◌∙◌, subst, arith, ⊎_elim, ◌⊎◌, inl, inr, eq-eqb, map, get_or, set, ap}
+use Rattle.std.specs.Prelude.{⊤}
+use Rattle.std.proofs.lemmas.Bool.{cond_both, cond-true, cond-false, cases_lt, cases_Bool, eqb-true, or_cases, both_ways}
 use Rattle.std.proofs.lemmas.Bool.Decides.{nat_tests}
 use Rattle.mrcpsp.specs.Numbers.{first_from}
-use Rattle.mrcpsp.specs.Schedule.{makespan}
 use Rattle.mrcpsp.proofs.NumbersLemmas.{first_from-le}
-use Rattle.strategy.specs.Outcome.{best_after, is_closed, verdict_after}
+use Rattle.strategy.specs.Outcome.{is_closed}
 use Rattle.strategy.specs.declared.plan.Plan.{Plan}
 use Rattle.job_table.specs.Table.{JobData, is_waiting, is_out, is_ended}
 use Rattle.job_table.specs.Job.{given_up, is_here, phase_after, back}
 use Rattle.job_table.specs.declared.phase.Phase.{Phase}
 use Rattle.job_table.specs.declared.phase.Phase.TheVariants.{Waiting, Out, Leaving, Dry, Closed, Cancelled}
 use Rattle.farm_core.specs.declared.entry.Event.{Event}
-use Rattle.farm_core.specs.declared.entry.Event.TheVariants.{Submit, Fund, Status, Fetch, Cancel, Forget, Ledger, Take, Give}
-use Rattle.farm_core.specs.declared.reply.Reply.{Reply}
+use Rattle.farm_core.specs.declared.entry.Event.TheVariants.{Submit, Fund, Cancel, Forget, Take, Give}
 use Rattle.farm_core.specs.declared.reply.Reply.TheVariants as reply
-use Rattle.farm_core.specs.Tenant.{Tenant, Member, Purse, new_member, newcomers, no_member, seat, own_of, with_seat, book, free, find_job, put_job, drop_job, line_of, nodes_of_turn}
-use Rattle.farm_core.specs.Step.{Answer, Replied, Sent, NoTurn, Step, step, has_room, is_amount, is_slice, unnoted, noted, changed, fresh_job, submitted, about, funded, fetched, cancelled_as, cancelled, forgotten, commanded, taken, may_have_run, gave}
+use Rattle.farm_core.specs.Tenant.{Tenant, Member, Purse, new_member, newcomers, no_member, seat, own_of, with_seat, find_job, put_job, drop_job, line_of, nodes_of_turn}
+use Rattle.farm_core.specs.Step.{Answer, Replied, Sent, NoTurn, Step, Changes, done, step, fresh_job, may_have_run}
 use Rattle.farm_core.specs.declared.config.TenantLine.{TenantLine}
 use Rattle.farm_core.specs.Config.{ConfigData}
 use Rattle.farm_core.specs.World.{World, Call, Asked, opened, view, Steps, Leads, Run, after_alone}
-use Rattle.farm_core.specs.Need.{given_by, given_to, nodes_for, HasRunItsNodes, NodesAreTheLesser}
+use Rattle.farm_core.specs.Need.{given_by, given_to, asked, nodes_for, HasRunItsNodes, NodesAreTheLesser}
+use Rattle.farm_core.proofs.DecisionLemmas.{Cases, each_decision, unasked}
 use Rattle.farm_core.proofs.PlaceLemmas.{first_from-most}
 use Rattle.farm_core.proofs.AloneLemmas.{member_opened}
 
@@ -142,12 +141,18 @@ stays g e t answer used none kept = record {
 }
 
 -- the same with one job changed
-changes : (g : ℕ → ℕ) (e : Event) (t : Tenant) (answer : Answer) (used spent : ℕ) (new : JobData) → ((s : ℕ) → s ≢ new.seq → given_by s e answer ≡ 0) → new.seq < t.next
-    → IsFunded (Given g e answer) new → IsKept g t → Keeps g e (record { answer = answer; after = record t { used = used; spent = spent; jobs = put_job new.seq new t.jobs } })
-changes g e t answer used spent new none below one kept = record {
+changes : (g : ℕ → ℕ) (e : Event) (t : Tenant) (answer : Answer) (ran : ℕ) (new : JobData) → ((s : ℕ) → s ≢ new.seq → given_by s e answer ≡ 0) → new.seq < t.next
+    → IsFunded (Given g e answer) new → IsKept g t → Keeps g e (done t (Changes new ran answer))
+changes g e t answer ran new none below one kept = record {
   jobs = put_funded g (Given g e answer) t.next new.seq new t.jobs refl (λ s other. omega (arith, none s other)) one kept.jobs;
   later = λ s after. omega (arith, none s (λ (i : s ≡ new.seq). absurd (omega arith)), kept.later s after);
 }
+
+-- a call that asks for nothing gives nothing
+gives_none : (s : ℕ) (e : Event) (answer : Answer) → asked e answer ≡ [] → given_by s e answer ≡ 0
+gives_none s (Submit plan quanta) (Replied (reply.Job n)) none = absurd (cc)
+gives_none s (Fund n quanta) (Replied (reply.Line line)) none = absurd (cc)
+gives_none s e answer none = refl
 
 given_other : (s n quanta : ℕ) → s ≢ n → cond (n == s) quanta 0 ≡ 0
 given_other s n quanta other = grind (arith, nat_tests)
@@ -157,27 +162,6 @@ given_own n quanta = grind (arith, nat_tests)
 
 none_unclosed : (plan : Plan) → Unclosed plan 0
 none_unclosed plan j l = absurd (omega arith)
-
-submit_keeps : (g : ℕ → ℕ) (t : Tenant) (plan : Plan) (quanta : ℕ) → IsKept g t → Keeps g (Submit plan quanta) (step t (Submit plan quanta))
-unfolding submitted
-submit_keeps g t plan quanta kept =
-    let e : Event = Submit plan quanta in
-    let job : JobData = fresh_job t plan quanta in
-    let made : Answer = Replied (reply.Job t.next) in
-    let plain : (answer : Reply) → ((s : ℕ) → given_by s e (Replied answer) ≡ 0) → Keeps g e (noted t answer) = λ answer none. stays g e t (Replied answer) (t.used + 1) none kept in
-    let s1 : Step = record { answer = made; after = record t { used = t.used + 1; next = t.next + 1; jobs = t.jobs ++ job ∷ [] } } in
-    let s2 : Step = cond (nat_le quanta (free t)) s1 (noted t (reply.NoShort (free t))) in
-    let s3 : Step = cond (nat_lt (length t.jobs) t.terms.jobs) s2 (noted t reply.NoJobs) in
-    let s4 : Step = cond (is_amount quanta) s3 (noted t reply.NoAmount) in
-    let own : Given g e made t.next ≡ quanta = omega (arith, kept.later t.next (omega arith), given_own t.next quanta) in
-    let done : Keeps g e s1 = record {
-      jobs = push_funded g (Given g e made) t.next job t.jobs refl (λ s l. omega (arith, given_other s t.next quanta (λ (i : s ≡ t.next). absurd (omega arith)))) (omega (arith, own), none_unclosed plan) kept.jobs;
-      later = λ s l. omega (arith, kept.later s (omega arith), given_other s t.next quanta (λ (i : s ≡ t.next). absurd (omega arith)));
-    } in
-    let h2 : Keeps g e s2 = cond_both (nat_le quanta (free t)) s1 (noted t (reply.NoShort (free t))) (Keeps g e) (λ _. done) (λ _. plain (reply.NoShort (free t)) (λ s. refl)) in
-    let h3 : Keeps g e s3 = cond_both (nat_lt (length t.jobs) t.terms.jobs) s2 (noted t reply.NoJobs) (Keeps g e) (λ _. h2) (λ _. plain reply.NoJobs (λ s. refl)) in
-    let h4 : Keeps g e s4 = cond_both (is_amount quanta) s3 (noted t reply.NoAmount) (Keeps g e) (λ _. h3) (λ _. plain reply.NoAmount (λ s. refl)) in
-    cond_both (has_room 1 t) s4 (unnoted t (Replied reply.NoRoom)) (Keeps g e) (λ _. h4) (λ _. stays g e t (Replied reply.NoRoom) t.used (λ s. refl) kept)
 
 -- a job that waits or is dry has what it was given
 held_by_it : (phase : Phase) (plan : Plan) (nodes left given : ℕ) → is_out phase ≡ false → is_ended phase ≡ false → FundedIn phase plan nodes left given → (nodes + left ≡ given) × Unclosed plan nodes
@@ -196,51 +180,6 @@ waits Dry plan nodes left given w h = absurd (cc)
 waits Closed plan nodes left given w h = absurd (cc)
 waits Cancelled plan nodes left given w h = absurd (cc)
 
-abbrev pub IsOf : (ℕ → ℕ) → Tenant → ℕ → JobData → Type 0
-IsOf g t s job = IsFunded g job × (job.seq ≡ s) × (job.seq < t.next)
-
-fund_keeps : (g : ℕ → ℕ) (t : Tenant) (s quanta : ℕ) (job : JobData) → IsOf g t s job → IsKept g t → Keeps g (Fund s quanta) (funded t quanta job)
-unfolding funded
-fund_keeps g t s quanta job it kept =
-    let e : Event = Fund s quanta in
-    let new : JobData = record job { phase = Waiting; left = job.left + quanta } in
-    let told : Answer = Replied (reply.Line (line_of new)) in
-    let plain : (answer : Reply) → ((n : ℕ) → given_by n e (Replied answer) ≡ 0) → Keeps g e (noted t answer) = λ answer none. stays g e t (Replied answer) (t.used + 1) none kept in
-    let other : (n : ℕ) → n ≢ new.seq → given_by n e told ≡ 0 = λ n ne. given_other n s quanta (λ (i : n ≡ s). ne (i ∙ sym it.1)) in
-    let own : given_by job.seq e told ≡ quanta = rw it.1 (given_own s quanta) in
-    let s1 : Step = changed t new told in
-    let s2 : Step = cond (nat_le quanta (free t)) s1 (noted t (reply.NoShort (free t))) in
-    let s3 : Step = cond (is_amount quanta) s2 (noted t reply.NoAmount) in
-    let s4 : Step = cond (is_ended job.phase) (noted t reply.NoOver) s3 in
-    cond_both (is_out job.phase) (noted t reply.NoBusy) s4 (Keeps g e) (λ _. plain reply.NoBusy (λ n. refl))
-    (λ here. cond_both (is_ended job.phase) (noted t reply.NoOver) s3 (Keeps g e) (λ _. plain reply.NoOver (λ n. refl))
-    (λ going.
-    let had = held_by_it job.phase job.plan job.nodes job.left (g job.seq) here going it.0 in
-    let done : Keeps g e s1 = changes g e t told (t.used + 1) t.spent new other it.2 (omega (arith, had.0, own), had.1) kept in
-    cond_both (is_amount quanta) s2 (noted t reply.NoAmount) (Keeps g e)
-    (λ _. cond_both (nat_le quanta (free t)) s1 (noted t (reply.NoShort (free t))) (Keeps g e) (λ _. done) (λ _. plain (reply.NoShort (free t)) (λ n. refl)))
-    (λ _. plain reply.NoAmount (λ n. refl))))
-
-about_found : (g : ℕ → ℕ) (e : Event) (t : Tenant) (s : ℕ) (found : Option JobData) (f : JobData → Step) → find_job s t.jobs ≡ found → ((n : ℕ) → given_by n e (Replied reply.NoUnknown) ≡ 0) → IsKept g t
-    → ((job : JobData) → IsOf g t s job → Keeps g e (f job)) → Keeps g e (about t found f)
-about_found g e t s None f is none kept each = stays g e t (Replied reply.NoUnknown) (t.used + 1) none kept
-about_found g e t s (Some job) f is none kept each = each job (found_funded g t.next s t.jobs job is kept.jobs)
-
-command_keeps : (g : ℕ → ℕ) (e : Event) (t : Tenant) (s : ℕ) (f : JobData → Step) → ((n : ℕ) → given_by n e (Replied reply.NoUnknown) ≡ 0) → ((n : ℕ) → given_by n e (Replied reply.NoRoom) ≡ 0) → IsKept g t
-    → ((job : JobData) → IsOf g t s job → Keeps g e (f job)) → Keeps g e (commanded t (about t (find_job s t.jobs) f))
-command_keeps g e t s f none room kept each =
-    cond_both (has_room 1 t) (about t (find_job s t.jobs) f) (unnoted t (Replied reply.NoRoom)) (Keeps g e)
-    (λ _. about_found g e t s (find_job s t.jobs) f refl none kept each) (λ _. stays g e t (Replied reply.NoRoom) t.used room kept)
-
-fetch_keeps : (g : ℕ → ℕ) (t : Tenant) (s : ℕ) (job : JobData) → IsKept g t → Keeps g (Fetch s) (fetched t job)
-unfolding fetched
-fetch_keeps g t s job kept =
-    let best = best_after job.plan job.nodes in
-    let told : Reply = reply.Best job.seq best (option_map (makespan job.plan.project) best) (verdict_after job.plan job.nodes) in
-    cond_both (is_out job.phase) (noted t reply.NoBusy) (noted t told) (Keeps g (Fetch s))
-    (λ _. stays g (Fetch s) t (Replied reply.NoBusy) (t.used + 1) (λ n. refl) kept)
-    (λ _. stays g (Fetch s) t (Replied told) (t.used + 1) (λ n. refl) kept)
-
 abbrev IsGivenUp : (ℕ → ℕ) → JobData → Option JobData → Type 0
 IsGivenUp g job None = ⊤
 IsGivenUp g job (Some new) = IsFunded g new × (new.seq ≡ job.seq)
@@ -255,39 +194,6 @@ given_up_funded g job Cancelled h = tt
 
 funded_same : (g h : ℕ → ℕ) (job : JobData) → g job.seq ≡ h job.seq → IsFunded g job → IsFunded h job
 funded_same g h job same one = subst (λ n. FundedIn job.phase job.plan job.nodes job.left n) same one
-
-cancelled_keeps : (g : ℕ → ℕ) (t : Tenant) (s : ℕ) (job : JobData) (new : Option JobData) → IsOf g t s job → IsGivenUp g job new → IsKept g t → Keeps g (Cancel s) (cancelled_as t new)
-cancelled_keeps g t s job None it up kept = stays g (Cancel s) t (Replied reply.NoOver) (t.used + 1) (λ n. refl) kept
-cancelled_keeps g t s job (Some new) it up kept =
-    let told : Answer = Replied (reply.Line (line_of new)) in
-    changes g (Cancel s) t told (t.used + 1) t.spent new (λ n ne. refl) (omega (arith, up.1, it.2)) (funded_same g (Given g (Cancel s) told) new (omega arith) up.0) kept
-
-cancel_keeps : (g : ℕ → ℕ) (t : Tenant) (s : ℕ) (job : JobData) → IsOf g t s job → IsKept g t → Keeps g (Cancel s) (cancelled t job)
-unfolding cancelled
-cancel_keeps g t s job it kept = cancelled_keeps g t s job (given_up job job.phase) it (given_up_funded g job job.phase it.0) kept
-
-forget_keeps : (g : ℕ → ℕ) (t : Tenant) (s : ℕ) (job : JobData) → IsKept g t → Keeps g (Forget s) (forgotten t job)
-unfolding forgotten
-forget_keeps g t s job kept =
-    let gone : Step = record { answer = Replied (reply.Forgotten job.seq); after = record t { used = t.used + 1; jobs = drop_job job.seq t.jobs } } in
-    cond_both (is_ended job.phase) gone (noted t reply.NoBusy) (Keeps g (Forget s))
-    (λ _. record {
-      jobs = same_given g (Given g (Forget s) (Replied (reply.Forgotten job.seq))) t.next (drop_job job.seq t.jobs) (λ n i. omega arith) (drop_funded g t.next job.seq t.jobs kept.jobs);
-      later = λ n l. omega (arith, kept.later n l);
-    })
-    (λ _. stays g (Forget s) t (Replied reply.NoBusy) (t.used + 1) (λ n. refl) kept)
-
-taken_keeps : (g : ℕ → ℕ) (t : Tenant) (s slice : ℕ) (found : Option JobData) → find_job s t.jobs ≡ found → IsKept g t → Keeps g (Take s slice) (taken t slice found)
-taken_keeps g t s slice None is kept = stays g (Take s slice) t NoTurn t.used (λ n. refl) kept
-taken_keeps g t s slice (Some job) is kept =
-    let it = found_funded g t.next s t.jobs job is kept.jobs in
-    let new : JobData = record job { phase = Out slice } in
-    let told : Answer = Sent (line_of new) in
-    cond_both (is_waiting job.phase && is_slice slice && has_room 2 t) (changed t new told) (unnoted t NoTurn) (Keeps g (Take s slice))
-    (λ may.
-    let had = waits job.phase job.plan job.nodes job.left (g job.seq) (and_parts (is_waiting job.phase) (is_slice slice) (and_parts (is_waiting job.phase && is_slice slice) (has_room 2 t) may).0).0 it.0 in
-    changes g (Take s slice) t told (t.used + 1) t.spent new (λ n ne. refl) it.2 (omega (arith, had.0), had.1) kept)
-    (λ _. stays g (Take s slice) t NoTurn t.used (λ n. refl) kept)
 
 -- a turn stops where the search is over
 turn_unclosed : (most : ℕ) (job : JobData) (r : ℕ) → r < nodes_of_turn most job → is_closed job.plan (job.nodes + r) ≡ false
@@ -347,33 +253,52 @@ back_funded Dry job ran given may h = absurd (cc)
 back_funded Closed job ran given may h = absurd (cc)
 back_funded Cancelled job ran given may h = absurd (cc)
 
-gave_keeps : (g : ℕ → ℕ) (t : Tenant) (s ran : ℕ) (found : Option JobData) → find_job s t.jobs ≡ found → IsKept g t → Keeps g (Give s ran) (gave t ran found)
-gave_keeps g t s ran None is kept = stays g (Give s ran) t NoTurn t.used (λ n. refl) kept
-gave_keeps g t s ran (Some job) is kept =
-    let it = found_funded g t.next s t.jobs job is kept.jobs in
-    let new : JobData = back ran job in
-    let told : Answer = Replied (reply.Ran ran (line_of new)) in
-    let s1 : Step = record { answer = told; after = record t { spent = t.spent + ran; used = t.used + 1; jobs = put_job new.seq new t.jobs } } in
-    cond_both (may_have_run ran job job.phase) s1 (unnoted t NoTurn) (Keeps g (Give s ran))
-    (λ may. changes g (Give s ran) t told (t.used + 1) (t.spent + ran) new (λ n ne. refl) it.2
-    (funded_same g (Given g (Give s ran) told) new (omega arith) (back_funded job.phase job ran (g job.seq) may it.0)) kept)
-    (λ _. stays g (Give s ran) t NoTurn t.used (λ n. refl) kept)
+keeps : (g : ℕ → ℕ) (t : Tenant) → IsKept g t → Cases t (λ e f. Keeps g e (done t f))
+keeps g t kept = record {
+  full = λ e. stays g e t (Replied reply.NoRoom) t.used (λ s. gives_none s e (Replied reply.NoRoom) (unasked e).0) kept;
+  idle = λ e. stays g e t NoTurn t.used (λ s. gives_none s e NoTurn (unasked e).1) kept;
+  notes = λ e answer room note. stays g e t (Replied answer) (t.used + 1) (λ s. gives_none s e (Replied answer) note.asked) kept;
+  adds = λ plan quanta room some.
+      let made : Answer = Replied (reply.Job t.next) in
+      let e : Event = Submit plan quanta in
+      let own : Given g e made t.next ≡ quanta = omega (arith, kept.later t.next (omega arith), given_own t.next quanta) in
+      record {
+        jobs = push_funded g (Given g e made) t.next (fresh_job t plan quanta) t.jobs refl (λ s l. omega (arith, given_other s t.next quanta (λ (i : s ≡ t.next). absurd (omega arith))))
+            (omega (arith, own), none_unclosed plan) kept.jobs;
+        later = λ s l. omega (arith, kept.later s (omega arith), given_other s t.next quanta (λ (i : s ≡ t.next). absurd (omega arith)));
+      };
+  funds = λ s quanta job room found can.
+      let it = found_funded g t.next s t.jobs job found kept.jobs in
+      let new : JobData = record job { phase = Waiting; left = job.left + quanta } in
+      let e : Event = Fund s quanta in
+      let told : Answer = Replied (reply.Line (line_of new)) in
+      let own : given_by job.seq e told ≡ quanta = rw it.1 (given_own s quanta) in
+      let had = held_by_it job.phase job.plan job.nodes job.left (g job.seq) can.here can.going it.0 in
+      changes g e t told 0 new (λ n ne. given_other n s quanta (λ (i : n ≡ s). ne (i ∙ sym it.1))) it.2 (omega (arith, had.0, own), had.1) kept;
+  cancels = λ s job new room found gone.
+      let it = found_funded g t.next s t.jobs job found kept.jobs in
+      let told : Answer = Replied (reply.Line (line_of new)) in
+      let up : IsGivenUp g job (Some new) = subst (IsGivenUp g job) gone (given_up_funded g job job.phase it.0) in
+      changes g (Cancel s) t told 0 new (λ n ne. refl) (omega (arith, up.1, it.2)) (funded_same g (Given g (Cancel s) told) new (omega arith) up.0) kept;
+  drops = λ s job room found ended. record {
+    jobs = same_given g (Given g (Forget s) (Replied (reply.Forgotten job.seq))) t.next (drop_job job.seq t.jobs) (λ n i. omega arith) (drop_funded g t.next job.seq t.jobs kept.jobs);
+    later = λ n l. omega (arith, kept.later n l);
+  };
+  takes = λ s slice job room found waiting.
+      let it = found_funded g t.next s t.jobs job found kept.jobs in
+      let new : JobData = record job { phase = Out slice } in
+      let had = waits job.phase job.plan job.nodes job.left (g job.seq) waiting it.0 in
+      changes g (Take s slice) t (Sent (line_of new)) 0 new (λ n ne. refl) it.2 (omega (arith, had.0), had.1) kept;
+  gives = λ s ran job found may.
+      let it = found_funded g t.next s t.jobs job found kept.jobs in
+      let new : JobData = back ran job in
+      let told : Answer = Replied (reply.Ran ran (line_of new)) in
+      changes g (Give s ran) t told ran new (λ n ne. refl) it.2
+      (funded_same g (Given g (Give s ran) told) new (omega arith) (back_funded job.phase job ran (g job.seq) may it.0)) kept;
+}
 
 step_keeps : (g : ℕ → ℕ) (t : Tenant) (e : Event) → IsKept g t → Keeps g e (step t e)
-step_keeps g t (Submit plan quanta) kept = submit_keeps g t plan quanta kept
-step_keeps g t (Fund s quanta) kept = command_keeps g (Fund s quanta) t s (funded t quanta) (λ n. refl) (λ n. refl) kept (λ job it. fund_keeps g t s quanta job it kept)
-step_keeps g t (Status s) kept =
-    let tell : JobData → Step = λ job. noted t (reply.Line (line_of job)) in
-    command_keeps g (Status s) t s tell (λ n. refl) (λ n. refl) kept (λ job it. stays g (Status s) t (Replied (reply.Line (line_of job))) (t.used + 1) (λ n. refl) kept)
-step_keeps g t (Fetch s) kept = command_keeps g (Fetch s) t s (fetched t) (λ n. refl) (λ n. refl) kept (λ job it. fetch_keeps g t s job kept)
-step_keeps g t (Cancel s) kept = command_keeps g (Cancel s) t s (cancelled t) (λ n. refl) (λ n. refl) kept (λ job it. cancel_keeps g t s job it kept)
-step_keeps g t (Forget s) kept = command_keeps g (Forget s) t s (forgotten t) (λ n. refl) (λ n. refl) kept (λ job it. forget_keeps g t s job kept)
-step_keeps g t Ledger kept =
-    cond_both (has_room 1 t) (noted t (reply.Ledger (book t))) (unnoted t (Replied reply.NoRoom)) (Keeps g Ledger)
-    (λ _. stays g Ledger t (Replied (reply.Ledger (book t))) (t.used + 1) (λ n. refl) kept)
-    (λ _. stays g Ledger t (Replied reply.NoRoom) t.used (λ n. refl) kept)
-step_keeps g t (Take s slice) kept = taken_keeps g t s slice (find_job s t.jobs) refl kept
-step_keeps g t (Give s ran) kept = gave_keeps g t s ran (find_job s t.jobs) refl kept
+step_keeps g t e kept = each_decision t (λ e f. Keeps g e (done t f)) (keeps g t kept) e
 
 same_kept : (g h : ℕ → ℕ) (t : Tenant) → ((s : ℕ) → g s ≡ h s) → IsKept g t → IsKept h t
 same_kept g h t same kept = record {

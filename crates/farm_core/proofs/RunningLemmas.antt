@@ -1,26 +1,23 @@
 -- What holds of each tenant's part of a farm after any calls.
-use Rattle.std.proofs.Common.{◌≡◌, ℕ, ◌+◌, ◌-◌, ◌≤◌, List, [], ◌∷◌, ◌++◌, length, filter, Bool, true, cond, ◌&&◌, ◌==◌, nat_le, nat_lt, Option, Some, None, refl, sym, ap, ◌∙◌, subst, arith, zero, suc, ◌<◌, ◌≢◌, map, ⊎_elim, false, sum_by}
-use Rattle.std.specs.Prelude.{option_map, ⊤}
-use Rattle.std.proofs.lemmas.Bool.{cond_both, leb-true, and_parts, cases_eq}
+use Rattle.std.proofs.Common.{◌≡◌, ℕ, ◌+◌, ◌-◌, ◌≤◌, List, [], ◌∷◌, ◌++◌, length, filter, Bool, true, cond, ◌==◌, Option, Some, None, refl, sym, ap, ◌∙◌, subst, arith, zero, suc, ◌<◌, ◌≢◌, map, ⊎_elim, sum_by}
+use Rattle.std.specs.Prelude.{⊤}
+use Rattle.std.proofs.lemmas.Bool.{cond_both, leb-true, cases_eq}
 use Rattle.std.proofs.lemmas.List.Sums.{sum_by-cons}
 use Rattle.tenant_book.specs.Book.{BookData}
 use Rattle.std.proofs.lemmas.Bool.Decides.{nat_tests}
-use Rattle.strategy.specs.Outcome.{best_after, is_closed, verdict_after}
-use Rattle.strategy.specs.declared.plan.Plan.{Plan}
-use Rattle.mrcpsp.specs.Schedule.{makespan}
-use Rattle.job_table.specs.Table.{JobData, is_waiting, is_out, is_ended}
+use Rattle.strategy.specs.Outcome.{is_closed}
+use Rattle.job_table.specs.Table.{JobData, is_out, is_ended}
 use Rattle.job_table.specs.Job.{given_up, is_here, phase_after, back}
 use Rattle.job_table.specs.declared.phase.Phase.{Phase}
 use Rattle.job_table.specs.declared.phase.Phase.TheVariants.{Waiting, Out, Leaving, Dry, Closed, Cancelled}
 use Rattle.farm_core.specs.declared.entry.Event.{Event}
-use Rattle.farm_core.specs.declared.entry.Event.TheVariants.{Submit, Fund, Status, Fetch, Cancel, Forget, Ledger, Take, Give}
-use Rattle.farm_core.specs.declared.reply.Reply.{Reply}
 use Rattle.farm_core.specs.declared.reply.Reply.TheVariants as reply
 use Rattle.farm_core.specs.Tenant.{Tenant, Member, new_member, newcomers, seated_at, held_beside, held, held_by, book, free, kept, find_job, put_job, drop_job, line_of}
-use Rattle.farm_core.specs.Step.{Answer, Replied, Sent, NoTurn, Step, step, has_room, is_amount, is_slice, unnoted, noted, changed, fresh_job, submitted, about, funded, fetched, cancelled_as, cancelled, forgotten, commanded, taken, may_have_run, gave}
+use Rattle.farm_core.specs.Step.{Answer, Replied, Sent, Effect, Changes, done, step, has_room, fresh_job}
 use Rattle.farm_core.specs.declared.config.TenantLine.{TenantLine}
 use Rattle.farm_core.specs.Config.{ConfigData, lines_of}
 use Rattle.farm_core.specs.World.{World, Call, terms_in, purse_in, place_in, opened, spent_in, member, purse, view, Steps, Leads, Run}
+use Rattle.farm_core.proofs.DecisionLemmas.{Cases, each_decision}
 use Rattle.farm_core.proofs.AloneLemmas.{seen_opened}
 use Rattle.farm_core.proofs.CountLemmas.{step_counted}
 use Rattle.farm_core.proofs.SeatLemmas.{one_ledger, view_stays}
@@ -47,8 +44,8 @@ pub record IsRunning (t : Tenant) : Type 0 where
   pub jobs : ArePaid t.spent t.jobs
   pub covered : held t + t.spent ≤ t.granted
 
-abbrev Runs : Step → Type 0
-Runs s = IsRunning s.after
+abbrev Runs : Effect → Tenant → Type 0
+Runs f t = IsRunning (done t f).after
 
 outs_put : (s : ℕ) (old new : JobData) (jobs : List JobData) → find_job s jobs ≡ Some old → outs (put_job s new jobs) + out_in old.phase ≡ outs jobs + out_in new.phase
 outs_put s old new [] found = absurd (cc)
@@ -108,92 +105,27 @@ found_held s (one ∷ jobs) job found = grind (arith, nat_tests, found_held s jo
 room_is : (n : ℕ) (t : Tenant) → has_room n t ≡ true → t.used + kept t + n ≤ t.terms.entries
 room_is n t room = leb-true (t.used + kept t + n) t.terms.entries room
 
-noted_runs : (t : Tenant) (answer : Reply) → has_room 1 t ≡ true → IsRunning t → Runs (noted t answer)
+noted_runs : (t : Tenant) → has_room 1 t ≡ true → IsRunning t → IsRunning (record t { used = t.used + 1 })
 unfolding kept held
-noted_runs t answer room it = record { within = omega (arith, room_is 1 t room); few = omega (arith, it.few); jobs = it.jobs; covered = it.covered }
+noted_runs t room it = record { within = omega (arith, room_is 1 t room); few = omega (arith, it.few); jobs = it.jobs; covered = it.covered }
 
--- one job changed
-record IsFit (t : Tenant) (job new : JobData) (spent : ℕ) : Type 0 where
+-- one job changed, after so many nodes
+record IsFit (t : Tenant) (job new : JobData) (ran : ℕ) : Type 0 where
   entries : t.used + 1 + kept t + out_in new.phase ≤ t.terms.entries + out_in job.phase
-  more : t.spent ≤ spent
-  paid : IsPaid spent new
-  covered : held t + new.left + spent ≤ t.granted + job.left
+  paid : IsPaid (t.spent + ran) new
+  covered : held t + new.left + ran + t.spent ≤ t.granted + job.left
 
-changed_runs : (t : Tenant) (s : ℕ) (job new : JobData) (spent : ℕ) → find_job s t.jobs ≡ Some job → new.seq ≡ s → IsFit t job new spent → IsRunning t
-    → IsRunning (record t { used = t.used + 1; spent = spent; jobs = put_job new.seq new t.jobs })
+changed_runs : (t : Tenant) (s : ℕ) (job new : JobData) (ran : ℕ) (answer : Answer) → find_job s t.jobs ≡ Some job → new.seq ≡ job.seq → IsFit t job new ran → IsRunning t
+    → Runs (Changes new ran answer) t
 unfolding kept held
-changed_runs t s job new spent found named fit it =
-    subst (λ (n : ℕ). IsRunning (record t { used = t.used + 1; spent = spent; jobs = put_job n new t.jobs })) (sym named)
+changed_runs t s job new ran answer found named fit it =
+    subst (λ (n : ℕ). IsRunning (record t { used = t.used + 1; spent = t.spent + ran; jobs = put_job n new t.jobs })) (sym (named ∙ found_seq s t.jobs job found))
     (record {
       within = omega (arith, fit.entries, outs_put s job new t.jobs found);
       few = omega (arith, it.few);
-      jobs = paid_put spent s new t.jobs fit.paid (paid_more t.spent spent t.jobs fit.more it.jobs);
+      jobs = paid_put (t.spent + ran) s new t.jobs fit.paid (paid_more t.spent (t.spent + ran) t.jobs (omega arith) it.jobs);
       covered = omega (arith, fit.covered, held_put s job new t.jobs found);
     })
-
-submit_runs : (t : Tenant) (plan : Plan) (quanta : ℕ) → IsRunning t → Runs (step t (Submit plan quanta))
-unfolding submitted kept held free
-submit_runs t plan quanta it =
-    let job : JobData = fresh_job t plan quanta in
-    let s1 : Step = record { answer = Replied (reply.Job t.next); after = record t { used = t.used + 1; next = t.next + 1; jobs = t.jobs ++ job ∷ [] } } in
-    let s2 : Step = cond (nat_le quanta (free t)) s1 (noted t (reply.NoShort (free t))) in
-    let s3 : Step = cond (nat_lt (length t.jobs) t.terms.jobs) s2 (noted t reply.NoJobs) in
-    let s4 : Step = cond (is_amount quanta) s3 (noted t reply.NoAmount) in
-    cond_both (has_room 1 t) s4 (unnoted t (Replied reply.NoRoom)) Runs
-    (λ room. cond_both (is_amount quanta) s3 (noted t reply.NoAmount) Runs
-    (λ _. cond_both (nat_lt (length t.jobs) t.terms.jobs) s2 (noted t reply.NoJobs) Runs
-    (λ _. cond_both (nat_le quanta (free t)) s1 (noted t (reply.NoShort (free t))) Runs
-    (λ some. record {
-      within = omega (arith, room_is 1 t room, outs_push job t.jobs);
-      few = omega (arith, it.few);
-      jobs = paid_push t.spent job t.jobs (omega arith, λ e. absurd (cc)) it.jobs;
-      covered = omega (arith, it.covered, leb-true quanta (free t) some, held_push job t.jobs);
-    })
-    (λ _. noted_runs t (reply.NoShort (free t)) room it))
-    (λ _. noted_runs t reply.NoJobs room it))
-    (λ _. noted_runs t reply.NoAmount room it))
-    (λ _. it)
-
-about_runs : (t : Tenant) (s : ℕ) (found : Option JobData) (f : JobData → Step) → find_job s t.jobs ≡ found → has_room 1 t ≡ true → IsRunning t
-    → ((job : JobData) → find_job s t.jobs ≡ Some job → Runs (f job)) → Runs (about t found f)
-about_runs t s None f is room it each = noted_runs t reply.NoUnknown room it
-about_runs t s (Some job) f is room it each = each job is
-
-command_runs : (t : Tenant) (s : ℕ) (f : JobData → Step) → IsRunning t → (has_room 1 t ≡ true → (job : JobData) → find_job s t.jobs ≡ Some job → Runs (f job))
-    → Runs (commanded t (about t (find_job s t.jobs) f))
-command_runs t s f it each =
-    cond_both (has_room 1 t) (about t (find_job s t.jobs) f) (unnoted t (Replied reply.NoRoom)) Runs
-    (λ room. about_runs t s (find_job s t.jobs) f refl room it (each room)) (λ _. it)
-
-fund_runs : (t : Tenant) (s quanta : ℕ) (job : JobData) → find_job s t.jobs ≡ Some job → has_room 1 t ≡ true → IsRunning t → Runs (funded t quanta job)
-unfolding funded free
-fund_runs t s quanta job found room it =
-    let new : JobData = record job { phase = Waiting; left = job.left + quanta } in
-    let told : Answer = Replied (reply.Line (line_of new)) in
-    let s1 : Step = changed t new told in
-    let s2 : Step = cond (nat_le quanta (free t)) s1 (noted t (reply.NoShort (free t))) in
-    let s3 : Step = cond (is_amount quanta) s2 (noted t reply.NoAmount) in
-    let s4 : Step = cond (is_ended job.phase) (noted t reply.NoOver) s3 in
-    cond_both (is_out job.phase) (noted t reply.NoBusy) s4 Runs (λ _. noted_runs t reply.NoBusy room it)
-    (λ here. cond_both (is_ended job.phase) (noted t reply.NoOver) s3 Runs (λ _. noted_runs t reply.NoOver room it)
-    (λ going. cond_both (is_amount quanta) s2 (noted t reply.NoAmount) Runs
-    (λ _. cond_both (nat_le quanta (free t)) s1 (noted t (reply.NoShort (free t))) Runs
-    (λ some. changed_runs t s job new t.spent found (found_seq s t.jobs job found)
-    (record {
-      entries = omega (arith, room_is 1 t room);
-      more = omega arith;
-      paid = ((paid_found t.spent s t.jobs job found it.jobs).0, λ e. absurd (cc));
-      covered = omega (arith, it.covered, leb-true quanta (free t) some);
-    }) it)
-    (λ _. noted_runs t (reply.NoShort (free t)) room it))
-    (λ _. noted_runs t reply.NoAmount room it)))
-
-fetch_runs : (t : Tenant) (job : JobData) → has_room 1 t ≡ true → IsRunning t → Runs (fetched t job)
-unfolding fetched
-fetch_runs t job room it =
-    let best = best_after job.plan job.nodes in
-    let told : Reply = reply.Best job.seq best (option_map (makespan job.plan.project) best) (verdict_after job.plan job.nodes) in
-    cond_both (is_out job.phase) (noted t reply.NoBusy) (noted t told) Runs (λ _. noted_runs t reply.NoBusy room it) (λ _. noted_runs t told room it)
 
 -- a job that is given up is out as before, or it has ended and holds nothing
 abbrev IsLess : JobData → Option JobData → Type 0
@@ -208,52 +140,6 @@ given_up_less job Dry is = (refl, refl, rw is refl, omega arith, λ e. refl)
 given_up_less job Closed is = tt
 given_up_less job Cancelled is = tt
 
-cancelled_runs : (t : Tenant) (s : ℕ) (job : JobData) (new : Option JobData) → find_job s t.jobs ≡ Some job → IsLess job new → has_room 1 t ≡ true → IsRunning t → Runs (cancelled_as t new)
-cancelled_runs t s job None found less room it = noted_runs t reply.NoOver room it
-cancelled_runs t s job (Some new) found less room it =
-    changed_runs t s job new t.spent found (less.0 ∙ found_seq s t.jobs job found)
-    (record {
-      entries = omega (arith, room_is 1 t room, less.2);
-      more = omega arith;
-      paid = (omega (arith, less.1, (paid_found t.spent s t.jobs job found it.jobs).0), less.4);
-      covered = omega (arith, it.covered, less.3);
-    }) it
-
-cancel_runs : (t : Tenant) (s : ℕ) (job : JobData) → find_job s t.jobs ≡ Some job → has_room 1 t ≡ true → IsRunning t → Runs (cancelled t job)
-unfolding cancelled
-cancel_runs t s job found room it = cancelled_runs t s job (given_up job job.phase) found (given_up_less job job.phase refl) room it
-
-forget_runs : (t : Tenant) (s : ℕ) (job : JobData) → find_job s t.jobs ≡ Some job → has_room 1 t ≡ true → IsRunning t → Runs (forgotten t job)
-unfolding forgotten kept held
-forget_runs t s job found room it =
-    let gone : Step = record { answer = Replied (reply.Forgotten job.seq); after = record t { used = t.used + 1; jobs = drop_job job.seq t.jobs } } in
-    let named = found_seq s t.jobs job found in
-    cond_both (is_ended job.phase) gone (noted t reply.NoBusy) Runs
-    (λ _. rw named
-    (record {
-      within = omega (arith, room_is 1 t room, outs_drop s t.jobs);
-      few = omega (arith, it.few);
-      jobs = paid_drop t.spent s t.jobs it.jobs;
-      covered = omega (arith, it.covered, held_drop s job t.jobs found);
-    }))
-    (λ _. noted_runs t reply.NoBusy room it)
-
-taken_runs : (t : Tenant) (s slice : ℕ) (found : Option JobData) → find_job s t.jobs ≡ found → IsRunning t → Runs (taken t slice found)
-taken_runs t s slice None is it = it
-taken_runs t s slice (Some job) is it =
-    let new : JobData = record job { phase = Out slice } in
-    cond_both (is_waiting job.phase && is_slice slice && has_room 2 t) (changed t new (Sent (line_of new))) (unnoted t NoTurn) Runs
-    (λ may.
-    let parts = and_parts (is_waiting job.phase && is_slice slice) (has_room 2 t) may in
-    changed_runs t s job new t.spent is (found_seq s t.jobs job is)
-    (record {
-      entries = omega (arith, room_is 2 t parts.1);
-      more = omega arith;
-      paid = ((paid_found t.spent s t.jobs job is it.jobs).0, λ e. absurd (cc));
-      covered = omega (arith, it.covered);
-    }) it)
-    (λ _. it)
-
 -- a turn that came back is no longer out, and holds what it had less what it ran, or nothing
 abbrev pub IsBack : ℕ → ℕ → Phase → Type 0
 IsBack ran left phase = (out_in phase ≡ 0) × (is_ended phase ≡ true → cond (is_here phase) (left - ran) 0 ≡ 0) × (cond (is_here phase) (left - ran) 0 ≤ left - ran)
@@ -266,36 +152,66 @@ after_back Dry closed ran left = cond_both closed Closed (cond (left - ran == 0)
 after_back Closed closed ran left = cond_both closed Closed (cond (left - ran == 0) Dry Waiting) (IsBack ran left) (λ _. (refl, λ e. refl, omega arith)) (λ _. cond_both (left - ran == 0) Dry Waiting (IsBack ran left) (λ _. (refl, λ e. absurd (cc), omega arith)) (λ _. (refl, λ e. absurd (cc), omega arith)))
 after_back Cancelled closed ran left = cond_both closed Closed (cond (left - ran == 0) Dry Waiting) (IsBack ran left) (λ _. (refl, λ e. refl, omega arith)) (λ _. cond_both (left - ran == 0) Dry Waiting (IsBack ran left) (λ _. (refl, λ e. absurd (cc), omega arith)) (λ _. (refl, λ e. absurd (cc), omega arith)))
 
-gave_runs : (t : Tenant) (s ran : ℕ) (found : Option JobData) → find_job s t.jobs ≡ found → IsRunning t → Runs (gave t ran found)
-gave_runs t s ran None is it = it
-gave_runs t s ran (Some job) is it =
-    let new : JobData = back ran job in
-    let s1 : Step = record { answer = Replied (reply.Ran ran (line_of new)); after = record t { spent = t.spent + ran; used = t.used + 1; jobs = put_job new.seq new t.jobs } } in
-    cond_both (may_have_run ran job job.phase) s1 (unnoted t NoTurn) Runs
-    (λ may.
-    let turn = turn_ran job job.phase ran may in
-    let stands = after_back job.phase (is_closed job.plan (job.nodes + ran)) ran job.left in
-    changed_runs t s job new (t.spent + ran) is (found_seq s t.jobs job is)
-    (record {
-      entries = omega (arith, it.within, ap {B = ℕ} (λ (b : Bool). cond b 1 0) turn.0, stands.0);
-      more = omega arith;
-      paid = (omega (arith, (paid_found t.spent s t.jobs job is it.jobs).0), stands.1);
-      covered = omega (arith, it.covered, stands.2, turn.1);
-    }) it)
-    (λ _. it)
+runs : (t : Tenant) → IsRunning t → Cases t (λ e f. Runs f t)
+unfolding kept held free
+runs t it = record {
+  full = λ e. it;
+  idle = λ e. it;
+  notes = λ e answer room note. noted_runs t room it;
+  adds = λ plan quanta room some.
+      let job : JobData = fresh_job t plan quanta in
+      record {
+        within = omega (arith, room_is 1 t room, outs_push job t.jobs);
+        few = omega (arith, it.few);
+        jobs = paid_push t.spent job t.jobs (omega arith, λ e. absurd (cc)) it.jobs;
+        covered = omega (arith, it.covered, leb-true quanta (free t) some, held_push job t.jobs);
+      };
+  funds = λ s quanta job room found can.
+      let new : JobData = record job { phase = Waiting; left = job.left + quanta } in
+      changed_runs t s job new 0 (Replied (reply.Line (line_of new))) found refl
+      (record {
+        entries = omega (arith, room_is 1 t room);
+        paid = (omega (arith, (paid_found t.spent s t.jobs job found it.jobs).0), λ e. absurd (cc));
+        covered = omega (arith, it.covered, leb-true quanta (free t) can.some);
+      }) it;
+  cancels = λ s job new room found gone.
+      let less : IsLess job (Some new) = subst (IsLess job) gone (given_up_less job job.phase refl) in
+      changed_runs t s job new 0 (Replied (reply.Line (line_of new))) found less.0
+      (record {
+        entries = omega (arith, room_is 1 t room, less.2);
+        paid = (omega (arith, less.1, (paid_found t.spent s t.jobs job found it.jobs).0), less.4);
+        covered = omega (arith, it.covered, less.3);
+      }) it;
+  drops = λ s job room found ended.
+      subst (λ (n : ℕ). IsRunning (record t { used = t.used + 1; jobs = drop_job n t.jobs })) (sym (found_seq s t.jobs job found))
+      (record {
+        within = omega (arith, room_is 1 t room, outs_drop s t.jobs);
+        few = omega (arith, it.few);
+        jobs = paid_drop t.spent s t.jobs it.jobs;
+        covered = omega (arith, it.covered, held_drop s job t.jobs found);
+      });
+  takes = λ s slice job room found waits.
+      let new : JobData = record job { phase = Out slice } in
+      changed_runs t s job new 0 (Sent (line_of new)) found refl
+      (record {
+        entries = omega (arith, room_is 2 t room);
+        paid = (omega (arith, (paid_found t.spent s t.jobs job found it.jobs).0), λ e. absurd (cc));
+        covered = omega (arith, it.covered);
+      }) it;
+  gives = λ s ran job found may.
+      let new : JobData = back ran job in
+      let turn = turn_ran job job.phase ran may in
+      let stands = after_back job.phase (is_closed job.plan (job.nodes + ran)) ran job.left in
+      changed_runs t s job new ran (Replied (reply.Ran ran (line_of new))) found refl
+      (record {
+        entries = omega (arith, it.within, ap {B = ℕ} (λ (b : Bool). cond b 1 0) turn.0, stands.0);
+        paid = (omega (arith, (paid_found t.spent s t.jobs job found it.jobs).0), stands.1);
+        covered = omega (arith, it.covered, stands.2, turn.1);
+      }) it;
+}
 
-pub step_runs : (t : Tenant) (e : Event) → IsRunning t → Runs (step t e)
-step_runs t (Submit plan quanta) it = submit_runs t plan quanta it
-step_runs t (Fund s quanta) it = command_runs t s (funded t quanta) it (λ room job found. fund_runs t s quanta job found room it)
-step_runs t (Status s) it =
-    let tell : JobData → Step = λ job. noted t (reply.Line (line_of job)) in
-    command_runs t s tell it (λ room job found. noted_runs t (reply.Line (line_of job)) room it)
-step_runs t (Fetch s) it = command_runs t s (fetched t) it (λ room job found. fetch_runs t job room it)
-step_runs t (Cancel s) it = command_runs t s (cancelled t) it (λ room job found. cancel_runs t s job found room it)
-step_runs t (Forget s) it = command_runs t s (forgotten t) it (λ room job found. forget_runs t s job found room it)
-step_runs t Ledger it = cond_both (has_room 1 t) (noted t (reply.Ledger (book t))) (unnoted t (Replied reply.NoRoom)) Runs (λ room. noted_runs t (reply.Ledger (book t)) room it) (λ _. it)
-step_runs t (Take s slice) it = taken_runs t s slice (find_job s t.jobs) refl it
-step_runs t (Give s ran) it = gave_runs t s ran (find_job s t.jobs) refl it
+step_runs : (t : Tenant) (e : Event) → IsRunning t → IsRunning (step t e).after
+step_runs t e it = each_decision t (λ e f. Runs f t) (runs t it) e
 
 -- ---- along a run
 

@@ -1,5 +1,5 @@
 -- What a farm keeps.
-use Rattle.std.specs.Prelude.{◌≡◌, ℕ, ◌+◌, ◌<◌, ◌≤◌, List, [], ◌∷◌, length, map, true, Some, ⊤, IsTrue}
+use Rattle.std.specs.Prelude.{◌≡◌, ◌⊎◌, ℕ, ◌+◌, ◌<◌, ◌≤◌, List, [], ◌∷◌, length, map, true, false, Option, Some, None, ⊤, IsTrue, slice_get}
 use Rattle.std.specs.List.{range_with_len}
 use Rattle.job_table.specs.Table.{Row, JobData}
 use Rattle.job_table.specs.Job.{given_up}
@@ -12,7 +12,7 @@ use Rattle.farm_core.specs.declared.reply.Reply.{Reply}
 use Rattle.farm_core.specs.declared.reply.Reply.TheVariants as reply
 use Rattle.farm_core.specs.Config.{ConfigData, is_config}
 use Rattle.farm_core.specs.Tenant.{Tenant, book, find_job, line_of}
-use Rattle.farm_core.specs.Step.{Replied, funded, has_room, noted}
+use Rattle.farm_core.specs.Step.{Replied, Notes, has_room, to_fund}
 use Rattle.farm_core.specs.World.{World, Call, Run, purse_in, purses_in, account_of, view, is_noted, Follows, IsReplayed}
 use Rattle.farm_core.specs.Truth.{ArePlanned}
 
@@ -68,6 +68,23 @@ pub record IsFarm (w : World) (capacity : ℕ) : Type 0 where
   pub order : AreFrom 0 w.rows
   pub config : IsTrue (is_config w.config)
 
+-- this key stands among these, and it and those before it are of tenants that have no entries for a turn
+abbrev pub IsPassed : World → ℕ × ℕ → List (ℕ × ℕ) → Type 0
+IsPassed w key [] = ⊥
+IsPassed w key (first ∷ keys) = (has_room 2 (view first.0 w) ≡ false) × ((first ≡ key) ⊎ IsPassed w key keys)
+
+-- where a key is given, those who wait are passed up to it
+abbrev pub ArePassed : World → Option (ℕ × ℕ) → Type 0
+ArePassed w None = ⊤
+ArePassed w (Some key) = IsPassed w key w.waiting
+
+-- at some place, behind so many at least, this one waits or none; and those who wait before it are of tenants that have no entries for a turn
+pub record IsNext (w : World) (count : ℕ) (next : Option (ℕ × ℕ)) : Type 0 where
+  pub at : ℕ
+  pub least : count ≤ at
+  pub here : next ≡ slice_get w.waiting at
+  pub before : (j u n : ℕ) → j < at → slice_get w.waiting j ≡ Some (u, n) → has_room 2 (view u w) ≡ false
+
 -- a call makes its tenant's step with this reply; or the journal has room but there was no memory, and nothing has changed
 abbrev pub IsReply : World → ℕ → Event → Reply → World → Type 0
 IsReply old t event reply.NoMemory new = (new ≡ old) × (has_room 1 (view t old) ≡ true)
@@ -75,7 +92,7 @@ IsReply old t event answer new = Follows old t event (Replied answer) new
 
 -- why a job in this phase is not given so many quanta, whatever else stands
 pub record IsFundRefusal (phase : Phase) (quanta : ℕ) (answer : Reply) : Type 0 where
-  pub steps : (t : Tenant) (job : JobData) → job.phase ≡ phase → funded t quanta job ≡ noted t answer
+  pub decides : (t : Tenant) (job : JobData) → job.phase ≡ phase → to_fund t quanta job ≡ Notes answer
   pub noted : is_noted (Replied answer) ≡ true
 
 -- a tenant's job of that number that can be given up, what it frees, and what is told of it then

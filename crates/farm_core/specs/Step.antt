@@ -1,5 +1,5 @@
--- What each call of a tenant is answered, and what becomes of the tenant's part of the farm.
-use Rattle.std.specs.Prelude.{ℕ, ◌+◌, Bool, cond, ◌&&◌, ◌||◌, ◌==◌, nat_le, nat_lt, [], ◌∷◌, ◌++◌, length, Option, Some, None, option_map}
+-- What each call of a tenant comes to, which its part of the farm alone decides, and what that does: five effects for nine calls.
+use Rattle.std.specs.Prelude.{ℕ, ◌+◌, Bool, not, ◌&&◌, ◌||◌, ◌==◌, nat_le, nat_lt, List, [], ◌∷◌, ◌++◌, length, if◌then◌else◌, Option, Some, None, option_map}
 use Rattle.mrcpsp.specs.Schedule.{makespan}
 use Rattle.strategy.specs.Outcome.{best_after, verdict_after}
 use Rattle.strategy.specs.declared.plan.Plan.{Plan}
@@ -25,6 +25,34 @@ pub record Step : Type 0 where
   pub answer : Answer
   pub after : Tenant
 
+-- ---- effects
+
+-- nothing at all; an entry of the journal; an entry and a new job; an entry, and a job that stands otherwise after so many nodes more; an entry,
+-- and a job less
+pub data Effect : Type 0 where
+  Nothing : (answer : Answer) → Effect
+  Notes : (answer : Reply) → Effect
+  Adds : (job : JobData) → Effect
+  Changes : (job : JobData) → (ran : ℕ) → (answer : Answer) → Effect
+  Drops : (seq : ℕ) → Effect
+
+-- each node costs the purse a quantum; all else is the tenant's own
+abbrev pub done : Tenant → Effect → Step
+done t (Nothing answer) = record { answer = answer; after = t }
+done t (Notes answer) = record { answer = Replied answer; after = record t { used = t.used + 1 } }
+done t (Adds job) = record { answer = Replied (reply.Job job.seq); after = record t { used = t.used + 1; next = t.next + 1; jobs = t.jobs ++ job ∷ [] } }
+done t (Changes job ran answer) = record { answer = answer; after = record t { spent = t.spent + ran; used = t.used + 1; jobs = put_job job.seq job t.jobs } }
+done t (Drops seq) = record { answer = Replied (reply.Forgotten seq); after = record t { used = t.used + 1; jobs = drop_job seq t.jobs } }
+
+-- ---- refusals
+
+-- the refusal of the first of these causes that holds, or else the effect
+abbrev pub unless : List (Bool × Reply) → Effect → Effect
+unless [] effect = effect
+unless (cause ∷ causes) effect = if cause.0 then Notes cause.1 else unless causes effect
+
+-- ---- what is asked
+
 -- whether n more entries of the journal are free, beside those that are kept for gives
 abbrev pub has_room : ℕ → Tenant → Bool
 has_room n t = nat_le (t.used + kept t + n) t.terms.entries
@@ -37,97 +65,79 @@ is_amount quanta = nat_lt 0 quanta && nat_le quanta 1000000000000
 abbrev pub is_slice : ℕ → Bool
 is_slice slice = nat_lt 0 slice && nat_le slice 1000000
 
--- the call leaves no entry and changes nothing
-abbrev pub unnoted : Tenant → Answer → Step
-unnoted t answer = record { answer = answer; after = t }
-
--- it leaves an entry
-abbrev pub noted : Tenant → Reply → Step
-noted t answer = record { answer = Replied answer; after = record t { used = t.used + 1 } }
-
--- it leaves an entry, and one job is changed
-abbrev pub changed : Tenant → JobData → Answer → Step
-changed t job answer = record { answer = answer; after = record t { used = t.used + 1; jobs = put_job job.seq job t.jobs } }
+-- ---- what each call comes to, where it is about a job that there is
 
 -- a job for a plan that holds some quanta
 abbrev pub fresh_job : Tenant → Plan → ℕ → JobData
 fresh_job t plan quanta = record { seq = t.next; plan = plan; phase = Waiting; nodes = 0; left = quanta }
 
-unfoldable pub submitted : Tenant → Plan → ℕ → Step
-submitted t plan quanta =
-    cond (is_amount quanta)
-    (cond (nat_lt (length t.jobs) t.terms.jobs)
-    (cond (nat_le quanta (free t))
-    (record { answer = Replied (reply.Job t.next); after = record t { used = t.used + 1; next = t.next + 1; jobs = t.jobs ++ fresh_job t plan quanta ∷ [] } })
-    (noted t (reply.NoShort (free t))))
-    (noted t reply.NoJobs))
-    (noted t reply.NoAmount)
+unfoldable pub to_submit : Tenant → Plan → ℕ → Effect
+to_submit t plan quanta = unless
+    ((not (is_amount quanta), reply.NoAmount)
+    ∷ (not (nat_lt (length t.jobs) t.terms.jobs), reply.NoJobs)
+    ∷ (not (nat_le quanta (free t)), reply.NoShort (free t))
+    ∷ [])
+    (Adds (fresh_job t plan quanta))
 
--- a call about a job that the tenant has
-abbrev pub about : Tenant → Option JobData → (JobData → Step) → Step
-about t None f = noted t reply.NoUnknown
-about t (Some job) f = f job
+unfoldable pub to_fund : Tenant → ℕ → JobData → Effect
+to_fund t quanta job = unless
+    ((is_out job.phase, reply.NoBusy)
+    ∷ (is_ended job.phase, reply.NoOver)
+    ∷ (not (is_amount quanta), reply.NoAmount)
+    ∷ (not (nat_le quanta (free t)), reply.NoShort (free t))
+    ∷ [])
+    (let new : JobData = record job { phase = Waiting; left = job.left + quanta } in Changes new 0 (Replied (reply.Line (line_of new))))
 
-unfoldable pub funded : Tenant → ℕ → JobData → Step
-funded t quanta job =
-    cond (is_out job.phase) (noted t reply.NoBusy)
-    (cond (is_ended job.phase) (noted t reply.NoOver)
-    (cond (is_amount quanta)
-    (cond (nat_le quanta (free t))
-    (let new : JobData = record job { phase = Waiting; left = job.left + quanta } in changed t new (Replied (reply.Line (line_of new))))
-    (noted t (reply.NoShort (free t))))
-    (noted t reply.NoAmount)))
-
-unfoldable pub fetched : Tenant → JobData → Step
-fetched t job =
-    cond (is_out job.phase) (noted t reply.NoBusy)
+unfoldable pub to_fetch : JobData → Effect
+to_fetch job = unless ((is_out job.phase, reply.NoBusy) ∷ [])
     (let best = best_after job.plan job.nodes in
-    noted t (reply.Best job.seq best (option_map (makespan job.plan.project) best) (verdict_after job.plan job.nodes)))
+    Notes (reply.Best job.seq best (option_map (makespan job.plan.project) best) (verdict_after job.plan job.nodes)))
 
-abbrev pub cancelled_as : Tenant → Option JobData → Step
-cancelled_as t None = noted t reply.NoOver
-cancelled_as t (Some new) = changed t new (Replied (reply.Line (line_of new)))
+abbrev pub to_stand : Option JobData → Effect
+to_stand None = Notes reply.NoOver
+to_stand (Some new) = Changes new 0 (Replied (reply.Line (line_of new)))
 
-unfoldable pub cancelled : Tenant → JobData → Step
-cancelled t job = cancelled_as t (given_up job job.phase)
+unfoldable pub to_cancel : JobData → Effect
+to_cancel job = to_stand (given_up job job.phase)
 
-unfoldable pub forgotten : Tenant → JobData → Step
-forgotten t job =
-    cond (is_ended job.phase)
-    (record { answer = Replied (reply.Forgotten job.seq); after = record t { used = t.used + 1; jobs = drop_job job.seq t.jobs } })
-    (noted t reply.NoBusy)
+unfoldable pub to_forget : JobData → Effect
+to_forget job = unless ((not (is_ended job.phase), reply.NoBusy) ∷ []) (Drops job.seq)
 
--- a command, where the journal has room for it
-abbrev pub commanded : Tenant → Step → Step
-commanded t step = cond (has_room 1 t) step (unnoted t (Replied reply.NoRoom))
-
--- a turn goes out, and one entry is kept for its give
-abbrev pub taken : Tenant → ℕ → Option JobData → Step
-taken t slice None = unnoted t NoTurn
-taken t slice (Some job) =
-    cond (is_waiting job.phase && is_slice slice && has_room 2 t)
-    (let new : JobData = record job { phase = Out slice } in changed t new (Sent (line_of new)))
-    (unnoted t NoTurn)
+abbrev pub to_take : Tenant → ℕ → JobData → Effect
+to_take t slice job = if is_waiting job.phase && is_slice slice && has_room 2 t
+    then (let new : JobData = record job { phase = Out slice } in Changes new 0 (Sent (line_of new)))
+    else Nothing NoTurn
 
 -- a turn that is back ran nothing, or all that it could
 abbrev pub may_have_run : ℕ → JobData → Phase → Bool
 may_have_run ran job phase = is_out phase && ((ran == 0) || (ran == nodes_out_in job phase))
 
-abbrev pub gave : Tenant → ℕ → Option JobData → Step
-gave t ran None = unnoted t NoTurn
-gave t ran (Some job) =
-    cond (may_have_run ran job job.phase)
-    (let new : JobData = back ran job in
-    record { answer = Replied (reply.Ran ran (line_of new)); after = record t { spent = t.spent + ran; used = t.used + 1; jobs = put_job new.seq new t.jobs } })
-    (unnoted t NoTurn)
+abbrev pub to_give : ℕ → JobData → Effect
+to_give ran job = if may_have_run ran job job.phase
+    then (let new : JobData = back ran job in Changes new ran (Replied (reply.Ran ran (line_of new))))
+    else Nothing NoTurn
+
+-- ---- calls
+
+-- about the tenant's job of that number, or what is done where there is none
+abbrev pub about : Effect → (JobData → Effect) → Option JobData → Effect
+about none f None = none
+about none f (Some job) = f job
+
+-- a command, where the journal has room for it
+abbrev pub command : Tenant → Effect → Effect
+command t effect = if has_room 1 t then effect else Nothing (Replied reply.NoRoom)
+
+abbrev pub decided : Tenant → Event → Effect
+decided t (Submit plan quanta) = command t (to_submit t plan quanta)
+decided t (Fund s quanta) = command t (about (Notes reply.NoUnknown) (to_fund t quanta) (find_job s t.jobs))
+decided t (Status s) = command t (about (Notes reply.NoUnknown) (λ job. Notes (reply.Line (line_of job))) (find_job s t.jobs))
+decided t (Fetch s) = command t (about (Notes reply.NoUnknown) to_fetch (find_job s t.jobs))
+decided t (Cancel s) = command t (about (Notes reply.NoUnknown) to_cancel (find_job s t.jobs))
+decided t (Forget s) = command t (about (Notes reply.NoUnknown) to_forget (find_job s t.jobs))
+decided t Ledger = command t (Notes (reply.Ledger (book t)))
+decided t (Take s slice) = about (Nothing NoTurn) (to_take t slice) (find_job s t.jobs)
+decided t (Give s ran) = about (Nothing NoTurn) (to_give ran) (find_job s t.jobs)
 
 abbrev pub step : Tenant → Event → Step
-step t (Submit plan quanta) = commanded t (submitted t plan quanta)
-step t (Fund s quanta) = commanded t (about t (find_job s t.jobs) (funded t quanta))
-step t (Status s) = commanded t (about t (find_job s t.jobs) (λ job. noted t (reply.Line (line_of job))))
-step t (Fetch s) = commanded t (about t (find_job s t.jobs) (fetched t))
-step t (Cancel s) = commanded t (about t (find_job s t.jobs) (cancelled t))
-step t (Forget s) = commanded t (about t (find_job s t.jobs) (forgotten t))
-step t Ledger = commanded t (noted t (reply.Ledger (book t)))
-step t (Take s slice) = taken t slice (find_job s t.jobs)
-step t (Give s ran) = gave t ran (find_job s t.jobs)
+step t e = done t (decided t e)

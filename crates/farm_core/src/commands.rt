@@ -48,7 +48,7 @@ fn submission(alloc: Global, plan: &Plan, quanta: u64) -> Result<Event, AllocErr
 }
 
 /// Why a job in this phase is not given so many quanta.
-#[tactic(auto, unfolding(crate::specs::Step::funded))]
+#[tactic(auto, unfolding(crate::specs::Step::to_fund))]
 fn fund_refusal(phase: Phase, quanta: u64) -> Option<Reply>
     ensures refused { IfSome result (λ reply. IsFundRefusal phase quanta reply) }
     ensures out { IfNone result (is_out phase ≡ false) }
@@ -325,8 +325,10 @@ impl<J: Strategy> Farm<J> {
         }
         let purse = self.purse_of(tenant);
         let mut account = self.account(tenant);
+        let passed = self.passed_without(tenant);
         account.book.free_up(freed);
         account.used += 1;
+        self.passed = passed;
         self.jobs.cancel(tenant, seq);
         write_down(
             &mut self.ledgers,
@@ -367,10 +369,12 @@ impl<J: Strategy> Farm<J> {
         }
         let purse = self.purse_of(tenant);
         let mut account = self.account(tenant);
+        let passed = self.passed_without(tenant);
         let Ok(()) = keep_room(&mut self.journal, self.jobs.len()) else {
             return Reply::NoMemory;
         };
         account.used += 1;
+        self.passed = passed;
         self.jobs.remove(tenant, seq);
         write_down(
             &mut self.ledgers,

@@ -1,11 +1,11 @@
 //! The farm.
-ghost use Rattle.std.specs.Prelude.{◌≡◌, ℕ, ◌<◌, ◌≤◌, ◌+◌, ◌++◌, ◌*◌, [], ◌∷◌, IsTrue, true, length, map, get_or, option_map, slice_set, IfOk, OnOk};
+ghost use Rattle.std.specs.Prelude.{◌≡◌, ℕ, ◌<◌, ◌≤◌, ◌+◌, ◌++◌, ◌*◌, [], ◌∷◌, IsTrue, true, length, map, get_or, option_map, slice_set, false, None, IfOk, OnOk};
 ghost use Rattle.std.specs.Vec.{vec_len, vec_capacity};
 ghost use Rattle.farm_core.specs.Tenant.{book, ledger_of, find_job, line_of};
 ghost use Rattle.farm_core.specs.Step.{has_room};
 ghost use Rattle.farm_core.specs.World.{World, table_of, purse, view, account_of, new_numbers, opened, opened_books, purse_in, purses_in, IsReplayed, IsOnlyNoted};
 ghost use Rattle.farm_core.specs.Config.{is_config};
-ghost use Rattle.farm_core.specs.Farm.{IsAccount, IsReached, IsReply, purse_numbers};
+ghost use Rattle.farm_core.specs.Farm.{IsAccount, IsReached, IsReply, ArePassed, purse_numbers};
 ghost use Rattle.farm_core.specs.Truth.{IsPlanned};
 
 use crate::purses::granted_to;
@@ -31,13 +31,16 @@ pub struct Farm<J> {
     pub(crate) jobs: JobTable<J>,
     pub(crate) journal: Vec<Entry>,
     pub(crate) ledgers: Ledgers,
+    /// Up to this waiting job each is of a tenant that has no entries for a turn, and so never has them again: who looks for
+    /// the next turn begins behind it.
+    pub(crate) passed: Option<(u32, u64)>,
 }
 
 impl<J> Model for Farm<J> {
     ghost use Rattle.std.specs.Vec.{vec_capacity};
     ghost use Rattle.farm_core.specs.World.{World};
     ghost use Rattle.std.specs.Prelude.{◌≡◌};
-    ghost use Rattle.farm_core.specs.Farm.{IsFarm, purse_numbers};
+    ghost use Rattle.farm_core.specs.Farm.{IsFarm, ArePassed, purse_numbers};
 
     ghost Value = { World };
 
@@ -45,7 +48,8 @@ impl<J> Model for Farm<J> {
 
     ghost invariant = { λ f.
         IsFarm (record { config = f.config; rows = f.jobs.rows; waiting = f.jobs.waiting; journal = f.journal.items; books = f.ledgers.books.items; numbers = f.ledgers.numbers.items }) (vec_capacity f.journal)
-        × (f.ledgers.purses.items ≡ purse_numbers f.config) };
+        × (f.ledgers.purses.items ≡ purse_numbers f.config)
+        × ArePassed (record { config = f.config; rows = f.jobs.rows; waiting = f.jobs.waiting; journal = f.journal.items; books = f.ledgers.books.items; numbers = f.ledgers.numbers.items }) f.passed };
 }
 
 /// The number of each tenant's purse. A configuration keeps its limits.
@@ -155,6 +159,7 @@ impl<J> Farm<J> {
             jobs: JobTable::new(alloc),
             journal: Vec::new(alloc),
             ledgers,
+            passed: None,
         })
     }
 
@@ -245,6 +250,21 @@ impl<J> Farm<J> {
         let limit = self.config.tenants()[tenant as usize].entries;
         let used = self.account(tenant).used;
         used + self.jobs.out_of(tenant) as u64 + entries <= limit
+    }
+
+    /// Up to which job all are passed once one of this tenant's is gone. Where the tenant has no entries for a turn, that may be
+    /// the last that was passed, and it begins at the first again: once for each tenant, since a call that a job goes by
+    /// takes the only entry that is left.
+    pub(crate) fn passed_without(&self, tenant: u32) -> Option<(u32, u64)>
+        requires { tenant < length self.now.config.tenants }
+        ensures passed { ArePassed self.now result }
+        ensures begins { has_room 2 (view tenant self.now) ≡ false → result ≡ None }
+    {
+        if self.has_room(tenant, 2) {
+            self.passed
+        } else {
+            None
+        }
     }
 
     /// Answers a command that changes no job: leaves its entry, where there is room and memory for one.

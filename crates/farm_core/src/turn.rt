@@ -6,6 +6,7 @@ ghost use Rattle.farm_core.specs.Tenant.{line_of};
 ghost use Rattle.farm_core.specs.Step.{is_slice, has_room};
 ghost use Rattle.farm_core.specs.World.{World, view};
 ghost use Rattle.strategy.specs.Search.{nodes_within, ran_on};
+ghost use Rattle.farm_core.specs.Farm.{ArePassed, IsNext};
 ghost use Rattle.farm_core.specs.Turn.{IsTurn, IsTaken, IsNotTaken, IsGiven, IsIdle, IsReady, IsFirstReady};
 
 use crate::farm::{keep_room, line_of, write_down};
@@ -20,6 +21,13 @@ pub struct Turn<J> {
     pub(crate) slice: u64,
     pub(crate) ran: u64,
     pub(crate) search: J,
+}
+
+/// The job whose turn is next, where there is one, and up to which all are passed.
+#[derive(Clone, Copy)]
+struct Next {
+    ready: Option<(u32, u64)>,
+    passed: Option<(u32, u64)>,
 }
 
 /// A turn that is of no job of the farm.
@@ -193,29 +201,53 @@ impl<J: Strategy> Farm<J> {
         Ok(Reply::Ran(ran, line))
     }
 
-    /// The first job of which a turn of at most so many nodes can be taken, in the order of their turns.
-    fn next_ready(&self, slice: u64) -> Option<(u32, u64)>
-        ensures first { IfSome result (λ key. IsFirstReady self.now key.0 key.1 slice) }
-        ensures idle { IfNone result (IsIdle self.now slice) }
+    /// The first of the waiting jobs that are not known to be passed.
+    fn first_unpassed(&self) -> Option<(u32, u64)>
+        ensures { IsNext self.now 0 result }
     {
-        if !is_slice(slice) {
-            return None;
+        match self.passed {
+            Some((tenant, seq)) => self.jobs.next_waiting(tenant, seq),
+            None => self.jobs.first_waiting(),
         }
-        let mut at = self.jobs.first_waiting();
+    }
+
+    /// The first job of which a turn of at most so many nodes can be taken, in the order of their turns. Goes over those that
+    /// are not known to be passed yet.
+    fn next_ready(&self, slice: u64) -> Next
+        ensures first { IfSome result.ready (λ key. IsFirstReady self.now key.0 key.1 slice) }
+        ensures idle { IfNone result.ready (IsIdle self.now slice) }
+        ensures passed { ArePassed self.now result.passed }
+    {
+        let mut passed = self.passed;
+        if !is_slice(slice) {
+            return Next {
+                ready: None,
+                passed,
+            };
+        }
+        let mut at = self.first_unpassed();
         for i in 0..self.jobs.waiting_len() {
             let Some((tenant, seq)) = at else {
-                return None;
+                return Next {
+                    ready: None,
+                    passed,
+                };
             };
             if self.has_room(tenant, 2) {
-                return Some((tenant, seq));
+                return Next { ready: at, passed };
             }
+            passed = at;
             at = self.jobs.next_waiting(tenant, seq);
         }
-        None
+        Next {
+            ready: None,
+            passed,
+        }
     }
 
     /// Takes a turn of the first waiting job whose tenant has entries for it, in the order of their turns: a job that comes
-    /// back stands behind those that wait. Only where there is one is there `NoMemory`.
+    /// back stands behind those that wait. Only where there is one is there `NoMemory`. Goes over a waiting job of a tenant
+    /// without entries once, and over all of these again where such a tenant cancels or forgets a job, which it can do once.
     pub fn take_next(&mut self, slice: u64) -> Result<Turn<J>, NoTurn>
         ensures taken { IfOk result (λ turn. IsTaken self.old turn.tenant turn.seq slice (J.meaning turn.search) self.new) }
         ensures first { IfOk result (λ turn. IsFirstReady self.old turn.tenant turn.seq slice) }
@@ -227,7 +259,9 @@ impl<J: Strategy> Farm<J> {
         ensures ready { IfErr result (λ why. why ≡ NoTurn.NoMemory → (t : ℕ) × (s : ℕ) × IsReady self.old t s slice) }
         ensures kept { OnErr result (self.new ≡ self.old) }
     {
-        let Some((tenant, seq)) = self.next_ready(slice) else {
+        let next = self.next_ready(slice);
+        self.passed = next.passed;
+        let Some((tenant, seq)) = next.ready else {
             return Err(NoTurn::None);
         };
         self.take(tenant, seq, slice)

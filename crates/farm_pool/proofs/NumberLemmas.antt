@@ -10,12 +10,14 @@ use Rattle.farm_core.specs.declared.config.TenantLine.{TenantLine}
 use Rattle.farm_core.specs.declared.entry.Entry.{Entry}
 use Rattle.farm_core.specs.declared.entry.Event.{Event}
 use Rattle.farm_core.specs.declared.entry.Event.TheVariants.{Submit, Fund, Status, Fetch, Cancel, Forget, Ledger, Take, Give}
+use Rattle.farm_core.specs.declared.reply.Reply.{Reply}
 use Rattle.farm_core.specs.declared.reply.Reply.TheVariants as reply
 use Rattle.farm_core.specs.Purses.{members_of}
 use Rattle.farm_core.specs.Config.{ConfigData, no_terms, purse_names}
 use Rattle.farm_core.specs.Tenant.{Tenant, Member, Purse, new_member, newcomers, no_member, seat, own_of, with_seat, find_job, free}
-use Rattle.farm_core.specs.Step.{Replied, Step, step, has_room, is_amount, is_slice, unnoted, noted, submitted, about, funded, fetched, cancelled_as, cancelled, forgotten, commanded, taken, may_have_run, gave}
+use Rattle.farm_core.specs.Step.{Replied, Step, done, step}
 use Rattle.farm_core.specs.World.{Asked, purse_in, place_in, opened_purse, events_of, after_alone}
+use Rattle.farm_core.proofs.DecisionLemmas.{Tells, each_decision}
 use Rattle.farm_core.proofs.SeatLemmas.{named, place_known}
 use Rattle.farm_core.proofs.ViewLemmas.{set_own}
 use Rattle.farm_pool.specs.Laws.{WasSubmitted}
@@ -24,76 +26,33 @@ use Rattle.farm_pool.proofs.EntryLemmas.{IsSound, AreSound, sound_back, sound_ta
 
 -- ---- a step gives the next number, or none
 
-abbrev Keeps : Tenant → Step → Type 0
-Keeps t s = s.after.next ≡ t.next
-
--- a submit that makes a job gives it the next number, and counts on
+-- a call that makes a job gives it the next number, and counts on
 record IsNumbered (t : Tenant) (s : Step) : Type 0 where
   grows : t.next ≤ s.after.next
   gives : (n : ℕ) → s.answer ≡ Replied (reply.Job n) → (n ≡ t.next) × (s.after.next ≡ n + 1)
 
-submit_numbered : (t : Tenant) (plan : Plan) (quanta : ℕ) → IsNumbered t (step t (Submit plan quanta))
-unfolding submitted
-submit_numbered t plan quanta =
-    cond_both (has_room 1 t) _ (unnoted t (Replied reply.NoRoom)) (IsNumbered t)
-    (λ _. cond_both (is_amount quanta) _ (noted t reply.NoAmount) (IsNumbered t)
-    (λ _. cond_both (nat_lt (length t.jobs) t.terms.jobs) _ (noted t reply.NoJobs) (IsNumbered t)
-    (λ _. cond_both (nat_le quanta (free t)) _ (noted t (reply.NoShort (free t))) (IsNumbered t)
-    (λ _. record { grows = omega arith; gives = λ n is. let same : t.next ≡ n = cc in (sym same, ap (λ k. k + 1) same) })
-    (λ _. record { grows = omega arith; gives = λ n is. absurd (cc) }))
-    (λ _. record { grows = omega arith; gives = λ n is. absurd (cc) }))
-    (λ _. record { grows = omega arith; gives = λ n is. absurd (cc) }))
-    (λ _. record { grows = omega arith; gives = λ n is. absurd (cc) })
+-- a note is of no job that was made
+note_makes : (t : Tenant) (answer : Reply) (n : ℕ) → Tells t answer → Replied answer ≡ Replied (reply.Job n) → ⊥
+note_makes t (reply.Job m) n tells is = tells
+note_makes t answer n tells is = absurd (cc)
 
-about_keeps : (t : Tenant) (found : Option JobData) (f : JobData → Step) → ((job : JobData) → Keeps t (f job)) → Keeps t (commanded t (about t found f))
-about_keeps t None f each = cond_both (has_room 1 t) (noted t reply.NoUnknown) (unnoted t (Replied reply.NoRoom)) (Keeps t) (λ _. refl) (λ _. refl)
-about_keeps t (Some job) f each = cond_both (has_room 1 t) (f job) (unnoted t (Replied reply.NoRoom)) (Keeps t) (λ _. each job) (λ _. refl)
-
-fund_keeps : (t : Tenant) (quanta : ℕ) (job : JobData) → Keeps t (funded t quanta job)
-unfolding funded
-fund_keeps t quanta job =
-    cond_both (is_out job.phase) (noted t reply.NoBusy) _ (Keeps t) (λ _. refl)
-    (λ _. cond_both (is_ended job.phase) (noted t reply.NoOver) _ (Keeps t) (λ _. refl)
-    (λ _. cond_both (is_amount quanta) _ (noted t reply.NoAmount) (Keeps t)
-    (λ _. cond_both (nat_le quanta (free t)) _ (noted t (reply.NoShort (free t))) (Keeps t) (λ _. refl) (λ _. refl)) (λ _. refl)))
-
-fetch_keeps : (t : Tenant) (job : JobData) → Keeps t (fetched t job)
-unfolding fetched
-fetch_keeps t job = cond_both (is_out job.phase) (noted t reply.NoBusy) _ (Keeps t) (λ _. refl) (λ _. refl)
-
-gone_keeps : (t : Tenant) (new : Option JobData) → Keeps t (cancelled_as t new)
-gone_keeps t None = refl
-gone_keeps t (Some new) = refl
-
-cancel_keeps : (t : Tenant) (job : JobData) → Keeps t (cancelled t job)
-unfolding cancelled
-cancel_keeps t job = gone_keeps t (given_up job job.phase)
-
-forget_keeps : (t : Tenant) (job : JobData) → Keeps t (forgotten t job)
-unfolding forgotten
-forget_keeps t job = cond_both (is_ended job.phase) _ (noted t reply.NoBusy) (Keeps t) (λ _. refl) (λ _. refl)
-
-take_keeps : (t : Tenant) (slice : ℕ) (found : Option JobData) → Keeps t (taken t slice found)
-take_keeps t slice None = refl
-take_keeps t slice (Some job) = cond_both (is_waiting job.phase && is_slice slice && has_room 2 t) _ _ (Keeps t) (λ _. refl) (λ _. refl)
-
-give_keeps : (t : Tenant) (ran : ℕ) (found : Option JobData) → Keeps t (gave t ran found)
-give_keeps t ran None = refl
-give_keeps t ran (Some job) = cond_both (may_have_run ran job job.phase) _ _ (Keeps t) (λ _. refl) (λ _. refl)
+step_numbered : (t : Tenant) (e : Event) → IsNumbered t (step t e)
+step_numbered t =
+    each_decision t (λ e f. IsNumbered t (done t f))
+    (record {
+      full = λ e. record { grows = omega arith; gives = λ n is. absurd (cc) };
+      idle = λ e. record { grows = omega arith; gives = λ n is. absurd (cc) };
+      notes = λ e answer room it. record { grows = omega arith; gives = λ n is. absurd (note_makes t answer n it.tells is) };
+      adds = λ plan quanta room some. record { grows = omega arith; gives = λ n is. let same : t.next ≡ n = cc in (sym same, ap (λ k. k + 1) same) };
+      funds = λ s quanta job room found can. record { grows = omega arith; gives = λ n is. absurd (cc) };
+      cancels = λ s job new room found gone. record { grows = omega arith; gives = λ n is. absurd (cc) };
+      drops = λ s job room found ended. record { grows = omega arith; gives = λ n is. absurd (cc) };
+      takes = λ s slice job room found waits. record { grows = omega arith; gives = λ n is. absurd (cc) };
+      gives = λ s ran job found may. record { grows = omega arith; gives = λ n is. absurd (cc) };
+    })
 
 least : (a b : ℕ) → b ≡ a → a ≤ b
 least a b is = omega arith
-
-step_grows : (t : Tenant) (e : Event) → t.next ≤ (step t e).after.next
-step_grows t (Submit plan quanta) = (submit_numbered t plan quanta).grows
-step_grows t (Fund s quanta) = least _ _ (about_keeps t (find_job s t.jobs) (funded t quanta) (fund_keeps t quanta))
-step_grows t (Status s) = least _ _ (about_keeps t (find_job s t.jobs) _ (λ job. refl))
-step_grows t (Fetch s) = least _ _ (about_keeps t (find_job s t.jobs) (fetched t) (fetch_keeps t))
-step_grows t (Cancel s) = least _ _ (about_keeps t (find_job s t.jobs) (cancelled t) (cancel_keeps t))
-step_grows t (Forget s) = least _ _ (about_keeps t (find_job s t.jobs) (forgotten t) (forget_keeps t))
-step_grows t Ledger = least _ _ (cond_both (has_room 1 t) _ (unnoted t (Replied reply.NoRoom)) (Keeps t) (λ _. refl) (λ _. refl))
-step_grows t (Take s slice) = least _ _ (take_keeps t slice (find_job s t.jobs))
-step_grows t (Give s ran) = least _ _ (give_keeps t ran (find_job s t.jobs))
 
 -- ---- over entries
 
@@ -130,7 +89,7 @@ next_more config before e t sound =
     let u = e.tenant in
     let own : next_at config before u ≤ next_at config (before ++ e ∷ []) u =
     subst (λ n. next_at config before u ≤ n) (sym (ap (λ (m : Member). m.next) (own_on config before e sound.known)))
-    (step_grows (tenant_at config before u) e.event) in
+    (step_numbered (tenant_at config before u) e.event).grows in
     ⊎_elim
     (λ (same : t ≡ u). subst (λ v. next_at config before v ≤ next_at config (before ++ e ∷ []) v) (sym same) own)
     (λ (differ : t ≡ u → ⊥). least _ _ (ap (λ (m : Member). m.next) (member_off config before e t sound.known differ)))
@@ -164,8 +123,8 @@ later_greater config entries t s n plan other sound here there less =
     let it = between entries here.at there.at e (record { tenant = t; event = Submit other there.quanta }) here.entry there.entry less in
     let all : AreSound config ((first ++ e ∷ []) ++ it.0) = subst (AreSound config) it.1 (sound_take config there.at entries sound) in
     let sounds : IsSound config e = (sound_back config first (e ∷ it.0) (subst (AreSound config) (append_assoc first (e ∷ []) it.0) all)).0 in
-    let one = (submit_numbered (tenant_at config first t) plan here.quanta).gives s (sym here.answered.answer_is) in
-    let two = (submit_numbered (tenant_at config (take there.at entries) t) other there.quanta).gives n (sym there.answered.answer_is) in
+    let one = (step_numbered (tenant_at config first t) (Submit plan here.quanta)).gives s (sym here.answered.answer_is) in
+    let two = (step_numbered (tenant_at config (take there.at entries) t) (Submit other there.quanta)).gives n (sym there.answered.answer_is) in
     let after : next_at config (first ++ e ∷ []) t ≡ s + 1 = ap (λ (m : Member). m.next) (own_on config first e sounds.known) ∙ one.1 in
     let grown : next_at config (first ++ e ∷ []) t ≤ next_at config ((first ++ e ∷ []) ++ it.0) t =
     next_grows config (first ++ e ∷ []) it.0 t (sound_back config (first ++ e ∷ []) it.0 all) in

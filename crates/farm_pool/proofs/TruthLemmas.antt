@@ -12,10 +12,10 @@ use Rattle.farm_core.specs.declared.reply.Reply.{Reply}
 use Rattle.farm_core.specs.declared.reply.Reply.TheVariants as reply
 use Rattle.farm_core.specs.Config.{ConfigData, lines_of}
 use Rattle.farm_core.specs.Tenant.{Tenant, Member, Purse, new_member, newcomers, no_member, seat, own_of, free}
-use Rattle.farm_core.specs.Step.{Replied, Step, step, has_room, is_amount, unnoted, noted, submitted}
+use Rattle.farm_core.specs.Step.{Replied, step}
 use Rattle.farm_core.specs.World.{purse_in, place_in}
 use Rattle.farm_core.specs.Truth.{IsTrueReply, IsTrueAnswer, IsPlanned}
-use Rattle.farm_core.proofs.TruthLemmas.{Made, AreKnown, IsGood, Makes, step_good}
+use Rattle.farm_core.proofs.TruthLemmas.{Made, AreKnown, IsGood, Makes, step_good, step_told}
 use Rattle.turn_lock.specs.History as history
 use Rattle.turn_lock.specs.History.{listed}
 use Rattle.farm_pool.specs.Laws.{WasSubmitted, EachReplyIsTrue}
@@ -101,32 +101,6 @@ knows_all : (config : ConfigData) (entries : List Entry) (t : ℕ) → AreSound 
 knows_all config entries t sound = knows_on config entries [] entries refl sound (knows_none config entries) t
 
 -- ---- what is answered
-
--- a submit tells nothing of a job but its number
-submit_told : (made : Made) (t : Tenant) (plan : Plan) (quanta : ℕ) → IsTrueAnswer made (step t (Submit plan quanta)).answer
-unfolding submitted
-submit_told made t plan quanta =
-    let Goal : Step → Type 0 = λ s. IsTrueAnswer made s.answer in
-    cond_both (has_room 1 t) _ (unnoted t (Replied reply.NoRoom)) Goal
-    (λ _. cond_both (is_amount quanta) _ (noted t reply.NoAmount) Goal
-    (λ _. cond_both (nat_lt (length t.jobs) t.terms.jobs) _ (noted t reply.NoJobs) Goal
-    (λ _. cond_both (nat_le quanta (free t)) _ (noted t (reply.NoShort (free t))) Goal (λ _. tt) (λ _. tt)) (λ _. tt)) (λ _. tt)) (λ _. tt)
-
--- each other step tells the truth of the jobs that are known
-other_told : (made : Made) (t : Tenant) (e : Event) → AreKnown made t.jobs → IsPlanned e
-    → ((plan : Plan) (quanta : ℕ) → e ≢ Submit plan quanta) → IsTrueAnswer made (step t e).answer
-other_told made t e known planned other = (step_good made t e known planned (λ plan quanta s is answer. absurd (other plan quanta is))).answer
-
-step_told : (made : Made) (t : Tenant) (e : Event) → AreKnown made t.jobs → IsTrueAnswer made (step t e).answer
-step_told made t (Submit plan quanta) known = submit_told made t plan quanta
-step_told made t (Fund s quanta) known = other_told made t (Fund s quanta) known tt (λ plan n is. absurd (cc))
-step_told made t (Status s) known = other_told made t (Status s) known tt (λ plan n is. absurd (cc))
-step_told made t (Fetch s) known = other_told made t (Fetch s) known tt (λ plan n is. absurd (cc))
-step_told made t (Cancel s) known = other_told made t (Cancel s) known tt (λ plan n is. absurd (cc))
-step_told made t (Forget s) known = other_told made t (Forget s) known tt (λ plan n is. absurd (cc))
-step_told made t Ledger known = other_told made t Ledger known tt (λ plan n is. absurd (cc))
-step_told made t (Take s slice) known = other_told made t (Take s slice) known tt (λ plan n is. absurd (cc))
-step_told made t (Give s ran) known = other_told made t (Give s ran) known tt (λ plan n is. absurd (cc))
 
 step_true : (config : ConfigData) (before : List Entry) (t : ℕ) (event : Event) (entry : Option Entry) (r : Reply) → AreSound config before
     → IsStep config before t event entry (Replied r) → IsTrueReply (WasSubmitted config before t) r

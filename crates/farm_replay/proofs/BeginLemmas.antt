@@ -19,7 +19,8 @@ use Rattle.session_lines.specs.declared.request.LineFault.TheVariants.{TooLong, 
 use Rattle.session_lines.specs.declared.said.Said.{Said}
 use Rattle.session_lines.specs.ReplyText.{who_text, said_text}
 use Rattle.session_lines.specs.RequestLine.{name_in, tenant_in, what_in, turn_in, submit_in, opens, asks, own_line, turn_for, turn_line, line_for, meaning_in, meaning_of}
-use Rattle.session_lines.specs.Script.{shown, is_long, is_wordless, judged, TextData, opened, with_line, Item, submitted, whole_text, cut_text, heads, requests, lines_of, requests_of}
+use Rattle.session_lines.specs.Script.{shown, is_long, is_wordless, judged, TextData, opened, with_line, Item, submitted, whole_text, cut_text, outside_text, before, requests, lines_of, requests_of}
+use Rattle.session_lines.proofs.ReadLemmas.{grown}
 use Rattle.farm_replay.specs.Output.{Parts, Saying, Refused, Nowhere, Reading, Answering, unread, Marked, next, items_of, opening, lines_for, line_text}
 use Rattle.farm_replay.specs.Isolation.{who_in, who_first, is_of}
 use Rattle.farm_replay.specs.Begins.{begins_with, LinesTellWhose}
@@ -145,14 +146,6 @@ abbrev pub AreNamed : List Item → Type 0
 AreNamed [] = ⊤
 AreNamed (item ∷ items) = IsNamedItem item × AreNamed items
 
-heads_named : (meaning : Meaning) (later : List Item) (text : Head → List Item) → IsNamedMeaning meaning → AreNamed later → ((head : Head) → is_name head.who ≡ true → AreNamed (text head))
-    → AreNamed (heads meaning later text)
-heads_named Blank later text h rest more = rest
-heads_named (Whole request) later text h rest more = ((tt, h), rest)
-heads_named (Opens head) later text h rest more = more head h
-heads_named Long later text h rest more = ((tt, tt), rest)
-heads_named (Bad who) later text h rest more = ((tt, h), rest)
-
 abbrev IsNamedText : Option TextData → Type 0
 IsNamedText None = ⊤
 IsNamedText (Some text) = is_name text.head.who ≡ true
@@ -161,12 +154,20 @@ lines_named : (text : Option TextData) (lines : List (List ℕ)) → IsNamedText
 lines_named None [] h = tt
 lines_named (Some text) [] h = (cut_named text h, tt)
 lines_named None (line ∷ lines) h =
-    heads_named (judged line) (requests None lines) (λ head. requests (Some (opened head)) lines) (judged_named line) (lines_named None lines tt)
-    (λ head named. lines_named (Some (opened head)) lines named)
+    go (judged line) (judged_named line) (lines_named None lines tt) (λ head named. lines_named (Some (opened head)) lines named)
+  where
+    go : (meaning : Meaning) → IsNamedMeaning meaning → AreNamed (requests None lines) → ((head : Head) → is_name head.who ≡ true → AreNamed (requests (Some (opened head)) lines))
+        → AreNamed (before (outside_text meaning).whole (requests (outside_text meaning).text lines))
+    go Blank h later inside = later
+    go (Whole request) h later inside = ((tt, h), later)
+    go (Opens head) h later inside = inside head h
+    go Long h later inside = ((tt, tt), later)
+    go (Bad who) h later inside = ((tt, h), later)
 lines_named (Some text) (line ∷ lines) h =
-    elim ((with_line text line).left == 0) as (λ b. AreNamed (if b then whole_text (with_line text line) ∷ requests None lines else requests (Some (with_line text line)) lines)) [
-      | true ↦ (whole_named (with_line text line) h, lines_named None lines tt)
-      | false ↦ lines_named (Some (with_line text line)) lines h
+    let more : TextData = with_line text line in
+    elim (more.left == 0) as (λ b. AreNamed (before (grown more b).whole (requests (grown more b).text lines))) [
+      | true ↦ (whole_named more h, lines_named None lines tt)
+      | false ↦ lines_named (Some more) lines h
     ]
 
 -- ---- lines

@@ -24,7 +24,7 @@ use Rattle.farm_core.specs.declared.reply.NoTurn.TheVariants as no_turn
 use Rattle.farm_core.specs.declared.turn.Turn.{Turn}
 use Rattle.farm_core.specs.Tenant.{Tenant, find_job, put_job, line_of, nodes_out_in, Member, Purse, no_member, seat, own_of, with_seat}
 use Rattle.farm_core.specs.Step as calls
-use Rattle.farm_core.specs.Step.{Answer, Replied, Sent, Step, step, has_room, is_slice, unnoted, changed, taken, may_have_run, gave}
+use Rattle.farm_core.specs.Step.{Answer, Replied, Sent, Step, Effect, Nothing, Changes, done, step, has_room, is_slice, about, may_have_run, to_give}
 use Rattle.farm_core.specs.Farm.{IsReply}
 use Rattle.farm_core.specs.Turn.{IsTurn, IsTaken, IsNotTaken}
 use Rattle.farm_core.specs.Config.{ConfigData}
@@ -32,7 +32,7 @@ use Rattle.farm_core.specs.Config.{ConfigData}
 use Rattle.farm_core.specs.World.{World, opened, purse_in, place_in, spent_in, member, purse, view, Follows, IsReplayed}
 use Rattle.farm_core.proofs.SeatLemmas.{each_view_is_a_seat, steps_of, purse_after, purse_stays}
 use Rattle.farm_core.specs.Held.{is_out_of, nodes_out, takes, gives, IsHeld, AreHeld, TakenTurnsAreHeld, TakenJobsWereNotOut, TurnsStayHeld, HeldTurnsAreNoStrangers, HeldTurnsRunTheirNodes, OnlyTakenJobsAreOut, GivenJobsAreNotOut}
-use Rattle.farm_core.proofs.RunningLemmas.{found_seq}
+use Rattle.farm_core.proofs.HeldLemmas.{taken_out}
 use Rattle.session_lines.specs.declared.request.What.{What}
 use Rattle.session_lines.specs.declared.request.What.TheVariants as what
 use Rattle.session_lines.specs.declared.said.Said.{Said}
@@ -214,19 +214,6 @@ floor_given meaning stay only given old new t s ran reply replayed f xs x ys ten
 
 -- ---- what is said
 
-put_own : (s : ℕ) (old new : JobData) (jobs : List JobData) → find_job s jobs ≡ Some old → new.seq ≡ s → find_job s (put_job s new jobs) ≡ Some new
-put_own s old new [] found named = absurd (cc)
-put_own s old new (job ∷ jobs) found named = grind (arith, nat_tests, put_own s old new jobs)
-
-sent_job : (t : Tenant) (s slice : ℕ) (job : JobData) (line : Line) → find_job s t.jobs ≡ Some job → Sent line ≡ (taken t slice (Some job)).answer
-    → find_job s (taken t slice (Some job)).after.jobs ≡ Some (record job { phase = Out slice })
-sent_job t s slice job line found =
-    let new : JobData = record job { phase = Out slice } in
-    cond_both (is_waiting job.phase && is_slice slice && has_room 2 t) (changed t new (Sent (line_of new))) (unnoted t calls.NoTurn)
-    (λ (it : Step). Sent line ≡ it.answer → find_job s it.after.jobs ≡ Some new)
-    (λ _ _. let seq : job.seq ≡ s = found_seq s t.jobs job found in ap (λ k. find_job s (put_job k new t.jobs)) seq ∙ put_own s job new t.jobs found seq)
-    (λ _ is. absurd (cc))
-
 some_line : (job : JobData) (line : Line) (found : Option JobData) → found ≡ Some job → Some line ≡ option_map line_of found → line_of job ≡ line
 some_line job line found is told = cc (ap (option_map line_of) is)
 
@@ -235,11 +222,7 @@ pub sent_line : (old new : World) (t s slice : ℕ) (m : Meaning) (line : Line) 
     → Follows old t (Take s slice) (Sent line) new
 sent_line old new t s slice m line it told =
     let out : JobData = record it.job { phase = Out slice } in
-    let steps : step (view t old) (Take s slice) ≡ taken (view t old) slice (Some it.job) = ap (taken (view t old) slice) it.found in
-    let found : find_job s (view t new).jobs ≡ Some out =
-    ap (λ (v : Tenant). find_job s v.jobs) it.follows.own ∙ ap (λ (x : Step). find_job s x.after.jobs) steps
-    ∙ sent_job (view t old) s slice it.job (line_of out) it.found (it.follows.answer_is ∙ ap (λ (x : Step). x.answer) steps) in
-    subst (λ l. Follows old t (Take s slice) (Sent l) new) (some_line out line (find_job s (view t new).jobs) found told) it.follows
+    subst (λ l. Follows old t (Take s slice) (Sent l) new) (some_line out line (find_job s (view t new).jobs) (taken_out old new t s slice m it) told) it.follows
 
 by_reply : (old : World) (t : ℕ) (e : Event) (answer : Reply) (new : World) → IsReply old t e answer new
     → ((answer ≡ reply.NoMemory) × (new ≡ old) × (has_room 1 (view t old) ≡ true)) ⊎ Follows old t e (Replied answer) new
@@ -407,20 +390,12 @@ pub told_given : (old new : World) (t s ran : ℕ) (answer : Reply) → Follows 
 told_given old new t s ran answer f is =
     stepped old new t (what.Give s) (Give s ran) (Replied answer) (ap (λ n. told_by (step (view t old) (Give s n))) (sym is)) f
 
-not_out : (t : Tenant) (found : Option JobData) → is_out_of found ≡ false → gave t (nodes_out found) found ≡ unnoted t calls.NoTurn
-not_out t None h = refl
-not_out t (Some job) h = quiet job job.phase h
-  where
-    quiet : (job : JobData) (phase : Phase) → is_out phase ≡ false
-        → cond (may_have_run (nodes_out_in job phase) job phase)
-        (record { answer = Replied (reply.Ran (nodes_out_in job phase) (line_of (back (nodes_out_in job phase) job))); after = record t { spent = t.spent + nodes_out_in job phase; used = t.used + 1; jobs = put_job (back (nodes_out_in job phase) job).seq (back (nodes_out_in job phase) job) t.jobs } })
-        (unnoted t calls.NoTurn) ≡ unnoted t calls.NoTurn
-    quiet job Waiting h = refl
-    quiet job (Out slice) h = absurd (cc)
-    quiet job (Leaving slice) h = absurd (cc)
-    quiet job Dry h = refl
-    quiet job Closed h = refl
-    quiet job Cancelled h = refl
+not_out : (found : Option JobData) → is_out_of found ≡ false → about (Nothing calls.NoTurn) (to_give (nodes_out found)) found ≡ Nothing calls.NoTurn
+not_out None h = refl
+not_out (Some job) h =
+    let here : is_out job.phase ≡ false = h in
+    let not : may_have_run (nodes_out_in job job.phase) job job.phase ≡ false = rw here refl in
+    rw not refl
 
 -- no turn of the job is held
 pub told_none : {J : Type 0} (meaning : J → Meaning) (w : World) (t s : ℕ) (turns : List (Turn J)) → t < length w.config.tenants → IsFloor meaning w turns → has_turn t s turns ≡ false → IsTold w t (what.Give s) said.NoTurn w
@@ -430,7 +405,7 @@ told_none meaning w t s turns known floor none =
       | true ↦ λ out. absurd (both_ways (has_turn t s turns) none (floor.all t s out))
       | false ↦ λ _. refl
     ] refl in
-    let same : given_back (view t w) s ≡ record { said = said.NoTurn; after = view t w } = ap told_by (not_out (view t w) (find_job s (view t w).jobs) quiet) in
+    let same : given_back (view t w) s ≡ record { said = said.NoTurn; after = view t w } = ap (λ f. told_by (done (view t w) f)) (not_out (find_job s (view t w).jobs) quiet) in
     record {
       refused = false;
       said = ap (λ (x : Told). x.said) (sym same);
@@ -570,12 +545,11 @@ found_last meaning w turns xs x whole floor =
       held = held.2;
     }
 
-gave_none : (t : Tenant) (found : Option JobData) → (gave t 0 found).after.spent ≡ t.spent
+gave_none : (t : Tenant) (found : Option JobData) → (done t (about (Nothing calls.NoTurn) (to_give 0) found)).after.spent ≡ t.spent
 gave_none t None = refl
 gave_none t (Some job) =
-    let new : JobData = back 0 job in
-    let s1 : Step = record { answer = Replied (reply.Ran 0 (line_of new)); after = record t { spent = t.spent + 0; used = t.used + 1; jobs = put_job new.seq new t.jobs } } in
-    cond_both (may_have_run 0 job job.phase) s1 (unnoted t calls.NoTurn) (λ (it : Step). it.after.spent ≡ t.spent) (λ _. omega arith) (λ _. refl)
+    cond_both (may_have_run 0 job job.phase) (Changes (back 0 job) 0 (Replied (reply.Ran 0 (line_of (back 0 job))))) (Nothing calls.NoTurn) (λ (f : Effect). (done t f).after.spent ≡ t.spent)
+    (λ _. omega arith) (λ _. refl)
 
 spent_is : (w : World) (u : ℕ) → (view u w).spent ≡ spent_in (purse_in w.config u) w
 unfolding view purse
@@ -585,7 +559,7 @@ spent_is w u = refl
 pub given_none : (old new : World) (t s ran : ℕ) (answer : Reply) → ran ≡ 0 → Follows old t (Give s ran) (Replied answer) new → (u : ℕ) → (view u new).spent ≡ (view u old).spent
 given_none old new t s ran answer none f u =
     let caller : (view t new).spent ≡ (view t old).spent =
-    ap (λ (v : Tenant). v.spent) f.own ∙ ap (λ n. (gave (view t old) n (find_job s (view t old).jobs)).after.spent) none ∙ gave_none (view t old) (find_job s (view t old).jobs) in
+    ap (λ (v : Tenant). v.spent) f.own ∙ ap (λ n. (step (view t old) (Give s n)).after.spent) none ∙ gave_none (view t old) (find_job s (view t old).jobs) in
     let moved : (v : ℕ) → spent_in (purse_in new.config v) new ≡ spent_in (purse_in old.config v) new = λ v. ap (λ (c : ConfigData). spent_in (purse_in c v) new) f.config in
     spent_is new u ∙ moved u
     ∙ ⊎_elim

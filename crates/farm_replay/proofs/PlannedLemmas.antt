@@ -16,7 +16,8 @@ use Rattle.session_lines.specs.declared.request.What.TheVariants.{Submit, Fund, 
 use Rattle.session_lines.specs.declared.request.LineFault.{LineFault}
 use Rattle.session_lines.specs.declared.request.LineFault.TheVariants.{TooLong, Syntax}
 use Rattle.session_lines.specs.RequestLine.{name_in, tenant_in, one_number, two_numbers, what_in, turn_in, submit_in, opens, asks, own_line, turn_for, turn_line, line_for, meaning_in, meaning_of}
-use Rattle.session_lines.specs.Script.{shown, is_long, is_wordless, judged, TextData, opened, with_line, Item, submitted, whole_text, cut_text, heads, requests, requests_of, lines_of}
+use Rattle.session_lines.specs.Script.{shown, is_long, is_wordless, judged, TextData, opened, with_line, Item, submitted, whole_text, cut_text, outside_text, before, requests, requests_of, lines_of}
+use Rattle.session_lines.proofs.ReadLemmas.{grown}
 use Rattle.farm_replay.specs.Output.{Marked, items_of}
 
 -- what is submitted is a project
@@ -127,24 +128,24 @@ text_planned projects text =
 cut_planned : (text : TextData) → IsPlannedRequest (cut_text text).answer
 cut_planned text = elim text.is_long as (λ b. IsPlannedRequest (if b then Err (TooLong (Some text.head.who)) else Err (Syntax (Some text.head.who)))) [ true ↦ tt | false ↦ tt ]
 
-heads_planned : (meaning : Meaning) (later : List Item) (text : Head → List Item) → IsPlannedMeaning meaning → AreItemsPlanned later → ((head : Head) → AreItemsPlanned (text head))
-    → AreItemsPlanned (heads meaning later text)
-heads_planned Blank later text h rest more = rest
-heads_planned (Whole request) later text h rest more = (h, rest)
-heads_planned (Opens head) later text h rest more = more head
-heads_planned Long later text h rest more = (tt, rest)
-heads_planned (Bad who) later text h rest more = (tt, rest)
-
 lines_planned : ReadingGivesProjects → (text : Option TextData) (lines : List (List ℕ)) → AreItemsPlanned (requests text lines)
 lines_planned projects None [] = tt
 lines_planned projects (Some text) [] = (cut_planned text, tt)
 lines_planned projects None (line ∷ lines) =
-    heads_planned (judged line) (requests None lines) (λ head. requests (Some (opened head)) lines) (judged_planned line) (lines_planned projects None lines)
-    (λ head. lines_planned projects (Some (opened head)) lines)
+    go (judged line) (judged_planned line) (lines_planned projects None lines) (λ head. lines_planned projects (Some (opened head)) lines)
+  where
+    go : (meaning : Meaning) → IsPlannedMeaning meaning → AreItemsPlanned (requests None lines) → ((head : Head) → AreItemsPlanned (requests (Some (opened head)) lines))
+        → AreItemsPlanned (before (outside_text meaning).whole (requests (outside_text meaning).text lines))
+    go Blank h later inside = later
+    go (Whole request) h later inside = (h, later)
+    go (Opens head) h later inside = inside head
+    go Long h later inside = (tt, later)
+    go (Bad who) h later inside = (tt, later)
 lines_planned projects (Some text) (line ∷ lines) =
-    elim ((with_line text line).left == 0) as (λ b. AreItemsPlanned (if b then whole_text (with_line text line) ∷ requests None lines else requests (Some (with_line text line)) lines)) [
-      | true ↦ (text_planned projects (with_line text line), lines_planned projects None lines)
-      | false ↦ lines_planned projects (Some (with_line text line)) lines
+    let more : TextData = with_line text line in
+    elim (more.left == 0) as (λ b. AreItemsPlanned (before (grown more b).whole (requests (grown more b).text lines))) [
+      | true ↦ (text_planned projects more, lines_planned projects None lines)
+      | false ↦ lines_planned projects (Some more) lines
     ]
 
 marked_planned : (ms : List Marked) → AreItemsPlanned (items_of ms) → ArePlanned ms

@@ -1,6 +1,7 @@
 pub mod Numbers
 pub mod Project
 pub mod Limits
+pub mod Lists
 pub mod Schedule
 pub mod Values
 pub mod Placed

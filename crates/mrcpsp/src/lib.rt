@@ -8,6 +8,7 @@
 //! - `sequence`: `Sequence`, a vector that contracts see as a list.
 //! - `mode`, `activity`, `schedule`: the types with public fields, their copies and their equality.
 //! - `limits`: the tests of the limits, and the rule on successors.
+//! - `parts`: the lists that a project is made of, which it keeps alone or shares with its copies.
 //! - `project`: `Project`, its readers by place, and `same`.
 //! - `breach`: what a schedule breaks, and its text.
 //! - `feasibility`: `check` and `makespan`.
@@ -20,6 +21,7 @@ mod feasibility;
 pub mod laws;
 mod limits;
 mod mode;
+mod parts;
 mod project;
 mod schedule;
 mod sequence;

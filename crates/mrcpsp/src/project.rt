@@ -3,12 +3,21 @@ ghost use Rattle.std.specs.Prelude.{◌≡◌, ◌↔◌, ◌<◌, ◌≤◌, �
 ghost use Rattle.mrcpsp.specs.Limits.{IsLimited, IsProject};
 ghost use Rattle.mrcpsp.specs.Project.{ProjectData, is_project, horizon, no_activity, no_mode, modes, size, renewables, nonrenewables, mode_count, successors, precedes, duration, request, consumption, capacity, stock};
 
-use crate::activity::{clone_activities, same_activities};
 use crate::limits::{all_keep, are_small, horizon_of};
-use crate::sequence::same_numbers;
+use crate::parts::{Parts, same_parts};
 use crate::{Activity, Mode, Sequence};
 use std::alloc::{AllocError, Global};
 use std::marker::Model;
+use std::sync::Arc;
+
+/// Where the lists of a project are.
+#[derive(Debug, Drop)]
+pub(crate) enum Lists {
+    /// With this project alone.
+    Own(Parts),
+    /// With this project and its copies.
+    Shared(Arc<Parts, Global>),
+}
 
 /// A project within the limits: 1 to 202 activities of 1 to 10 modes each, 0 to 8 renewable and 0 to
 /// 8 nonrenewable resources, durations of at most 1,000 periods, requests, consumptions and
@@ -17,20 +26,16 @@ use std::marker::Model;
 /// and at most the number of activities.
 #[derive(Debug, Drop)]
 pub struct Project {
-    activities: Sequence<Activity>,
-    renewable: Sequence<u32>,
-    nonrenewable: Sequence<u32>,
+    lists: Lists,
 }
 
 impl Model for Project {
-    ghost use Rattle.std.specs.Prelude.{IsTrue};
-    ghost use Rattle.mrcpsp.specs.Project.{ProjectData, is_project};
+    ghost use Rattle.mrcpsp.specs.Project.{ProjectData};
+    ghost use Rattle.mrcpsp.specs.Lists.{parts_in};
 
     ghost Value = { ProjectData };
 
-    ghost view = { λ p. record { activities = p.activities; renewable = p.renewable; nonrenewable = p.nonrenewable } };
-
-    ghost invariant = { λ p. IsTrue (is_project (record { activities = p.activities; renewable = p.renewable; nonrenewable = p.nonrenewable })) };
+    ghost view = { λ p. parts_in p.lists };
 }
 
 impl Project {
@@ -54,25 +59,50 @@ impl Project {
             && all_keep(all, kinds.0.len(), kinds.1.len())
             && horizon_of(all) <= 20_000;
         if holds {
-            Some(Project {
+            let lists = Lists::Own(Parts {
                 activities,
                 renewable,
                 nonrenewable,
-            })
+            });
+            Some(Project { lists })
         } else {
             None
         }
     }
 
-    /// An equal project, or an error where there is no memory for it.
+    /// The same project, whose copies share its lists from then on: they take no memory of their own. Or an error where
+    /// there is no memory to begin with; the project is then dropped.
+    pub fn share(self, alloc: Global) -> Result<Project, AllocError>
+        ensures { IfOk result (λ shared. shared ≡ self) }
+    {
+        let lists = match self.lists {
+            Lists::Own(parts) => match Arc::new(alloc, parts) {
+                Ok(parts) => Lists::Shared(parts),
+                Err(_) => return Err(AllocError),
+            },
+            Lists::Shared(parts) => Lists::Shared(parts),
+        };
+        Ok(Project { lists })
+    }
+
+    /// An equal project, or an error where there is no memory for it. The copy of a shared project shares its lists.
     pub fn clone_in(&self, alloc: Global) -> Result<Project, AllocError>
         ensures { IfOk result (λ copy. copy ≡ self.now) }
     {
-        Ok(Project {
-            activities: Sequence::from(clone_activities(alloc, self.activities())?),
-            renewable: self.renewable.clone_in(alloc)?,
-            nonrenewable: self.nonrenewable.clone_in(alloc)?,
-        })
+        let lists = match &self.lists {
+            Lists::Own(parts) => Lists::Own(parts.clone_in(alloc)?),
+            Lists::Shared(parts) => Lists::Shared(Arc::try_clone(parts)?),
+        };
+        Ok(Project { lists })
+    }
+
+    fn parts(&self) -> &Parts
+        ensures { result.now ≡ self.now }
+    {
+        match &self.lists {
+            Lists::Own(parts) => parts,
+            Lists::Shared(parts) => parts,
+        }
     }
 
     /// The activities, in the order of their numbers.
@@ -80,7 +110,7 @@ impl Project {
         ensures all { result.now ≡ self.now.activities }
         ensures project { IsTrue (is_project self.now) }
     {
-        self.activities.as_slice()
+        self.parts().activities()
     }
 
     /// The capacity of each renewable resource in each period.
@@ -88,7 +118,7 @@ impl Project {
         ensures all { result.now ≡ self.now.renewable }
         ensures project { IsTrue (is_project self.now) }
     {
-        self.renewable.as_slice()
+        self.parts().renewable()
     }
 
     /// The capacity of each nonrenewable resource in all.
@@ -96,7 +126,7 @@ impl Project {
         ensures all { result.now ≡ self.now.nonrenewable }
         ensures project { IsTrue (is_project self.now) }
     {
-        self.nonrenewable.as_slice()
+        self.parts().nonrenewable()
     }
 
     /// The horizon: the sum of the activities' longest durations, in periods.
@@ -248,7 +278,5 @@ impl Project {
 pub fn same(one: &Project, other: &Project) -> bool
     ensures { IsTrue result ↔ (one.now ≡ other.now) }
 {
-    same_activities(one.activities.as_slice(), other.activities.as_slice())
-        && same_numbers(&one.renewable, &other.renewable)
-        && same_numbers(&one.nonrenewable, &other.nonrenewable)
+    same_parts(one.parts(), other.parts())
 }

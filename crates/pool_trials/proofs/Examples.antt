@@ -20,7 +20,7 @@ use Rattle.farm_core.specs.declared.reply.Reply.TheVariants as reply
 use Rattle.farm_core.specs.Purses.{first_member, purse_of, members_of, place_of}
 use Rattle.farm_core.specs.Config.{ConfigData}
 use Rattle.farm_core.specs.Tenant.{newcomers, held, free, kept, line_of, nodes_of_turn}
-use Rattle.farm_core.specs.Step.{Replied, submitted, fetched, step}
+use Rattle.farm_core.specs.Step.{Replied, to_submit, to_fetch, step}
 use Rattle.farm_core.specs.Truth.{IsTrueReply}
 use Rattle.turn_lock.specs.History as history
 use Rattle.turn_lock.specs.History.{IsLegal}
@@ -68,7 +68,7 @@ abbrev best : Reply
 best = reply.Best 1 (Some schedule) (Some 5) Optimal
 
 best_is_answered : (step (tenant_at config entries 0) (Fetch 1)).answer ≡ Replied best
-unfolding newcomers first_member purse_of members_of place_of submitted fetched held free kept line_of nodes_of_turn best_after is_closed verdict_after tree.best_after tree.is_closed tree.all_visits tree.candidates tree.is_pruned tree.updated tree.visit_one pass chosen_at eligible_ones allowed_modes is_allowed_mode placed_from lft duration size modes renewables nonrenewables mode_count successors request consumption capacity stock precedes load shortest least placed_use placed_consumption last_start are_ready fits is_allowed earliest is_eligible is_executable reserve is_affordable tail schedule_of makespan finish start_of mode_of bound
+unfolding newcomers first_member purse_of members_of place_of to_submit to_fetch held free kept line_of nodes_of_turn best_after is_closed verdict_after tree.best_after tree.is_closed tree.all_visits tree.candidates tree.is_pruned tree.updated tree.visit_one pass chosen_at eligible_ones allowed_modes is_allowed_mode placed_from lft duration size modes renewables nonrenewables mode_count successors request consumption capacity stock precedes load shortest least placed_use placed_consumption last_start are_ready fits is_allowed earliest is_eligible is_executable reserve is_affordable tail schedule_of makespan finish start_of mode_of bound
 best_is_answered = refl
 
 -- ---- its history is legal: pass 0 submitted, pass 1 took the turn and gave it back
@@ -96,18 +96,18 @@ submit_sound : IsSound config (entry (Submit plan 9))
 submit_sound = record { known = omega arith; planned = refl }
 
 left_there : AreLeft config [] entries
-unfolding newcomers first_member purse_of members_of place_of submitted held free kept line_of nodes_of_turn best_after is_closed verdict_after tree.best_after tree.is_closed tree.all_visits tree.candidates tree.is_pruned tree.updated tree.visit_one pass chosen_at eligible_ones allowed_modes is_allowed_mode placed_from lft duration size modes renewables nonrenewables mode_count successors request consumption capacity stock precedes load shortest least placed_use placed_consumption last_start are_ready fits is_allowed earliest is_eligible is_executable reserve is_affordable tail schedule_of makespan finish start_of mode_of bound
+unfolding newcomers first_member purse_of members_of place_of to_submit held free kept line_of nodes_of_turn best_after is_closed verdict_after tree.best_after tree.is_closed tree.all_visits tree.candidates tree.is_pruned tree.updated tree.visit_one pass chosen_at eligible_ones allowed_modes is_allowed_mode placed_from lft duration size modes renewables nonrenewables mode_count successors request consumption capacity stock precedes load shortest least placed_use placed_consumption last_start are_ready fits is_allowed earliest is_eligible is_executable reserve is_affordable tail schedule_of makespan finish start_of mode_of bound
 left_there = (
   record { sound = submit_sound; noted = refl },
   (record { sound = record { known = omega arith; planned = tt }; noted = refl }, (record { sound = record { known = omega arith; planned = tt }; noted = refl }, tt)),
 )
 
 submit_served : Served config [] (said.Asked 0 (Submit plan 9)) (Some (entry (Submit plan 9))) (told.Replied (reply.Job 1))
-unfolding newcomers first_member purse_of members_of place_of submitted held free kept
+unfolding newcomers first_member purse_of members_of place_of to_submit held free kept
 submit_served = record { answers = record { answer_is = refl; entry_is = refl }; run = left_run config first (left_there.0, tt) }
 
 take_served : Served config first (said.Next 100) (Some (entry (Take 1 100))) (told.Sent taken)
-unfolding newcomers first_member purse_of members_of place_of submitted held free kept line_of
+unfolding newcomers first_member purse_of members_of place_of to_submit held free kept line_of
 take_served = record {
   answers = record {
     job = record { seq = 1; plan = plan; phase = Waiting; nodes = 0; left = 9 };
@@ -122,7 +122,7 @@ take_served = record {
 }
 
 give_served : Served config second (said.Back run) (Some (entry (Give 1 3))) (told.Gave gave)
-unfolding newcomers first_member purse_of members_of place_of submitted held free kept line_of nodes_of_turn best_after is_closed verdict_after tree.best_after tree.is_closed tree.all_visits tree.candidates tree.is_pruned tree.updated tree.visit_one pass chosen_at eligible_ones allowed_modes is_allowed_mode placed_from lft duration size modes renewables nonrenewables mode_count successors request consumption capacity stock precedes load shortest least placed_use placed_consumption last_start are_ready fits is_allowed earliest is_eligible is_executable reserve is_affordable tail schedule_of makespan finish start_of mode_of bound
+unfolding newcomers first_member purse_of members_of place_of to_submit held free kept line_of nodes_of_turn best_after is_closed verdict_after tree.best_after tree.is_closed tree.all_visits tree.candidates tree.is_pruned tree.updated tree.visit_one pass chosen_at eligible_ones allowed_modes is_allowed_mode placed_from lft duration size modes renewables nonrenewables mode_count successors request consumption capacity stock precedes load shortest least placed_use placed_consumption last_start are_ready fits is_allowed earliest is_eligible is_executable reserve is_affordable tail schedule_of makespan finish start_of mode_of bound
 give_served = record {
   answers = record {
     job = record { seq = 1; plan = plan; phase = Out 100; nodes = 0; left = 9 };
@@ -146,7 +146,7 @@ best_is_replied = each_reply_can_be_made config log 0 history_is_legal 0 (omega 
 
 -- the submit is in the history
 plan_was_submitted : WasSubmitted config entries 0 1 plan
-unfolding newcomers first_member purse_of members_of place_of submitted held free kept
+unfolding newcomers first_member purse_of members_of place_of to_submit held free kept
 plan_was_submitted = record { at = 0; quanta = 9; entry = refl; answered = record { answer_is = refl; entry_is = refl } }
 
 -- what the law says of this reply

@@ -3,6 +3,7 @@
 //! - `made`: a configuration, its pool, tills, and searches of a project.
 //! - `gates`: where turns have to meet, a gate that no worker waits at, and one that two turns have to pass at once.
 //! - `patient`: a search that waits at its first node for another one's.
+//! - `stand`: a pool of two tenants with a pass and their purses.
 //! - `crew`: two workers at once, and passes that come back from them.
 //! - `tests`: the trials.
 #![tactic(auto)]
@@ -15,5 +16,7 @@ mod gates;
 mod made;
 #[cfg(test)]
 mod patient;
+#[cfg(test)]
+mod stand;
 #[cfg(test)]
 mod tests;

@@ -66,7 +66,7 @@ impl Purse {
     }
 
     /// An empty lease for a tenant.
-    fn lease(&mut self, tenant: u32) -> Result<Lease, AllocError>
+    pub(crate) fn lease(&mut self, tenant: u32) -> Result<Lease, AllocError>
         ensures { IfOk result IsEmpty }
     {
         self.till.lease(&mut self.desk, tenant)
@@ -135,13 +135,10 @@ fn plan_of(alloc: Global, kind: Kind) -> Result<Plan, Fail>
     Ok(Plan { project, kind })
 }
 
-/// The diamond's tree for a tenant, and its plan.
-pub(crate) fn tree_of(
-    alloc: Global,
-    purse: &mut Purse,
-    tenant: u32,
-) -> Result<(Plan, TreeSearch), Fail> {
-    let lease = purse.lease(tenant)?;
+/// The diamond's tree with an empty lease, and its plan.
+pub(crate) fn tree_of(alloc: Global, lease: Lease) -> Result<(Plan, TreeSearch), Fail>
+    requires { IsEmpty lease }
+{
     let searched = plan_of(alloc, Kind::Tree)?;
     let plan = plan_of(alloc, Kind::Tree)?;
     match TreeSearch::new(alloc, searched, lease) {
@@ -150,14 +147,14 @@ pub(crate) fn tree_of(
     }
 }
 
-/// The diamond's pass by a rule for a tenant, whose first node waits at a meeting, and its plan.
+/// The diamond's pass by a rule with an empty lease, whose first node waits at a meeting, and its plan.
 pub(crate) fn patient_of(
     alloc: Global,
-    purse: &mut Purse,
-    tenant: u32,
+    lease: Lease,
     meeting: Arc<Meeting, Global>,
-) -> Result<(Plan, Patient), Fail> {
-    let lease = purse.lease(tenant)?;
+) -> Result<(Plan, Patient), Fail>
+    requires { IsEmpty lease }
+{
     let searched = plan_of(alloc, Kind::RuleSpt)?;
     let plan = plan_of(alloc, Kind::RuleSpt)?;
     match RuleSearch::new(alloc, searched, lease) {

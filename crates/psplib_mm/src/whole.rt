@@ -48,7 +48,7 @@ pub fn project(
         return Err(MmFault::Limit(name));
     }
     match Project::new(Sequence::from(activities), renewable, nonrenewable) {
-        Some(project) => Ok(project),
+        Some(project) => Ok(project.share(alloc)?),
         None => unreachable!(),
     }
 }

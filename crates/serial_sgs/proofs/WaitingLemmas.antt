@@ -1,13 +1,10 @@
 -- Who waits for whom, as one more is placed or the last one is taken back.
-use Rattle.std.proofs.Common.{◌≡◌, ℕ, zero, suc, ◌+◌, ◌-◌, ◌<◌, ◌≤◌, true, false, ◌&&◌, ◌||◌, ◌==◌, Bool, not, cond, nat_lt, List, [], ◌∷◌, ◌++◌, length, get_or, set, length-set, take, replicate, All, add-one, arith, refl, sym, ap, ◌∙◌, ⊎_elim}
+use Rattle.std.proofs.Common.{◌≡◌, ℕ, zero, suc, ◌+◌, ◌<◌, ◌≤◌, true, false, ◌&&◌, ◌||◌, ◌==◌, Bool, not, cond, nat_lt, List, [], ◌∷◌, length, get_or, set, length-set, take, replicate, add-one, arith, refl, sym, ap, ◌∙◌, ⊎_elim}
 use Rattle.std.specs.List.{list_any}
-use Rattle.std.proofs.lemmas.Bool.{cases_lt, cases_eq, cases_Bool, eq-eqb, ne_eqb, ltb-true, cond-true, cond-false}
-use Rattle.std.proofs.lemmas.Bool.Decides.{nat_tests}
+use Rattle.std.proofs.lemmas.Bool.{cases_lt, cases_eq, cases_Bool, eq-eqb, ne_eqb, ltb-true, cond-false}
 use Rattle.std.proofs.lemmas.List.{length-replicate, get_or-replicate, get_or-set_same, get_or-set_other, take_more}
 use Rattle.std.proofs.lemmas.List.Recursion.{or_push}
-use Rattle.std.proofs.lemmas.Nat.Bits.{bit_at-zero}
-use Rattle.serial_sgs.specs.Members.{has}
-use Rattle.serial_sgs.specs.Waiting.{WaitingData, IsWaiting, IsFirst, IsLess, AreOthers, is_open}
+use Rattle.serial_sgs.specs.Waiting.{IsWaiting, IsLess, AreOthers, is_open}
 use Rattle.serial_sgs.proofs.MemberLemmas.{empty_word}
 
 -- where everybody is marked nobody may come next

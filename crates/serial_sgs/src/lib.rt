@@ -6,6 +6,8 @@
 //!
 //! - `place`: one placed activity, and its finish.
 //! - `sums`: when the placed ones finish, computed from the list, and what could run alone.
+//! - `amounts`: amounts of eight resources, which are taken at once.
+//! - `rows`: what each mode takes, and what there is.
 //! - `stock`: what is consumed of the nonrenewable resources, and what the others need at least, as running sums.
 //! - `order`: the direct predecessors of each activity, and when those that are placed have finished.
 //! - `profile`: the use of the renewable resources, as the points in time at which it changes.
@@ -13,11 +15,13 @@
 //! - `board`: `Board`.
 #![tactic(auto)]
 
+mod amounts;
 mod board;
 mod members;
 mod order;
 mod place;
 mod profile;
+mod rows;
 mod stock;
 mod sums;
 mod waiting;

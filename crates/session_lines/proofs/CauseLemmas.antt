@@ -1,16 +1,14 @@
 -- Why a request is not read.
-use Rattle.std.proofs.Common.{◌≡◌, ◌≢◌, ℕ, suc, ◌+◌, ◌<◌, ◌≤◌, inl, inr, Bool, true, false, cond, ◌==◌, eqb, List, [], ◌∷◌, length, Option, Some, None, Result, Ok, Err, OnErr, refl, sym, ap, ◌∙◌, arith, length-append}
+use Rattle.std.proofs.Common.{◌≡◌, ◌≢◌, ℕ, suc, ◌+◌, ◌<◌, ◌≤◌, inl, inr, Bool, true, false, cond, eqb, List, [], ◌∷◌, length, Option, Some, None, Result, Ok, Err, OnErr, refl, sym, ap, ◌∙◌, arith, length-append}
 use Rattle.std.proofs.lemmas.Bool.{lt-ltb, ltb-true}
 use Rattle.std.specs.Io.BufRead.{take_through, drop_through}
 use Rattle.session_lines.specs.declared.request.Request.{Request}
 use Rattle.session_lines.specs.declared.request.LineFault.{LineFault}
 use Rattle.session_lines.specs.declared.request.LineFault.TheVariants.{Eof, Read, TooLong, Syntax, File, NoMemory}
-use Rattle.session_lines.specs.declared.line.Meaning.{Meaning}
-use Rattle.session_lines.specs.declared.line.Meaning.TheVariants.{Blank, Whole, Opens, Long, Bad}
 use Rattle.session_lines.specs.declared.text.Text.{Text}
 use Rattle.session_lines.specs.Cause.{HasCause, IsLonger, size_of, lines_after, IsPast, IsGivenUp}
 use Rattle.session_lines.specs.Known.{Goes}
-use Rattle.session_lines.specs.Script.{TextData, onto, lines_of, judged, opened, with_line, whole_text, found, begins, first}
+use Rattle.session_lines.specs.Script.{TextData, Item, onto, lines_of, after, first_or, first}
 use Rattle.session_lines.proofs.ReadLemmas.{lines-step, GoesOn, InText}
 use Rattle.session_lines.proofs.ScanLemmas.{InLine, Scans, some_through}
 
@@ -33,20 +31,12 @@ size-lines (x ∷ xs) = go (eqb x 10) (size-lines xs)
 abbrev Within : List (List ℕ) → Type 0
 Within lines = (text : Option TextData) → size_of (lines_after (first text lines)) ≤ size_of lines
 
-fewer-begins : (m : Meaning) (lines : List (List ℕ)) → Within lines → size_of (lines_after (begins m lines (first None lines) (λ head. first (Some (opened head)) lines))) ≤ size_of lines
-fewer-begins Blank lines h = h None
-fewer-begins (Whole request) lines h = omega arith
-fewer-begins (Opens head) lines h = h (Some (opened head))
-fewer-begins Long lines h = omega arith
-fewer-begins (Bad who) lines h = omega arith
-
 fewer-after : (text : Option TextData) (line : List ℕ) (lines : List (List ℕ)) → Within lines → size_of (lines_after (first text (line ∷ lines))) ≤ size_of lines
-fewer-after None line lines h = fewer-begins (judged line) lines h
-fewer-after (Some text) line lines h = go (with_line text line) ((with_line text line).left == 0)
+fewer-after text line lines h = go (after text line).whole (after text line).text
   where
-    go : (more : TextData) (b : Bool) → size_of (lines_after (cond b (found (whole_text more) lines) (first (Some more) lines))) ≤ size_of lines
-    go more true = omega arith
-    go more false = h (Some more)
+    go : (whole : Option Item) (now : Option TextData) → size_of (lines_after (first_or whole lines (first now lines))) ≤ size_of lines
+    go None now = h now
+    go (Some item) now = omega arith
 
 within : (lines : List (List ℕ)) → Within lines
 within [] None = omega arith

@@ -7,3 +7,4 @@ pub mod TextLemmas
 pub mod ReadLemmas
 pub mod CauseLemmas
 mod LawLemmas
+pub mod PassLemmas

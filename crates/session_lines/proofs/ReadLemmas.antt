@@ -10,7 +10,7 @@ use Rattle.session_lines.specs.declared.line.Meaning.{Meaning}
 use Rattle.session_lines.specs.declared.line.Meaning.TheVariants.{Blank, Whole, Opens, Long, Bad}
 use Rattle.session_lines.specs.declared.text.Text.{Text}
 use Rattle.session_lines.specs.Known.{Goes}
-use Rattle.session_lines.specs.Script.{lines_of, onto, shown, is_long, is_wordless, judged, TextData, opened, with_line, whole_text, cut_text, Found, found, plain, begins, first, Answers, Cuts, Takes}
+use Rattle.session_lines.specs.Script.{lines_of, onto, shown, is_long, is_wordless, judged, TextData, opened, with_line, whole_text, cut_text, Found, found, plain, After, outside_text, first_or, first, Answers, Cuts, Takes}
 use Rattle.session_lines.specs.Taken.{TakesLine, judged_by, IsText}
 use Rattle.session_lines.proofs.ScanLemmas.{Goes-map, Goes-trans}
 
@@ -54,25 +54,29 @@ pub GoesOn-start : (a : Option (List ℕ)) (n : ℕ) → Goes a a (GoesOn None n
 GoesOn-start None n = tt
 GoesOn-start (Some xs) n = record { same = refl; paid = refl }
 
+-- the first request where a line before these means this
+abbrev began : Meaning → List (List ℕ) → Option Found
+began meaning lines = first_or (outside_text meaning).whole lines (first (outside_text meaning).text lines)
+
 -- the lines before those of ys were blank, and then one line meant this
 pub record Begins (meaning : Meaning) (before after : ℕ) (xs ys : List ℕ) : Type 0 where
-  pub same : first None (lines_of xs) ≡ begins meaning (lines_of ys) (first None (lines_of ys)) (λ head. first (Some (opened head)) (lines_of ys))
+  pub same : first None (lines_of xs) ≡ began meaning (lines_of ys)
   pub paid : length xs + after ≡ length ys + before
 
 line-begins : (kept : List ℕ) (blank : Bool) (before after : ℕ) (xs ys : List ℕ) → TakesLine kept blank true before after xs ys
-    → first None (lines_of xs) ≡ begins (judged_by kept blank) (lines_of ys) (first None (lines_of ys)) (λ head. first (Some (opened head)) (lines_of ys))
+    → first None (lines_of xs) ≡ began (judged_by kept blank) (lines_of ys)
 line-begins kept blank before after [] ys t = absurd (false≢true (sym t.some))
 line-begins kept blank before after (x ∷ xs) ys t =
     let says : judged (take_through 10 (x ∷ xs)) ≡ judged_by kept blank = sym (judged-kept (take_through 10 (x ∷ xs))) ∙ rw (← t.front, ← t.wordless) refl in
     ap (first None) (lines-step x xs)
-    ∙ ap (λ m. begins m (lines_of (drop_through 10 (x ∷ xs))) (first None (lines_of (drop_through 10 (x ∷ xs)))) (λ head. first (Some (opened head)) (lines_of (drop_through 10 (x ∷ xs))))) says
-    ∙ ap (λ z. begins (judged_by kept blank) (lines_of z) (first None (lines_of z)) (λ head. first (Some (opened head)) (lines_of z))) (sym t.rest)
+    ∙ ap (λ m. began m (lines_of (drop_through 10 (x ∷ xs)))) says
+    ∙ ap (λ z. began (judged_by kept blank) (lines_of z)) (sym t.rest)
 
 pub after_line : (a b d : Option (List ℕ)) (kept : List ℕ) (blank seen : Bool) (m : Meaning) (before mid after : ℕ) → Goes a b (GoesOn None before mid) → Goes b d (TakesLine kept blank seen mid after) → seen ≡ true → judged_by kept blank ≡ m
     → Goes a d (Begins m before after)
 after_line a b d kept blank seen m before mid after so_far line was says =
     Goes-trans a b d _ _ _ (λ xs ys zs p t. record {
-      same = p.same ∙ line-begins kept blank mid after ys zs (subst (λ s. TakesLine kept blank s mid after ys zs) was t) ∙ ap (λ k. begins k (lines_of zs) (first None (lines_of zs)) (λ head. first (Some (opened head)) (lines_of zs))) says;
+      same = p.same ∙ line-begins kept blank mid after ys zs (subst (λ s. TakesLine kept blank s mid after ys zs) was t) ∙ ap (λ k. began k (lines_of zs)) says;
       paid = let q = t.paid in let r = p.paid in omega arith;
     }) so_far line
 
@@ -120,9 +124,15 @@ pub InText-start : (a : Option (List ℕ)) (head : Head) (kept : Text) (n : ℕ)
 InText-start None head kept n t = tt
 InText-start (Some xs) head kept n t = record { said = opened head; is = t; same = refl; paid = refl }
 
--- what a text is after one more line
+-- a text with its newest line, where it is known whether that is its last one
+abbrev pub grown : TextData → Bool → After
+grown text is_last = cond is_last (record { text = None; whole = Some (whole_text text) }) (record { text = Some text; whole = None })
+
+abbrev grown_before : TextData → List ℕ → Bool → Option Found
+grown_before text ys is_last = first_or (grown text is_last).whole (lines_of ys) (first (grown text is_last).text (lines_of ys))
+
 abbrev pub went_on : TextData → List ℕ → Option Found
-went_on more ys = cond (more.left == 0) (found (whole_text more) (lines_of ys)) (first (Some more) (lines_of ys))
+went_on more ys = grown_before more ys (more.left == 0)
 
 text-line : (said : TextData) (kept : List ℕ) (blank : Bool) (before after : ℕ) (xs ys : List ℕ) → TakesLine kept blank true before after xs ys
     → first (Some said) (lines_of xs) ≡ went_on (with_line said (take_through 10 xs)) ys
@@ -184,7 +194,7 @@ after_add a b d text old new kept blank seen before mid after so_far line was ad
 pub after_some : (a d : Option (List ℕ)) (text : Option TextData) (kept : Text) (before after : ℕ) → (kept.left == 0) ≡ false → Goes a d (Added text kept before after) → Goes a d (InText text kept before after)
 after_some a d text kept before after more = Goes-map a d _ _ (λ xs ys p.
     let stays : (p.said.left == 0) ≡ false = ap (λ n. n == 0) (sym p.is.left) ∙ more in
-    record { said = p.said; is = p.is; same = p.same ∙ ap (λ t. cond t (found (whole_text p.said) (lines_of ys)) (first (Some p.said) (lines_of ys))) stays; paid = p.paid })
+    record { said = p.said; is = p.is; same = p.same ∙ ap (grown_before p.said ys) stays; paid = p.paid })
 
 -- an answer that cuts is an answer
 takes_cut : (most : ℕ) (text : Option TextData) (a d : Option (List ℕ)) (answer : Result Request LineFault) → Goes a d (λ xs ys. Cuts most (first text (lines_of xs)) answer xs ys) → Takes most text a d answer
@@ -203,7 +213,7 @@ after_text a d text kept before after answer none gives p = takes_cut before tex
     let q = p.paid in
     record {
       item = whole_text p.said;
-      cut = p.same ∙ ap (λ t. cond t (found (whole_text p.said) (lines_of ys)) (first (Some p.said) (lines_of ys))) ends;
+      cut = p.same ∙ ap (grown_before p.said ys) ends;
       answers = gives p.said p.is;
       within = omega arith;
     }) p)

@@ -1,5 +1,5 @@
 -- How the bytes of a script are cut into requests.
-use Rattle.std.specs.Prelude.{◌≡◌, ℕ, ◌+◌, ◌-◌, ◌≤◌, Bool, false, ◌||◌, ◌==◌, nat_lt, List, [], ◌∷◌, ◌++◌, length, if◌then◌else◌, Option, Some, None, Result, Ok, Err, ⊤}
+use Rattle.std.specs.Prelude.{◌≡◌, ℕ, ◌+◌, ◌-◌, ◌≤◌, Bool, false, ◌||◌, ◌==◌, nat_lt, List, [], ◌∷◌, ◌++◌, length, if◌then◌else◌, Option, Some, None, option_map, Result, Ok, Err, ⊤}
 use Rattle.std.specs.List.{list_all}
 use Rattle.std.specs.Io.BufRead.{strip_last}
 use Rattle.mrcpsp.specs.Project.{ProjectData}
@@ -96,42 +96,47 @@ pub record Found : Type 0 where
 abbrev pub found : Item → List (List ℕ) → Option Found
 found item rest = Some (record { item = item; rest = rest })
 
--- what a line outside a text begins: blank lines belong to the request after them
-abbrev pub begins : Meaning → List (List ℕ) → Option Found → (Head → Option Found) → Option Found
-begins Blank lines later text = later
-begins (Whole request) lines later text = found (plain (Ok request)) lines
-begins (Opens head) lines later text = text head
-begins Long lines later text = found (plain (Err (TooLong None))) lines
-begins (Bad who) lines later text = found (plain (Err (Syntax who))) lines
+-- after one more line: the text whose lines go on, if there is one, and the request that is whole with this line, if there is one
+pub record After : Type 0 where
+  pub text : Option TextData
+  pub whole : Option Item
 
--- the first request of these lines, and the lines after it; the first lines may belong to a text
+-- a line that stands in no text: a blank one belongs to the request after it
+abbrev pub outside_text : Meaning → After
+outside_text Blank = record { text = None; whole = None }
+outside_text (Whole request) = record { text = None; whole = Some (plain (Ok request)) }
+outside_text (Opens head) = record { text = Some (opened head); whole = None }
+outside_text Long = record { text = None; whole = Some (plain (Err (TooLong None))) }
+outside_text (Bad who) = record { text = None; whole = Some (plain (Err (Syntax who))) }
+
+-- a text with its newest line, which is its last one or not
+abbrev pub inside_text : TextData → After
+inside_text text = if text.left == 0 then record { text = None; whole = Some (whole_text text) } else record { text = Some text; whole = None }
+
+abbrev pub after : Option TextData → List ℕ → After
+after None line = outside_text (judged line)
+after (Some text) line = inside_text (with_line text line)
+
+-- the first request of these lines, and the lines after it; the first lines may belong to a text, and the end cuts it
+abbrev pub first_or : Option Item → List (List ℕ) → Option Found → Option Found
+first_or None lines later = later
+first_or (Some item) lines later = found item lines
+
 abbrev pub first : Option TextData → List (List ℕ) → Option Found
-first None [] = None
-first (Some text) [] = found (cut_text text) []
-first None (line ∷ lines) = begins (judged line) lines (first None lines) (λ head. first (Some (opened head)) lines)
-first (Some text) (line ∷ lines) =
-    let more : TextData = with_line text line in
-    if more.left == 0 then found (whole_text more) lines else first (Some more) lines
+first text [] = first_or (option_map cut_text text) [] None
+first text (line ∷ lines) = first_or (after text line).whole lines (first (after text line).text lines)
 
 abbrev pub first_of : List ℕ → Option Found
 first_of bytes = first None (lines_of bytes)
 
--- what a line outside a text begins, in the list of all requests
-abbrev pub heads : Meaning → List Item → (Head → List Item) → List Item
-heads Blank later text = later
-heads (Whole request) later text = plain (Ok request) ∷ later
-heads (Opens head) later text = text head
-heads Long later text = plain (Err (TooLong None)) ∷ later
-heads (Bad who) later text = plain (Err (Syntax who)) ∷ later
-
 -- all requests of these lines, of which the first may belong to a text
+abbrev pub before : Option Item → List Item → List Item
+before None later = later
+before (Some item) later = item ∷ later
+
 abbrev pub requests : Option TextData → List (List ℕ) → List Item
-requests None [] = []
-requests (Some text) [] = cut_text text ∷ []
-requests None (line ∷ lines) = heads (judged line) (requests None lines) (λ head. requests (Some (opened head)) lines)
-requests (Some text) (line ∷ lines) =
-    let more : TextData = with_line text line in
-    if more.left == 0 then whole_text more ∷ requests None lines else requests (Some more) lines
+requests text [] = before (option_map cut_text text) []
+requests text (line ∷ lines) = before (after text line).whole (requests (after text line).text lines)
 
 -- the requests of a script
 abbrev pub requests_of : List ℕ → List Item

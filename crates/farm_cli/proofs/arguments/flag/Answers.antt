@@ -1,4 +1,4 @@
-use Rattle.std.proofs.Common.{ap, ◌≡◌, ◌∙◌, List, ℕ, Some}
+use Rattle.std.proofs.Common.{ap, ◌∙◌, List, ℕ, Some}
 use Rattle.clap.specs.Words.{Rule, rule_of}
 use Rattle.clap.specs.declared.builder.action.ArgAction.TheVariants.{SetTrue}
 use Rattle.farm_cli.proofs.arguments.flag.Goals as goal

@@ -1,4 +1,4 @@
-use Rattle.std.proofs.Common.{ap, ap₂, ◌≡◌, ◌∙◌, Option, Some}
+use Rattle.std.proofs.Common.{ap, ap₂, ◌∙◌, Option, Some}
 use Rattle.clap.specs.Words.{Rule, rule_of}
 use Rattle.clap.specs.declared.builder.value_parser.ValueParser.{ValueParser}
 use Rattle.farm_cli.proofs.arguments.needed_number.Goals as goal

@@ -1,4 +1,4 @@
-use Rattle.std.proofs.Common.{ap, ◌≡◌, ◌∙◌, true, List, ℕ, Some}
+use Rattle.std.proofs.Common.{ap, ◌∙◌, true, List, ℕ, Some}
 use Rattle.clap.specs.Words.{Rule, rule_of}
 use Rattle.farm_cli.proofs.arguments.needed_option.Goals as goal
 

@@ -126,4 +126,4 @@ returns c =
     let same : passed ≡ project_of r v jobs groups s = search rules in
     let sound : is_project passed ≡ true = ap is_project same ∙ whole_sound n r v p q s jobs groups read none amount in
     let whole : passed ≡ c.in-Some-new.project = some_is (is_project passed) passed c.in-Some-new.project c.new.result sound c.new.ensures c.in-Some-new.is in
-    contents_whole n r v p q s jobs groups read none amount ∙ ap done (sym same ∙ whole)
+    contents_whole n r v p q s jobs groups read none amount ∙ ap done (sym same ∙ whole ∙ sym c.in_ok-share-in-Some-new.ensures)

@@ -1,4 +1,4 @@
-use Rattle.std.proofs.Common.{◌≡◌, ℕ, ◌*◌, ◌/◌, ◌%◌, ◌^◌, ◌<◌, ◌≤◌, get_or, arith, refl, ⊎_elim}
+use Rattle.std.proofs.Common.{◌*◌, ◌<◌, ◌≤◌, arith, ⊎_elim}
 use Rattle.std.proofs.lemmas.Bool.{cases_lt}
 use Rattle.serial_sgs.proofs.MemberLemmas.{word_found, word_over}
 use Rattle.serial_sgs.proofs.members.first_in.Goals as goal

@@ -1,4 +1,4 @@
-use Rattle.std.proofs.Common.{◌≡◌, ◌<◌, ◌^◌, arith, refl}
+use Rattle.std.proofs.Common.{arith, refl}
 use Rattle.serial_sgs.proofs.MemberLemmas.{next_found, later_word}
 use Rattle.serial_sgs.proofs.members.next_in.Goals as goal
 

@@ -10,9 +10,10 @@ use Rattle.farm_core.specs.declared.entry.Event.TheVariants.{Cancel}
 use Rattle.farm_core.specs.declared.reply.Reply.TheVariants as reply
 use Rattle.farm_core.specs.Step.{Replied}
 use Rattle.farm_core.specs.World.{World, table_of, Follows, purses_in}
-use Rattle.farm_core.specs.Farm.{IsFarm, owed}
+use Rattle.farm_core.specs.Farm.{IsFarm, owed, ArePassed}
 use Rattle.farm_core.proofs.ViewLemmas.{moved}
-use Rattle.farm_core.proofs.MoveLemmas.{IsMove, moved_is, written, one_entry}
+use Rattle.farm_core.proofs.MoveLemmas.{IsMove, moved_is, one_entry}
+use Rattle.farm_core.proofs.PassedLemmas.{written_less}
 use Rattle.farm_core.proofs.farm.Farm.cancel_job.Given.{Over}
 use Rattle.farm_core.proofs.farm.Farm.cancel_job.Goals.{After-write_down}
 use Rattle.farm_core.proofs.farm.Farm.cancel_job.Goals as goal
@@ -40,7 +41,7 @@ moves g c = (it g c).moves
 
 wrote : (g : Over) (c : After-write_down g) →
     let v : World = record { config = c.self.inside.config; rows = c.cancel.new.self.rows; waiting = c.cancel.new.self.waiting; journal = c.write_down.new.journal.items; books = c.write_down.new.ledgers.books.items; numbers = c.write_down.new.ledgers.numbers.items } in
-    IsFarm v (vec_capacity c.write_down.new.journal) × Follows c.args.self.now c.args.tenant (Cancel c.args.seq) (Replied (reply.Line c.args.then)) v
+    IsFarm v (vec_capacity c.write_down.new.journal) × Follows c.args.self.now c.args.tenant (Cancel c.args.seq) (Replied (reply.Line c.args.then)) v × ArePassed v c.passed_without-passed.result
 wrote g c =
     let w : World = c.args.self.now in
     let t = c.args.tenant in
@@ -52,10 +53,11 @@ wrote g c =
     let is : v ≡ moved w t (c.cancel.new.self) then (one_entry t (Cancel c.args.seq)) = moved_is w c.self.inside.config c.self.inside.jobs (c.cancel.new.self) c.self.inside.journal.items c.write_down.new.journal.items c.self.inside.ledgers.books.items c.write_down.new.ledgers.books.items c.self.inside.ledgers.numbers.items c.write_down.new.ledgers.numbers.items t c.purse_of-purse.result (c.cancel.new.self) then (Cancel c.args.seq)
     c.self.view_is c.purse_of-purse.ensures.exact (refl) books_are c.write_down.ensures.numbers (c.write_down.ensures.journal) in
     let room : length w.journal + 1 + owed c.cancel.new.self.rows ≤ vec_capacity c.write_down.new.journal = omega (arith, (it g c).room, c.self.invariant.0.room, c.write_down.ensures.capacity, ap (λ (x : World). length x.journal) c.self.view_is, ap (λ (x : World). length x.rows) c.self.view_is, ap (λ (x : World). owed x.rows) c.self.view_is) in
-    written w v t (c.cancel.new.self) then (Cancel c.args.seq) (Replied (reply.Line c.args.then)) (vec_capacity c.self.inside.journal) (vec_capacity c.write_down.new.journal) farm (moves g c) is room
+    written_less w v t (c.cancel.new.self) then (Cancel c.args.seq) (Replied (reply.Line c.args.then)) (vec_capacity c.self.inside.journal) (vec_capacity c.write_down.new.journal) c.passed_without-passed.result farm (moves g c) is room
+    c.passed_without-passed.ensures.begins c.passed_without-passed.ensures.passed
 
 pub invariant_of-self : goal.invariant_of-self
-invariant_of-self g c = ((wrote g c).0, c.write_down.ensures.purses ∙ c.self.invariant.1)
+invariant_of-self g c = ((wrote g c).0, c.write_down.ensures.purses ∙ c.self.invariant.1, (wrote g c).2)
 
 pub returns-clause-follows : goal.returns-clause-follows
 returns-clause-follows g c = (wrote g c).1

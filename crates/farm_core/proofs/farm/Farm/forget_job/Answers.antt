@@ -8,9 +8,10 @@ use Rattle.farm_core.specs.declared.entry.Event.TheVariants.{Forget}
 use Rattle.farm_core.specs.declared.reply.Reply.TheVariants as reply
 use Rattle.farm_core.specs.Step.{Replied}
 use Rattle.farm_core.specs.World.{World, table_of, Follows, purses_in}
-use Rattle.farm_core.specs.Farm.{IsFarm, owed}
+use Rattle.farm_core.specs.Farm.{IsFarm, owed, ArePassed}
 use Rattle.farm_core.proofs.ViewLemmas.{moved}
-use Rattle.farm_core.proofs.MoveLemmas.{IsMove, moved_is, written, one_entry}
+use Rattle.farm_core.proofs.MoveLemmas.{IsMove, moved_is, one_entry}
+use Rattle.farm_core.proofs.PassedLemmas.{written_less}
 use Rattle.farm_core.proofs.FarmLemmas.{owed-most}
 use Rattle.farm_core.proofs.farm.Farm.forget_job.Given.{Over}
 use Rattle.farm_core.proofs.farm.Farm.forget_job.Goals.{After-write_down}
@@ -21,7 +22,7 @@ moves g c = forget_moves c.args.self.now c.args.tenant c.args.seq (vec_capacity 
 
 wrote : (g : Over) (c : After-write_down g) →
     let v : World = record { config = c.self.inside.config; rows = c.remove.new.self.rows; waiting = c.remove.new.self.waiting; journal = c.write_down.new.journal.items; books = c.write_down.new.ledgers.books.items; numbers = c.write_down.new.ledgers.numbers.items } in
-    IsFarm v (vec_capacity c.write_down.new.journal) × Follows c.args.self.now c.args.tenant (Forget c.args.seq) (Replied (reply.Forgotten c.args.seq)) v
+    IsFarm v (vec_capacity c.write_down.new.journal) × Follows c.args.self.now c.args.tenant (Forget c.args.seq) (Replied (reply.Forgotten c.args.seq)) v × ArePassed v c.passed_without-passed.result
 wrote g c =
     let w : World = c.args.self.now in
     let t = c.args.tenant in
@@ -32,10 +33,11 @@ wrote g c =
     let is : v ≡ moved w t (kept.drop_job t c.args.seq (table_of w)) then (one_entry t (Forget c.args.seq)) = moved_is w c.self.inside.config c.self.inside.jobs (c.remove.new.self) c.self.inside.journal.items c.write_down.new.journal.items c.self.inside.ledgers.books.items c.write_down.new.ledgers.books.items c.self.inside.ledgers.numbers.items c.write_down.new.ledgers.numbers.items t c.purse_of-purse.result (kept.drop_job t c.args.seq (table_of w)) then (Forget c.args.seq)
     c.self.view_is c.purse_of-purse.ensures.exact (c.remove.ensures.rest ∙ ap (λ (x : World). kept.drop_job c.args.tenant c.args.seq (table_of x)) c.self.view_is) c.write_down.ensures.books c.write_down.ensures.numbers (c.write_down.ensures.journal ∙ ap (λ es. es ++ one_entry t (Forget c.args.seq)) c.keep_room.ensures.kept) in
     let room : length w.journal + 1 + owed (drop_row t c.args.seq w.rows) ≤ vec_capacity c.write_down.new.journal = omega (arith, owed_drop t c.args.seq w.rows, owed-most w.rows, c.in-Ok.ensures.room, c.write_down.ensures.capacity, c.len.ensures, ap (λ (x : World). length x.journal) c.self.view_is, ap (λ (x : World). length x.rows) c.self.view_is) in
-    written w v t (kept.drop_job t c.args.seq (table_of w)) then (Forget c.args.seq) (Replied (reply.Forgotten c.args.seq)) (vec_capacity c.self.inside.journal) (vec_capacity c.write_down.new.journal) farm (moves g c) is room
+    written_less w v t (kept.drop_job t c.args.seq (table_of w)) then (Forget c.args.seq) (Replied (reply.Forgotten c.args.seq)) (vec_capacity c.self.inside.journal) (vec_capacity c.write_down.new.journal) c.passed_without-passed.result farm (moves g c) is room
+    c.passed_without-passed.ensures.begins c.passed_without-passed.ensures.passed
 
 pub invariant_of-self-2 : goal.invariant_of-self-2
-invariant_of-self-2 g c = ((wrote g c).0, c.write_down.ensures.purses ∙ c.self.invariant.1)
+invariant_of-self-2 g c = ((wrote g c).0, c.write_down.ensures.purses ∙ c.self.invariant.1, (wrote g c).2)
 
 pub returns : goal.returns
 returns g c = (wrote g c).1

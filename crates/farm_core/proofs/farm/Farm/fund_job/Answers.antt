@@ -12,9 +12,10 @@ use Rattle.farm_core.specs.declared.entry.Event.TheVariants.{Fund}
 use Rattle.farm_core.specs.declared.reply.Reply.TheVariants as reply
 use Rattle.farm_core.specs.Step.{Replied}
 use Rattle.farm_core.specs.World.{World, table_of, view, Follows, purses_in}
-use Rattle.farm_core.specs.Farm.{IsFarm, owed}
+use Rattle.farm_core.specs.Farm.{IsFarm, owed, ArePassed}
 use Rattle.farm_core.proofs.ViewLemmas.{moved}
-use Rattle.farm_core.proofs.MoveLemmas.{IsMove, moved_is, written, one_entry}
+use Rattle.farm_core.proofs.MoveLemmas.{IsMove, moved_is, one_entry}
+use Rattle.farm_core.proofs.PassedLemmas.{more_funded, written_more}
 use Rattle.farm_core.proofs.farm.Farm.fund_job.Given.{Over}
 use Rattle.farm_core.proofs.farm.Farm.fund_job.Goals.{After-write_down}
 use Rattle.farm_core.proofs.farm.Farm.fund_job.Goals as goal
@@ -48,7 +49,7 @@ moves g c = (it g c).moves
 
 wrote : (g : Over) (c : After-write_down g) →
     let v : World = record { config = c.self.inside.config; rows = c.fund.new.self.rows; waiting = c.fund.new.self.waiting; journal = c.write_down.new.journal.items; books = c.write_down.new.ledgers.books.items; numbers = c.write_down.new.ledgers.numbers.items } in
-    IsFarm v (vec_capacity c.write_down.new.journal) × Follows c.args.self.now c.args.tenant (Fund c.args.seq c.args.quanta) (Replied (reply.Line (record c.args.line { phase = Waiting; left = c.args.line.left + c.args.quanta }))) v
+    IsFarm v (vec_capacity c.write_down.new.journal) × Follows c.args.self.now c.args.tenant (Fund c.args.seq c.args.quanta) (Replied (reply.Line (record c.args.line { phase = Waiting; left = c.args.line.left + c.args.quanta }))) v × ArePassed v c.self.inside.passed
 wrote g c =
     let w : World = c.args.self.now in
     let t = c.args.tenant in
@@ -60,10 +61,11 @@ wrote g c =
     let is : v ≡ moved w t (c.fund.new.self) then (one_entry t (Fund c.args.seq c.args.quanta)) = moved_is w c.self.inside.config c.self.inside.jobs (c.fund.new.self) c.self.inside.journal.items c.write_down.new.journal.items c.self.inside.ledgers.books.items c.write_down.new.ledgers.books.items c.self.inside.ledgers.numbers.items c.write_down.new.ledgers.numbers.items t c.purse_of-purse.result (c.fund.new.self) then (Fund c.args.seq c.args.quanta)
     c.self.view_is c.purse_of-purse.ensures.exact (refl) books_are c.write_down.ensures.numbers (c.write_down.ensures.journal ∙ ap (λ es. es ++ one_entry t (Fund c.args.seq c.args.quanta)) c.keep_room.ensures.kept) in
     let room : length w.journal + 1 + owed c.fund.new.self.rows ≤ vec_capacity c.write_down.new.journal = omega (arith, (it g c).room, c.in-Ok.ensures.room, c.write_down.ensures.capacity, c.len.ensures, ap (λ (x : World). length x.journal) c.self.view_is, ap (λ (x : World). length x.rows) c.self.view_is) in
-    written w v t (c.fund.new.self) then (Fund c.args.seq c.args.quanta) (Replied (reply.Line (record c.args.line { phase = Waiting; left = c.args.line.left + c.args.quanta }))) (vec_capacity c.self.inside.journal) (vec_capacity c.write_down.new.journal) farm (moves g c) is room
+    written_more w v t (c.fund.new.self) then (Fund c.args.seq c.args.quanta) (Replied (reply.Line (record c.args.line { phase = Waiting; left = c.args.line.left + c.args.quanta }))) (vec_capacity c.self.inside.journal) (vec_capacity c.write_down.new.journal) c.self.inside.passed farm (moves g c) is room
+    (more_funded w t c.args.seq c.args.quanta c.fund.new.self (subst (λ (x : World). IsFunded (table_of x) c.args.tenant c.args.seq c.args.quanta c.fund.new.self) c.self.view_is (c.fund.ensures.funded c.if-not-fund.false))) (subst (λ (x : World). ArePassed x c.self.inside.passed) c.self.view_is c.self.invariant.2)
 
 pub invariant_of-self-2 : goal.invariant_of-self-2
-invariant_of-self-2 g c = ((wrote g c).0, c.write_down.ensures.purses ∙ c.self.invariant.1)
+invariant_of-self-2 g c = ((wrote g c).0, c.write_down.ensures.purses ∙ c.self.invariant.1, (wrote g c).2)
 
 pub returns-clause-follows : goal.returns-clause-follows
 returns-clause-follows g c = (wrote g c).1

@@ -1,7 +1,8 @@
 use Rattle.std.proofs.Common.{◌≡◌, ◌+◌, ◌-◌, ◌≤◌, set, length, refl, sym, ap, ◌∙◌, subst, arith}
 use Rattle.std.specs.Vec.{vec_capacity}
 use Rattle.tenant_book.specs.Book.{BookData, after_spend, after_free_up}
-use Rattle.job_table.specs.Job.{IsBack}
+use Rattle.job_table.specs.Table.{is_waiting}
+use Rattle.job_table.specs.Job.{back, IsBack}
 use Rattle.farm_core.proofs.FarmLemmas.{used_most}
 use Rattle.farm_core.proofs.StepLemmas.{untold}
 use Rattle.farm_core.proofs.ChangeLemmas.{own_job}
@@ -11,9 +12,10 @@ use Rattle.farm_core.specs.declared.entry.Event.TheVariants.{Give}
 use Rattle.farm_core.specs.declared.reply.Reply.TheVariants as reply
 use Rattle.farm_core.specs.Step.{Replied}
 use Rattle.farm_core.specs.World.{World, table_of, view, Follows, purses_in}
-use Rattle.farm_core.specs.Farm.{IsFarm, owed}
+use Rattle.farm_core.specs.Farm.{IsFarm, owed, ArePassed}
 use Rattle.farm_core.proofs.ViewLemmas.{moved}
-use Rattle.farm_core.proofs.MoveLemmas.{IsMove, account_in, moved_is, written, one_entry}
+use Rattle.farm_core.proofs.MoveLemmas.{IsMove, account_in, moved_is, one_entry}
+use Rattle.farm_core.proofs.PassedLemmas.{more_come, written_more}
 use Rattle.farm_core.proofs.farm.Farm.give.Given.{Over}
 use Rattle.farm_core.proofs.farm.Farm.give.Goals.{After-write_down}
 use Rattle.farm_core.proofs.farm.Farm.give.Goals as goal
@@ -61,7 +63,7 @@ moves g c =
 
 wrote : (g : Over) (c : After-write_down g) →
     let v : World = record { config = c.self.inside.config; rows = c.take_back.new.self.rows; waiting = c.take_back.new.self.waiting; journal = c.write_down.new.journal.items; books = c.write_down.new.ledgers.books.items; numbers = c.write_down.new.ledgers.numbers.items } in
-    IsFarm v (vec_capacity c.write_down.new.journal) × Follows c.args.self.now c.args.turn.tenant (Give c.args.turn.seq c.args.turn.ran) (Replied (reply.Ran c.args.turn.ran c.told_of-line.result)) v
+    IsFarm v (vec_capacity c.write_down.new.journal) × Follows c.args.self.now c.args.turn.tenant (Give c.args.turn.seq c.args.turn.ran) (Replied (reply.Ran c.args.turn.ran c.told_of-line.result)) v × ArePassed v c.self.inside.passed
 wrote g c =
     let w : World = c.args.self.now in
     let t = c.args.turn.tenant in
@@ -74,10 +76,12 @@ wrote g c =
     let is : v ≡ moved w t (c.take_back.new.self) then (one_entry t (Give c.args.turn.seq c.args.turn.ran)) = moved_is w c.self.inside.config c.self.inside.jobs (c.take_back.new.self) c.self.inside.journal.items c.write_down.new.journal.items c.self.inside.ledgers.books.items c.write_down.new.ledgers.books.items c.self.inside.ledgers.numbers.items c.write_down.new.ledgers.numbers.items t c.purse_of-purse.result (c.take_back.new.self) then (Give c.args.turn.seq c.args.turn.ran)
     c.self.view_is c.purse_of-purse.ensures.exact (refl) books_are c.write_down.ensures.numbers (c.write_down.ensures.journal) in
     let room : length w.journal + 1 + owed c.take_back.new.self.rows ≤ vec_capacity c.write_down.new.journal = (let it = give_told c.args.self.now c.args.turn.tenant c.args.turn.seq c.args.turn.slice c.args.turn.ran (vec_capacity c.self.inside.journal) c.account-account.result (g.J.Strategy.meaning c.args.turn.search) c.take_back.new.self c.in-Some.before c.told_of-line.result (subst (λ (x : World). IsFarm x (vec_capacity c.self.inside.journal)) c.self.view_is c.self.invariant.0) c.requires.known c.account-account.ensures.exact c.requires.turn (subst (λ (x : World). IsBack (table_of x) c.args.turn.tenant c.args.turn.seq c.args.turn.slice c.args.turn.ran (g.J.Strategy.meaning c.args.turn.search) c.take_back.new.self) c.self.view_is c.in_default-take_back.ensures.back) (sym c.snapshot.ensures ∙ c.in-Some.is) c.told_of-line.ensures in omega (arith, it.room, c.self.invariant.0.room, c.write_down.ensures.capacity, ap (λ (x : World). length x.journal) c.self.view_is, ap (λ (x : World). length x.rows) c.self.view_is, ap (λ (x : World). owed x.rows) c.self.view_is)) in
-    written w v t (c.take_back.new.self) then (Give c.args.turn.seq c.args.turn.ran) (Replied (reply.Ran c.args.turn.ran c.told_of-line.result)) (vec_capacity c.self.inside.journal) (vec_capacity c.write_down.new.journal) farm (moves g c) is room
+    written_more w v t (c.take_back.new.self) then (Give c.args.turn.seq c.args.turn.ran) (Replied (reply.Ran c.args.turn.ran c.told_of-line.result)) (vec_capacity c.self.inside.journal) (vec_capacity c.write_down.new.journal) c.self.inside.passed farm (moves g c) is room
+    (let it = give_told c.args.self.now c.args.turn.tenant c.args.turn.seq c.args.turn.slice c.args.turn.ran (vec_capacity c.self.inside.journal) c.account-account.result (g.J.Strategy.meaning c.args.turn.search) c.take_back.new.self c.in-Some.before c.told_of-line.result (subst (λ (x : World). IsFarm x (vec_capacity c.self.inside.journal)) c.self.view_is c.self.invariant.0) c.requires.known c.account-account.ensures.exact c.requires.turn (subst (λ (x : World). IsBack (table_of x) c.args.turn.tenant c.args.turn.seq c.args.turn.slice c.args.turn.ran (g.J.Strategy.meaning c.args.turn.search) c.take_back.new.self) c.self.view_is c.in_default-take_back.ensures.back) (sym c.snapshot.ensures ∙ c.in-Some.is) c.told_of-line.ensures in more_come t c.args.turn.seq (is_waiting (back c.args.turn.ran it.job).phase) w.waiting c.take_back.new.self.waiting it.turns)
+    (subst (λ (x : World). ArePassed x c.self.inside.passed) c.self.view_is c.self.invariant.2)
 
 pub invariant_of-self-2 : goal.invariant_of-self-2
-invariant_of-self-2 g c = ((wrote g c).0, c.write_down.ensures.purses ∙ c.self.invariant.1)
+invariant_of-self-2 g c = ((wrote g c).0, c.write_down.ensures.purses ∙ c.self.invariant.1, (wrote g c).2)
 
 pub returns-clause-given : goal.returns-clause-given
 returns-clause-given g c =

@@ -20,4 +20,5 @@ pub invariant_of-result : goal.invariant_of-result
 invariant_of-result g c = (
   subst (λ (w : World). IsFarm w (vec_capacity c.new-2.result)) (sym (whole g c)) (farm_opened c.args.config.now (vec_capacity c.new-2.result) c.number_purses.ensures.config),
   c.in_ok-number_purses.ensures.exact ∙ ap purse_numbers (sym c.in_ok-clone_in.ensures),
+  tt,
 )

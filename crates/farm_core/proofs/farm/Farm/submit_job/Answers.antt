@@ -1,4 +1,4 @@
-use Rattle.std.proofs.Common.{◌≡◌, ◌+◌, ◌≤◌, ◌++◌, set, [], ◌∷◌, false, length, refl, sym, ap, ◌∙◌, subst, arith}
+use Rattle.std.proofs.Common.{◌≡◌, ◌+◌, ◌≤◌, ◌++◌, set, [], ◌∷◌, true, false, length, refl, sym, ap, ◌∙◌, subst, arith}
 use Rattle.std.specs.Vec.{vec_capacity}
 use Rattle.tenant_book.specs.Book.{after_hold}
 use Rattle.job_table.specs.Table.{JobData, TableData, find_row, is_waiting, add_row, add_job, waiting_then}
@@ -13,9 +13,10 @@ use Rattle.farm_core.specs.declared.entry.Event.TheVariants.{Submit}
 use Rattle.farm_core.specs.declared.reply.Reply.TheVariants as reply
 use Rattle.farm_core.specs.Step.{Replied}
 use Rattle.farm_core.specs.World.{World, table_of, view, Follows}
-use Rattle.farm_core.specs.Farm.{IsFarm, owed}
+use Rattle.farm_core.specs.Farm.{IsFarm, owed, ArePassed}
 use Rattle.farm_core.proofs.ViewLemmas.{moved}
-use Rattle.farm_core.proofs.MoveLemmas.{IsMove, account_in, moved_is, written, one_entry}
+use Rattle.farm_core.proofs.MoveLemmas.{IsMove, account_in, moved_is, one_entry}
+use Rattle.farm_core.proofs.PassedLemmas.{more_come, written_more}
 use Rattle.farm_core.proofs.FarmLemmas.{owed-most}
 use Rattle.farm_core.proofs.farm.Farm.submit_job.Given.{Over}
 use Rattle.farm_core.proofs.farm.Farm.submit_job.Goals.{After-write_down}
@@ -40,7 +41,7 @@ moves g c = submit_moves c.args.self.now c.args.tenant (vec_capacity c.self.insi
 
 wrote : (g : Over) (c : After-write_down g) →
     let v : World = record { config = c.self.inside.config; rows = c.insert.new.self.rows; waiting = c.insert.new.self.waiting; journal = c.write_down.new.journal.items; books = c.write_down.new.ledgers.books.items; numbers = c.write_down.new.ledgers.numbers.items } in
-    IsFarm v (vec_capacity c.write_down.new.journal) × Follows c.args.self.now c.args.tenant (Submit c.args.plan c.args.quanta) (Replied (reply.Job c.account-account.result.next)) v
+    IsFarm v (vec_capacity c.write_down.new.journal) × Follows c.args.self.now c.args.tenant (Submit c.args.plan c.args.quanta) (Replied (reply.Job c.account-account.result.next)) v × ArePassed v c.self.inside.passed
 wrote g c =
     let w : World = c.args.self.now in
     let t = c.args.tenant in
@@ -54,10 +55,11 @@ wrote g c =
     let is : v ≡ moved w t (add_job t new (table_of w)) then (one_entry t (Submit c.args.plan c.args.quanta)) = moved_is w c.self.inside.config c.self.inside.jobs (c.insert.new.self) c.self.inside.journal.items c.write_down.new.journal.items c.self.inside.ledgers.books.items c.write_down.new.ledgers.books.items c.self.inside.ledgers.numbers.items c.write_down.new.ledgers.numbers.items t c.purse_of-purse.result (add_job t new (table_of w)) then (Submit c.args.plan c.args.quanta)
     c.self.view_is c.purse_of-purse.ensures.exact (c.in-Ok-insert.ensures.added ∙ ap (λ (x : World). add_job t c.in-Some.job (table_of x)) c.self.view_is ∙ ap (λ (j : JobData). add_job t j (table_of w)) c.in-Some.ensures.made) books_are c.write_down.ensures.numbers event_is in
     let room : length w.journal + 1 + owed (add_row (record { tenant = t; job = new }) w.rows) ≤ vec_capacity c.write_down.new.journal = omega (arith, owed_add (record { tenant = t; job = new }) w.rows, owed-most w.rows, c.in-Ok.ensures.room, c.write_down.ensures.capacity, c.len.ensures, ap (λ (x : World). length x.journal) c.self.view_is, ap (λ (x : World). length x.rows) c.self.view_is) in
-    written w v t (add_job t new (table_of w)) then (Submit c.args.plan c.args.quanta) (Replied (reply.Job c.account-account.result.next)) (vec_capacity c.self.inside.journal) (vec_capacity c.write_down.new.journal) farm (moves g c) is room
+    written_more w v t (add_job t new (table_of w)) then (Submit c.args.plan c.args.quanta) (Replied (reply.Job c.account-account.result.next)) (vec_capacity c.self.inside.journal) (vec_capacity c.write_down.new.journal) c.self.inside.passed farm (moves g c) is room
+    (more_come t account.next true w.waiting (add_job t new (table_of w)).waiting refl) (subst (λ (x : World). ArePassed x c.self.inside.passed) c.self.view_is c.self.invariant.2)
 
 pub invariant_of-self-2 : goal.invariant_of-self-2
-invariant_of-self-2 g c = ((wrote g c).0, c.write_down.ensures.purses ∙ c.self.invariant.1)
+invariant_of-self-2 g c = ((wrote g c).0, c.write_down.ensures.purses ∙ c.self.invariant.1, (wrote g c).2)
 
 pub returns-clause-follows : goal.returns-clause-follows
 returns-clause-follows g c = (wrote g c).1

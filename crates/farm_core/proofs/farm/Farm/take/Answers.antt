@@ -1,6 +1,8 @@
-use Rattle.std.proofs.Common.{◌≡◌, ◌+◌, ◌≤◌, ◌++◌, length, refl, sym, ap, ◌∙◌, subst, arith}
+use Rattle.std.proofs.Common.{◌≡◌, ◌&&◌, ◌+◌, ◌≤◌, ◌++◌, true, false, length, refl, sym, ap, ◌∙◌, subst, arith}
 use Rattle.std.specs.Vec.{vec_capacity}
+use Rattle.std.proofs.lemmas.Bool.{and_parts}
 use Rattle.strategy.specs.Search.{Meaning}
+use Rattle.job_table.specs.Table.{is_waiting}
 use Rattle.job_table.specs.Job.{IsSent}
 use Rattle.job_table.specs.declared.phase.Phase.TheVariants.{Out}
 use Rattle.farm_core.specs.Tenant.{line_of}
@@ -8,11 +10,12 @@ use Rattle.farm_core.proofs.GiveLemmas.{IsGoing, take_moves, take_ready, take_re
 use Rattle.farm_core.proofs.TurnLemmas.{turn_fresh}
 use Rattle.farm_core.specs.declared.account.Account.{Account}
 use Rattle.farm_core.specs.declared.entry.Event.TheVariants.{Take}
-use Rattle.farm_core.specs.Step.{Sent}
-use Rattle.farm_core.specs.World.{World, table_of, Follows, purses_in}
-use Rattle.farm_core.specs.Farm.{IsFarm, owed}
+use Rattle.farm_core.specs.Step.{Sent, is_slice, has_room}
+use Rattle.farm_core.specs.World.{World, table_of, view, Follows, purses_in}
+use Rattle.farm_core.specs.Farm.{IsFarm, owed, ArePassed}
 use Rattle.farm_core.proofs.ViewLemmas.{moved}
-use Rattle.farm_core.proofs.MoveLemmas.{IsMove, account_in, moved_is, written, one_entry}
+use Rattle.farm_core.proofs.MoveLemmas.{IsMove, account_in, moved_is, one_entry}
+use Rattle.farm_core.proofs.PassedLemmas.{written_less}
 use Rattle.farm_core.proofs.farm.Farm.take.Given.{Over}
 use Rattle.farm_core.proofs.farm.Farm.take.Goals.{After-write_down}
 use Rattle.farm_core.proofs.farm.Farm.take.Goals as goal
@@ -28,7 +31,7 @@ moves g c = (it g c).moves
 
 wrote : (g : Over) (c : After-write_down g) →
     let v : World = record { config = c.self.inside.config; rows = c.send.new.self.rows; waiting = c.send.new.self.waiting; journal = c.write_down.new.journal.items; books = c.write_down.new.ledgers.books.items; numbers = c.write_down.new.ledgers.numbers.items } in
-    IsFarm v (vec_capacity c.write_down.new.journal) × Follows c.args.self.now c.args.tenant (Take c.args.seq c.args.slice) (Sent (line_of (record (it g c).job { phase = Out c.args.slice }))) v
+    IsFarm v (vec_capacity c.write_down.new.journal) × Follows c.args.self.now c.args.tenant (Take c.args.seq c.args.slice) (Sent (line_of (record (it g c).job { phase = Out c.args.slice }))) v × ArePassed v c.self.inside.passed
 wrote g c =
     let w : World = c.args.self.now in
     let t = c.args.tenant in
@@ -39,10 +42,12 @@ wrote g c =
     let is : v ≡ moved w t (c.send.new.self) then (one_entry t (Take c.args.seq c.args.slice)) = moved_is w c.self.inside.config c.self.inside.jobs (c.send.new.self) c.self.inside.journal.items c.write_down.new.journal.items c.self.inside.ledgers.books.items c.write_down.new.ledgers.books.items c.self.inside.ledgers.numbers.items c.write_down.new.ledgers.numbers.items t c.purse_of-purse.result (c.send.new.self) then (Take c.args.seq c.args.slice)
     c.self.view_is c.purse_of-purse.ensures.exact (refl) c.write_down.ensures.books c.write_down.ensures.numbers (c.write_down.ensures.journal ∙ ap (λ es. es ++ one_entry t (Take c.args.seq c.args.slice)) c.keep_room.ensures.kept) in
     let room : length w.journal + 1 + owed c.send.new.self.rows ≤ vec_capacity c.write_down.new.journal = omega (arith, (it g c).room, c.in-Ok.ensures.room, c.write_down.ensures.capacity, c.len.ensures, ap (λ (x : World). length x.journal) c.self.view_is, ap (λ (x : World). length x.rows) c.self.view_is) in
-    written w v t (c.send.new.self) then (Take c.args.seq c.args.slice) (Sent (line_of (record (it g c).job { phase = Out c.args.slice }))) (vec_capacity c.self.inside.journal) (vec_capacity c.write_down.new.journal) farm (moves g c) is room
+    written_less w v t (c.send.new.self) then (Take c.args.seq c.args.slice) (Sent (line_of (record (it g c).job { phase = Out c.args.slice }))) (vec_capacity c.self.inside.journal) (vec_capacity c.write_down.new.journal) c.self.inside.passed farm (moves g c) is room
+    (λ none. let room = (and_parts (is_waiting c.in-Some.line.phase && is_slice c.args.slice) (has_room 2 (view t w)) (sym c.may_take.ensures.exact ∙ c.if-not-may_take.false)).1 in absurd (cc))
+    (subst (λ (x : World). ArePassed x c.self.inside.passed) c.self.view_is c.self.invariant.2)
 
 pub invariant_of-self-2 : goal.invariant_of-self-2
-invariant_of-self-2 g c = ((wrote g c).0, c.write_down.ensures.purses ∙ c.self.invariant.1)
+invariant_of-self-2 g c = ((wrote g c).0, c.write_down.ensures.purses ∙ c.self.invariant.1, (wrote g c).2)
 
 pub returns-clause-taken : goal.returns-clause-taken
 returns-clause-taken g c =

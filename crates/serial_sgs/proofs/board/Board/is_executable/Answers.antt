@@ -1,5 +1,4 @@
-use Rattle.std.proofs.Common.{◌≡◌, ◌<◌, Bool, false, List, [], get_or, arith, ap, ◌∙◌}
-use Rattle.std.proofs.lemmas.List.{get_or_default}
+use Rattle.std.proofs.Common.{◌<◌, ap, ◌∙◌}
 use Rattle.mrcpsp.specs.Project.{size, mode_count}
 use Rattle.mrcpsp.specs.Placed.{is_executable}
 use Rattle.serial_sgs.specs.Board.{BoardData}
@@ -12,7 +11,5 @@ returns c =
     let m = c.args.mode in
     let known : j < size b.project = rw (← c.self.view_is) at c.requires.activity in
     let in_mode : m < mode_count b.project j = rw (← c.self.view_is) at c.requires.mode in
-    let list : c.as_slice.result.now ≡ get_or b.executable.items j [] = c.as_slice.ensures ∙ c.index.ensures ∙ get_or_default b.executable.items j c.index.result.now [] (omega (arith, c.self.invariant.executable.count, known)) in
-    ap (λ (fitting : List Bool). get_or fitting m false) list
-    ∙ (c.self.invariant.executable.each j known).each m in_mode
+    (c.row.ensures b.project c.self.invariant.tabled known in_mode).executable
     ∙ ap (λ (x : BoardData). is_executable x.project j m) c.self.view_is

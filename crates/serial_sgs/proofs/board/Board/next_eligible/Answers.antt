@@ -1,5 +1,4 @@
-use Rattle.std.proofs.Common.{◌≡◌, MatchOption, ap, subst}
-use Rattle.mrcpsp.specs.Project.{size}
+use Rattle.std.proofs.Common.{MatchOption, subst}
 use Rattle.serial_sgs.specs.Board.{BoardData, IsNextEligible, NoneEligible}
 use Rattle.serial_sgs.proofs.KeptLemmas.{next_is}
 use Rattle.serial_sgs.proofs.board.Board.next_eligible.Goals as goal
@@ -8,4 +7,4 @@ pub returns : goal.returns
 returns c =
     let b = c.self.inside in
     subst (λ (x : BoardData). MatchOption c.next_open.result (NoneEligible x.project x.placed c.args.from) (IsNextEligible x.project x.placed c.args.from)) c.self.view_is
-    (next_is b.project b.measures b.placed.items _ b.waiting b.needed b.at_least b.points.items _ b.before.items b.after.items b.executable.items b.finishes.items c.args.from c.next_open.result c.self.invariant c.next_open.ensures)
+    (next_is b.project b.placed.items _ b.waiting b.needed b.at_least b.points.items _ b.before.items b.after.items b.rows b.finishes.items c.args.from c.next_open.result c.self.invariant c.next_open.ensures)

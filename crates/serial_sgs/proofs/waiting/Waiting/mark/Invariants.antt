@@ -1,4 +1,4 @@
-use Rattle.std.proofs.Common.{◌≡◌, true, false, take, set}
+use Rattle.std.proofs.Common.{◌≡◌, true, take, set}
 use Rattle.serial_sgs.specs.Waiting.{IsLess}
 use Rattle.serial_sgs.proofs.waiting.Waiting.mark.Given as goal
 

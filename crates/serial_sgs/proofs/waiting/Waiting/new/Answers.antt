@@ -1,4 +1,4 @@
-use Rattle.std.proofs.Common.{length, arith, ap, sym, ◌∙◌}
+use Rattle.std.proofs.Common.{length, ap, ◌∙◌}
 use Rattle.std.proofs.lemmas.List.{length-replicate}
 use Rattle.serial_sgs.proofs.WaitingLemmas.{marked_all}
 use Rattle.serial_sgs.proofs.waiting.Waiting.new.Goals as goal

@@ -1,4 +1,4 @@
-use Rattle.std.proofs.Common.{◌≡◌, ◌<◌, ◌+◌, ℕ, Bool, false, List, [], get_or, length, length-set, arith, ap, sym, ◌∙◌, set, subst, ⊎_elim}
+use Rattle.std.proofs.Common.{◌≡◌, ℕ, false, List, [], get_or, length, length-set, arith, ap, sym, ◌∙◌, set, ⊎_elim}
 use Rattle.std.proofs.lemmas.Bool.{cases_eq}
 use Rattle.std.proofs.lemmas.List.{get_or-set_same, get_or-set_other, get_or_default}
 use Rattle.serial_sgs.specs.Waiting.{WaitingData}

@@ -1,0 +1,47 @@
+-- What `farm replay` writes of the text of a configuration and the bytes of a script, and with which status it ends.
+use Rattle.std.specs.Prelude.{◌≡◌, ℕ, List, ⊤, Bool, Option, Result, Ok, Err, IfSome}
+use Rattle.std.specs.Io.KnownBytes.{append_known}
+use Rattle.farm_core.specs.Config.{ConfigData}
+use Rattle.farm_config.specs.Config.{Means, HasFault}
+use Rattle.farm_replay.specs.Output.{IsWritten, IsCutOff}
+use Rattle.farm_replay.specs.declared.script.ReplayFault.{ReplayFault}
+use Rattle.farm_replay.specs.declared.watches.Watches.{Watches}
+use Rattle.farm_cli.specs.declared.replaying.ReplayStop.{ReplayStop}
+use Rattle.farm_cli.specs.declared.replaying.ReplayStop.TheVariants as stop
+use Rattle.farm_cli.specs.Strict.{replay_status}
+
+-- the output of a script, whole or cut off by a fault
+abbrev pub Plays : Result ⊤ ReplayFault → ConfigData → Watches → List ℕ → Option (List ℕ) → Option (List ℕ) → Type 0
+Plays (Ok done) config seen script before after = IsWritten config script before after
+Plays (Err fault) config seen script before after = IsCutOff config fault seen script before after
+
+-- the text means a configuration, on whose farm a replay ended so, with what it wrote
+pub record IsPlayed (ended : Result ⊤ ReplayFault) (text : List ℕ) (seen : Watches) (script before after : Option (List ℕ)) : Type 0 where
+  pub config : ConfigData
+  pub means : Means text (Ok config)
+  pub plays : IfSome script (λ bytes. Plays ended config seen bytes before after)
+
+-- what was gathered did not all go out: what did is its front part
+pub record IsUnsent (text : List ℕ) (seen : Watches) (script before after : Option (List ℕ)) : Type 0 where
+  pub ended : Result ⊤ ReplayFault
+  pub gathered : Option (List ℕ)
+  pub played : IsPlayed ended text seen script before gathered
+  pub rest : List ℕ
+  pub front : gathered ≡ append_known after rest
+
+-- how a replay of a script's reader under the text of a configuration ends, with what its writer held before and holds after
+abbrev pub IsReplayOf : Result ⊤ ReplayStop → List ℕ → Watches → Option (List ℕ) → Option (List ℕ) → Option (List ℕ) → Type 0
+IsReplayOf (Ok done) text seen script before after = IsPlayed (Ok tt) text seen script before after
+IsReplayOf (Err (stop.Config fault)) text seen script before after = HasFault text fault × (after ≡ before)
+IsReplayOf (Err (stop.Fault fault)) text seen script before after = IsPlayed (Err fault) text seen script before after
+IsReplayOf (Err stop.Unsent) text seen script before after = IsUnsent text seen script before after
+
+abbrev pub stop_status : Result ⊤ ReplayStop → Bool → Option ℕ → ℕ
+stop_status (Ok done) is_strict refused = replay_status is_strict refused
+stop_status (Err stop) is_strict refused = 1
+
+-- the status is that of a replay which ends so
+pub record IsReplayed (status : ℕ) (is_strict : Bool) (refused : Option ℕ) (text : List ℕ) (seen : Watches) (script before after : Option (List ℕ)) : Type 0 where
+  pub ended : Result ⊤ ReplayStop
+  pub is : IsReplayOf ended text seen script before after
+  pub ends : status ≡ stop_status ended is_strict refused

@@ -1,0 +1,77 @@
+//! What is told of the project of a file, over any reader and writer.
+ghost use Rattle.std.specs.Prelude.{◌≡◌};
+ghost use Rattle.std.specs.Process.{exit_status};
+ghost use Rattle.farm_cli.specs.Checked.{IsCheckOf, IsChecked, check_status};
+
+use crate::input::read_front;
+use crate::summary::summarize;
+use file_words::{reason, tell_unread};
+use psplib_mm::{MmFault, read};
+use std::alloc::Global;
+use std::io::{Eprint, ErrorKind, Read, Write};
+use std::process::ExitCode;
+
+/// Why nothing is told of a project.
+#[derive(Clone, Copy, Debug, PartialEq, Eq)]
+pub enum CheckFault {
+    /// The reader failed, or there was no memory for its bytes.
+    Read(ErrorKind),
+    /// The bytes are of no project.
+    File(MmFault),
+    /// A write failed.
+    Write,
+}
+
+/// Writes the line of the project whose file a reader gives. At most `MOST_BYTES` bytes are read; a longer input is a fault of the
+/// file. But for a fault of the writer nothing was written at an error.
+pub fn check<S: Read + Drop, W: Write>(
+    alloc: Global,
+    reader: S,
+    writer: &mut W,
+) -> Result<(), CheckFault>
+    ensures { IsCheckOf result (S.remaining reader) (W.contents writer.old) (W.contents writer.new) }
+{
+    let text = match read_front(alloc, reader) {
+        Ok(text) => text,
+        Err(error) => return Err(CheckFault::Read(error.kind())),
+    };
+    match read(alloc, &text) {
+        Ok(project) => {
+            let summary = summarize(&project);
+            match writeln!(writer, "{summary}") {
+                Ok(()) => Ok(()),
+                Err(_) => Err(CheckFault::Write),
+            }
+        }
+        Err(fault) => Err(CheckFault::File(fault)),
+    }
+}
+
+/// The status of a check, with its fault on standard error.
+fn end_check<R: Eprint>(rt: &R, path: &str, ended: Result<(), CheckFault>) -> ExitCode
+    ensures { exit_status result ≡ check_status ended }
+{
+    match ended {
+        Ok(()) => return ExitCode::SUCCESS,
+        Err(CheckFault::Read(kind)) => tell_unread(rt, path, reason(kind)),
+        Err(CheckFault::File(fault)) => {
+            let _ = eprintln!(rt; "farm: no file {fault}");
+        }
+        Err(CheckFault::Write) => {}
+    }
+    ExitCode::FAILURE
+}
+
+/// The same with a status: 0 where the line was written, and 1 where its fault was told on standard error. The reader is of the
+/// file at the path.
+pub fn check_to<R: AllocGlobal + Eprint, S: Read + Drop, W: Write>(
+    rt: &R,
+    path: &str,
+    reader: S,
+    writer: &mut W,
+) -> ExitCode
+    ensures { IsChecked (exit_status result) (S.remaining reader) (W.contents writer.old) (W.contents writer.new) }
+{
+    let ended = check(rt.alloc(), reader, writer);
+    end_check(rt, path, ended)
+}

@@ -1,0 +1,117 @@
+//! Scripts replayed under the text of a configuration, over any reader and writer.
+ghost use Rattle.std.specs.Prelude.{◌≡◌, [], OnOk, OnErr};
+ghost use Rattle.std.specs.Io.Buffered.{writer_buffer, writer_contents, writer_inner};
+ghost use Rattle.std.specs.Process.{exit_status};
+ghost use Rattle.farm_cli.specs.Replayed.{IsReplayOf, IsReplayed, stop_status};
+
+use farm_config::{ConfigFault, place_of, read_config};
+use farm_replay::{Notes, ReplayFault, Watches, replay_noting};
+use std::alloc::Global;
+use std::io::{BufWriter, Eprint, Read, Write};
+use std::process::ExitCode;
+
+/// Why a replay ended before its script.
+#[derive(Clone, Copy, Debug, PartialEq, Eq)]
+pub enum ReplayStop {
+    /// The text is of no configuration.
+    Config(ConfigFault),
+    /// The replay has this fault.
+    Fault(ReplayFault),
+    /// What was gathered of the replies could not be written at the end.
+    Unsent,
+}
+
+/// Replays a script on a farm of the configuration that the text spells. The replies go through a buffer that is written out at
+/// the end and after a fault, so that the writer behind it holds them.
+pub fn replay_text<S: Read + Drop, W: Write + Drop>(
+    alloc: Global,
+    text: &[u8],
+    script: S,
+    output: &mut BufWriter<W>,
+    watches: &mut Watches,
+    notes: &mut Notes,
+) -> Result<(), ReplayStop>
+    requires { writer_buffer output.old ≡ [] }
+    ensures { IsReplayOf result text.now watches.new (S.remaining script) (W.contents (writer_inner output.old)) (W.contents (writer_inner output.new)) }
+{
+    let config = match read_config(alloc, text) {
+        Ok(config) => config,
+        Err(fault) => return Err(ReplayStop::Config(fault)),
+    };
+    let ended = replay_noting(alloc, &config, script, output, watches, notes);
+    match output.flush() {
+        Ok(()) => match ended {
+            Ok(()) => Ok(()),
+            Err(fault) => Err(ReplayStop::Fault(fault)),
+        },
+        Err(_) => Err(ReplayStop::Unsent),
+    }
+}
+
+/// Tells the fault of a configuration, and on a second line where it lies and what is wanted there.
+pub(crate) fn tell_config_fault<R: AllocGlobal + Eprint>(rt: &R, bytes: &[u8], fault: ConfigFault) {
+    let _ = eprintln!(rt; "farm: config {fault}");
+    if let Some(place) = place_of(rt.alloc(), bytes, fault) {
+        let wanted = place.wanted(fault);
+        let _ = eprintln!(rt; "farm: why: {place}: {wanted}");
+    }
+}
+
+/// Tells why a replay ended before its script.
+fn tell_stop<R: AllocGlobal + Eprint>(rt: &R, text: &[u8], stop: ReplayStop) {
+    match stop {
+        ReplayStop::Config(fault) => tell_config_fault(rt, text, fault),
+        ReplayStop::Fault(fault) => {
+            let _ = eprintln!(rt; "farm: replay {fault}");
+        }
+        ReplayStop::Unsent => {
+            let _ = eprintln!(rt; "farm: replay Write");
+        }
+    }
+}
+
+/// The status of a replay, with its fault on standard error, and what was noted of its script.
+fn end_replay<R: AllocGlobal + Eprint>(
+    rt: &R,
+    text: &[u8],
+    ended: Result<(), ReplayStop>,
+    notes: Notes,
+    is_strict: bool,
+) -> ExitCode
+    ensures { exit_status result ≡ stop_status ended is_strict notes.refused }
+{
+    let status = match (ended, notes.refused) {
+        (Err(stop), _) => {
+            tell_stop(rt, text, stop);
+            ExitCode::FAILURE
+        }
+        (Ok(()), Some(line)) if is_strict => {
+            let _ = eprintln!(rt; "farm: refused at line {line}");
+            ExitCode::FAILURE
+        }
+        (Ok(()), _) => ExitCode::SUCCESS,
+    };
+    if let Some(line) = notes.doubtful {
+        let _ = eprintln!(rt;
+            "farm: line {line}: the text of this submit ends with a line that begins with '@'; is its count of lines right?"
+        );
+    }
+    status
+}
+
+/// The same with a status: 1 where its fault was told on standard error, and by the rule of `specs/Strict` where it has none.
+pub fn replay_to<R: AllocGlobal + Eprint, S: Read + Drop, W: Write + Drop>(
+    rt: &R,
+    text: &[u8],
+    script: S,
+    is_strict: bool,
+    output: &mut BufWriter<W>,
+    watches: &mut Watches,
+    notes: &mut Notes,
+) -> ExitCode
+    requires { writer_buffer output.old ≡ [] }
+    ensures { IsReplayed (exit_status result) is_strict notes.new.refused text.now watches.new (S.remaining script) (W.contents (writer_inner output.old)) (W.contents (writer_inner output.new)) }
+{
+    let ended = replay_text(rt.alloc(), text, script, output, watches, notes);
+    end_replay(rt, text, ended, *notes, is_strict)
+}

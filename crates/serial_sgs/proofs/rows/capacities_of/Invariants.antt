@@ -1,0 +1,10 @@
+use Rattle.std.proofs.Common.{◌≡◌, ℕ, ◌<◌, ◌≤◌, length, get_or}
+use Rattle.mrcpsp.specs.Project.{capacity}
+use Rattle.serial_sgs.proofs.rows.capacities_of.Given as goal
+
+abbrev pub invariant-loop-resource : goal.invariant-loop-resource
+invariant-loop-resource l = record {
+  fit : length l.capacities ≡ 8;
+  done : (r : ℕ) → r < l.resource → get_or l.capacities r 0 ≡ capacity l.project r;
+  rest : (r : ℕ) → l.resource ≤ r → get_or l.capacities r 0 ≡ 0;
+}

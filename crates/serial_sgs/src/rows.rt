@@ -1,0 +1,170 @@
+//! Rows: what each mode takes, as the scheme asks for it, beside what there is.
+ghost use Rattle.std.specs.Prelude.{◌≡◌, ℕ, ◌+◌, ◌<◌, ◌≤◌, IfOk, slice_index};
+ghost use Rattle.mrcpsp.specs.Project.{ProjectData, size, mode_count, request, consumption, capacity, stock};
+ghost use Rattle.mrcpsp.specs.Limits.{IsProject};
+ghost use Rattle.mrcpsp.specs.Values.{least};
+ghost use Rattle.measures.specs.Measures.{measures_of};
+ghost use Rattle.serial_sgs.specs.Rows.{IsRow, AreRows, HasRows, IsTable};
+
+use crate::stock::least;
+use crate::sums::is_executable;
+use measures::Measures;
+use mrcpsp::{Project, Sequence};
+use std::alloc::{AllocError, Global};
+
+/// What an activity takes in a mode. There are eight numbers of either kind of resources: those that a project does not have
+/// stand at 0.
+#[derive(Clone, Copy, Debug)]
+pub(crate) struct Row {
+    /// What it consumes of each nonrenewable resource beyond the least of the activity.
+    pub(crate) extra: [u32; 8],
+    /// What it uses of each renewable resource in each of its periods.
+    pub(crate) request: [u32; 8],
+    /// How many periods it takes.
+    pub(crate) duration: u32,
+    /// Whether it fits into an idle project.
+    pub(crate) is_executable: bool,
+}
+
+/// A row for each mode of each activity, and what there is of each resource.
+#[derive(Drop)]
+pub(crate) struct Rows {
+    rows: Vec<Sequence<Row>>,
+    pub(crate) capacities: [u32; 8],
+    pub(crate) stocks: [u32; 8],
+}
+
+/// What an activity in a mode requests of each renewable resource.
+fn requests_of(project: &Project, activity: usize, mode: usize) -> [u32; 8]
+    requires project { IsProject project.now }
+    requires activity { activity < size project.now }
+    requires mode { mode < mode_count project.now activity }
+    ensures { (r : ℕ) → r < 8 → slice_index result r ≡ request project.now activity mode r }
+{
+    let mut requests = [0u32; 8];
+    for resource in 0..project.renewables() {
+        requests[resource] = project.request(activity, mode, resource);
+    }
+    requests
+}
+
+/// What an activity in a mode consumes of each nonrenewable resource beyond its least.
+fn extras_of(project: &Project, measures: &Measures, activity: usize, mode: usize) -> [u32; 8]
+    requires project { IsProject project.now }
+    requires measured { measures.now ≡ measures_of project.now }
+    requires activity { activity < size project.now }
+    requires mode { mode < mode_count project.now activity }
+    ensures { (r : ℕ) → r < 8 → slice_index result r + least project.now activity r ≡ consumption project.now activity mode r }
+{
+    let mut extras = [0u32; 8];
+    for resource in 0..project.nonrenewables() {
+        let more = project.consumption(activity, mode, resource);
+        let less = least(project, measures, activity, resource);
+        prove!(less <= more);
+        extras[resource] = more - less;
+    }
+    extras
+}
+
+/// The row of a mode.
+fn row_of(project: &Project, measures: &Measures, activity: usize, mode: usize) -> Row
+    requires project { IsProject project.now }
+    requires measured { measures.now ≡ measures_of project.now }
+    requires activity { activity < size project.now }
+    requires mode { mode < mode_count project.now activity }
+    ensures { IsRow project.now activity mode result }
+{
+    Row {
+        extra: extras_of(project, measures, activity, mode),
+        request: requests_of(project, activity, mode),
+        duration: project.duration(activity, mode),
+        is_executable: is_executable(project, activity, mode),
+    }
+}
+
+/// The rows of an activity.
+fn rows_of(
+    alloc: Global,
+    project: &Project,
+    measures: &Measures,
+    activity: usize,
+) -> Result<Vec<Row>, AllocError>
+    requires project { IsProject project.now }
+    requires measured { measures.now ≡ measures_of project.now }
+    requires activity { activity < size project.now }
+    ensures { IfOk result (λ rows. AreRows project.now activity (mode_count project.now activity) rows.items) }
+{
+    let mut rows = Vec::new(alloc);
+    for mode in 0..project.mode_count(activity) {
+        rows.push(row_of(project, measures, activity, mode))?;
+    }
+    Ok(rows)
+}
+
+/// The rows of each activity.
+fn all_rows(
+    alloc: Global,
+    project: &Project,
+    measures: &Measures,
+) -> Result<Vec<Sequence<Row>>, AllocError>
+    requires project { IsProject project.now }
+    requires measured { measures.now ≡ measures_of project.now }
+    ensures { IfOk result (λ table. HasRows project.now (size project.now) table.items) }
+{
+    let mut table = Vec::new(alloc);
+    for activity in 0..project.size() {
+        table.push(Sequence::from(rows_of(alloc, project, measures, activity)?))?;
+    }
+    Ok(table)
+}
+
+/// The capacity of each renewable resource.
+fn capacities_of(project: &Project) -> [u32; 8]
+    requires { IsProject project.now }
+    ensures { (r : ℕ) → r < 8 → slice_index result r ≡ capacity project.now r }
+{
+    let mut capacities = [0u32; 8];
+    for resource in 0..project.renewables() {
+        capacities[resource] = project.capacity(resource);
+    }
+    capacities
+}
+
+/// The stock of each nonrenewable resource.
+fn stocks_of(project: &Project) -> [u32; 8]
+    requires { IsProject project.now }
+    ensures { (r : ℕ) → r < 8 → slice_index result r ≡ stock project.now r }
+{
+    let mut stocks = [0u32; 8];
+    for resource in 0..project.nonrenewables() {
+        stocks[resource] = project.stock(resource);
+    }
+    stocks
+}
+
+impl Rows {
+    /// The rows of a project, or an error where there is no memory for them.
+    pub(crate) fn of(
+        alloc: Global,
+        project: &Project,
+        measures: &Measures,
+    ) -> Result<Rows, AllocError>
+        requires project { IsProject project.now }
+        requires measured { measures.now ≡ measures_of project.now }
+        ensures { IfOk result (IsTable project.now) }
+    {
+        Ok(Rows {
+            rows: all_rows(alloc, project, measures)?,
+            capacities: capacities_of(project),
+            stocks: stocks_of(project),
+        })
+    }
+
+    /// The row of a mode of an activity.
+    pub(crate) fn row(&self, activity: usize, mode: usize) -> &Row
+        requires { (p : ProjectData) × IsTable p self.now × (activity < size p) × (mode < mode_count p activity) }
+        ensures { (p : ProjectData) → IsTable p self.now → activity < size p → mode < mode_count p activity → IsRow p activity mode result.now }
+    {
+        &self.rows[activity].as_slice()[mode]
+    }
+}
