@@ -4,6 +4,7 @@ ghost use Rattle.quanta_till.specs.Lease.{empty_lease};
 ghost use Rattle.farm_core.specs.declared.entry.Event.TheVariants as event;
 ghost use Rattle.farm_service.specs.Asked.{event_in, IsAskedBy, IsSaidTo, IsSubmitted};
 ghost use Rattle.farm_service.specs.Known.{IsKnown};
+ghost use Rattle.farm_service.specs.Told.{heard_in, IsToldOf};
 ghost use Rattle.farm_pool.specs.Settle.{AreTillsOf};
 ghost use Rattle.farm_service.specs.Tills.{IsTillOf};
 
@@ -12,7 +13,7 @@ use crate::shared::{Asked, Shared};
 use crate::tills::Branch;
 use farm_core::{Config, Reply};
 use farm_session::{Heard, Ready, hear};
-use session_lines::{LineFault, Request, Said, What, read_request, write_reply};
+use session_lines::{LineFault, Request, Said, What, WriteFault, read_request, write_reply};
 use std::alloc::Global;
 use std::io::{Read, Write};
 use std::sync::Wait;
@@ -21,7 +22,8 @@ use strategy::Plan;
 /// What a request of a connection comes to: a line that only a script may have is no request.
 #[tactic(auto, using(crate::proofs::KnownLemmas::heard_known))]
 fn heard(config: &Config, read: Result<Request, LineFault>) -> Heard
-    ensures { IsKnown config.now result }
+    ensures exact { result ≡ heard_in config.now read }
+    ensures known { IsKnown config.now result }
 {
     match read {
         Ok(
@@ -140,6 +142,41 @@ fn answer<D: Shared, R: Wait, M: Fn(Ready) -> Option<D::Search>>(
     Said::Reply(reply)
 }
 
+/// Tells what was heard of a connection in one line: of a tenant's request the reply to its call. At the input's end, and where it cannot be
+/// read, nothing is written.
+fn reply<D: Shared, R: Wait, W: Write, M: Fn(Ready) -> Option<D::Search>>(
+    rt: &R,
+    alloc: Global,
+    config: &Config,
+    shared: &D,
+    token: &mut D::Token,
+    lobby: &Lobby,
+    branches: &mut [Branch<'_>],
+    writer: &mut W,
+    heard: Heard,
+    make: &M,
+) -> Result<(), WriteFault>
+    requires own { D.owns shared.now token.old }
+    requires config { D.config shared.now ≡ config.now }
+    requires tills { AreTillsOf config.now branches.old }
+    requires known { IsKnown config.now heard }
+    requires make { M.IsAlwaysCallable make.now }
+    ensures own { D.owns shared.now token.new }
+    ensures tills { AreTillsOf config.now branches.new }
+    ensures told { IsToldOf (D.tells shared.now) token.old heard result (W.contents writer.old) (W.contents writer.new) token.new }
+{
+    match heard {
+        Heard::Over | Heard::Broken => Ok(()),
+        Heard::Told(who, said) => write_reply(writer, who, &said),
+        Heard::Asked(tenant, who, asked) => {
+            let purse = config.purse_of(tenant);
+            let branch = &mut branches[purse as usize];
+            let said = answer(rt, alloc, shared, token, lobby, branch, tenant, asked, make);
+            write_reply(writer, Some(who), &said)
+        }
+    }
+}
+
 /// Answers the requests of a connection, one line each, until it ends, cannot be read, or a reply cannot be written.
 pub(crate) fn session<D: Shared, R: Wait, S: Read + Write, M: Fn(Ready) -> Option<D::Search>>(
     rt: &R,
@@ -159,16 +196,13 @@ pub(crate) fn session<D: Shared, R: Wait, S: Read + Write, M: Fn(Ready) -> Optio
     ensures { D.owns shared.now token.new }
 {
     for _ in 0..u64::MAX {
-        let told = match heard(config, read_request(alloc, wire)) {
-            Heard::Over | Heard::Broken => break,
-            Heard::Told(who, said) => write_reply(wire, who, &said),
-            Heard::Asked(tenant, who, asked) => {
-                let purse = config.purse_of(tenant);
-                let branch = &mut branches[purse as usize];
-                let said = answer(rt, alloc, shared, token, lobby, branch, tenant, asked, make);
-                write_reply(wire, Some(who), &said)
-            }
-        };
+        let heard = heard(config, read_request(alloc, wire));
+        if matches!(&heard, Heard::Over | Heard::Broken) {
+            break;
+        }
+        let told = reply(
+            rt, alloc, config, shared, token, lobby, branches, wire, heard, make,
+        );
         if told.is_err() {
             break;
         }
