@@ -1,6 +1,6 @@
 -- Why a line's bytes tell whose it is.
 use Rattle.std.proofs.Common.{◌≡◌, ℕ, ◌==◌, ◌&&◌, nat_le, Bool, true, false, List, [], ◌∷◌, ◌++◌, length, Option, Some, None, refl, sym, ap, ◌∙◌, subst, arith, append_assoc}
-use Rattle.std.specs.Prelude.{Result, Ok, Err, ⊤, if◌then◌else◌, codes}
+use Rattle.std.specs.Prelude.{Result, Ok, Err, IfSome, ⊤, if◌then◌else◌, codes}
 use Rattle.std.specs.List.{list_all}
 use Rattle.std.proofs.lemmas.Bool.{and_parts}
 use Rattle.std.proofs.lemmas.Bool.Decides.{nat_tests}
@@ -15,14 +15,16 @@ use Rattle.session_lines.specs.declared.line.Head.{Head}
 use Rattle.session_lines.specs.declared.line.Meaning.{Meaning}
 use Rattle.session_lines.specs.declared.line.Meaning.TheVariants.{Blank, Whole, Opens, Long, Bad}
 use Rattle.session_lines.specs.declared.request.What.{What}
+use Rattle.session_lines.specs.declared.request.Request.{Request}
+use Rattle.session_lines.specs.declared.request.LineFault.{LineFault}
 use Rattle.session_lines.specs.declared.request.LineFault.TheVariants.{TooLong, Syntax}
 use Rattle.session_lines.specs.declared.said.Said.{Said}
 use Rattle.session_lines.specs.ReplyText.{who_text, said_text}
 use Rattle.session_lines.specs.RequestLine.{name_in, tenant_in, what_in, turn_in, submit_in, opens, asks, own_line, turn_for, turn_line, line_for, meaning_in, meaning_of}
 use Rattle.session_lines.specs.Script.{shown, is_long, is_wordless, judged, TextData, opened, with_line, Item, submitted, whole_text, cut_text, outside_text, before, requests, lines_of, requests_of}
 use Rattle.session_lines.proofs.ReadLemmas.{grown}
-use Rattle.farm_replay.specs.Output.{Parts, Saying, Refused, Nowhere, Reading, Answering, unread, Marked, next, items_of, opening, lines_for, line_text}
-use Rattle.farm_replay.specs.Isolation.{who_in, who_first, is_of}
+use Rattle.farm_replay.specs.Output.{Parts, Saying, who_in, Marked, next, items_of, opening, lines_for, line_text}
+use Rattle.farm_replay.specs.Isolation.{is_of}
 use Rattle.farm_replay.specs.Begins.{begins_with, LinesTellWhose}
 use Rattle.farm_replay.proofs.IsolationLemmas.{next_who}
 
@@ -69,8 +71,9 @@ line_begins name ok (Some other) words h =
 
 -- ---- the requests of a script have well-formed names
 
+-- and a submit's text is that of the tenant whose request it is
 abbrev pub IsNamedItem : Item → Type 0
-IsNamedItem item = IsNamed item.submits × IsNamed (who_in item.answer)
+IsNamedItem item = IsNamed (who_in item.answer) × IfSome item.submits (λ who. who_in item.answer ≡ Some who)
 
 name_named : (word : List ℕ) → IsNamed (name_in word)
 name_named word = elim (is_name word) as (λ b. is_name word ≡ b → IsNamed (if b then Some word else None)) [ true ↦ λ h. h | false ↦ λ h. tt ] refl
@@ -126,21 +129,23 @@ judged_named line =
     (one_named (is_wordless line) Blank Long tt tt)
     (words_named (words_of (shown line)))
 
-submitted_named : (head : Head) (read : Result ProjectData MmFault) → is_name head.who ≡ true → IsNamed (who_in (submitted head read))
-submitted_named head (Ok project) h = h
-submitted_named head (Err why) h = h
+submitted_who : (head : Head) (read : Result ProjectData MmFault) → who_in (submitted head read) ≡ Some head.who
+submitted_who head (Ok project) = refl
+submitted_who head (Err why) = refl
+
+text_named : (text : TextData) (answer : Result Request LineFault) → is_name text.head.who ≡ true → who_in answer ≡ Some text.head.who → IsNamedItem (record { submits = Some text.head.who; answer = answer })
+text_named text answer h own = (subst IsNamed (sym own) h, own)
 
 whole_named : (text : TextData) → is_name text.head.who ≡ true → IsNamedItem (whole_text text)
-whole_named text h = (
-  h,
-  elim text.is_long as (λ b. IsNamed (who_in (if b then Err (TooLong (Some text.head.who)) else submitted text.head (reading text.bytes)))) [
-    | true ↦ h
-    | false ↦ submitted_named text.head (reading text.bytes) h
-  ],
-)
+whole_named text h = text_named text (whole_text text).answer h
+    (elim text.is_long as (λ b. who_in (if b then Err (TooLong (Some text.head.who)) else submitted text.head (reading text.bytes)) ≡ Some text.head.who) [
+      | true ↦ refl
+      | false ↦ submitted_who text.head (reading text.bytes)
+    ])
 
 cut_named : (text : TextData) → is_name text.head.who ≡ true → IsNamedItem (cut_text text)
-cut_named text h = (h, elim text.is_long as (λ b. IsNamed (who_in (if b then Err (TooLong (Some text.head.who)) else Err (Syntax (Some text.head.who))))) [ true ↦ h | false ↦ h ])
+cut_named text h = text_named text (cut_text text).answer h
+    (elim text.is_long as (λ b. who_in (if b then Err (TooLong (Some text.head.who)) else Err (Syntax (Some text.head.who))) ≡ Some text.head.who) [ true ↦ refl | false ↦ refl ])
 
 abbrev pub AreNamed : List Item → Type 0
 AreNamed [] = ⊤
@@ -159,10 +164,10 @@ lines_named None (line ∷ lines) h =
     go : (meaning : Meaning) → IsNamedMeaning meaning → AreNamed (requests None lines) → ((head : Head) → is_name head.who ≡ true → AreNamed (requests (Some (opened head)) lines))
         → AreNamed (before (outside_text meaning).whole (requests (outside_text meaning).text lines))
     go Blank h later inside = later
-    go (Whole request) h later inside = ((tt, h), later)
+    go (Whole request) h later inside = ((h, tt), later)
     go (Opens head) h later inside = inside head h
     go Long h later inside = ((tt, tt), later)
-    go (Bad who) h later inside = ((tt, h), later)
+    go (Bad who) h later inside = ((h, tt), later)
 lines_named (Some text) (line ∷ lines) h =
     let more : TextData = with_line text line in
     elim (more.left == 0) as (λ b. AreNamed (before (grown more b).whole (requests (grown more b).text lines))) [
@@ -172,18 +177,8 @@ lines_named (Some text) (line ∷ lines) h =
 
 -- ---- lines
 
-first_named : (submits who : Option (List ℕ)) → IsNamed submits → IsNamed who → IsNamed (who_first submits who)
-first_named None who h k = k
-first_named (Some submits) who h k = h
-
-unread_named : (refused : Refused) (submits : Option (List ℕ)) → IsNamed submits → IsNamed (unread refused submits)
-unread_named Nowhere submits h = tt
-unread_named Reading submits h = h
-unread_named Answering submits h = tt
-
 pub next_named : (config : ConfigData) (parts : Parts) (m : Marked) → IsNamedItem m.item → IsNamed (next config parts m).line.who
-next_named config parts m h =
-    subst IsNamed (sym (next_who config parts m)) (first_named (unread m.refused m.item.submits) (who_in m.item.answer) (unread_named m.refused m.item.submits h.0) h.1)
+next_named config parts m h = subst IsNamed (sym (next_who config parts m)) h.0
 
 pub script_named : (script : List ℕ) → AreNamed (requests_of script)
 script_named script = lines_named None (lines_of script) tt
@@ -193,8 +188,7 @@ line_at config parts [] h [] behind line is = absurd (cc)
 line_at config parts [] h (l ∷ before) behind line is = absurd (cc)
 line_at config parts (m ∷ ms) h [] behind line is =
     let same : (next config parts m).line ≡ line = cc in
-    subst IsNamed (sym (next_who config parts m) ∙ ap (λ (l : Saying). l.who) same)
-    (first_named (unread m.refused m.item.submits) (who_in m.item.answer) (unread_named m.refused m.item.submits h.0.0) h.0.1)
+    subst IsNamed (sym (next_who config parts m) ∙ ap (λ (l : Saying). l.who) same) h.0.0
 line_at config parts (m ∷ ms) h (l ∷ before) behind line is = line_at config (next config parts m).parts ms h.1 before behind line (cc)
 
 pub lines_tell_whose : LinesTellWhose

@@ -254,7 +254,7 @@ set_twice (m ∷ ms) zero one other = refl
 set_twice (m ∷ ms) (suc place) one other = ap (λ (xs : List Member). m ∷ xs) (set_twice ms place one other)
 
 -- a purse where a member stands as it did
-seated_same : (p : Purse) (place : ℕ) → with_seat p place (seat p place) ≡ p
+pub seated_same : (p : Purse) (place : ℕ) → with_seat p place (seat p place) ≡ p
 seated_same p place = ap (λ (ms : List Member). let it : Purse = record p { members = ms } in it) (set_same p.members place)
 
 seated_twice : (p : Purse) (place : ℕ) (one other : Tenant) → with_seat (with_seat p place one) place other ≡ with_seat p place other

@@ -1,6 +1,6 @@
 -- Why a purse's lines are those of its members' own requests.
 use Rattle.std.proofs.Common.{◌≡◌, ℕ, ◌==◌, Bool, true, false, cond, List, [], ◌∷◌, filter, Option, Some, None, refl, sym, ap, ◌∙◌, eq-eqb, ⊎_elim}
-use Rattle.std.specs.Prelude.{Result, Ok, Err, is_some}
+use Rattle.std.specs.Prelude.{Result, Ok, Err, is_some, if◌then◌else◌}
 use Rattle.std.proofs.lemmas.Bool.{eqb-true, both_ways}
 use Rattle.std.proofs.lemmas.List.Quantifiers.{position-Some}
 use Rattle.farm_core.specs.Purses.{is_shared, purse_name}
@@ -11,11 +11,16 @@ use Rattle.farm_core.proofs.SharingLemmas.{apart}
 use Rattle.farm_core.specs.Tenant.{Purse, seat, with_seat}
 use Rattle.farm_core.specs.World.{terms_in, purse_in, place_in}
 use Rattle.farm_core.specs.Laws.{IsLone}
+use Rattle.farm_core.specs.declared.reply.Reply.TheVariants as reply
 use Rattle.session_lines.specs.declared.request.Request.{Request}
+use Rattle.session_lines.specs.declared.request.What.{What}
 use Rattle.session_lines.specs.declared.request.LineFault.{LineFault}
-use Rattle.farm_session.specs.Heard.{is_named, number_of}
-use Rattle.farm_replay.specs.Output.{Told, told_under, Parts, opening, part_of, Saying, Next, asked, answered, is_answering, unread, unless_unread, Marked, next, lines_for}
-use Rattle.farm_replay.specs.Isolation.{who_in, who_first, whose, is_of, place_if, seat_of, is_members, own_lines, own_requests, EachReplaysAlone, ReplaysAreIsolated, EachLoneReplaysAlone}
+use Rattle.session_lines.specs.declared.request.LineFault.TheVariants.{Eof, Read, TooLong, Syntax, File, NoMemory}
+use Rattle.session_lines.specs.declared.said.Said.{Said}
+use Rattle.session_lines.specs.declared.said.Said.TheVariants as said
+use Rattle.farm_session.specs.Heard.{is_named, number_of, heard_for, heard_of}
+use Rattle.farm_replay.specs.Output.{Told, told_under, Parts, opening, part_of, Saying, Next, says, answered, who_in, Marked, is_unread, next, lines_for}
+use Rattle.farm_replay.specs.Isolation.{whose, is_of, place_if, seat_of, is_members, own_lines, own_requests, EachReplaysAlone, ReplaysAreIsolated, EachLoneReplaysAlone}
 
 -- ---- names
 
@@ -52,60 +57,76 @@ seated config p k t = by (purse_in config t == p) refl
     by false is h = absurd (cc)
 
 -- what is said to it, and its purse then
-own_asked : (config : ConfigData) (refused : Bool) (parts : Parts) (request : Request) (p k t : ℕ) → IsSeated config p k t
-    → let it : Told = told_under refused (seat (parts p) k) request.what in
-    (let n : Next = asked config refused parts request (Some t) in
-    (n.line ≡ record { who = Some request.who; said = it.said }) × (n.parts p ≡ with_seat (parts p) k it.after))
-own_asked config refused parts request p k t at =
-    let said : ℕ → ℕ → Told = λ x y. told_under refused (seat (parts x) y) request.what in
+own_asked : (config : ConfigData) (refused : Bool) (parts : Parts) (who : List ℕ) (what : What) (p k t : ℕ) → IsSeated config p k t
+    → let it : Told = told_under refused (seat (parts p) k) what in
+    (let n : Next = answered config refused parts (heard_for who what (Some t)) in
+    (n.line ≡ record { who = Some who; said = it.said }) × (n.parts p ≡ with_seat (parts p) k it.after))
+own_asked config refused parts who what p k t at =
+    let said : ℕ → ℕ → Told = λ x y. told_under refused (seat (parts x) y) what in
     let told : said (purse_in config t) (place_in config t) ≡ said p k = ap (λ x. said x (place_in config t)) at.purse ∙ ap (said p) at.place in
     let first = purse_in config t in (
-      ap (λ (x : Told). let l : Saying = record { who = Some request.who; said = x.said } in l) told,
+      ap (λ (x : Told). let l : Saying = record { who = Some who; said = x.said } in l) told,
       ap (λ b. cond b (with_seat (parts first) (place_in config t) (said first (place_in config t)).after) (parts p)) (eq-eqb p first (sym at.purse))
           ∙ ap (λ x. with_seat (parts x) (place_in config t) (said x (place_in config t)).after) at.purse
           ∙ ap (λ y. with_seat (parts p) y (said p y).after) at.place,
     )
 
-same_asked : (config elsewhere : ConfigData) (refused : Bool) (one other : Parts) (request : Request) (p q : ℕ) (t s k : Option ℕ) → place_if config p t ≡ k → place_if elsewhere q s ≡ k
-    → is_some k ≡ true → one p ≡ other q → IsSame p q (asked config refused one request t) (asked elsewhere refused other request s)
-same_asked config elsewhere refused one other request p q t s None at there own h = absurd (cc)
-same_asked config elsewhere refused one other request p q None s (Some k) at there own h = absurd (cc)
-same_asked config elsewhere refused one other request p q (Some t) None (Some k) at there own h = absurd (cc)
-same_asked config elsewhere refused one other request p q (Some t) (Some s) (Some k) at there own h =
-    let here = own_asked config refused one request p k t (seated config p k t at) in
-    let then = own_asked elsewhere refused other request q k s (seated elsewhere q k s there) in
-    let said : Purse → Told = λ x. told_under refused (seat x k) request.what in
+same_asked : (config elsewhere : ConfigData) (refused : Bool) (one other : Parts) (who : List ℕ) (what : What) (p q : ℕ) (t s k : Option ℕ) → place_if config p t ≡ k → place_if elsewhere q s ≡ k
+    → is_some k ≡ true → one p ≡ other q → IsSame p q (answered config refused one (heard_for who what t)) (answered elsewhere refused other (heard_for who what s))
+same_asked config elsewhere refused one other who what p q t s None at there own h = absurd (cc)
+same_asked config elsewhere refused one other who what p q None s (Some k) at there own h = absurd (cc)
+same_asked config elsewhere refused one other who what p q (Some t) None (Some k) at there own h = absurd (cc)
+same_asked config elsewhere refused one other who what p q (Some t) (Some s) (Some k) at there own h =
+    let here = own_asked config refused one who what p k t (seated config p k t at) in
+    let over = own_asked elsewhere refused other who what q k s (seated elsewhere q k s there) in
+    let said : Purse → Told = λ x. told_under refused (seat x k) what in
     record {
-      line = here.0 ∙ ap (λ (x : Purse). let l : Saying = record { who = Some request.who; said = (said x).said } in l) h ∙ sym then.0;
-      agree = here.1 ∙ ap (λ (x : Purse). with_seat x k (said x).after) h ∙ sym then.1;
+      line = here.0 ∙ ap (λ (x : Purse). let l : Saying = record { who = Some who; said = (said x).said } in l) h ∙ sym over.0;
+      agree = here.1 ∙ ap (λ (x : Purse). with_seat x k (said x).after) h ∙ sym over.1;
     }
+
+-- bytes that are no request are answered alike on every farm, and change nothing
+settled : (fault : LineFault) → (words : Said) × ((config : ConfigData) (refused : Bool) (parts : Parts) → answered config refused parts (heard_of config (Err fault)) ≡ says (who_in (Err fault)) words parts)
+settled Eof = (said.Syntax, λ config refused parts. refl)
+settled Read = (said.Syntax, λ config refused parts. refl)
+settled (TooLong who) = (said.LongLine, λ config refused parts. refl)
+settled (Syntax who) = (said.Syntax, λ config refused parts. refl)
+settled (File who fault) = (said.File fault, λ config refused parts. refl)
+settled (NoMemory who) = (said.Reply reply.NoMemory, λ config refused parts. refl)
 
 abbrev SameSeats : ConfigData → ConfigData → ℕ → ℕ → Type 0
 SameSeats config elsewhere p q = (who : List ℕ) → seat_of config p who ≡ seat_of elsewhere q who
 
 same_answered : (config elsewhere : ConfigData) (refused : Bool) (one other : Parts) (p q : ℕ) → SameSeats config elsewhere p q → (answer : Result Request LineFault)
-    → is_members config p (who_in answer) ≡ true → one p ≡ other q → IsSame p q (answered config refused one answer) (answered elsewhere refused other answer)
+    → is_members config p (who_in answer) ≡ true → one p ≡ other q → IsSame p q (answered config refused one (heard_of config answer)) (answered elsewhere refused other (heard_of elsewhere answer))
 same_answered config elsewhere refused one other p q seats (Ok request) own h =
-    same_asked config elsewhere refused one other request p q (number_of request.who config) (number_of request.who elsewhere) (seat_of config p request.who) refl (sym (seats request.who)) own h
-same_answered config elsewhere refused one other p q seats (Err fault) own h = record { line = refl; agree = h }
+    same_asked config elsewhere refused one other request.who request.what p q (number_of request.who config) (number_of request.who elsewhere) (seat_of config p request.who) refl (sym (seats request.who)) own h
+same_answered config elsewhere refused one other p q seats (Err fault) own h =
+    let here = (settled fault).1 config refused one in
+    let there = (settled fault).1 elsewhere refused other in
+    record { line = ap (λ (n : Next). n.line) here ∙ sym (ap (λ (n : Next). n.line) there); agree = ap (λ (n : Next). n.parts p) here ∙ h ∙ sym (ap (λ (n : Next). n.parts q) there) }
+
+-- the line of a request, by whether its text is unread
+abbrev pub next_if : Bool → ConfigData → Parts → Marked → Next
+next_if unread config parts m =
+    if unread then says (who_in m.item.answer) (said.Reply reply.NoMemory) parts
+    else answered config m.refused parts (heard_of config m.item.answer)
 
 same_next : (config elsewhere : ConfigData) (one other : Parts) (p q : ℕ) → SameSeats config elsewhere p q → (m : Marked) → is_members config p (whose m) ≡ true → one p ≡ other q
     → IsSame p q (next config one m) (next elsewhere other m)
-same_next config elsewhere one other p q seats m own h = by (unread m.refused m.item.submits) own
-  where
-    by : (submits : Option (List ℕ)) → is_members config p (who_first submits (who_in m.item.answer)) ≡ true
-        → IsSame p q (unless_unread submits one (answered config (is_answering m.refused) one m.item.answer))
-        (unless_unread submits other (answered elsewhere (is_answering m.refused) other m.item.answer))
-    by None o = same_answered config elsewhere (is_answering m.refused) one other p q seats m.item.answer o h
-    by (Some who) o = record { line = refl; agree = h }
+same_next config elsewhere one other p q seats m own h = elim (is_unread m) as (λ unread. IsSame p q (next_if unread config one m) (next_if unread elsewhere other m)) [
+  | true ↦ record { line = refl; agree = h }
+  | false ↦ same_answered config elsewhere m.refused one other p q seats m.item.answer own h
+]
 
 -- another's request leaves the purse as it is
-apart_asked : (config : ConfigData) (refused : Bool) (parts : Parts) (request : Request) (p : ℕ) (t : Option ℕ) → is_some (place_if config p t) ≡ false → (asked config refused parts request t).parts p ≡ parts p
-apart_asked config refused parts request p None other = refl
-apart_asked config refused parts request p (Some t) other =
+apart_asked : (config : ConfigData) (refused : Bool) (parts : Parts) (who : List ℕ) (what : What) (p : ℕ) (t : Option ℕ) → is_some (place_if config p t) ≡ false
+    → (answered config refused parts (heard_for who what t)).parts p ≡ parts p
+apart_asked config refused parts who what p None other = refl
+apart_asked config refused parts who what p (Some t) other =
     let first = purse_in config t in
-    let then : Purse = with_seat (parts first) (place_in config t) (told_under refused (part_of config parts t) request.what).after in
-    ap (λ b. cond b then (parts p))
+    let moved : Purse = with_seat (parts first) (place_in config t) (told_under refused (part_of config parts t) what).after in
+    ap (λ b. cond b moved (parts p))
     (elim (p == first) as (λ b. (p == first) ≡ b → b ≡ false) [
       | true ↦ λ e.
           let seat_is : is_some (place_if config p (Some t)) ≡ true = ap (λ b. is_some (cond b (Some (place_in config t)) None)) (eq-eqb first p (sym (eqb-true p first e))) in
@@ -114,34 +135,26 @@ apart_asked config refused parts request p (Some t) other =
     ] refl)
 
 apart_answered : (config : ConfigData) (refused : Bool) (parts : Parts) (p : ℕ) (answer : Result Request LineFault) → is_members config p (who_in answer) ≡ false
-    → (answered config refused parts answer).parts p ≡ parts p
-apart_answered config refused parts p (Ok request) other = apart_asked config refused parts request p (number_of request.who config) other
-apart_answered config refused parts p (Err fault) other = refl
+    → (answered config refused parts (heard_of config answer)).parts p ≡ parts p
+apart_answered config refused parts p (Ok request) other = apart_asked config refused parts request.who request.what p (number_of request.who config) other
+apart_answered config refused parts p (Err fault) other = ap (λ (n : Next). n.parts p) ((settled fault).1 config refused parts)
 
 apart_next : (config : ConfigData) (parts : Parts) (p : ℕ) (m : Marked) → is_members config p (whose m) ≡ false → (next config parts m).parts p ≡ parts p
-apart_next config parts p m other = by (unread m.refused m.item.submits) other
-  where
-    by : (submits : Option (List ℕ)) → is_members config p (who_first submits (who_in m.item.answer)) ≡ false
-        → (unless_unread submits parts (answered config (is_answering m.refused) parts m.item.answer)).parts p ≡ parts p
-    by None o = apart_answered config (is_answering m.refused) parts p m.item.answer o
-    by (Some who) o = refl
+apart_next config parts p m other =
+    elim (is_unread m) as (λ unread. (next_if unread config parts m).parts p ≡ parts p) [ true ↦ refl | false ↦ apart_answered config m.refused parts p m.item.answer other ]
 
 -- ---- lines
 
-asked_who : (config : ConfigData) (refused : Bool) (p : Parts) (request : Request) (t : Option ℕ) → (asked config refused p request t).line.who ≡ Some request.who
-asked_who config refused p request None = refl
-asked_who config refused p request (Some t) = refl
+asked_who : (config : ConfigData) (refused : Bool) (p : Parts) (who : List ℕ) (what : What) (t : Option ℕ) → (answered config refused p (heard_for who what t)).line.who ≡ Some who
+asked_who config refused p who what None = refl
+asked_who config refused p who what (Some t) = refl
 
-answered_who : (config : ConfigData) (refused : Bool) (p : Parts) (answer : Result Request LineFault) → (answered config refused p answer).line.who ≡ who_in answer
-answered_who config refused p (Ok request) = asked_who config refused p request (number_of request.who config)
-answered_who config refused p (Err fault) = refl
+answered_who : (config : ConfigData) (refused : Bool) (p : Parts) (answer : Result Request LineFault) → (answered config refused p (heard_of config answer)).line.who ≡ who_in answer
+answered_who config refused p (Ok request) = asked_who config refused p request.who request.what (number_of request.who config)
+answered_who config refused p (Err fault) = ap (λ (n : Next). n.line.who) ((settled fault).1 config refused p)
 
 pub next_who : (config : ConfigData) (p : Parts) (m : Marked) → (next config p m).line.who ≡ whose m
-next_who config p m = by (unread m.refused m.item.submits)
-  where
-    by : (submits : Option (List ℕ)) → (unless_unread submits p (answered config (is_answering m.refused) p m.item.answer)).line.who ≡ who_first submits (who_in m.item.answer)
-    by None = answered_who config (is_answering m.refused) p m.item.answer
-    by (Some who) = refl
+next_who config p m = elim (is_unread m) as (λ unread. (next_if unread config p m).line.who ≡ whose m) [ true ↦ refl | false ↦ answered_who config m.refused p m.item.answer ]
 
 own_by : (config elsewhere : ConfigData) (one other : Parts) (p q : ℕ) → SameSeats config elsewhere p q → (requests : List Marked) → one p ≡ other q
     → own_lines config p (lines_for config one requests) ≡ lines_for elsewhere other (own_requests config p requests)

@@ -1,10 +1,9 @@
 -- How a replay goes on from request to request.
 use Rattle.std.proofs.Common.{◌≡◌, ◌≢◌, ℕ, ◌+◌, ◌≤◌, ◌==◌, Bool, true, false, cond, List, [], ◌∷◌, ◌++◌, length, Option, Some, None, refl, sym, ap, ◌∙◌, subst, arith, ◌⊎◌, inl, inr, add-one, ⊎_elim, eq-eqb, append_assoc, append-nil, length-append, ◌<◌}
-use Rattle.std.specs.Prelude.{Result, Ok, Err, IfSome, IfErr, OnOk, ⊤}
+use Rattle.std.specs.Prelude.{Result, Ok, Err, IfSome, IfErr, OnOk, ⊤, ◌&&◌, if◌then◌else◌, is_some}
 use Rattle.std.specs.List.{flat_map}
 use Rattle.std.specs.Io.KnownBytes.{Keeps, Appends}
 use Rattle.std.proofs.lemmas.Bool.{cases_eq, eqb-true}
-use Rattle.farm_replay.specs.Output.{answered, unless_unread}
 use Rattle.std.proofs.lemmas.Grind.{flat_map-append}
 use Rattle.psplib_mm.specs.declared.fault.MmFault.{MmFault}
 use Rattle.psplib_mm.specs.declared.fault.MmFault.TheVariants as file
@@ -29,11 +28,13 @@ use Rattle.session_lines.specs.Script.{Item, lines_of, first, first_of, requests
 use Rattle.farm_replay.specs.declared.script.ReplayFault.{ReplayFault}
 use Rattle.farm_replay.specs.declared.script.ReplayFault.TheVariants as fault
 use Rattle.farm_session.specs.declared.heard.Heard.TheVariants as heard
-use Rattle.farm_replay.specs.Output.{Told, told_under, Parts, opening, part_of, with_tenant, Saying, Next, asked, Refused, Nowhere, Reading, Answering, Marked, next, lines_for, parts_after, line_text, output_of, items_of, IsWritten, lines_past, IsLongNext, IsCutBy, IsCutOff, unwatched}
+use Rattle.farm_replay.specs.Output.{Told, may_need, told_to, told_under, Parts, opening, part_of, with_tenant, Saying, Next, says, answered, who_in, Marked, next, lines_for, parts_after, line_text, output_of, items_of, IsWritten, lines_past, IsLongNext, IsCutBy, IsCutOff, unwatched}
 use Rattle.farm_session.specs.Heard.{number_of, heard_for, heard_of}
 use Rattle.farm_replay.specs.Replay.{GoesOn, end_of}
 use Rattle.farm_replay.specs.declared.watches.Watches.{Watches}
 use Rattle.farm_replay.specs.Floor.{IsTold}
+use Rattle.farm_replay.proofs.BeginLemmas.{AreNamed, script_named}
+use Rattle.farm_replay.proofs.FloorLemmas.{seated_same}
 
 -- ---- known bytes
 
@@ -215,44 +216,55 @@ pub record IsAsked (config : ConfigData) (t : ℕ) (who : List ℕ) (what : What
   pub answer_is : item.answer ≡ Ok (record { who = who; what = what })
   pub number : number_of who config ≡ Some t
 
-settled_by : (config : ConfigData) (most : ℕ) (answer : Result Request LineFault) (line : Saying) (refused : Refused) (ys zs : List ℕ) (it : Cuts most (first None (lines_of ys)) answer ys zs)
-    → ((parts : Parts) → next config parts (record { item = it.item; refused = refused }) ≡ record { line = line; parts = parts }) → IsSettled config line ys zs
-settled_by config most answer line refused ys zs it says = record { request = record { item = it.item; refused = refused }; cut = record { cut = it.cut }; next_is = says }
+-- what is heard of it is its line
+settled_by : (config : ConfigData) (most : ℕ) (answer : Result Request LineFault) (who : Option (List ℕ)) (words : Said) → heard.Told who words ≡ heard_of config answer
+    → (ys zs : List ℕ) (it : Cuts most (first None (lines_of ys)) answer ys zs) → it.item.answer ≡ answer → IsSettled config (record { who = who; said = words }) ys zs
+settled_by config most answer who words is ys zs it same = record {
+  request = record { item = it.item; refused = false };
+  cut = record { cut = it.cut };
+  next_is = λ parts. ap (λ a. answered config false parts (heard_of config a)) same ∙ ap (answered config false parts) (sym is);
+}
 
-same_line : (who : Option (List ℕ)) (words : Said) (w : Option (List ℕ)) (s : Said) (parts : Parts) → heard.Told who words ≡ heard.Told w s
-    → (let it : Next = record { line = record { who = w; said = s }; parts = parts } in it) ≡ record { line = record { who = who; said = words }; parts = parts }
-same_line who words w s parts is =
-    let a : w ≡ who = cc in
-    let b : s ≡ words = cc in
-    ap (λ v. let it : Next = record { line = record { who = v; said = s }; parts = parts } in it) a ∙ ap (λ v. let it : Next = record { line = record { who = who; said = v }; parts = parts } in it) b
+-- a submit's text is that of the tenant whose request it is
+own_text : EachInTurn → (ys : List ℕ) (item : Item) (rest : List (List ℕ)) (who : List ℕ) → first_of ys ≡ Some (record { item = item; rest = rest }) → item.submits ≡ Some who → who_in item.answer ≡ Some who
+own_text turns ys item rest who cut text =
+    subst (λ submits. IfSome submits (λ w. who_in item.answer ≡ Some w)) text (subst AreNamed (turns ys ∙ ap from_first cut) (script_named ys)).0.1
 
-settled_request : (config : ConfigData) (most : ℕ) (request : Request) (who : Option (List ℕ)) (words : Said) (t : Option ℕ) → number_of request.who config ≡ t
-    → heard.Told who words ≡ heard_for request.who request.what t → (ys zs : List ℕ) → Cuts most (first None (lines_of ys)) (Ok request) ys zs
-    → IsSettled config (record { who = who; said = words }) ys zs
-settled_request config most request who words None at is ys zs it =
-    settled_by config most (Ok request) (record { who = who; said = words }) Nowhere ys zs it
-    (λ parts. ap (answered config false parts) it.answers ∙ ap (asked config false parts request) at ∙ same_line who words (Some request.who) said.NoTenant parts is)
-settled_request config most request who words (Some t) at is ys zs it = absurd (cc)
+-- memory is refused for it
+next_unread : (config : ConfigData) (parts : Parts) (item : Item) (who : Option (List ℕ)) → is_some item.submits ≡ true → who_in item.answer ≡ who
+    → next config parts (record { item = item; refused = true }) ≡ says who (said.Reply reply.NoMemory) parts
+next_unread config parts item who text own =
+    ap (λ b. if b then says (who_in item.answer) (said.Reply reply.NoMemory) parts else answered config true parts (heard_of config item.answer)) text
+    ∙ ap (λ w. says w (said.Reply reply.NoMemory) parts) own
 
-told_takes : (config : ConfigData) (most : ℕ) (old new : Option (List ℕ)) (answer : Result Request LineFault) (who : Option (List ℕ)) (words : Said) → heard.Told who words ≡ heard_of config answer
+unread_settled : EachInTurn → (config : ConfigData) (most : ℕ) (w : List ℕ) (who : Option (List ℕ)) (words : Said) → heard.Told who words ≡ heard.Told (Some w) (said.Reply reply.NoMemory)
+    → (ys zs : List ℕ) → Cuts most (first None (lines_of ys)) (Err (NoMemory w)) ys zs → IsSettled config (record { who = who; said = words }) ys zs
+unread_settled turns config most w who words is ys zs it = record {
+  request = record { item = it.item; refused = true };
+  cut = record { cut = it.cut };
+  next_is = λ parts. next_unread config parts it.item (Some w) (ap (λ (submits : Option (List ℕ)). is_some submits) it.answers) (own_text turns ys it.item (lines_of zs) w it.cut it.answers)
+      ∙ ap (answered config true parts) (sym is);
+}
+
+told_takes : EachInTurn → (config : ConfigData) (most : ℕ) (old new : Option (List ℕ)) (answer : Result Request LineFault) (who : Option (List ℕ)) (words : Said) → heard.Told who words ≡ heard_of config answer
     → Takes most None old new answer → Goes old new (IsSettled config (record { who = who; said = words }))
-told_takes config most old new (Ok request) who words is h =
+told_takes turns config most old new (Ok request) who words is h =
     goes_to old new (λ ys zs. Cuts most (first None (lines_of ys)) (Ok request) ys zs) (IsSettled config (record { who = who; said = words })) h
-    (settled_request config most request who words (number_of request.who config) refl is)
-told_takes config most old new (Err Eof) who words is h = absurd (cc)
-told_takes config most old new (Err Read) who words is h = absurd (cc)
-told_takes config most old new (Err (TooLong w)) who words is h =
+    (λ ys zs it. settled_by config most (Ok request) who words is ys zs it it.answers)
+told_takes turns config most old new (Err Eof) who words is h = absurd (cc)
+told_takes turns config most old new (Err Read) who words is h = absurd (cc)
+told_takes turns config most old new (Err (TooLong w)) who words is h =
     goes_to old new (λ ys zs. Cuts most (first None (lines_of ys)) (Err (TooLong w)) ys zs) (IsSettled config (record { who = who; said = words })) h
-    (λ ys zs it. settled_by config most (Err (TooLong w)) (record { who = who; said = words }) Nowhere ys zs it (λ parts. ap (answered config false parts) it.answers ∙ same_line who words w said.LongLine parts is))
-told_takes config most old new (Err (Syntax w)) who words is h =
+    (λ ys zs it. settled_by config most (Err (TooLong w)) who words is ys zs it it.answers)
+told_takes turns config most old new (Err (Syntax w)) who words is h =
     goes_to old new (λ ys zs. Cuts most (first None (lines_of ys)) (Err (Syntax w)) ys zs) (IsSettled config (record { who = who; said = words })) h
-    (λ ys zs it. settled_by config most (Err (Syntax w)) (record { who = who; said = words }) Nowhere ys zs it (λ parts. ap (answered config false parts) it.answers ∙ same_line who words w said.Syntax parts is))
-told_takes config most old new (Err (File w why)) who words is h =
+    (λ ys zs it. settled_by config most (Err (Syntax w)) who words is ys zs it it.answers)
+told_takes turns config most old new (Err (File w why)) who words is h =
     goes_to old new (λ ys zs. Cuts most (first None (lines_of ys)) (Err (File w why)) ys zs) (IsSettled config (record { who = who; said = words })) h
-    (λ ys zs it. settled_by config most (Err (File w why)) (record { who = who; said = words }) Nowhere ys zs it (λ parts. ap (answered config false parts) (file_answers it.item w why it.answers) ∙ same_line who words (Some w) (said.File why) parts is))
-told_takes config most old new (Err (NoMemory w)) who words is h =
+    (λ ys zs it. settled_by config most (Err (File w why)) who words is ys zs it (file_answers it.item w why it.answers))
+told_takes turns config most old new (Err (NoMemory w)) who words is h =
     goes_to old new (λ ys zs. Cuts most (first None (lines_of ys)) (Err (NoMemory w)) ys zs) (IsSettled config (record { who = who; said = words })) h
-    (λ ys zs it. settled_by config most (Err (NoMemory w)) (record { who = who; said = words }) Reading ys zs it (λ parts. ap (λ u. unless_unread u parts (answered config false parts it.item.answer)) it.answers ∙ same_line who words (Some w) (said.Reply reply.NoMemory) parts is))
+    (unread_settled turns config most w who words is)
 
 asked_request : (config : ConfigData) (most : ℕ) (request : Request) (t : ℕ) (who : List ℕ) (what : What) (n : Option ℕ) → number_of request.who config ≡ n
     → heard.Asked t who what ≡ heard_for request.who request.what n → (ys zs : List ℕ) → Cuts most (first None (lines_of ys)) (Ok request) ys zs → IsAsked config t who what ys zs
@@ -333,7 +345,7 @@ pub settled_on : EachInTurn → (config : ConfigData) (a b c old mid new : Optio
     → heard.Told who words ≡ heard_of config answer → Takes 100000000 None b c answer → Played config a b old mid count w → Appends mid new (reply_line who words) → Played config a c old new (count + 1) w
 settled_on turns config a b c old mid new count w answer who words is takes played written =
     goes_on a b c (λ xs ys. IsPlayed config xs ys old mid count w) (IsSettled config (record { who = who; said = words })) (λ xs zs. IsPlayed config xs zs old new (count + 1) w)
-    played (told_takes config 100000000 b c answer who words is takes)
+    played (told_takes turns config 100000000 b c answer who words is takes)
     (λ xs ys zs it s. play_on turns config xs ys zs old mid new count w w (record { who = who; said = words }) it s.request s.cut (answered_settled config xs ys zs old mid count w (record { who = who; said = words }) it s) written)
 
 pub settled_cut : EachInTurn → (config : ConfigData) (a b c old mid new : Option (List ℕ)) (count : ℕ) (w : World) (answer : Result Request LineFault) (who : Option (List ℕ)) (words : Said)
@@ -342,22 +354,52 @@ pub settled_cut : EachInTurn → (config : ConfigData) (a b c old mid new : Opti
 settled_cut turns config a b c old mid new count w answer who words is takes played part seen failed =
     known_first a c (λ xs zs. IsCutOff config fault.Write seen xs old new) (λ xs. IsCutOff config fault.Write seen xs old new)
     (goes_on a b c (λ xs ys. IsPlayed config xs ys old mid count w) (IsSettled config (record { who = who; said = words })) (λ xs zs. IsCutOff config fault.Write seen xs old new)
-    played (told_takes config 100000000 b c answer who words is takes)
+    played (told_takes turns config 100000000 b c answer who words is takes)
     (λ xs ys zs it s. cut_by_write turns config xs ys zs old mid new count w w (record { who = who; said = words }) it s.request s.cut (answered_settled config xs ys zs old mid count w (record { who = who; said = words }) it s) part seen failed))
     (λ xs zs known it. it)
 
-abbrev marked : Bool → Refused
-marked true = Answering
-marked false = Nowhere
+-- the line of tenant t's request, where this is told to it
+record IsLed (config : ConfigData) (parts : Parts) (item : Item) (t : ℕ) (who : List ℕ) (told : Told) (refused : Bool) : Type 0 where
+  line : (next config parts (record { item = item; refused = refused })).line ≡ record { who = Some who; said = told.said }
+  leads : (q : ℕ) → (next config parts (record { item = item; refused = refused })).parts q ≡ with_tenant config parts t told.after q
 
-next_asked : (config : ConfigData) (parts : Parts) (item : Item) (t : ℕ) (who : List ℕ) (what : What) (refused : Bool) → item.answer ≡ Ok (record { who = who; what = what }) → number_of who config ≡ Some t
-    → next config parts (record { item = item; refused = marked refused })
-    ≡ record {
-      line = record { who = Some who; said = (told_under refused (part_of config parts t) what).said };
-      parts = with_tenant config parts t (told_under refused (part_of config parts t) what).after;
-    }
-next_asked config parts item t who what true is at = ap (answered config true parts) is ∙ ap (asked config true parts (record { who = who; what = what })) at
-next_asked config parts item t who what false is at = ap (answered config false parts) is ∙ ap (asked config false parts (record { who = who; what = what })) at
+led_asked : (config : ConfigData) (parts : Parts) (item : Item) (t : ℕ) (who : List ℕ) (what : What) (refused : Bool) → item.answer ≡ Ok (record { who = who; what = what }) → number_of who config ≡ Some t
+    → (refused && is_some item.submits) ≡ false → IsLed config parts item t who (told_under refused (part_of config parts t) what) refused
+led_asked config parts item t who what refused is at text =
+    let same : next config parts (record { item = item; refused = refused }) ≡ answered config refused parts (heard.Asked t who what) =
+    ap (λ b. if b then says (who_in item.answer) (said.Reply reply.NoMemory) parts else answered config refused parts (heard_of config item.answer)) text
+    ∙ ap (λ a. answered config refused parts (heard_of config a)) is ∙ ap (λ n. answered config refused parts (heard_for who what n)) at in
+    record { line = ap (λ (n : Next). n.line) same; leads = λ q. ap (λ (n : Next). n.parts q) same }
+
+-- a tenant that stands as it did
+stays : (config : ConfigData) (parts : Parts) (t q : ℕ) → parts q ≡ with_tenant config parts t (part_of config parts t) q
+stays config parts t q =
+    let p = purse_in config t in
+    elim (q == p) as (λ b. (q == p) ≡ b → parts q ≡ cond b (with_seat (parts p) (place_in config t) (part_of config parts t)) (parts q)) [
+      | true ↦ λ e. ap parts (eqb-true q p e) ∙ sym (seated_same (parts p) (place_in config t))
+      | false ↦ λ _. refl
+    ] refl
+
+abbrev told_if : Bool → Tenant → What → Told
+told_if silent t what = cond silent (record { said = said.Reply reply.NoMemory; after = t }) (told_to t what)
+
+-- whatever is told to it, there is a mark that leads there: memory that is refused for a submit refuses its text
+marked : (config : ConfigData) (parts : Parts) (item : Item) (t : ℕ) (who : List ℕ) (what : What) (refused : Bool) → item.answer ≡ Ok (record { who = who; what = what }) → number_of who config ≡ Some t
+    → (mark : Bool) × IsLed config parts item t who (told_under refused (part_of config parts t) what) mark
+marked config parts item t who what false is at = (false, led_asked config parts item t who what false is at refl)
+marked config parts item t who what true is at = by (is_some item.submits) refl (may_need (part_of config parts t) what) refl
+  where
+    by : (text : Bool) → is_some item.submits ≡ text → (need : Bool) → may_need (part_of config parts t) what ≡ need
+        → (mark : Bool) × IsLed config parts item t who (told_if (may_need (part_of config parts t) what) (part_of config parts t) what) mark
+    by false text need is_needed = (true, led_asked config parts item t who what true is at text)
+    by true text true is_needed =
+        let silent = next_unread config parts item (Some who) text (ap who_in is) in (
+          true,
+          subst (λ b. IsLed config parts item t who (told_if b (part_of config parts t) what) true) (sym is_needed)
+              (record { line = ap (λ (n : Next). n.line) silent; leads = λ q. ap (λ (n : Next). n.parts q) silent ∙ stays config parts t q }),
+        )
+    by true text false is_needed =
+        (false, subst (λ b. IsLed config parts item t who (told_if b (part_of config parts t) what) false) (sym is_needed) (led_asked config parts item t who what false is at refl))
 
 not_same : (u t : ℕ) → u ≢ t → (u == t) ≡ false
 not_same u t d = elim (u == t) as (λ b. (u == t) ≡ b → b ≡ false) [ true ↦ λ e. absurd (d (eqb-true u t e)) | false ↦ λ _. refl ] refl
@@ -378,26 +420,28 @@ leads_to config parts w w' t new is own others at q =
     let mine : purse p w' ≡ with_seat (parts p) (place_in config t) new =
     ap (λ (c : ConfigData). purse (purse_in c t) w') (sym is) ∙ own ∙ ap (λ (c : ConfigData). with_seat (purse (purse_in c t) w) (place_in c t) new) is
     ∙ ap (λ (x : Purse). with_seat x (place_in config t) new) (at p) in
-    let then : Purse = with_seat (parts p) (place_in config t) new in
+    let moved : Purse = with_seat (parts p) (place_in config t) new in
     ⊎_elim
-    (λ (e : q ≡ p). ap (λ k. purse k w') e ∙ mine ∙ ap (λ b. cond b then (parts q)) (sym (eq-eqb q p e)))
-    (λ (d : q ≡ p → ⊥). others q (λ e. d (e ∙ ap (λ (c : ConfigData). purse_in c t) is)) ∙ at q ∙ ap (λ b. cond b then (parts q)) (sym (not_same q p d)))
+    (λ (e : q ≡ p). ap (λ k. purse k w') e ∙ mine ∙ ap (λ b. cond b moved (parts q)) (sym (eq-eqb q p e)))
+    (λ (d : q ≡ p → ⊥). others q (λ e. d (e ∙ ap (λ (c : ConfigData). purse_in c t) is)) ∙ at q ∙ ap (λ b. cond b moved (parts q)) (sym (not_same q p d)))
     (cases_eq q p)
 
 answered_asked : (config : ConfigData) (xs ys zs : List ℕ) (old mid : Option (List ℕ)) (count : ℕ) (w w' : World) (t : ℕ) (who : List ℕ) (what : What) (words : Said) (it : IsPlayed config xs ys old mid count w)
-    (s : IsAsked config t who what ys zs) (h : IsTold w t what words w')
-    → IsAnsweredBy config (parts_after config (opening config) it.requests) (record { item = s.item; refused = marked h.refused }) (record { who = Some who; said = words }) w'
+    (s : IsAsked config t who what ys zs) → IsTold w t what words w'
+    → (refused : Bool) × IsAnsweredBy config (parts_after config (opening config) it.requests) (record { item = s.item; refused = refused }) (record { who = Some who; said = words }) w'
 answered_asked config xs ys zs old mid count w w' t who what words it s h =
     let parts : Parts = parts_after config (opening config) it.requests in
-    let is = next_asked config parts s.item t who what h.refused s.answer_is s.number in
+    let led = marked config parts s.item t who what h.refused s.answer_is s.number in
     let known : t < length config.tenants = known_number who config t s.number in
-    let same : told_under h.refused (view t w) what ≡ told_under h.refused (part_of config parts t) what = ap (λ v. told_under h.refused v what) (view_is config parts w t it.of_config known it.parts) in
-    record {
-      says = ap (λ (n : Next). n.line) is ∙ ap (λ v. let l : Saying = record { who = Some who; said = v } in l) (sym (h.said ∙ ap (λ (x : Told). x.said) same));
-      of_config = h.config ∙ it.of_config;
-      leads = λ q. leads_to config parts w w' t (told_under h.refused (view t w) what).after it.of_config h.own h.others it.parts q
-          ∙ ap (λ (x : Told). with_tenant config parts t x.after q) same ∙ ap (λ (n : Next). n.parts q) (sym is);
-    }
+    let same : told_under h.refused (view t w) what ≡ told_under h.refused (part_of config parts t) what = ap (λ v. told_under h.refused v what) (view_is config parts w t it.of_config known it.parts) in (
+      led.0,
+      record {
+        says = led.1.line ∙ ap (λ v. let l : Saying = record { who = Some who; said = v } in l) (sym (h.said ∙ ap (λ (x : Told). x.said) same));
+        of_config = h.config ∙ it.of_config;
+        leads = λ q. leads_to config parts w w' t (told_under h.refused (view t w) what).after it.of_config h.own h.others it.parts q
+            ∙ ap (λ (x : Told). with_tenant config parts t x.after q) same ∙ sym (led.1.leads q);
+      },
+    )
 
 pub asked_on : EachInTurn → (config : ConfigData) (a b c old mid new : Option (List ℕ)) (count : ℕ) (w w' : World) (answer : Result Request LineFault) (t : ℕ) (who : List ℕ) (what : What) (words : Said)
     → heard.Asked t who what ≡ heard_of config answer → Takes 100000000 None b c answer → IsTold w t what words w' → Played config a b old mid count w → Appends mid new (reply_line (Some who) words)
@@ -405,8 +449,9 @@ pub asked_on : EachInTurn → (config : ConfigData) (a b c old mid new : Option 
 asked_on turns config a b c old mid new count w w' answer t who what words is takes told played written =
     goes_on a b c (λ xs ys. IsPlayed config xs ys old mid count w) (IsAsked config t who what) (λ xs zs. IsPlayed config xs zs old new (count + 1) w')
     played (asked_takes config 100000000 b c answer t who what is takes)
-    (λ xs ys zs it s. play_on turns config xs ys zs old mid new count w w' (record { who = Some who; said = words }) it (record { item = s.item; refused = marked told.refused }) (record { cut = s.cut })
-    (answered_asked config xs ys zs old mid count w w' t who what words it s told) written)
+    (λ xs ys zs it s.
+    let by = answered_asked config xs ys zs old mid count w w' t who what words it s told in
+    play_on turns config xs ys zs old mid new count w w' (record { who = Some who; said = words }) it (record { item = s.item; refused = by.0 }) (record { cut = s.cut }) by.1 written)
 
 pub asked_cut : EachInTurn → (config : ConfigData) (a b c old mid new : Option (List ℕ)) (count : ℕ) (w w' : World) (answer : Result Request LineFault) (t : ℕ) (who : List ℕ) (what : What) (words : Said)
     → heard.Asked t who what ≡ heard_of config answer → Takes 100000000 None b c answer → IsTold w t what words w' → Played config a b old mid count w → AppendsPart mid new (reply_line (Some who) words)
@@ -415,8 +460,9 @@ asked_cut turns config a b c old mid new count w w' answer t who what words is t
     known_first a c (λ xs zs. IsCutOff config fault.Write seen xs old new) (λ xs. IsCutOff config fault.Write seen xs old new)
     (goes_on a b c (λ xs ys. IsPlayed config xs ys old mid count w) (IsAsked config t who what) (λ xs zs. IsCutOff config fault.Write seen xs old new)
     played (asked_takes config 100000000 b c answer t who what is takes)
-    (λ xs ys zs it s. cut_by_write turns config xs ys zs old mid new count w w' (record { who = Some who; said = words }) it (record { item = s.item; refused = marked told.refused }) (record { cut = s.cut })
-    (answered_asked config xs ys zs old mid count w w' t who what words it s told) part seen failed))
+    (λ xs ys zs it s.
+    let by = answered_asked config xs ys zs old mid count w w' t who what words it s told in
+    cut_by_write turns config xs ys zs old mid new count w w' (record { who = Some who; said = words }) it (record { item = s.item; refused = by.0 }) (record { cut = s.cut }) by.1 part seen failed))
     (λ xs zs known it. it)
 
 -- nothing could be sent before it is answered
@@ -426,7 +472,7 @@ asked_unsent turns config a b c old new count w answer t who what is takes playe
     known_first a c (λ xs zs. IsCutOff config fault.Write seen xs old new) (λ xs. IsCutOff config fault.Write seen xs old new)
     (goes_on a b c (λ xs ys. IsPlayed config xs ys old new count w) (IsAsked config t who what) (λ xs zs. IsCutOff config fault.Write seen xs old new)
     played (asked_takes config 100000000 b c answer t who what is takes)
-    (λ xs ys zs it s. cut_before turns config xs ys zs old new count w it (record { item = s.item; refused = Nowhere }) (record { cut = s.cut }) seen failed))
+    (λ xs ys zs it s. cut_before turns config xs ys zs old new count w it (record { item = s.item; refused = false }) (record { cut = s.cut }) seen failed))
     (λ xs zs known it. it)
 
 pub play_over : EachInTurn → (config : ConfigData) (a b c old new : Option (List ℕ)) (count : ℕ) (w : World) (answer : Result Request LineFault) → count ≤ 1000000 → heard.Over ≡ heard_of config answer

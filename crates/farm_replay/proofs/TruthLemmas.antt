@@ -27,8 +27,9 @@ use Rattle.session_lines.specs.declared.request.What.TheVariants.{Submit, Fund, 
 use Rattle.session_lines.specs.declared.request.LineFault.{LineFault}
 use Rattle.session_lines.specs.declared.request.LineFault.TheVariants.{Eof, Read, TooLong, Syntax, File, NoMemory}
 use Rattle.session_lines.specs.declared.said.Said.TheVariants as said
-use Rattle.farm_session.specs.Heard.{number_of}
-use Rattle.farm_replay.specs.Output.{Told, said_for, told_by, given_back, turned, told_to, may_need, told_under, Parts, opening, Next, asked, said_to, answered, is_answering, unread, unless_unread, Marked, next, parts_after, part_of, with_tenant}
+use Rattle.farm_session.specs.Heard.{number_of, heard_for, heard_of}
+use Rattle.farm_replay.specs.Output.{Told, said_for, told_by, given_back, turned, told_to, may_need, told_under, Parts, opening, Next, says, answered, who_in, Marked, is_unread, next, parts_after, part_of, with_tenant}
+use Rattle.farm_replay.proofs.IsolationLemmas.{next_if}
 use Rattle.farm_replay.proofs.PlayLemmas.{parts_more}
 use Rattle.farm_replay.proofs.PlannedLemmas.{IsPlannedWhat, IsPlannedRequest, ArePlanned, script_planned}
 use Rattle.farm_replay.specs.Truth.{IsTrueSaid, WasSubmitted, EachLineIsTrue}
@@ -160,8 +161,8 @@ parts_good config made parts t new known all good u also =
 asked_good : (config : ConfigData) (made : ℕ → Made) (refused : Bool) (parts : Parts) (request : Request) (owner : Option ℕ) → ((t : ℕ) → owner ≡ Some t → t < length config.tenants)
     → AreAllKnown config made parts → IsPlannedWhat request.what
     → ((t : ℕ) → owner ≡ Some t → (refused && may_need (part_of config parts t) request.what) ≡ false → IsMade (made t) (part_of config parts t) request.what)
-    → IsGoodNext config made owner (asked config refused parts request owner)
-asked_good config made refused parts request None there known planned new = quiet_good config made None (asked config refused parts request None) (λ t. tt) known
+    → IsGoodNext config made owner (answered config refused parts (heard_for request.who request.what owner))
+asked_good config made refused parts request None there known planned new = quiet_good config made None (answered config refused parts (heard_for request.who request.what None)) (λ t. tt) known
 asked_good config made refused parts request (Some t) there known planned new =
     let it : Told = told_under refused (part_of config parts t) request.what in
     let good = under_good (made t) (part_of config parts t) request.what refused (known t (there t refl)) planned (new t refl) in
@@ -180,27 +181,28 @@ NewAt made config refused parts (Ok request) =
     (t : ℕ) → number_of request.who config ≡ Some t → (refused && may_need (part_of config parts t) request.what) ≡ false → IsMade (made t) (part_of config parts t) request.what
 NewAt made config refused parts (Err fault) = ⊤
 
-fault_true : (made : Made) (why : LineFault) → IsTrueSaid made (said_to why).said
-fault_true made Eof = tt
-fault_true made Read = tt
-fault_true made (TooLong who) = tt
-fault_true made (Syntax who) = tt
-fault_true made (File who f) = tt
-fault_true made (NoMemory who) = tt
+-- bytes that are no request change nothing
+fault_good : (made : ℕ → Made) (config : ConfigData) (refused : Bool) (parts : Parts) (why : LineFault) → AreAllKnown config made parts → IsGoodNext config made None (answered config refused parts (heard_of config (Err why)))
+fault_good made config refused parts Eof known = quiet_good config made None (answered config refused parts (heard_of config (Err Eof))) (λ t. tt) known
+fault_good made config refused parts Read known = quiet_good config made None (answered config refused parts (heard_of config (Err Read))) (λ t. tt) known
+fault_good made config refused parts (TooLong who) known = quiet_good config made None (answered config refused parts (heard_of config (Err (TooLong who)))) (λ t. tt) known
+fault_good made config refused parts (Syntax who) known = quiet_good config made None (answered config refused parts (heard_of config (Err (Syntax who)))) (λ t. tt) known
+fault_good made config refused parts (File who f) known = quiet_good config made None (answered config refused parts (heard_of config (Err (File who f)))) (λ t. tt) known
+fault_good made config refused parts (NoMemory who) known = quiet_good config made None (answered config refused parts (heard_of config (Err (NoMemory who)))) (λ t. tt) known
 
 answered_good : (made : ℕ → Made) (config : ConfigData) (refused : Bool) (parts : Parts) (answer : Result Request LineFault) → AreAllKnown config made parts → IsPlannedRequest answer
-    → NewAt made config refused parts answer → IsGoodNext config made (owner_of config answer) (answered config refused parts answer)
+    → NewAt made config refused parts answer → IsGoodNext config made (owner_of config answer) (answered config refused parts (heard_of config answer))
 answered_good made config refused parts (Ok request) known planned new = asked_good config made refused parts request (number_of request.who config) (λ t at. known_number request.who config t at) known planned new
-answered_good made config refused parts (Err why) known planned new = quiet_good config made None (answered config refused parts (Err why)) (λ t. fault_true (made t) why) known
+answered_good made config refused parts (Err why) known planned new = fault_good made config refused parts why known
 
 next_good : (made : ℕ → Made) (config : ConfigData) (parts : Parts) (m : Marked) → AreAllKnown config made parts → IsPlannedRequest m.item.answer
-    → (unread m.refused m.item.submits ≡ None → NewAt made config (is_answering m.refused) parts m.item.answer) → IsGoodNext config made (owner_of config m.item.answer) (next config parts m)
-next_good made config parts m known planned new = by (unread m.refused m.item.submits) new
-  where
-    by : (submits : Option (List ℕ)) → (submits ≡ None → NewAt made config (is_answering m.refused) parts m.item.answer)
-        → IsGoodNext config made (owner_of config m.item.answer) (unless_unread submits parts (answered config (is_answering m.refused) parts m.item.answer))
-    by None n = answered_good made config (is_answering m.refused) parts m.item.answer known planned (n refl)
-    by (Some who) n = quiet_good config made (owner_of config m.item.answer) (unless_unread (Some who) parts (answered config (is_answering m.refused) parts m.item.answer)) (λ t. tt) known
+    → (is_unread m ≡ false → NewAt made config m.refused parts m.item.answer) → IsGoodNext config made (owner_of config m.item.answer) (next config parts m)
+next_good made config parts m known planned new =
+    let owner = owner_of config m.item.answer in
+    elim (is_unread m) as (λ unread. is_unread m ≡ unread → IsGoodNext config made owner (next_if unread config parts m)) [
+      | true ↦ λ _. quiet_good config made owner (says (who_in m.item.answer) (said.Reply reply.NoMemory) parts) (λ t. tt) known
+      | false ↦ λ read. answered_good made config m.refused parts m.item.answer known planned (new read)
+    ] refl
 
 -- ---- a whole script
 
@@ -217,23 +219,21 @@ module _ (config : ConfigData) (all : List Marked) where
   after done = parts_after config (opening config) done
 
   says_job : (parts : Parts) (m : Marked) (who : List ℕ) (kind : Kind) (quanta : ℕ) (project : ProjectData) (t s : ℕ) → m.item.answer ≡ Ok (record { who = who; what = Submit kind quanta project })
-      → unread m.refused m.item.submits ≡ None → number_of who config ≡ Some t → (is_answering m.refused && may_need (part_of config parts t) (Submit kind quanta project)) ≡ false
+      → is_unread m ≡ false → number_of who config ≡ Some t → (m.refused && may_need (part_of config parts t) (Submit kind quanta project)) ≡ false
       → (step (part_of config parts t) (event.Submit (record { project = project; kind = kind }) quanta)).answer ≡ Replied (reply.Job s) → said.Reply (reply.Job s) ≡ (next config parts m).line.said
-  says_job parts m who kind quanta project t s asks none number kept told =
-      let plan : Plan = record { project = project; kind = kind } in
-      let request : Request = record { who = who; what = Submit kind quanta project } in
-      let r : Bool = is_answering m.refused in
+  says_job parts m who kind quanta project t s asks read number kept told =
+      let r : Bool = m.refused in
       ap said_for (sym told)
       ∙ ap (λ b. (cond b (let it : Told = record { said = said.Reply reply.NoMemory; after = part_of config parts t } in it) (told_to (part_of config parts t) (Submit kind quanta project))).said) (sym kept)
-      ∙ ap (λ n. (asked config r parts request n).line.said) (sym number)
-      ∙ ap (λ a. (answered config r parts a).line.said) (sym asks)
-      ∙ ap (λ u. (unless_unread u parts (answered config r parts m.item.answer)).line.said) (sym none)
+      ∙ ap (λ n. (answered config r parts (heard_for who (Submit kind quanta project) n)).line.said) (sym number)
+      ∙ ap (λ a. (answered config r parts (heard_of config a)).line.said) (sym asks)
+      ∙ ap (λ b. (next_if b config parts m).line.said) (sym read)
 
   new_by : (before : List Marked) (m : Marked) (behind : List Marked) → all ≡ before ++ m ∷ behind → (who : List ℕ) (what : What) → m.item.answer ≡ Ok (record { who = who; what = what })
-      → unread m.refused m.item.submits ≡ None → (t : ℕ) → number_of who config ≡ Some t → (is_answering m.refused && may_need (part_of config (after before) t) what) ≡ false
+      → is_unread m ≡ false → (t : ℕ) → number_of who config ≡ Some t → (m.refused && may_need (part_of config (after before) t) what) ≡ false
       → IsMade (made_in t) (part_of config (after before) t) what
   unfolding made_in after
-  new_by before m behind whole who (Submit kind quanta project) asks none t number kept = λ s told. (
+  new_by before m behind whole who (Submit kind quanta project) asks read t number kept = λ s told. (
     quanta,
     record {
       before = before;
@@ -243,27 +243,27 @@ module _ (config : ConfigData) (all : List Marked) where
       who = who;
       asks = asks;
       number = number;
-      says = says_job (parts_after config (opening config) before) m who kind quanta project t s asks none number kept told;
+      says = says_job (parts_after config (opening config) before) m who kind quanta project t s asks read number kept told;
     },
   )
-  new_by before m behind whole who (Fund s q) asks none t number kept = tt
-  new_by before m behind whole who (Status s) asks none t number kept = tt
-  new_by before m behind whole who (Fetch s) asks none t number kept = tt
-  new_by before m behind whole who (Cancel s) asks none t number kept = tt
-  new_by before m behind whole who (Forget s) asks none t number kept = tt
-  new_by before m behind whole who Ledger asks none t number kept = tt
-  new_by before m behind whole who (Take s slice) asks none t number kept = tt
-  new_by before m behind whole who (Give s) asks none t number kept = tt
-  new_by before m behind whole who (Turn s slice) asks none t number kept = tt
+  new_by before m behind whole who (Fund s q) asks read t number kept = tt
+  new_by before m behind whole who (Status s) asks read t number kept = tt
+  new_by before m behind whole who (Fetch s) asks read t number kept = tt
+  new_by before m behind whole who (Cancel s) asks read t number kept = tt
+  new_by before m behind whole who (Forget s) asks read t number kept = tt
+  new_by before m behind whole who Ledger asks read t number kept = tt
+  new_by before m behind whole who (Take s slice) asks read t number kept = tt
+  new_by before m behind whole who (Give s) asks read t number kept = tt
+  new_by before m behind whole who (Turn s slice) asks read t number kept = tt
 
-  new_at : (before : List Marked) (m : Marked) (behind : List Marked) → all ≡ before ++ m ∷ behind → unread m.refused m.item.submits ≡ None → (answer : Result Request LineFault)
-      → m.item.answer ≡ answer → NewAt made_in config (is_answering m.refused) (after before) answer
-  new_at before m behind whole none (Ok request) is = λ t number kept. new_by before m behind whole request.who request.what is none t number kept
-  new_at before m behind whole none (Err why) is = tt
+  new_at : (before : List Marked) (m : Marked) (behind : List Marked) → all ≡ before ++ m ∷ behind → is_unread m ≡ false → (answer : Result Request LineFault)
+      → m.item.answer ≡ answer → NewAt made_in config m.refused (after before) answer
+  new_at before m behind whole read (Ok request) is = λ t number kept. new_by before m behind whole request.who request.what is read t number kept
+  new_at before m behind whole read (Err why) is = tt
 
   good_at : (before : List Marked) (m : Marked) (behind : List Marked) → all ≡ before ++ m ∷ behind → AreAllKnown config made_in (after before) → IsPlannedRequest m.item.answer
       → IsGoodNext config made_in (owner_of config m.item.answer) (next config (after before) m)
-  good_at before m behind whole known planned = next_good made_in config (after before) m known planned (λ none. new_at before m behind whole none m.item.answer refl)
+  good_at before m behind whole known planned = next_good made_in config (after before) m known planned (λ read. new_at before m behind whole read m.item.answer refl)
 
   known_on : (done todo behind : List Marked) → all ≡ done ++ (todo ++ behind) → ArePlanned todo → AreAllKnown config made_in (after done) → AreAllKnown config made_in (after (done ++ todo))
   unfolding after

@@ -1,25 +1,15 @@
 -- One purse's lines in the output of a script.
-use Rattle.std.specs.Prelude.{◌≡◌, ℕ, ◌==◌, Bool, false, cond, List, filter, Option, Some, None, is_some, Result, Ok, Err}
+use Rattle.std.specs.Prelude.{◌≡◌, ℕ, ◌==◌, Bool, false, cond, List, filter, Option, Some, None, is_some}
 use Rattle.farm_core.specs.Config.{ConfigData}
 use Rattle.farm_core.specs.Name.{same_bytes}
 use Rattle.farm_core.specs.World.{purse_in, place_in, opened_purse}
 use Rattle.farm_core.specs.Laws.{IsLone}
-use Rattle.session_lines.specs.declared.request.Request.{Request}
-use Rattle.session_lines.specs.declared.request.LineFault.{LineFault}
 use Rattle.farm_session.specs.Heard.{number_of}
-use Rattle.farm_replay.specs.Output.{Saying, Marked, said_to, unread, opening, lines_for}
+use Rattle.farm_replay.specs.Output.{Saying, Marked, who_in, opening, lines_for}
 
--- whose a request is, where that is known
-abbrev pub who_in : Result Request LineFault → Option (List ℕ)
-who_in (Ok request) = Some request.who
-who_in (Err fault) = (said_to fault).who
-
-abbrev pub who_first : Option (List ℕ) → Option (List ℕ) → Option (List ℕ)
-who_first None who = who
-who_first (Some submits) who = Some submits
-
+-- whose a request is, where that is known, whatever memory was refused
 abbrev pub whose : Marked → Option (List ℕ)
-whose m = who_first (unread m.refused m.item.submits) (who_in m.item.answer)
+whose m = who_in m.item.answer
 
 abbrev pub is_of : List ℕ → Option (List ℕ) → Bool
 is_of name None = false

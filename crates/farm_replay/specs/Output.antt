@@ -1,5 +1,5 @@
 -- What a replay writes: one line for each request of its script, which the farm's steps give.
-use Rattle.std.specs.Prelude.{◌≡◌, ◌≢◌, ◌⊎◌, ℕ, zero, suc, Bool, true, false, not, cond, ◌&&◌, ◌==◌, ◌≤◌, List, [], ◌∷◌, ◌++◌, Option, Some, None, Result, Ok, Err, length, map}
+use Rattle.std.specs.Prelude.{◌≡◌, ◌≢◌, ◌⊎◌, ℕ, zero, suc, Bool, true, false, not, cond, ◌&&◌, ◌==◌, ◌≤◌, List, [], ◌∷◌, ◌++◌, if◌then◌else◌, Option, Some, None, is_some, Result, Ok, Err, length, map}
 use Rattle.std.specs.Io.KnownBytes.{Appends}
 use Rattle.std.specs.List.{flat_map}
 use Rattle.farm_core.specs.declared.entry.Event.TheVariants as event
@@ -14,13 +14,15 @@ use Rattle.session_lines.specs.declared.request.Request.{Request}
 use Rattle.session_lines.specs.declared.request.What.{What}
 use Rattle.session_lines.specs.declared.request.What.TheVariants.{Submit, Fund, Status, Fetch, Cancel, Forget, Ledger, Take, Give, Turn}
 use Rattle.session_lines.specs.declared.request.LineFault.{LineFault}
-use Rattle.session_lines.specs.declared.request.LineFault.TheVariants.{Eof, Read, TooLong, Syntax, File, NoMemory}
+use Rattle.session_lines.specs.declared.request.LineFault.TheVariants.{TooLong, Syntax, File, NoMemory}
 use Rattle.session_lines.specs.declared.said.Said.{Said}
 use Rattle.session_lines.specs.declared.said.Said.TheVariants as said
 use Rattle.session_lines.specs.ReplyText.{reply_line}
 use Rattle.session_lines.specs.Cause.{lines_after, IsPast}
 use Rattle.session_lines.specs.Script.{Item, lines_of, first, requests_of}
-use Rattle.farm_session.specs.Heard.{number_of}
+use Rattle.farm_session.specs.declared.heard.Heard.{Heard}
+use Rattle.farm_session.specs.declared.heard.Heard.TheVariants as heard
+use Rattle.farm_session.specs.Heard.{heard_of}
 use Rattle.farm_replay.specs.declared.script.ReplayFault.{ReplayFault}
 use Rattle.farm_replay.specs.declared.script.ReplayFault.TheVariants as fault
 use Rattle.farm_replay.specs.declared.watches.Watches.{Watches}
@@ -111,54 +113,40 @@ pub record Next : Type 0 where
   pub line : Saying
   pub parts : Parts
 
-abbrev pub asked : ConfigData → Bool → Parts → Request → Option ℕ → Next
-asked config refused parts request None = record { line = record { who = Some request.who; said = said.NoTenant }; parts = parts }
-asked config refused parts request (Some t) =
-    let it : Told = told_under refused (part_of config parts t) request.what in
-    record { line = record { who = Some request.who; said = it.said }; parts = with_tenant config parts t it.after }
+abbrev pub says : Option (List ℕ) → Said → Parts → Next
+says who words parts = record { line = record { who = who; said = words }; parts = parts }
 
--- what is said where bytes are no request; the end of the script and a failed read are no request's
-abbrev pub said_to : LineFault → Saying
-said_to Eof = record { who = None; said = said.Syntax }
-said_to Read = record { who = None; said = said.Syntax }
-said_to (TooLong who) = record { who = who; said = said.LongLine }
-said_to (Syntax who) = record { who = who; said = said.Syntax }
-said_to (File who fault) = record { who = Some who; said = said.File fault }
-said_to (NoMemory who) = record { who = Some who; said = said.Reply reply.NoMemory }
+-- what a request comes to: its reply is settled, or one tenant's part of the farm is asked; the end of the script and a failed read are no request's
+abbrev pub answered : ConfigData → Bool → Parts → Heard → Next
+answered config refused parts (heard.Told who words) = says who words parts
+answered config refused parts (heard.Asked t who what) =
+    let it : Told = told_under refused (part_of config parts t) what in
+    says (Some who) it.said (with_tenant config parts t it.after)
+answered config refused parts no_request = says None said.Syntax parts
 
-abbrev pub answered : ConfigData → Bool → Parts → Result Request LineFault → Next
-answered config refused parts (Ok request) = asked config refused parts request (number_of request.who config)
-answered config refused parts (Err fault) = record { line = said_to fault; parts = parts }
+-- whose a request is, where that is known
+abbrev pub who_in : Result Request LineFault → Option (List ℕ)
+who_in (Ok request) = Some request.who
+who_in (Err (TooLong who)) = who
+who_in (Err (Syntax who)) = who
+who_in (Err (File who fault)) = Some who
+who_in (Err (NoMemory who)) = Some who
+who_in (Err fault) = None
 
--- where memory was refused that a request needed: nowhere, for the text of a submit and its project, or for its answer
-pub data Refused : Type 0 where
-  Nowhere : Refused
-  Reading : Refused
-  Answering : Refused
-
-abbrev pub is_answering : Refused → Bool
-is_answering Nowhere = false
-is_answering Reading = false
-is_answering Answering = true
-
--- whose the text is that was not read, if there is one
-abbrev pub unread : Refused → Option (List ℕ) → Option (List ℕ)
-unread Nowhere submits = None
-unread Reading submits = submits
-unread Answering submits = None
-
--- a submit whose text was not read is answered before it is judged
-abbrev pub unless_unread : Option (List ℕ) → Parts → Next → Next
-unless_unread None parts next = next
-unless_unread (Some who) parts next = record { line = record { who = Some who; said = said.Reply reply.NoMemory }; parts = parts }
-
--- a request of a script, and where memory was refused for it
+-- a request of a script, and whether memory was refused for it
 pub record Marked : Type 0 where
   pub item : Item
-  pub refused : Refused
+  pub refused : Bool
 
+-- it is a submit, whose text takes memory, and memory was refused
+abbrev pub is_unread : Marked → Bool
+is_unread m = m.refused && is_some m.item.submits
+
+-- then it is answered before its text is judged
 abbrev pub next : ConfigData → Parts → Marked → Next
-next config parts m = unless_unread (unread m.refused m.item.submits) parts (answered config (is_answering m.refused) parts m.item.answer)
+next config parts m =
+    if is_unread m then says (who_in m.item.answer) (said.Reply reply.NoMemory) parts
+    else answered config m.refused parts (heard_of config m.item.answer)
 
 -- the lines that answer these requests, one after another, and the purses' parts at their end
 abbrev pub lines_for : ConfigData → Parts → List Marked → List Saying
@@ -188,7 +176,7 @@ pub record IsWritten (config : ConfigData) (script : List ℕ) (old new : Option
 
 -- a part of the line of the first of these requests, from its front
 pub record IsPartOfNext (config : ConfigData) (before : List Marked) (rest : List Item) (part : List ℕ) : Type 0 where
-  pub refused : Refused
+  pub refused : Bool
   pub item : Item
   pub more : List Item
   pub behind : List ℕ

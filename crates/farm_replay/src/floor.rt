@@ -96,7 +96,8 @@ impl<J: Strategy> Floor<J> {
         make: &M,
     ) -> Said
         requires known { tenant < length self.old.farm.config.tenants }
-        requires counter { counter_of counter.old ≡ counter_for self.old.farm.config (purse_in self.old.farm.config tenant) }
+        requires counter { counter_of counter.old
+            ≡ counter_for self.old.farm.config (purse_in self.old.farm.config tenant) }
         requires make { M.IsAlwaysCallable make.now }
         requires floor { IsFloor J.meaning self.old.farm self.old.held.items }
         ensures counter { counter.new ≡ counter.old }
@@ -117,7 +118,8 @@ impl<J: Strategy> Floor<J> {
     fn hold(&mut self, tenant: u32, seq: u64, slice: u64) -> Result<Line, NoTurn>
         requires known { tenant < length self.old.farm.config.tenants }
         requires floor { IsFloor J.meaning self.old.farm self.old.held.items }
-        ensures held { IfOk result (λ line. Follows self.old.farm tenant (Event.Take seq slice) (Sent line) self.new.farm) }
+        ensures held { IfOk result (λ line.
+            Follows self.old.farm tenant (Event.Take seq slice) (Sent line) self.new.farm) }
         ensures refused { IfErr result (λ why. IsNotTaken self.old.farm tenant seq slice why self.new.farm) }
         ensures floor { IsFloor J.meaning self.new.farm self.new.held.items }
     {
@@ -191,7 +193,8 @@ impl<J: Strategy> Floor<J> {
         make: &M,
     ) -> Said
         requires known { tenant < length self.old.farm.config.tenants }
-        requires counter { counter_of counter.old ≡ counter_for self.old.farm.config (purse_in self.old.farm.config tenant) }
+        requires counter { counter_of counter.old
+            ≡ counter_for self.old.farm.config (purse_in self.old.farm.config tenant) }
         requires make { M.IsAlwaysCallable make.now }
         requires floor { IsFloor J.meaning self.old.farm self.old.held.items }
         ensures counter { counter.new ≡ counter.old }

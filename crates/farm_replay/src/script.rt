@@ -77,7 +77,8 @@ fn ended(read: Result<Request, LineFault>) -> Result<(), ReplayFault>
 /// Whether a script ends here, or goes on past its last request that may be.
 fn end<R: Read>(alloc: Global, script: &mut R, watch: &mut Watch) -> Result<(), ReplayFault>
     ensures over { OnOk result (IfSome (R.remaining script.old) (λ bytes. requests_of bytes ≡ [])) }
-    ensures fault { IfErr result (λ fault. IfSome (R.remaining script.old) (λ bytes. GoesOn fault watch.new.failed bytes)) }
+    ensures fault { IfErr result (λ fault. IfSome (R.remaining script.old) (λ bytes.
+        GoesOn fault watch.new.failed bytes)) }
 {
     requests_come_in_turn();
     ended(read_watched(alloc, script, watch))
@@ -99,8 +100,10 @@ fn play<J: Strategy, R: Read, W: Write, M: Fn(Ready) -> Option<J>>(
     requires counters { map counter_of counters.old ≡ counters_of config.now }
     requires make { M.IsAlwaysCallable make.now }
     requires floor { IsFloor J.meaning floor.old.farm floor.old.held.items }
-    ensures written { OnOk result (IfSome (script_rest R.remaining script.old) (λ bytes. IsWritten config.now bytes (W.contents writer.old) (W.contents writer.new))) }
-    ensures cut_off { IfErr result (λ fault. IfSome (script_rest R.remaining script.old) (λ bytes. IsCutOff config.now fault watches.new bytes (W.contents writer.old) (W.contents writer.new))) }
+    ensures written { OnOk result (IfSome (script_rest R.remaining script.old) (λ bytes.
+        IsWritten config.now bytes (W.contents writer.old) (W.contents writer.new))) }
+    ensures cut_off { IfErr result (λ fault. IfSome (script_rest R.remaining script.old) (λ bytes.
+        IsCutOff config.now fault watches.new bytes (W.contents writer.old) (W.contents writer.new))) }
     ensures floor { IsFloor J.meaning floor.new.farm floor.new.held.items }
 {
     requests_come_in_turn();
@@ -147,8 +150,10 @@ pub fn replay_noting<R: Read + Drop, W: Write>(
     watches: &mut Watches,
     notes: &mut Notes,
 ) -> Result<(), ReplayFault>
-    ensures written { OnOk result (IfSome (R.remaining reader) (λ script. IsWritten config.now script (W.contents writer.old) (W.contents writer.new))) }
-    ensures cut_off { IfErr result (λ fault. IfSome (R.remaining reader) (λ script. IsCutOff config.now fault watches.new script (W.contents writer.old) (W.contents writer.new))) }
+    ensures written { OnOk result (IfSome (R.remaining reader) (λ script.
+        IsWritten config.now script (W.contents writer.old) (W.contents writer.new))) }
+    ensures cut_off { IfErr result (λ fault. IfSome (R.remaining reader) (λ script.
+        IsCutOff config.now fault watches.new script (W.contents writer.old) (W.contents writer.new))) }
 {
     let Ok(mut script) = Script::new(alloc, reader) else {
         return Err(ReplayFault::NoMemory);
@@ -197,8 +202,10 @@ pub fn replay<R: Read + Drop, W: Write>(
     reader: R,
     writer: &mut W,
 ) -> Result<(), ReplayFault>
-    ensures written { OnOk result (IfSome (R.remaining reader) (λ script. IsWritten config.now script (W.contents writer.old) (W.contents writer.new))) }
-    ensures cut_off { IfErr result (λ fault. IfSome (R.remaining reader) (λ script. IsCutOff config.now fault unwatched script (W.contents writer.old) (W.contents writer.new))) }
+    ensures written { OnOk result (IfSome (R.remaining reader) (λ script.
+        IsWritten config.now script (W.contents writer.old) (W.contents writer.new))) }
+    ensures cut_off { IfErr result (λ fault. IfSome (R.remaining reader) (λ script.
+        IsCutOff config.now fault unwatched script (W.contents writer.old) (W.contents writer.new))) }
 {
     let mut notes = Notes::default();
     let mut watches = Watches::new();
