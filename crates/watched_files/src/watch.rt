@@ -1,10 +1,4 @@
-//! Whether a file could not be read or a text not be written, as contracts can say it.
-//!
-//! The library's calls that read a whole input or write a whole text do not tell contracts why they answer an error. A [`FileWatch`]
-//! does: what is read and written through it is read and written as ever, and where it answers an error, and only there, it has
-//! noted that. So a function that is handed a watch can promise that it tells a failed read only where one failed.
-#![tactic(auto)]
-
+//! Whether an input could not be read or a text not be written.
 ghost use Rattle.std.specs.Prelude.{◌≡◌, [], true, false, OnOk, OnErr, IfOk, IfSome, take};
 ghost use Rattle.std.specs.Io.Buffered.{writer_buffer, writer_contents};
 ghost use Rattle.std.specs.Io.KnownBytes.{Appends, Keeps};

@@ -1,5 +1,5 @@
 use Rattle.std.proofs.Common.{◌≡◌, IfSome, take, ℕ, List, Option, Some, None, option_map}
-use Rattle.file_watch.proofs.FileWatch.read_front.Goals as goal
+use Rattle.watched_files.proofs.watch.FileWatch.read_front.Goals as goal
 
 -- what was read of a reader whose bytes are cut at a limit
 front_known : (limit : ℕ) (known : Option (List ℕ)) (items : List ℕ) → IfSome (option_map (take limit) known) (λ xs. items ≡ xs) → IfSome known (λ xs. items ≡ take limit xs)
