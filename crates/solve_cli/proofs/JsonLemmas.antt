@@ -1,5 +1,5 @@
 -- The places of a schedule's activities as JSON, one after the other.
-use Rattle.std.proofs.Common.{◌≡◌, ℕ, zero, suc, ◌+◌, ◌<◌, List, [], ◌∷◌, ◌++◌, length, take, get_or, refl, sym, ap, ◌∙◌, append_assoc, add-one, arith, min}
+use Rattle.std.proofs.Common.{◌≡◌, ℕ, zero, suc, ◌+◌, ◌<◌, List, [], ◌∷◌, ◌++◌, length, take, get_or, refl, sym, ap, ◌∙◌, append_assoc, subst, arith, min}
 use Rattle.std.proofs.lemmas.List.{append-nil}
 use Rattle.solve_cli.specs.FoundText.{next_json, places_json}
 
@@ -17,7 +17,12 @@ json_more_suc k (suc i) (x ∷ modes) (s ∷ starts) h m =
 -- one more activity
 pub json_more : (i : ℕ) (modes starts : List ℕ) → i < length modes → i < length starts
     → places_json 0 (take (i + 1) modes) (take (i + 1) starts) ≡ places_json 0 (take i modes) (take i starts) ++ next_json i (get_or modes i 0) (get_or starts i 0)
-json_more i modes starts h m = let e : i + 0 ≡ i = omega arith in rw (add-one, ← e) (json_more_suc 0 i modes starts h m)
+json_more i modes starts h m =
+    let e : i + 0 ≡ i = omega arith in
+    let next : suc i ≡ i + 1 = omega arith in
+    let P : ℕ → Type 0 = λ n. places_json 0 (take (suc i) modes) (take (suc i) starts) ≡ places_json 0 (take i modes) (take i starts) ++ next_json n (get_or modes i 0) (get_or starts i 0) in
+    let Q : ℕ → Type 0 = λ n. places_json 0 (take n modes) (take n starts) ≡ places_json 0 (take i modes) (take i starts) ++ next_json i (get_or modes i 0) (get_or starts i 0) in
+    subst Q next (subst P e (json_more_suc 0 i modes starts h m))
 
 json_whole_from : (k n : ℕ) (modes starts : List ℕ) → n ≡ min (length modes) (length starts) → places_json k (take n modes) (take n starts) ≡ places_json k modes starts
 json_whole_from k n [] starts e = let m : n ≡ 0 = omega arith in rw m refl

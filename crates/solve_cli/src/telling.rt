@@ -2,7 +2,7 @@
 ghost use Rattle.std.specs.Prelude.{◌≡◌, ◌++◌, ◌+◌, ◌<◌, ◌^◌, IfOk, codes, string_bytes};
 ghost use Rattle.std.specs.Option.{option_copied};
 ghost use Rattle.solve_cli.specs.FoundText.{verdict_text, best_text, places_of, shown_text, better_line, found_text};
-ghost use Rattle.solve_cli.specs.FoundText.{comma_before, next_json, schedule_json, makespan_json, object_json, found_json};
+ghost use Rattle.solve_cli.specs.FoundText.{comma_before, next_json, places_json, schedule_json, makespan_json, object_json, found_json};
 
 use crate::searching::Found;
 use mrcpsp::Schedule;
@@ -105,17 +105,25 @@ fn put_place_json(
     Ok(())
 }
 
-/// Adds a schedule as a JSON array.
+/// Adds the places of a schedule's activities as JSON objects, with commas between them.
 #[tactic(auto, using(crate::proofs::JsonLemmas::json_rules))]
-fn put_array(text: &mut String, schedule: &Schedule) -> Result<(), AllocError>
-    ensures { IfOk result (λ _. string_bytes text.new ≡ string_bytes text.old ++ schedule_json (Some schedule.now)) }
+fn put_places_json(text: &mut String, schedule: &Schedule) -> Result<(), AllocError>
+    ensures { IfOk result (λ _. string_bytes text.new ≡ string_bytes text.old ++ places_json 0 schedule.now.modes schedule.now.starts) }
 {
-    text.push('[')?;
     let modes = schedule.modes.as_slice();
     let starts = schedule.starts.as_slice();
     for place in 0..modes.len().min(starts.len()) {
         put_place_json(text, place, modes[place], starts[place])?;
     }
+    Ok(())
+}
+
+/// Adds a schedule as a JSON array.
+fn put_array(text: &mut String, schedule: &Schedule) -> Result<(), AllocError>
+    ensures { IfOk result (λ _. string_bytes text.new ≡ string_bytes text.old ++ schedule_json (Some schedule.now)) }
+{
+    text.push('[')?;
+    put_places_json(text, schedule)?;
     text.push(']')
 }
 

@@ -1,6 +1,6 @@
-use Rattle.std.proofs.Common.{◌≡◌, ◌++◌, take, string_bytes, codes}
+use Rattle.std.proofs.Common.{◌≡◌, ◌++◌, take, string_bytes}
 use Rattle.solve_cli.specs.FoundText.{places_json}
-use Rattle.solve_cli.proofs.telling.put_array.Given as goal
+use Rattle.solve_cli.proofs.telling.put_places_json.Given as goal
 
 -- the places of activities before this one were added
 abbrev pub invariant-loop-place : goal.invariant-loop-place
