@@ -48,8 +48,10 @@ pub fn certify_watched<W: Write>(
         Ok(project) => project,
         Err(fault) => return Err(CertifyFault::File(fault)),
     };
-    let Some(schedule) = read_schedule(alloc, text)? else {
-        return Err(CertifyFault::Words);
+    let schedule = match read_schedule(alloc, text) {
+        Ok(Some(schedule)) => schedule,
+        Ok(None) => return Err(CertifyFault::Words),
+        Err(_) => return Err(CertifyFault::NoMemory),
     };
     match schedule_clauses::certify(alloc, &project, &schedule, proof) {
         Ok(makespan) => match watch.write(writer, format_args!("optimal {makespan}\n")) {

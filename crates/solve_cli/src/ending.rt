@@ -30,8 +30,16 @@ pub(crate) fn end_command<R: Eprint>(
 {
     match ended {
         Ok(()) => return ExitCode::SUCCESS,
-        Err(CommandFault::Input(InputFault::File(kind))) => tell_unread(rt, paths.file, reason(kind)),
-        Err(CommandFault::Input(InputFault::Text(kind))) => tell_unread(rt, paths.text, reason(kind)),
+        Err(CommandFault::Input(InputFault::File(kind))) => tell_unread(
+            rt,
+            paths.file,
+            reason(kind),
+        ),
+        Err(CommandFault::Input(InputFault::Text(kind))) => tell_unread(
+            rt,
+            paths.text,
+            reason(kind),
+        ),
         Err(CommandFault::Input(InputFault::Verify(fault))) => {
             let _ = eprintln!(rt; "farm: {fault}");
         }

@@ -87,12 +87,7 @@ fn comma_before(place: usize) -> &'static str
 }
 
 /// Adds the place of an activity as a JSON object, behind a comma where it is not the first.
-fn put_place_json(
-    text: &mut String,
-    place: usize,
-    mode: u32,
-    start: u32,
-) -> Result<(), AllocError>
+fn put_place_json(text: &mut String, place: usize, mode: u32, start: u32) -> Result<(), AllocError>
     requires { place + 1 < 2 ^ 64 }
     ensures { IfOk result (λ _. string_bytes text.new ≡ string_bytes text.old ++ next_json place mode start) }
 {

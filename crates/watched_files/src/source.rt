@@ -1,10 +1,9 @@
 //! What a path names.
 ghost use Rattle.watched_files.specs.Source.{source_rest};
 
-use std::fs;
-use std::io;
 use std::io::{Input, Read};
 use std::rt::Files;
+use std::{fs, io};
 
 /// Standard input, a file, or nothing.
 #[derive(Drop)]

@@ -23,7 +23,12 @@ impl FileWatch {
     }
 
     /// The first bytes of a reader, at most so many of them. An error, which is noted, is the reader's, or want of memory.
-    pub fn read_front<R: Read + Drop>(&mut self, alloc: Global, reader: R, most: u64) -> io::Result<Vec<u8>>
+    pub fn read_front<R: Read + Drop>(
+        &mut self,
+        alloc: Global,
+        reader: R,
+        most: u64,
+    ) -> io::Result<Vec<u8>>
         ensures front { IfOk result (λ bytes. IfSome (R.remaining reader) (λ all. bytes.items ≡ take most all)) }
         ensures kept { OnOk result (self.new.failed ≡ self.old.failed) }
         ensures noted { OnErr result (self.new.failed ≡ true) }
