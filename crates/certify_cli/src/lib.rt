@@ -25,8 +25,9 @@ mod fault;
 mod program;
 mod watches;
 
-pub use certifying::{certify, certify_infeasible, write_clauses};
-pub use certifying::{certify_infeasible_watched, certify_watched};
+pub use certifying::{
+    certify, certify_infeasible, certify_infeasible_watched, certify_watched, write_clauses,
+};
 pub use commands::{certify_read, certify_to, infeasible_read, infeasible_to};
 pub use ending::{MOST_PROOF, MOST_TEXT, Paths};
 pub use fault::{CertifyFault, CommandFault};
