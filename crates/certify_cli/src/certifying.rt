@@ -4,6 +4,7 @@ ghost use Rattle.psplib_mm.specs.Gives.{Gives};
 ghost use Rattle.psplib_mm.specs.Reading.{reading};
 ghost use Rattle.mrcpsp.specs.Schedule.{IsInfeasible};
 ghost use Rattle.certify_cli.specs.Certified.{CertifiesOptimal, CertifiesInfeasible};
+ghost use Rattle.certify_cli.specs.Commands.{IsStopped, IsOfFile};
 
 use crate::dimacs::write_formula;
 use crate::fault::CertifyFault;
@@ -13,6 +14,7 @@ use schedule_clauses::{clauses, stock_clauses};
 use schedule_text::read_schedule;
 use std::alloc::Global;
 use std::io::Write;
+use watched_files::FileWatch;
 
 /// Checks a schedule of a file's project, and a proof that no schedule is shorter, and writes `optimal M` with its makespan
 /// and a line feed. An error is the first fault, in the order of the file, the text, the schedule and the proof; but for a
@@ -27,15 +29,32 @@ pub fn certify<W: Write>(
     ensures ok { IfOk result (λ _. CertifiesOptimal file.now text.now (W.contents writer.old) (W.contents writer.new)) }
     ensures fault { IfErr result (λ fault. (W.contents writer.new ≡ W.contents writer.old) ⊎ (fault ≡ CertifyFault.Write)) }
 {
+    certify_watched(alloc, file, text, proof, writer, &mut FileWatch::new())
+}
+
+/// The same through a watch: `Write` comes only where the line could not be written.
+pub fn certify_watched<W: Write>(
+    alloc: Global,
+    file: &[u8],
+    text: &[u8],
+    proof: &[u8],
+    writer: &mut W,
+    watch: &mut FileWatch,
+) -> Result<(), CertifyFault>
+    ensures ok { IfOk result (λ _. CertifiesOptimal file.now text.now (W.contents writer.old) (W.contents writer.new)) }
+    ensures fault { IfErr result (λ fault. IsOfFile fault file.now × IsStopped fault watch.new (W.contents writer.old) (W.contents writer.new)) }
+{
     let project = match read(alloc, file) {
         Ok(project) => project,
         Err(fault) => return Err(CertifyFault::File(fault)),
     };
-    let Some(schedule) = read_schedule(alloc, text)? else {
-        return Err(CertifyFault::Words);
+    let schedule = match read_schedule(alloc, text) {
+        Ok(Some(schedule)) => schedule,
+        Ok(None) => return Err(CertifyFault::Words),
+        Err(_) => return Err(CertifyFault::NoMemory),
     };
     match schedule_clauses::certify(alloc, &project, &schedule, proof) {
-        Ok(makespan) => match writeln!(writer, "optimal {makespan}") {
+        Ok(makespan) => match watch.write(writer, format_args!("optimal {makespan}\n")) {
             Ok(()) => Ok(()),
             Err(_) => Err(CertifyFault::Write),
         },
@@ -54,12 +73,26 @@ pub fn certify_infeasible<W: Write>(
     ensures ok { IfOk result (λ _. CertifiesInfeasible file.now (W.contents writer.old) (W.contents writer.new)) }
     ensures fault { IfErr result (λ fault. (W.contents writer.new ≡ W.contents writer.old) ⊎ (fault ≡ CertifyFault.Write)) }
 {
+    certify_infeasible_watched(alloc, file, proof, writer, &mut FileWatch::new())
+}
+
+/// The same through a watch: `Write` comes only where the line could not be written.
+pub fn certify_infeasible_watched<W: Write>(
+    alloc: Global,
+    file: &[u8],
+    proof: &[u8],
+    writer: &mut W,
+    watch: &mut FileWatch,
+) -> Result<(), CertifyFault>
+    ensures ok { IfOk result (λ _. CertifiesInfeasible file.now (W.contents writer.old) (W.contents writer.new)) }
+    ensures fault { IfErr result (λ fault. IsOfFile fault file.now × IsStopped fault watch.new (W.contents writer.old) (W.contents writer.new)) }
+{
     let project = match read(alloc, file) {
         Ok(project) => project,
         Err(fault) => return Err(CertifyFault::File(fault)),
     };
     match schedule_clauses::certify_infeasible(alloc, &project, proof) {
-        Ok(()) => match writeln!(writer, "infeasible") {
+        Ok(()) => match watch.write(writer, "infeasible\n") {
             Ok(()) => Ok(()),
             Err(_) => Err(CertifyFault::Write),
         },

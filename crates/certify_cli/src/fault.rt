@@ -2,6 +2,7 @@
 use psplib_mm::MmFault;
 use schedule_clauses::CertificateFault;
 use std::alloc::AllocError;
+use std::io::ErrorKind;
 use thiserror::Error;
 
 /// Why nothing is certified. Each prints what is wrong, by the name of its own fault, as `no proof Unproved(17)`.
@@ -28,4 +29,17 @@ impl From<AllocError> for CertifyFault {
     fn from(_: AllocError) -> CertifyFault {
         CertifyFault::NoMemory
     }
+}
+
+/// Why a command of certificates does not end with its line.
+#[derive(Clone, Copy, Debug, PartialEq, Eq)]
+pub enum CommandFault {
+    /// The project's file could not be read, or there was no memory for it.
+    File(ErrorKind),
+    /// The schedule's text could not be read, or there was no memory for it.
+    Text(ErrorKind),
+    /// The proof could not be read, or there was no memory for it.
+    Proof(ErrorKind),
+    /// Nothing is certified.
+    Certify(CertifyFault),
 }

@@ -5,17 +5,31 @@
 //! periods, and [`certify_infeasible`] writes `infeasible` only where no schedule of it is feasible: that is their contract
 //! (`specs/Certified`). What [`write_clauses`] writes is tested; a solver that is misled by it can only write a proof that is refused.
 //!
+//! [`certify_to`] and [`infeasible_to`] are the commands over any readers and writer, with the status that goes with what was written
+//! (`specs/Commands`); that the program hands them the files that are named, and standard output, is the shape of `program`.
+//!
 //! - `dimacs`: clauses in DIMACS form.
 //! - `fault`: why nothing is certified.
 //! - `certifying`: `certify`, `certify_infeasible`, `write_clauses`.
-//! - `program`: the same for files, with an exit status.
+//! - `commands`: `certify_to`, `infeasible_to`.
+//! - `ending`: how a command ends.
+//! - `watches`: whether a command could not read its inputs, or not write its line.
+//! - `program`: the commands for files, with an exit status.
 #![tactic(auto)]
 
 mod certifying;
+mod commands;
 mod dimacs;
+mod ending;
 mod fault;
 mod program;
+mod watches;
 
-pub use certifying::{certify, certify_infeasible, write_clauses};
-pub use fault::CertifyFault;
+pub use certifying::{
+    certify, certify_infeasible, certify_infeasible_watched, certify_watched, write_clauses,
+};
+pub use commands::{certify_read, certify_to, infeasible_read, infeasible_to};
+pub use ending::{MOST_PROOF, MOST_TEXT, Paths};
+pub use fault::{CertifyFault, CommandFault};
 pub use program::{run_certify, run_clauses, run_infeasible};
+pub use watches::Watches;

@@ -2,20 +2,18 @@
 ghost use Rattle.std.specs.Prelude.{◌≤◌};
 ghost use Rattle.std.specs.Process.{exit_status};
 
-use crate::certifying::{certify, certify_infeasible, write_clauses};
+use crate::certifying::write_clauses;
+use crate::commands::{certify_to, infeasible_to};
+use crate::ending::{MOST_TEXT, Paths};
 use crate::fault::CertifyFault;
+use crate::watches::Watches;
 use file_words::{reason, tell_unread};
 use std::alloc::Global;
 use std::io::{BufWriter, Eprint, Read, Write};
 use std::process::ExitCode;
 use std::rt::{Files, Runtime};
 use std::{fs, io};
-
-/// The most bytes that are read of a project's file or of a schedule's text: one more than a file may have.
-const MOST_TEXT: u64 = 1_048_577;
-
-/// The most bytes that are read of a proof.
-const MOST_PROOF: u64 = 4_000_000_000;
+use watched_files::{Source, open};
 
 /// The first bytes of a reader.
 fn read_front<R: Read + Drop>(alloc: Global, reader: R, most: u64) -> io::Result<Vec<u8>> {
@@ -56,11 +54,22 @@ fn end<R: Eprint>(rt: &R, ended: Result<(), CertifyFault>) -> ExitCode
     }
 }
 
-/// The bytes of the proof in the file at the path; without a path those of an empty proof. `None` is told on standard error.
-fn read_proof<R: Runtime + AllocGlobal>(rt: &R, path: Option<&str>) -> Option<Vec<u8>> {
+/// What the path names. `None` is told on standard error.
+fn open_path<R: Runtime>(rt: &R, path: &str) -> Option<Source<R::Reader, R::File>> {
+    match open(rt, path) {
+        Ok(source) => Some(source),
+        Err(error) => {
+            tell_unread(rt, path, reason(error.kind()));
+            None
+        }
+    }
+}
+
+/// The same of a proof; without a path it is an empty one.
+fn open_proof<R: Runtime>(rt: &R, path: Option<&str>) -> Option<Source<R::Reader, R::File>> {
     match path {
-        Some(path) => read_path(rt, path, MOST_PROOF),
-        None => Some(Vec::new(rt.alloc())),
+        Some(path) => open_path(rt, path),
+        None => Some(Source::Nothing),
     }
 }
 
@@ -74,33 +83,43 @@ pub fn run_certify<R: Runtime + AllocGlobal>(
 ) -> ExitCode
     ensures { exit_status result ≤ 1 }
 {
-    let Some(project) = read_path(rt, file, MOST_TEXT) else {
+    let paths = Paths {
+        file,
+        text: schedule,
+        proof: proof.unwrap_or("-"),
+    };
+    let Some(project) = open_path(rt, file) else {
         return ExitCode::FAILURE;
     };
-    let Some(text) = read_path(rt, schedule, MOST_TEXT) else {
+    let Some(text) = open_path(rt, schedule) else {
         return ExitCode::FAILURE;
     };
-    let Some(proof) = read_proof(rt, proof) else {
+    let Some(steps) = open_proof(rt, proof) else {
         return ExitCode::FAILURE;
     };
     let mut output = io::writer(rt);
-    let ended = certify(rt.alloc(), &project, &text, &proof, &mut output);
-    end(rt, ended)
+    let mut watches = Watches::new();
+    certify_to(rt, paths, project, text, steps, &mut output, &mut watches)
 }
 
 /// Prints `infeasible` where the proof makes the project infeasible.
 pub fn run_infeasible<R: Runtime + AllocGlobal>(rt: &R, file: &str, proof: &str) -> ExitCode
     ensures { exit_status result ≤ 1 }
 {
-    let Some(project) = read_path(rt, file, MOST_TEXT) else {
+    let paths = Paths {
+        file,
+        text: file,
+        proof,
+    };
+    let Some(project) = open_path(rt, file) else {
         return ExitCode::FAILURE;
     };
-    let Some(proof) = read_path(rt, proof, MOST_PROOF) else {
+    let Some(steps) = open_path(rt, proof) else {
         return ExitCode::FAILURE;
     };
     let mut output = io::writer(rt);
-    let ended = certify_infeasible(rt.alloc(), &project, &proof, &mut output);
-    end(rt, ended)
+    let mut watches = Watches::new();
+    infeasible_to(rt, paths, project, steps, &mut output, &mut watches)
 }
 
 /// Prints the clauses of the project in a file and a bound: a number of periods, or `none`.

@@ -1,11 +1,12 @@
 -- What `farm replay` writes of the text of a configuration and the bytes of a script, and with which status it ends.
-use Rattle.std.specs.Prelude.{◌≡◌, ℕ, List, ⊤, Bool, Option, Result, Ok, Err, IfSome}
+use Rattle.std.specs.Prelude.{◌≡◌, ℕ, List, ⊤, Bool, true, Option, Result, Ok, Err, IfSome}
 use Rattle.std.specs.Io.KnownBytes.{append_known}
 use Rattle.farm_core.specs.Config.{ConfigData}
 use Rattle.farm_config.specs.Config.{Means, HasFault}
 use Rattle.farm_replay.specs.Output.{IsWritten, IsCutOff}
 use Rattle.farm_replay.specs.declared.script.ReplayFault.{ReplayFault}
 use Rattle.farm_replay.specs.declared.watches.Watches.{Watches}
+use Rattle.watched_files.specs.declared.watch.FileWatch.{FileWatch}
 use Rattle.farm_cli.specs.declared.replaying.ReplayStop.{ReplayStop}
 use Rattle.farm_cli.specs.declared.replaying.ReplayStop.TheVariants as stop
 use Rattle.farm_cli.specs.Strict.{replay_status}
@@ -29,19 +30,20 @@ pub record IsUnsent (text : List ℕ) (seen : Watches) (script before after : Op
   pub rest : List ℕ
   pub front : gathered ≡ append_known after rest
 
--- how a replay of a script's reader under the text of a configuration ends, with what its writer held before and holds after
-abbrev pub IsReplayOf : Result ⊤ ReplayStop → List ℕ → Watches → Option (List ℕ) → Option (List ℕ) → Option (List ℕ) → Type 0
-IsReplayOf (Ok done) text seen script before after = IsPlayed (Ok tt) text seen script before after
-IsReplayOf (Err (stop.Config fault)) text seen script before after = HasFault text fault × (after ≡ before)
-IsReplayOf (Err (stop.Fault fault)) text seen script before after = IsPlayed (Err fault) text seen script before after
-IsReplayOf (Err stop.Unsent) text seen script before after = IsUnsent text seen script before after
+-- how a replay of a script's reader under the text of a configuration ends, with what its writer held before and holds after, and by whether what
+-- was gathered could not be sent
+abbrev pub IsReplayOf : Result ⊤ ReplayStop → List ℕ → Watches → FileWatch → Option (List ℕ) → Option (List ℕ) → Option (List ℕ) → Type 0
+IsReplayOf (Ok done) text seen sends script before after = IsPlayed (Ok tt) text seen script before after
+IsReplayOf (Err (stop.Config fault)) text seen sends script before after = HasFault text fault × (after ≡ before)
+IsReplayOf (Err (stop.Fault fault)) text seen sends script before after = IsPlayed (Err fault) text seen script before after
+IsReplayOf (Err stop.Unsent) text seen sends script before after = (sends.failed ≡ true) × IsUnsent text seen script before after
 
 abbrev pub stop_status : Result ⊤ ReplayStop → Bool → Option ℕ → ℕ
 stop_status (Ok done) is_strict refused = replay_status is_strict refused
 stop_status (Err stop) is_strict refused = 1
 
 -- the status is that of a replay which ends so
-pub record IsReplayed (status : ℕ) (is_strict : Bool) (refused : Option ℕ) (text : List ℕ) (seen : Watches) (script before after : Option (List ℕ)) : Type 0 where
+pub record IsReplayed (status : ℕ) (is_strict : Bool) (refused : Option ℕ) (text : List ℕ) (seen : Watches) (sends : FileWatch) (script before after : Option (List ℕ)) : Type 0 where
   pub ended : Result ⊤ ReplayStop
-  pub is : IsReplayOf ended text seen script before after
+  pub is : IsReplayOf ended text seen sends script before after
   pub ends : status ≡ stop_status ended is_strict refused

@@ -1,15 +1,16 @@
 //! What is told of the project of a file, over any reader and writer.
-ghost use Rattle.std.specs.Prelude.{◌≡◌};
+ghost use Rattle.std.specs.Prelude.{◌≡◌, false};
 ghost use Rattle.std.specs.Process.{exit_status};
 ghost use Rattle.farm_cli.specs.Checked.{IsCheckOf, IsChecked, check_status};
 
-use crate::input::read_front;
+use crate::input::MOST_BYTES;
 use crate::summary::summarize;
 use file_words::{reason, tell_unread};
 use psplib_mm::{MmFault, read};
 use std::alloc::Global;
 use std::io::{Eprint, ErrorKind, Read, Write};
 use std::process::ExitCode;
+use watched_files::FileWatch;
 
 /// Why nothing is told of a project.
 #[derive(Clone, Copy, Debug, PartialEq, Eq)]
@@ -22,23 +23,48 @@ pub enum CheckFault {
     Write,
 }
 
+/// The watches through which a check reads its file and writes its line: after `Read` and `Write` they tell contracts whether
+/// that has failed.
+#[derive(Debug, Drop)]
+pub struct CheckWatches {
+    /// Of the file.
+    pub(crate) reads: FileWatch,
+    /// Of the line.
+    pub(crate) writes: FileWatch,
+}
+
+impl CheckWatches {
+    /// Watches through which nothing has failed.
+    pub fn new() -> CheckWatches
+        ensures reads { result.reads.failed ≡ false }
+        ensures writes { result.writes.failed ≡ false }
+    {
+        CheckWatches {
+            reads: FileWatch::new(),
+            writes: FileWatch::new(),
+        }
+    }
+}
+
 /// Writes the line of the project whose file a reader gives. At most `MOST_BYTES` bytes are read; a longer input is a fault of the
-/// file. But for a fault of the writer nothing was written at an error.
+/// file. `Read` comes only where the file could not be read, `Write` only where the line could not be written. But for a fault of
+/// the writer nothing was written at an error.
 pub fn check<S: Read + Drop, W: Write>(
     alloc: Global,
     reader: S,
     writer: &mut W,
+    watches: &mut CheckWatches,
 ) -> Result<(), CheckFault>
-    ensures { IsCheckOf result (S.remaining reader) (W.contents writer.old) (W.contents writer.new) }
+    ensures { IsCheckOf result watches.new (S.remaining reader) (W.contents writer.old) (W.contents writer.new) }
 {
-    let text = match read_front(alloc, reader) {
+    let text = match watches.reads.read_front(alloc, reader, MOST_BYTES) {
         Ok(text) => text,
         Err(error) => return Err(CheckFault::Read(error.kind())),
     };
     match read(alloc, &text) {
         Ok(project) => {
             let summary = summarize(&project);
-            match writeln!(writer, "{summary}") {
+            match watches.writes.write(writer, format_args!("{summary}\n")) {
                 Ok(()) => Ok(()),
                 Err(_) => Err(CheckFault::Write),
             }
@@ -69,9 +95,10 @@ pub fn check_to<R: AllocGlobal + Eprint, S: Read + Drop, W: Write>(
     path: &str,
     reader: S,
     writer: &mut W,
+    watches: &mut CheckWatches,
 ) -> ExitCode
-    ensures { IsChecked (exit_status result) (S.remaining reader) (W.contents writer.old) (W.contents writer.new) }
+    ensures { IsChecked (exit_status result) watches.new (S.remaining reader) (W.contents writer.old) (W.contents writer.new) }
 {
-    let ended = check(rt.alloc(), reader, writer);
+    let ended = check(rt.alloc(), reader, writer, watches);
     end_check(rt, path, ended)
 }

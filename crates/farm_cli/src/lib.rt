@@ -22,7 +22,7 @@ mod replaying;
 mod summary;
 
 pub use arguments::{Task, farm_command, parse_words};
-pub use checking::{CheckFault, check, check_to};
+pub use checking::{CheckFault, CheckWatches, check, check_to};
 pub use farm_config::{ConfigFault, Key, read_config};
 pub use farm_replay::{Notes, ReplayFault, Watches, replay, replay_noting};
 pub use farm_service::{ServeFault, serve};

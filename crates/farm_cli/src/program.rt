@@ -3,7 +3,7 @@ ghost use Rattle.std.specs.Prelude.{◌≡◌, ◌≤◌, OnOk, OnErr};
 ghost use Rattle.std.specs.Process.{exit_status};
 
 use crate::arguments::{Task, parse_words};
-use crate::checking::check_to;
+use crate::checking::{CheckWatches, check_to};
 use crate::input::read_whole;
 use crate::replaying::{replay_to, tell_config_fault};
 use farm_config::read_config;
@@ -19,6 +19,7 @@ use std::rt::{Files, Runtime};
 use std::sync::Wait;
 use std::thread::Threads;
 use std::{env, fs, io};
+use watched_files::FileWatch;
 
 /// Runs the program on the words of the process. The status is 0, 1 for a fault, and 2 for a command line that is refused
 /// and for a request for help; where the text that tells so cannot be printed, it is 1.
@@ -102,11 +103,12 @@ fn run_check<R: Runtime + AllocGlobal>(rt: &R, path: &str) -> ExitCode
     ensures { exit_status result ≤ 1 }
 {
     let mut output = io::writer(rt);
+    let mut watches = CheckWatches::new();
     if path == "-" {
-        return check_to(rt, path, rt.reader(), &mut output);
+        return check_to(rt, path, rt.reader(), &mut output, &mut watches);
     }
     match fs::open(rt, path) {
-        Ok(file) => check_to(rt, path, file, &mut output),
+        Ok(file) => check_to(rt, path, file, &mut output, &mut watches),
         Err(error) => {
             tell_unread(rt, path, reason(error.kind()));
             ExitCode::FAILURE
@@ -157,6 +159,7 @@ fn print_replay<R: Runtime + AllocGlobal, S: Read + Drop>(
         return ExitCode::FAILURE;
     };
     let mut watches = Watches::new();
+    let mut sends = FileWatch::new();
     let mut notes = Notes::default();
     replay_to(
         rt,
@@ -165,6 +168,7 @@ fn print_replay<R: Runtime + AllocGlobal, S: Read + Drop>(
         is_strict,
         &mut output,
         &mut watches,
+        &mut sends,
         &mut notes,
     )
 }

@@ -9,6 +9,7 @@ use farm_replay::{Notes, ReplayFault, Watches, replay_noting};
 use std::alloc::Global;
 use std::io::{BufWriter, Eprint, Read, Write};
 use std::process::ExitCode;
+use watched_files::FileWatch;
 
 /// Why a replay ended before its script.
 #[derive(Clone, Copy, Debug, PartialEq, Eq)]
@@ -22,24 +23,25 @@ pub enum ReplayStop {
 }
 
 /// Replays a script on a farm of the configuration that the text spells. The replies go through a buffer that is written out at
-/// the end and after a fault, so that the writer behind it holds them.
+/// the end and after a fault, so that the writer behind it holds them. `Unsent` comes only where that failed.
 pub fn replay_text<S: Read + Drop, W: Write + Drop>(
     alloc: Global,
     text: &[u8],
     script: S,
     output: &mut BufWriter<W>,
     watches: &mut Watches,
+    sends: &mut FileWatch,
     notes: &mut Notes,
 ) -> Result<(), ReplayStop>
     requires { writer_buffer output.old ≡ [] }
-    ensures { IsReplayOf result text.now watches.new (S.remaining script) (W.contents (writer_inner output.old)) (W.contents (writer_inner output.new)) }
+    ensures { IsReplayOf result text.now watches.new sends.new (S.remaining script) (W.contents (writer_inner output.old)) (W.contents (writer_inner output.new)) }
 {
     let config = match read_config(alloc, text) {
         Ok(config) => config,
         Err(fault) => return Err(ReplayStop::Config(fault)),
     };
     let ended = replay_noting(alloc, &config, script, output, watches, notes);
-    match output.flush() {
+    match sends.flush(output) {
         Ok(()) => match ended {
             Ok(()) => Ok(()),
             Err(fault) => Err(ReplayStop::Fault(fault)),
@@ -107,11 +109,12 @@ pub fn replay_to<R: AllocGlobal + Eprint, S: Read + Drop, W: Write + Drop>(
     is_strict: bool,
     output: &mut BufWriter<W>,
     watches: &mut Watches,
+    sends: &mut FileWatch,
     notes: &mut Notes,
 ) -> ExitCode
     requires { writer_buffer output.old ≡ [] }
-    ensures { IsReplayed (exit_status result) is_strict notes.new.refused text.now watches.new (S.remaining script) (W.contents (writer_inner output.old)) (W.contents (writer_inner output.new)) }
+    ensures { IsReplayed (exit_status result) is_strict notes.new.refused text.now watches.new sends.new (S.remaining script) (W.contents (writer_inner output.old)) (W.contents (writer_inner output.new)) }
 {
-    let ended = replay_text(rt.alloc(), text, script, output, watches, notes);
+    let ended = replay_text(rt.alloc(), text, script, output, watches, sends, notes);
     end_replay(rt, text, ended, *notes, is_strict)
 }

@@ -1,2 +1,4 @@
 pub mod SearchLemmas
 pub mod SeveralLemmas
+pub mod JsonLemmas
+pub mod CommandLemmas

@@ -1,5 +1,5 @@
--- The text of what a search has found, in the words of a farm's replies: a line of its nodes, and a line of its best schedule.
-use Rattle.std.specs.Prelude.{ℕ, List, [], ◌∷◌, ◌++◌, Option, Some, None, codes, decimal}
+-- The text of what a search has found: in the words of a farm's replies, a line of its nodes and a line of its best schedule; or as JSON.
+use Rattle.std.specs.Prelude.{ℕ, ◌+◌, ◌==◌, cond, List, [], ◌∷◌, ◌++◌, Option, Some, None, codes, decimal}
 use Rattle.mrcpsp.specs.Schedule.{ScheduleData}
 use Rattle.schedule_text.specs.ScheduleText.{schedule_text}
 use Rattle.strategy.specs.declared.verdict.Verdict.{Verdict}
@@ -37,3 +37,38 @@ found_text f = nodes_line f ++ result_line f
 -- the line of a schedule that is the best so far of a search that goes on
 abbrev pub better_line : ℕ → ScheduleData → List ℕ
 better_line makespan best = codes "makespan " ++ decimal makespan ++ codes " open" ++ schedule_text best ++ 10 ∷ []
+
+-- ---- as one JSON object on one line
+
+abbrev pub place_json : ℕ → ℕ → ℕ → List ℕ
+place_json j mode start = codes "{\"activity\":" ++ decimal j ++ codes ",\"mode\":" ++ decimal mode ++ codes ",\"start\":" ++ decimal start ++ codes "}"
+
+-- what stands before the place of an activity behind so many others
+abbrev pub comma_before : ℕ → List ℕ
+comma_before i = cond (i == 0) [] (codes ",")
+
+-- the place of an activity behind so many others
+abbrev pub next_json : ℕ → ℕ → ℕ → List ℕ
+next_json i mode start = comma_before i ++ place_json (i + 1) mode start
+
+-- the places of activities behind so many others
+abbrev pub places_json : ℕ → List ℕ → List ℕ → List ℕ
+places_json i [] starts = []
+places_json i (mode ∷ modes) [] = []
+places_json i (mode ∷ modes) (start ∷ starts) = next_json i mode start ++ places_json (i + 1) modes starts
+
+abbrev pub schedule_json : Option ScheduleData → List ℕ
+schedule_json None = codes "null"
+schedule_json (Some schedule) = codes "[" ++ places_json 0 schedule.modes schedule.starts ++ codes "]"
+
+abbrev pub makespan_json : Option ℕ → List ℕ
+makespan_json None = codes "null"
+makespan_json (Some makespan) = decimal makespan
+
+abbrev pub object_json : ℕ → Option ℕ → List ℕ → Option ScheduleData → List ℕ
+object_json nodes makespan word best =
+    codes "{\"nodes\":" ++ decimal nodes ++ codes ",\"makespan\":" ++ makespan_json makespan
+    ++ codes ",\"verdict\":\"" ++ word ++ codes "\",\"schedule\":" ++ schedule_json best ++ codes "}" ++ 10 ∷ []
+
+abbrev pub found_json : Found → List ℕ
+found_json f = object_json f.nodes f.makespan (verdict_text f.verdict) f.best

@@ -3,3 +3,4 @@ pub mod Found
 pub mod FoundText
 pub mod Several
 pub mod Laws
+pub mod Commands

@@ -1,4 +1,5 @@
 //! The words of a command line.
+use crate::ending::Paths;
 use clap::builder::ValueParser;
 use clap::{Arg, ArgAction, ArgMatches, Command};
 use std::alloc::{AllocError, Global};
@@ -7,21 +8,11 @@ use std::alloc::{AllocError, Global};
 #[derive(Clone, Copy, Debug, PartialEq, Eq)]
 pub(crate) enum Task<'a> {
     /// Tell whether a schedule is feasible.
-    Verify {
-        /// The path of a project's file.
-        file: &'a str,
-        /// The path of a schedule's text.
-        schedule: &'a str,
-    },
+    Verify(Paths<'a>),
     /// Search for a schedule.
     Solve(Solving<'a>),
     /// Draw a feasible schedule.
-    Draw {
-        /// The path of a project's file.
-        file: &'a str,
-        /// The path of a schedule's text.
-        schedule: &'a str,
-    },
+    Draw(Paths<'a>),
 }
 
 /// What `solve` is asked for.
@@ -128,10 +119,10 @@ pub(crate) fn solve_commands<'a>(alloc: Global) -> Result<Command<'a>, AllocErro
 /// What a subcommand and its arguments ask for.
 pub(crate) fn task_of<'a>(matches: &ArgMatches<'a>) -> Option<Task<'a>> {
     match matches.subcommand() {
-        Some(("verify", chosen)) => Some(Task::Verify {
+        Some(("verify", chosen)) => Some(Task::Verify(Paths {
             file: chosen.get_str("FILE")?,
-            schedule: chosen.get_str("SCHEDULE")?,
-        }),
+            text: chosen.get_str("SCHEDULE")?,
+        })),
         Some(("solve", chosen)) => Some(Task::Solve(Solving {
             file: chosen.get_str("FILE")?,
             search: chosen.get_str("search")?,
@@ -140,10 +131,10 @@ pub(crate) fn task_of<'a>(matches: &ArgMatches<'a>) -> Option<Task<'a>> {
             is_telling: chosen.get_flag("progress") && !chosen.get_flag("quiet"),
             is_improving: chosen.get_flag("improvements"),
         })),
-        Some(("draw", chosen)) => Some(Task::Draw {
+        Some(("draw", chosen)) => Some(Task::Draw(Paths {
             file: chosen.get_str("FILE")?,
-            schedule: chosen.get_str("SCHEDULE")?,
-        }),
+            text: chosen.get_str("SCHEDULE")?,
+        })),
         _ => None,
     }
 }

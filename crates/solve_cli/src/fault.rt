@@ -1,7 +1,8 @@
-//! Why a schedule is not feasible.
+//! Why a schedule is not feasible, and why a command writes nothing.
 use mrcpsp::Breach;
 use psplib_mm::MmFault;
 use std::alloc::AllocError;
+use std::io::ErrorKind;
 use thiserror::Error;
 
 /// Why a text is of no feasible schedule. Each prints what is wrong, by the name of its own fault, as `breach Mode(3)`.
@@ -25,4 +26,26 @@ impl From<AllocError> for VerifyFault {
     fn from(_: AllocError) -> VerifyFault {
         VerifyFault::NoMemory
     }
+}
+
+/// Why nothing is made of a project's file and a schedule's text.
+#[derive(Clone, Copy, Debug, PartialEq, Eq)]
+pub enum InputFault {
+    /// The project's file could not be read, or there was no memory for it.
+    File(ErrorKind),
+    /// The schedule's text could not be read, or there was no memory for it.
+    Text(ErrorKind),
+    /// What was read is at fault.
+    Verify(VerifyFault),
+}
+
+/// Why a command does not end with its text.
+#[derive(Clone, Copy, Debug, PartialEq, Eq)]
+pub enum CommandFault {
+    /// Nothing was made of its inputs.
+    Input(InputFault),
+    /// There is no memory left.
+    NoMemory,
+    /// A write failed.
+    Write,
 }

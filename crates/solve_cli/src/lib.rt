@@ -2,13 +2,19 @@
 //!
 //! [`verify`] answers with a makespan exactly for a feasible schedule, and else with what is broken first (`specs/Verified`).
 //! [`solve`] tells what the definition of a search gives after so many nodes (`specs/Found`), and [`tell`] is its text, byte for
-//! byte (`specs/FoundText`). What the commands make of their words and files is tested.
+//! byte (`specs/FoundText`). [`verify_to`], [`draw_to`] and [`solve_to`] are the commands over any readers and writer: what they write is
+//! what the definitions say of the bytes that are read, and the status goes with it (`specs/Commands`). That the commands hand these the
+//! files that are named, and standard output, is the shape of `program`.
 //!
-//! - `fault`: why a schedule is not feasible.
+//! - `fault`: why a schedule is not feasible, and why a command writes nothing.
 //! - `verifying`: `verify`.
 //! - `searching`: `solve`, and who watches a search.
 //! - `several`: `solve_each`, several searches one after another, and `laws`, why what they tell is true.
 //! - `drawing`: `draw`, a feasible schedule as a picture.
+//! - `showing`: `verify_to` and `draw_to`, the commands on a schedule over any readers and writer.
+//! - `solving`: `solve_to`, the same of a search.
+//! - `ending`: how a command ends, with its text or its fault.
+//! - `watches`: whether a command could not read its inputs, or not write its text.
 //! - `telling`: what a search has found, as lines and as JSON.
 //! - `kinds`: the words for kinds of search.
 //! - `improvements`: better schedules, printed when they are found.
@@ -19,6 +25,7 @@
 
 mod arguments;
 mod drawing;
+mod ending;
 mod fault;
 mod improvements;
 mod kinds;
@@ -27,14 +34,21 @@ mod program;
 mod progress;
 mod searching;
 mod several;
+mod showing;
+mod solving;
 mod telling;
 mod verifying;
+mod watches;
 
 pub use drawing::draw;
-pub use fault::VerifyFault;
+pub use ending::{MOST_TEXT, Paths};
+pub use fault::{CommandFault, InputFault, VerifyFault};
 pub use kinds::{SearchFault, kinds_of};
 pub use program::{COMMANDS_HELP, asks_for_help, is_command, run_command};
 pub use searching::{Found, MOST_NODES, Watch, solve};
 pub use several::{MOST_SEARCHES, solve_each};
+pub use showing::{draw_read, draw_to, verify_read, verify_to};
+pub use solving::{Asked, solve_read, solve_to};
 pub use telling::{put_best, tell, tell_better, tell_better_json, tell_json, verdict_word};
 pub use verifying::{Verified, verify};
+pub use watches::Watches;

@@ -1,29 +1,25 @@
 //! The commands on files, with an exit status.
 ghost use Rattle.std.specs.Prelude.{◌≤◌, IfSome, vec_len};
 ghost use Rattle.std.specs.Process.{exit_status};
-ghost use Rattle.mrcpsp.specs.Schedule.{IsFeasible};
 
 use crate::arguments::{Solving, Task, solve_commands, task_of};
 use crate::drawing::draw;
+use crate::ending::Paths;
 use crate::improvements::{Improvements, Style};
 use crate::kinds::kinds_of;
 use crate::progress::Progress;
 use crate::searching::MOST_NODES;
-use crate::several::{MOST_SEARCHES, solve_each};
-use crate::telling::{tell, tell_json};
-use crate::verifying::{Verified, verify};
+use crate::several::MOST_SEARCHES;
+use crate::showing::{draw_to, verify_to};
+use crate::solving::{Asked, solve_to};
+use crate::watches::Watches;
 use file_words::{reason, tell_unread};
-use mrcpsp::Project;
-use psplib_mm::read;
-use std::alloc::{AllocError, Global};
-use std::io::{Eprint, Print, Read};
+use std::io;
+use std::io::Eprint;
 use std::process::ExitCode;
 use std::rt::Runtime;
-use std::{fs, io};
 use strategy::Kind;
-
-/// The most bytes that are read of a project's file or of a schedule's text: one more than a file may have.
-const MOST_TEXT: u64 = 1_048_577;
+use watched_files::{Source, open};
 
 /// What the help on all commands says of those of this crate.
 pub const COMMANDS_HELP: &str = "\
@@ -81,9 +77,9 @@ fn run_task<R: Runtime + AllocGlobal>(rt: &R, task: Task<'_>) -> ExitCode
     ensures { exit_status result ≤ 2 }
 {
     match task {
-        Task::Verify { file, schedule } => run_verify(rt, file, schedule),
+        Task::Verify(paths) => run_verify(rt, paths),
         Task::Solve(solving) => run_solve(rt, solving),
-        Task::Draw { file, schedule } => run_draw(rt, file, schedule),
+        Task::Draw(paths) => run_draw(rt, paths),
     }
 }
 
@@ -95,25 +91,10 @@ fn failure<R: Eprint>(rt: &R, why: &str) -> ExitCode
     ExitCode::FAILURE
 }
 
-/// The first bytes of a reader.
-fn read_front<R: Read + Drop>(alloc: Global, reader: R) -> io::Result<Vec<u8>> {
-    let mut bytes = Vec::new(alloc);
-    reader.take(MOST_TEXT).read_to_end(&mut bytes)?;
-    Ok(bytes)
-}
-
-/// The first bytes of the file at the path, or of standard input at `-`. `None` is told on standard error.
-fn read_path<R: Runtime + AllocGlobal>(rt: &R, path: &str) -> Option<Vec<u8>> {
-    let bytes = if path == "-" {
-        read_front(rt.alloc(), rt.reader())
-    } else {
-        match fs::open(rt, path) {
-            Ok(file) => read_front(rt.alloc(), file),
-            Err(error) => Err(error),
-        }
-    };
-    match bytes {
-        Ok(bytes) => Some(bytes),
+/// What the path names. `None` is told on standard error.
+fn open_path<R: Runtime>(rt: &R, path: &str) -> Option<Source<R::Reader, R::File>> {
+    match open(rt, path) {
+        Ok(source) => Some(source),
         Err(error) => {
             tell_unread(rt, path, reason(error.kind()));
             None
@@ -121,68 +102,41 @@ fn read_path<R: Runtime + AllocGlobal>(rt: &R, path: &str) -> Option<Vec<u8>> {
     }
 }
 
-/// The schedule of a text for the project of a file, where it is feasible. `None` is told on standard error.
-fn verified<R: Runtime + AllocGlobal>(rt: &R, file: &str, schedule: &str) -> Option<Verified>
-    ensures { IfSome result (λ verified. IsFeasible verified.project verified.schedule) }
-{
-    let file = read_path(rt, file)?;
-    let text = read_path(rt, schedule)?;
-    match verify(rt.alloc(), &file, &text) {
-        Ok(verified) => Some(verified),
-        Err(fault) => {
-            let _ = eprintln!(rt; "farm: {fault}");
-            None
-        }
-    }
-}
-
 /// Prints whether a schedule is feasible.
-fn run_verify<R: Runtime + AllocGlobal>(rt: &R, file: &str, schedule: &str) -> ExitCode
+fn run_verify<R: Runtime + AllocGlobal>(rt: &R, paths: Paths<'_>) -> ExitCode
     ensures { exit_status result ≤ 1 }
 {
-    let Some(verified) = verified(rt, file, schedule) else {
+    let Some(file) = open_path(rt, paths.file) else {
         return ExitCode::FAILURE;
     };
-    let makespan = verified.makespan;
-    match println!(rt; "feasible makespan {makespan}") {
-        Ok(()) => ExitCode::SUCCESS,
-        Err(_) => ExitCode::FAILURE,
-    }
+    let Some(text) = open_path(rt, paths.text) else {
+        return ExitCode::FAILURE;
+    };
+    let mut watches = Watches::new();
+    verify_to(rt, paths, file, text, &mut io::writer(rt), &mut watches)
 }
 
 /// Prints a picture of a feasible schedule.
-fn run_draw<R: Runtime + AllocGlobal>(rt: &R, file: &str, schedule: &str) -> ExitCode
+fn run_draw<R: Runtime + AllocGlobal>(rt: &R, paths: Paths<'_>) -> ExitCode
     ensures { exit_status result ≤ 1 }
 {
-    let Some(verified) = verified(rt, file, schedule) else {
+    let Some(file) = open_path(rt, paths.file) else {
         return ExitCode::FAILURE;
     };
-    print_text(rt, draw(rt.alloc(), &verified))
-}
-
-/// Prints a text.
-fn print_text<R: Print + Eprint>(rt: &R, text: Result<String, AllocError>) -> ExitCode
-    ensures { exit_status result ≤ 1 }
-{
-    match text {
-        Ok(text) => match print!(rt; "{text}") {
-            Ok(()) => ExitCode::SUCCESS,
-            Err(_) => ExitCode::FAILURE,
-        },
-        Err(_) => failure(rt, "no memory"),
-    }
-}
-
-/// The project of a file. `None` is told on standard error.
-fn project_of<R: Runtime + AllocGlobal>(rt: &R, file: &str) -> Option<Project> {
-    let text = read_path(rt, file)?;
-    match read(rt.alloc(), &text) {
-        Ok(project) => Some(project),
-        Err(fault) => {
-            let _ = eprintln!(rt; "farm: no file {fault}");
-            None
-        }
-    }
+    let Some(text) = open_path(rt, paths.text) else {
+        return ExitCode::FAILURE;
+    };
+    let alloc = rt.alloc();
+    let mut watches = Watches::new();
+    draw_to(
+        rt,
+        paths,
+        file,
+        text,
+        &mut io::writer(rt),
+        &mut watches,
+        |verified| draw(alloc, &verified),
+    )
 }
 
 /// The kinds of search that are asked for. `None` is told on standard error.
@@ -208,7 +162,7 @@ fn run_solve<R: Runtime + AllocGlobal>(rt: &R, solving: Solving<'_>) -> ExitCode
     let Ok(most) = solving.nodes.parse::<u64>() else {
         return ExitCode::from(2);
     };
-    let Some(project) = project_of(rt, solving.file) else {
+    let Some(file) = open_path(rt, solving.file) else {
         return ExitCode::FAILURE;
     };
     let style = match (solving.is_improving, solving.is_json) {
@@ -217,21 +171,20 @@ fn run_solve<R: Runtime + AllocGlobal>(rt: &R, solving: Solving<'_>) -> ExitCode
         (true, true) => Style::Json,
     };
     let progress = Progress::new(rt, solving.is_telling);
-    let mut watch = Improvements::new(rt, style, progress);
-    let kinds = kinds.as_slice();
-    let Ok(found) = solve_each(
-        rt.alloc(),
-        &project,
-        kinds,
-        most.min(MOST_NODES),
-        &mut watch,
-    ) else {
-        return failure(rt, "no memory");
+    let mut looks = Improvements::new(rt, style, progress);
+    let asked = Asked {
+        kinds: kinds.as_slice(),
+        most: most.min(MOST_NODES),
+        is_json: solving.is_json,
     };
-    let told = if solving.is_json {
-        tell_json(rt.alloc(), &found)
-    } else {
-        tell(rt.alloc(), &found)
-    };
-    print_text(rt, told)
+    let mut watches = Watches::new();
+    solve_to(
+        rt,
+        solving.file,
+        file,
+        asked,
+        &mut looks,
+        &mut io::writer(rt),
+        &mut watches,
+    )
 }

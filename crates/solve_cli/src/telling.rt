@@ -1,7 +1,8 @@
 //! What a search has found, as text.
-ghost use Rattle.std.specs.Prelude.{◌≡◌, ◌++◌, IfOk, string_bytes};
+ghost use Rattle.std.specs.Prelude.{◌≡◌, ◌++◌, ◌+◌, ◌<◌, ◌^◌, IfOk, codes, string_bytes};
 ghost use Rattle.std.specs.Option.{option_copied};
 ghost use Rattle.solve_cli.specs.FoundText.{verdict_text, best_text, places_of, shown_text, better_line, found_text};
+ghost use Rattle.solve_cli.specs.FoundText.{comma_before, next_json, places_json, schedule_json, makespan_json, object_json, found_json};
 
 use crate::searching::Found;
 use mrcpsp::Schedule;
@@ -78,24 +79,68 @@ pub fn tell_better(alloc: Global, makespan: u32, best: &Schedule) -> Result<Stri
     Ok(text)
 }
 
-/// Adds a schedule as a JSON array, or `null`.
-fn put_json(text: &mut String, best: Option<&Schedule>) -> Result<(), AllocError> {
-    let Some(schedule) = best else {
-        return text.push_str("null");
-    };
+/// What stands before the place of an activity behind so many others.
+fn comma_before(place: usize) -> &'static str
+    ensures { result.now ≡ comma_before place }
+{
+    if place == 0 { "" } else { "," }
+}
+
+/// Adds the place of an activity as a JSON object, behind a comma where it is not the first.
+fn put_place_json(text: &mut String, place: usize, mode: u32, start: u32) -> Result<(), AllocError>
+    requires { place + 1 < 2 ^ 64 }
+    ensures { IfOk result (λ _. string_bytes text.new ≡ string_bytes text.old ++ next_json place mode start) }
+{
+    let comma = comma_before(place);
+    let number = place + 1;
+    write!(
+        text,
+        "{comma}{{\"activity\":{number},\"mode\":{mode},\"start\":{start}}}"
+    )?;
+    Ok(())
+}
+
+/// Adds the places of a schedule's activities as JSON objects, with commas between them.
+#[tactic(auto, using(crate::proofs::JsonLemmas::json_rules))]
+fn put_places_json(text: &mut String, schedule: &Schedule) -> Result<(), AllocError>
+    ensures { IfOk result (λ _. string_bytes text.new ≡ string_bytes text.old ++ places_json 0 schedule.now.modes schedule.now.starts) }
+{
     let modes = schedule.modes.as_slice();
     let starts = schedule.starts.as_slice();
     for place in 0..modes.len().min(starts.len()) {
-        let comma = if place == 0 { "[" } else { "," };
-        let number = place + 1;
-        let mode = modes[place];
-        let start = starts[place];
-        write!(
-            text,
-            "{comma}{{\"activity\":{number},\"mode\":{mode},\"start\":{start}}}"
-        )?;
+        put_place_json(text, place, modes[place], starts[place])?;
     }
+    Ok(())
+}
+
+/// Adds a schedule as a JSON array.
+fn put_array(text: &mut String, schedule: &Schedule) -> Result<(), AllocError>
+    ensures { IfOk result (λ _. string_bytes text.new ≡ string_bytes text.old ++ schedule_json (Some schedule.now)) }
+{
+    text.push('[')?;
+    put_places_json(text, schedule)?;
     text.push(']')
+}
+
+/// Adds a schedule as a JSON array, or `null`.
+fn put_json(text: &mut String, best: Option<&Schedule>) -> Result<(), AllocError>
+    ensures { IfOk result (λ _. string_bytes text.new ≡ string_bytes text.old ++ schedule_json (option_copied best.entry)) }
+{
+    match best {
+        Some(schedule) => put_array(text, schedule),
+        None => text.push_str("null"),
+    }
+}
+
+/// Adds a makespan, or `null`.
+fn put_makespan_json(text: &mut String, makespan: Option<u32>) -> Result<(), AllocError>
+    ensures { IfOk result (λ _. string_bytes text.new ≡ string_bytes text.old ++ makespan_json makespan) }
+{
+    match makespan {
+        Some(makespan) => write!(text, "{makespan}")?,
+        None => text.push_str("null")?,
+    }
+    Ok(())
 }
 
 /// Adds one JSON object on one line: `nodes`, `makespan`, `verdict` and `schedule`.
@@ -105,19 +150,20 @@ fn put_object(
     makespan: Option<u32>,
     word: &str,
     best: Option<&Schedule>,
-) -> Result<(), AllocError> {
+) -> Result<(), AllocError>
+    ensures { IfOk result (λ _. string_bytes text.new ≡ string_bytes text.old ++ object_json nodes makespan word.now (option_copied best.entry)) }
+{
     write!(text, "{{\"nodes\":{nodes},\"makespan\":")?;
-    match makespan {
-        Some(makespan) => write!(text, "{makespan}")?,
-        None => text.push_str("null")?,
-    }
+    put_makespan_json(text, makespan)?;
     write!(text, ",\"verdict\":\"{word}\",\"schedule\":")?;
     put_json(text, best)?;
     text.push_str("}\n")
 }
 
 /// What `tell` says, as one JSON object on one line: `nodes`, `makespan`, `verdict` and `schedule`.
-pub fn tell_json(alloc: Global, found: &Found) -> Result<String, AllocError> {
+pub fn tell_json(alloc: Global, found: &Found) -> Result<String, AllocError>
+    ensures { IfOk result (λ text. string_bytes text ≡ found_json found.now) }
+{
     let word = verdict_word(found.verdict);
     let mut text = String::new(alloc);
     put_object(
@@ -136,7 +182,9 @@ pub fn tell_better_json(
     nodes: u64,
     makespan: u32,
     best: &Schedule,
-) -> Result<String, AllocError> {
+) -> Result<String, AllocError>
+    ensures { IfOk result (λ text. string_bytes text ≡ object_json nodes (Some makespan) (codes "open") (Some best.now)) }
+{
     let mut text = String::new(alloc);
     put_object(&mut text, nodes, Some(makespan), "open", Some(best))?;
     Ok(text)

@@ -6,10 +6,10 @@ use Rattle.farm_cli.proofs.replaying.replay_text.Goals as goal
 pub returns-in-Ok-flush : goal.returns-in-Ok-flush
 returns-in-Ok-flush g c =
     let held = writer_contents g.W.Write.contents c.replay_noting-ended.new.writer in
-    let out = writer_contents g.W.Write.contents c.flush.new.self in
+    let out = writer_contents g.W.Write.contents c.flush.new.output in
     sent (Err c.in-Err-ended.fault) c.args.text.now c.replay_noting-ended.new.watches (g.S.Read.remaining c.args.script)
-    (g.W.Write.contents (writer_inner c.args.output.now)) (g.W.Write.contents (writer_inner c.flush.new.self)) (writer_buffer c.flush.new.self)
-    c.in-Ok-flush.ensures.ok
+    (g.W.Write.contents (writer_inner c.args.output.now)) (g.W.Write.contents (writer_inner c.flush.new.output)) (writer_buffer c.flush.new.output)
+    c.in-Ok-flush.ensures.sent
     (gathered (Err c.in-Err-ended.fault) c.args.text.now c.in-Ok.config c.replay_noting-ended.new.watches (g.S.Read.remaining c.args.script)
     (g.W.Write.contents (writer_inner c.args.output.now)) held out (writer_buffer c.args.output.now)
     c.in-Ok.ensures.ok c.requires c.in-Err-ended.ensures.written c.in-Err-ended.ensures.cut_off c.in-Ok-flush.ensures.bytes)
@@ -17,9 +17,11 @@ returns-in-Ok-flush g c =
 pub returns : goal.returns
 returns g c =
     let held = writer_contents g.W.Write.contents c.replay_noting-ended.new.writer in
-    let out = writer_contents g.W.Write.contents c.flush.new.self in
-    unsent c.replay_noting-ended.result c.args.text.now c.replay_noting-ended.new.watches (g.S.Read.remaining c.args.script)
-    (g.W.Write.contents (writer_inner c.args.output.now)) (g.W.Write.contents (writer_inner c.flush.new.self)) (writer_buffer c.flush.new.self)
-    (gathered c.replay_noting-ended.result c.args.text.now c.in-Ok.config c.replay_noting-ended.new.watches (g.S.Read.remaining c.args.script)
-    (g.W.Write.contents (writer_inner c.args.output.now)) held out (writer_buffer c.args.output.now)
-    c.in-Ok.ensures.ok c.requires c.replay_noting-ended.ensures.written c.replay_noting-ended.ensures.cut_off c.in-Err-flush.ensures.bytes)
+    let out = writer_contents g.W.Write.contents c.flush.new.output in (
+      c.in-Err-flush.ensures.noted,
+      unsent c.replay_noting-ended.result c.args.text.now c.replay_noting-ended.new.watches (g.S.Read.remaining c.args.script)
+          (g.W.Write.contents (writer_inner c.args.output.now)) (g.W.Write.contents (writer_inner c.flush.new.output)) (writer_buffer c.flush.new.output)
+          (gathered c.replay_noting-ended.result c.args.text.now c.in-Ok.config c.replay_noting-ended.new.watches (g.S.Read.remaining c.args.script)
+          (g.W.Write.contents (writer_inner c.args.output.now)) held out (writer_buffer c.args.output.now)
+          c.in-Ok.ensures.ok c.requires c.replay_noting-ended.ensures.written c.replay_noting-ended.ensures.cut_off c.in-Err-flush.ensures.bytes),
+    )

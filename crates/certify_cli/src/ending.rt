@@ -1,0 +1,46 @@
+//! How a command of certificates ends.
+ghost use Rattle.std.specs.Prelude.{◌≡◌};
+ghost use Rattle.std.specs.Process.{exit_status};
+ghost use Rattle.certify_cli.specs.Commands.{command_status};
+
+use crate::fault::CommandFault;
+use file_words::{reason, tell_unread};
+use std::io::Eprint;
+use std::process::ExitCode;
+
+/// The most bytes that are read of a project's file or of a schedule's text: one more than a file may have.
+pub const MOST_TEXT: u64 = 1_048_577;
+
+/// The most bytes that are read of a proof.
+pub const MOST_PROOF: u64 = 4_000_000_000;
+
+/// The paths of a project's file, of a schedule's text and of a proof, as their faults are told.
+#[derive(Clone, Copy, Debug, PartialEq, Eq)]
+pub struct Paths<'a> {
+    /// Of the project's file.
+    pub file: &'a str,
+    /// Of the schedule's text.
+    pub text: &'a str,
+    /// Of the proof.
+    pub proof: &'a str,
+}
+
+/// The status of a command, with its fault on standard error.
+pub(crate) fn end_command<R: Eprint>(
+    rt: &R,
+    paths: Paths<'_>,
+    ended: Result<(), CommandFault>,
+) -> ExitCode
+    ensures { exit_status result ≡ command_status ended }
+{
+    match ended {
+        Ok(()) => return ExitCode::SUCCESS,
+        Err(CommandFault::File(kind)) => tell_unread(rt, paths.file, reason(kind)),
+        Err(CommandFault::Text(kind)) => tell_unread(rt, paths.text, reason(kind)),
+        Err(CommandFault::Proof(kind)) => tell_unread(rt, paths.proof, reason(kind)),
+        Err(CommandFault::Certify(fault)) => {
+            let _ = eprintln!(rt; "farm: {fault}");
+        }
+    }
+    ExitCode::FAILURE
+}

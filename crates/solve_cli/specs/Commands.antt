@@ -1,0 +1,99 @@
+-- What `verify`, `draw` and `solve` write of the bytes that are read, and with which status they end.
+use Rattle.std.specs.Prelude.{◌≡◌, ℕ, Bool, true, false, List, [], ◌∷◌, ◌++◌, ⊤, Option, Result, Ok, Err, IfSome, take, codes, decimal, string_bytes}
+use Rattle.std.specs.Io.KnownBytes.{Appends}
+use Rattle.std.specs.declared.string.String.{String}
+use Rattle.std.specs.declared.alloc.Global.{Global}
+use Rattle.mrcpsp.specs.Project.{ProjectData}
+use Rattle.psplib_mm.specs.Gives.{Fails}
+use Rattle.psplib_mm.specs.Reading.{reading}
+use Rattle.strategy.specs.declared.kind.Kind.{Kind}
+use Rattle.solve_cli.specs.FoundText.{found_text, found_json}
+use Rattle.solve_cli.specs.Several.{IsFoundByEach}
+use Rattle.solve_cli.specs.Verified.{IsVerified, IsAtFault}
+use Rattle.solve_cli.specs.declared.ending.TheConstants.{MOST_TEXT}
+use Rattle.solve_cli.specs.declared.fault.CommandFault.{CommandFault}
+use Rattle.solve_cli.specs.declared.fault.CommandFault.TheVariants.{Input, NoMemory, Write}
+use Rattle.solve_cli.specs.declared.fault.InputFault.{InputFault}
+use Rattle.solve_cli.specs.declared.fault.InputFault.TheVariants.{File, Text, Verify}
+use Rattle.solve_cli.specs.declared.fault.VerifyFault.TheVariants as verify
+use Rattle.solve_cli.specs.declared.searching.Found.{Found}
+use Rattle.solve_cli.specs.declared.verifying.Verified.{Verified}
+use Rattle.solve_cli.specs.declared.watches.Watches.{Watches}
+
+-- ---- how a command ends
+
+-- its text was written; or its inputs are at fault, or there was no memory, and nothing was; or a write failed
+abbrev pub IsEndOf : Type 0 → (InputFault → Type 0) → Result ⊤ CommandFault → Watches → Option (List ℕ) → Option (List ℕ) → Type 0
+IsEndOf written unmade (Ok done) seen before after = written
+IsEndOf written unmade (Err (Input fault)) seen before after = (after ≡ before) × unmade fault
+IsEndOf written unmade (Err NoMemory) seen before after = after ≡ before
+IsEndOf written unmade (Err Write) seen before after = seen.output.failed ≡ true
+
+abbrev pub command_status : Result ⊤ CommandFault → ℕ
+command_status (Ok done) = 0
+command_status (Err fault) = 1
+
+-- the status is that of a command which ends so
+pub record Ends (IsSo : Result ⊤ CommandFault → Type 0) (status : ℕ) : Type 0 where
+  pub ended : Result ⊤ CommandFault
+  pub is : IsSo ended
+  pub ends : status ≡ command_status ended
+
+-- ---- a project's file and a schedule's text
+
+-- of each input no more than so many bytes are read
+abbrev pub OfBoth : Option (List ℕ) → Option (List ℕ) → (List ℕ → List ℕ → Type 0) → Type 0
+OfBoth file text P = IfSome file (λ bytes. IfSome text (λ words. P (take MOST_TEXT bytes) (take MOST_TEXT words)))
+
+-- why there is no feasible schedule, or which input could not be read
+abbrev pub IsUnverified : InputFault → Watches → Option (List ℕ) → Option (List ℕ) → Type 0
+IsUnverified (File kind) seen file text = seen.file.failed ≡ true
+IsUnverified (Text kind) seen file text = seen.text.failed ≡ true
+IsUnverified (Verify fault) seen file text = OfBoth file text (λ bytes words. IsAtFault bytes words fault)
+
+-- what is told of a feasible schedule was written
+pub record IsShown (Tells : Verified → List ℕ → Type 0) (file text : List ℕ) (before after : Option (List ℕ)) : Type 0 where
+  pub verified : Verified
+  pub is : IsVerified file text verified
+  pub shown : List ℕ
+  pub tells : Tells verified shown
+  pub wrote : Appends before after shown
+
+abbrev pub IsShowOf : (Verified → List ℕ → Type 0) → Result ⊤ CommandFault → Watches → Option (List ℕ) → Option (List ℕ) → Option (List ℕ) → Option (List ℕ) → Type 0
+IsShowOf Tells ended seen file text before after =
+    IsEndOf (OfBoth file text (λ bytes words. IsShown Tells bytes words before after)) (λ fault. IsUnverified fault seen file text) ended seen before after
+
+-- its makespan,
+abbrev pub TellsMakespan : Verified → List ℕ → Type 0
+TellsMakespan v shown = shown ≡ codes "feasible makespan " ++ decimal v.makespan ++ 10 ∷ []
+
+-- or the text that a function may give of it
+abbrev pub GivesText : {E : Type 0} → (Verified → Result (String Global) E → Type 0) → Verified → List ℕ → Type 0
+GivesText May v shown = (text : String Global) × May v (Ok text) × (shown ≡ string_bytes text)
+
+-- ---- a project's file alone
+
+abbrev pub IsUnsolved : InputFault → Watches → Option (List ℕ) → Type 0
+IsUnsolved (File kind) seen file = seen.file.failed ≡ true
+IsUnsolved (Text kind) seen file = ⊥
+IsUnsolved (Verify (verify.File fault)) seen file = IfSome file (λ bytes. Fails fault (reading (take MOST_TEXT bytes)))
+IsUnsolved (Verify verify.Words) seen file = ⊥
+IsUnsolved (Verify (verify.Breach breach)) seen file = ⊥
+IsUnsolved (Verify verify.NoMemory) seen file = ⊤
+
+-- as JSON or as lines
+abbrev pub told_text : Bool → Found → List ℕ
+told_text true found = found_json found
+told_text false found = found_text found
+
+-- what these searches find of the file's project was written
+pub record IsSolved (is_json : Bool) (kinds : List Kind) (most : ℕ) (file : List ℕ) (before after : Option (List ℕ)) : Type 0 where
+  pub project : ProjectData
+  pub read : reading file ≡ Ok project
+  pub found : Found
+  pub finds : IsFoundByEach project kinds most found
+  pub wrote : Appends before after (told_text is_json found)
+
+abbrev pub IsSolveOf : Bool → List Kind → ℕ → Result ⊤ CommandFault → Watches → Option (List ℕ) → Option (List ℕ) → Option (List ℕ) → Type 0
+IsSolveOf is_json kinds most ended seen file before after =
+    IsEndOf (IfSome file (λ bytes. IsSolved is_json kinds most (take MOST_TEXT bytes) before after)) (λ fault. IsUnsolved fault seen file) ended seen before after

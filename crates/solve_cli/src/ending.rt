@@ -1,0 +1,52 @@
+//! How a command ends: its text is written, or its fault is told.
+ghost use Rattle.std.specs.Prelude.{◌≡◌};
+ghost use Rattle.std.specs.Process.{exit_status};
+ghost use Rattle.solve_cli.specs.Commands.{command_status};
+
+use crate::fault::{CommandFault, InputFault};
+use file_words::{reason, tell_unread};
+use std::io::Eprint;
+use std::process::ExitCode;
+
+/// The most bytes that are read of a project's file or of a schedule's text: one more than a file may have.
+pub const MOST_TEXT: u64 = 1_048_577;
+
+/// The paths of a project's file and of a schedule's text, as its faults are told.
+#[derive(Clone, Copy, Debug, PartialEq, Eq)]
+pub struct Paths<'a> {
+    /// Of the project's file.
+    pub file: &'a str,
+    /// Of the schedule's text.
+    pub text: &'a str,
+}
+
+/// The status of a command, with its fault on standard error.
+pub(crate) fn end_command<R: Eprint>(
+    rt: &R,
+    paths: Paths<'_>,
+    ended: Result<(), CommandFault>,
+) -> ExitCode
+    ensures { exit_status result ≡ command_status ended }
+{
+    match ended {
+        Ok(()) => return ExitCode::SUCCESS,
+        Err(CommandFault::Input(InputFault::File(kind))) => tell_unread(
+            rt,
+            paths.file,
+            reason(kind),
+        ),
+        Err(CommandFault::Input(InputFault::Text(kind))) => tell_unread(
+            rt,
+            paths.text,
+            reason(kind),
+        ),
+        Err(CommandFault::Input(InputFault::Verify(fault))) => {
+            let _ = eprintln!(rt; "farm: {fault}");
+        }
+        Err(CommandFault::NoMemory) => {
+            let _ = eprintln!(rt; "farm: no memory");
+        }
+        Err(CommandFault::Write) => {}
+    }
+    ExitCode::FAILURE
+}

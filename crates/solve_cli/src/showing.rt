@@ -1,0 +1,131 @@
+//! A schedule verified, and a feasible one drawn, over any readers and writer.
+ghost use Rattle.std.specs.Prelude.{◌≡◌, IfOk, IfErr};
+ghost use Rattle.std.specs.Process.{exit_status};
+ghost use Rattle.mrcpsp.specs.Schedule.{IsFeasible};
+ghost use Rattle.solve_cli.specs.Verified.{IsVerified};
+ghost use Rattle.solve_cli.specs.Commands.{OfBoth, IsUnverified, IsShowOf, Ends, TellsMakespan, GivesText};
+
+use crate::ending::{MOST_TEXT, Paths, end_command};
+use crate::fault::{CommandFault, InputFault};
+use crate::verifying::{Verified, verify};
+use crate::watches::Watches;
+use std::alloc::{AllocError, Global};
+use std::io::{Eprint, Read, Write};
+use std::process::ExitCode;
+
+/// The project of a file's reader and the schedule that a text's reader tells, where that is feasible.
+fn read_verified<S: Read + Drop, T: Read + Drop>(
+    alloc: Global,
+    file: S,
+    text: T,
+    watches: &mut Watches,
+) -> Result<Verified, InputFault>
+    ensures verified { IfOk result (λ verified. OfBoth (S.remaining file) (T.remaining text) (λ bytes words. IsVerified bytes words verified)) }
+    ensures feasible { IfOk result (λ verified. IsFeasible verified.project verified.schedule) }
+    ensures fault { IfErr result (λ fault. IsUnverified fault watches.new (S.remaining file) (T.remaining text)) }
+{
+    let bytes = match watches.file.read_front(alloc, file, MOST_TEXT) {
+        Ok(bytes) => bytes,
+        Err(error) => return Err(InputFault::File(error.kind())),
+    };
+    let words = match watches.text.read_front(alloc, text, MOST_TEXT) {
+        Ok(words) => words,
+        Err(error) => return Err(InputFault::Text(error.kind())),
+    };
+    match verify(alloc, &bytes, &words) {
+        Ok(verified) => Ok(verified),
+        Err(fault) => Err(InputFault::Verify(fault)),
+    }
+}
+
+/// Writes `feasible makespan M`, where the text that one reader gives tells a feasible schedule of the project whose file the other
+/// one gives, with its makespan. But for a fault of the writer nothing was written at an error.
+pub fn verify_read<S: Read + Drop, T: Read + Drop, W: Write>(
+    alloc: Global,
+    file: S,
+    text: T,
+    writer: &mut W,
+    watches: &mut Watches,
+) -> Result<(), CommandFault>
+    ensures { IsShowOf TellsMakespan result watches.new (S.remaining file) (T.remaining text) (W.contents writer.old) (W.contents writer.new) }
+{
+    let makespan = match read_verified(alloc, file, text, watches) {
+        Ok(verified) => verified.makespan,
+        Err(fault) => return Err(CommandFault::Input(fault)),
+    };
+    let line = format_args!("feasible makespan {makespan}\n");
+    match watches.output.write(writer, line) {
+        Ok(()) => Ok(()),
+        Err(_) => Err(CommandFault::Write),
+    }
+}
+
+/// Writes the text that `draw` gives of a feasible schedule. But for a fault of the writer nothing was written at an error.
+pub fn draw_read<
+    S: Read + Drop,
+    T: Read + Drop,
+    W: Write,
+    D: FnOnce(Verified) -> Result<String, AllocError>,
+>(
+    alloc: Global,
+    file: S,
+    text: T,
+    writer: &mut W,
+    watches: &mut Watches,
+    draw: D,
+) -> Result<(), CommandFault>
+    requires { (verified : Verified) → IsFeasible verified.project verified.schedule → D.pre draw verified }
+    ensures { IsShowOf (GivesText (D.post draw)) result watches.new (S.remaining file) (T.remaining text) (W.contents writer.old) (W.contents writer.new) }
+{
+    let verified = match read_verified(alloc, file, text, watches) {
+        Ok(verified) => verified,
+        Err(fault) => return Err(CommandFault::Input(fault)),
+    };
+    let picture = match draw(verified) {
+        Ok(picture) => picture,
+        Err(_) => return Err(CommandFault::NoMemory),
+    };
+    match watches.output.write(writer, picture) {
+        Ok(()) => Ok(()),
+        Err(_) => Err(CommandFault::Write),
+    }
+}
+
+/// `verify_read` with a status: 0 where the line was written, and 1 where its fault was told on standard error. The readers are of
+/// the files at the paths.
+pub fn verify_to<R: AllocGlobal + Eprint, S: Read + Drop, T: Read + Drop, W: Write>(
+    rt: &R,
+    paths: Paths<'_>,
+    file: S,
+    text: T,
+    writer: &mut W,
+    watches: &mut Watches,
+) -> ExitCode
+    ensures { Ends (λ ended. IsShowOf TellsMakespan ended watches.new (S.remaining file) (T.remaining text) (W.contents writer.old) (W.contents writer.new)) (exit_status result) }
+{
+    let ended = verify_read(rt.alloc(), file, text, writer, watches);
+    end_command(rt, paths, ended)
+}
+
+/// `draw_read` with a status, in the same way.
+pub fn draw_to<
+    R: AllocGlobal + Eprint,
+    S: Read + Drop,
+    T: Read + Drop,
+    W: Write,
+    D: FnOnce(Verified) -> Result<String, AllocError>,
+>(
+    rt: &R,
+    paths: Paths<'_>,
+    file: S,
+    text: T,
+    writer: &mut W,
+    watches: &mut Watches,
+    draw: D,
+) -> ExitCode
+    requires { (verified : Verified) → IsFeasible verified.project verified.schedule → D.pre draw verified }
+    ensures { Ends (λ ended. IsShowOf (GivesText (D.post draw)) ended watches.new (S.remaining file) (T.remaining text) (W.contents writer.old) (W.contents writer.new)) (exit_status result) }
+{
+    let ended = draw_read(rt.alloc(), file, text, writer, watches, draw);
+    end_command(rt, paths, ended)
+}

@@ -1,0 +1,114 @@
+//! A project searched, over any reader and writer.
+ghost use Rattle.std.specs.Prelude.{◌≡◌, ◌≤◌, length, IfOk, IfErr, IfSome, Ok, take, string_bytes};
+ghost use Rattle.std.specs.Process.{exit_status};
+ghost use Rattle.psplib_mm.specs.Reading.{reading};
+ghost use Rattle.solve_cli.specs.Commands.{IsUnsolved, IsSolveOf, Ends, told_text};
+
+use crate::ending::{MOST_TEXT, Paths, end_command};
+use crate::fault::{CommandFault, InputFault, VerifyFault};
+use crate::searching::{Found, MOST_NODES, Watch};
+use crate::several::{MOST_SEARCHES, solve_each};
+use crate::telling::{tell, tell_json};
+use crate::watches::Watches;
+use mrcpsp::Project;
+use psplib_mm::read;
+use std::alloc::{AllocError, Global};
+use std::io::{Eprint, Read, Write};
+use std::process::ExitCode;
+use strategy::Kind;
+
+/// Which searches of a project are asked for, and how they are told.
+#[derive(Clone, Copy, Debug)]
+pub struct Asked<'a> {
+    /// The kinds of the searches, in their order.
+    pub kinds: &'a [Kind],
+    /// The most nodes of each search.
+    pub most: u64,
+    /// Whether JSON is written.
+    pub is_json: bool,
+}
+
+/// The project of a file's reader.
+fn read_project<S: Read + Drop>(
+    alloc: Global,
+    file: S,
+    watches: &mut Watches,
+) -> Result<Project, InputFault>
+    ensures project { IfOk result (λ project. IfSome (S.remaining file) (λ all. reading (take MOST_TEXT all) ≡ Ok project)) }
+    ensures fault { IfErr result (λ fault. IsUnsolved fault watches.new (S.remaining file)) }
+{
+    let bytes = match watches.file.read_front(alloc, file, MOST_TEXT) {
+        Ok(bytes) => bytes,
+        Err(error) => return Err(InputFault::File(error.kind())),
+    };
+    match read(alloc, &bytes) {
+        Ok(project) => Ok(project),
+        Err(fault) => Err(InputFault::Verify(VerifyFault::File(fault))),
+    }
+}
+
+/// What was found, as lines or as JSON.
+fn told(alloc: Global, is_json: bool, found: &Found) -> Result<String, AllocError>
+    ensures { IfOk result (λ text. string_bytes text ≡ told_text is_json found.now) }
+{
+    if is_json {
+        tell_json(alloc, found)
+    } else {
+        tell(alloc, found)
+    }
+}
+
+/// Writes what the searches find that are asked for, of the project whose file a reader gives. But for a fault of the writer nothing
+/// was written at an error.
+pub fn solve_read<S: Read + Drop, W: Write, L: Watch>(
+    alloc: Global,
+    file: S,
+    asked: Asked<'_>,
+    looks: &mut L,
+    writer: &mut W,
+    watches: &mut Watches,
+) -> Result<(), CommandFault>
+    requires few { asked.most ≤ MOST_NODES }
+    requires short { length asked.kinds.now ≤ MOST_SEARCHES }
+    ensures { IsSolveOf asked.entry.is_json asked.entry.kinds.now asked.entry.most result watches.new (S.remaining file) (W.contents writer.old) (W.contents writer.new) }
+{
+    let project = match read_project(alloc, file, watches) {
+        Ok(project) => project,
+        Err(fault) => return Err(CommandFault::Input(fault)),
+    };
+    let found = match solve_each(alloc, &project, asked.kinds, asked.most, looks) {
+        Ok(found) => found,
+        Err(_) => return Err(CommandFault::NoMemory),
+    };
+    let text = match told(alloc, asked.is_json, &found) {
+        Ok(text) => text,
+        Err(_) => return Err(CommandFault::NoMemory),
+    };
+    match watches.output.write(writer, text) {
+        Ok(()) => Ok(()),
+        Err(_) => Err(CommandFault::Write),
+    }
+}
+
+/// The same with a status: 0 where the text was written, and 1 where its fault was told on standard error. The reader is of the file
+/// at the path.
+pub fn solve_to<R: AllocGlobal + Eprint, S: Read + Drop, W: Write, L: Watch>(
+    rt: &R,
+    path: &str,
+    file: S,
+    asked: Asked<'_>,
+    looks: &mut L,
+    writer: &mut W,
+    watches: &mut Watches,
+) -> ExitCode
+    requires few { asked.most ≤ MOST_NODES }
+    requires short { length asked.kinds.now ≤ MOST_SEARCHES }
+    ensures { Ends (λ ended. IsSolveOf asked.entry.is_json asked.entry.kinds.now asked.entry.most ended watches.new (S.remaining file) (W.contents writer.old) (W.contents writer.new)) (exit_status result) }
+{
+    let ended = solve_read(rt.alloc(), file, asked, looks, writer, watches);
+    let paths = Paths {
+        file: path,
+        text: path,
+    };
+    end_command(rt, paths, ended)
+}

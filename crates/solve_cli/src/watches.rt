@@ -1,0 +1,30 @@
+//! Whether a command could not read its inputs, or not write its text.
+ghost use Rattle.std.specs.Prelude.{◌≡◌, false};
+
+use watched_files::FileWatch;
+
+/// The watches through which a command reads and writes: after a fault they tell contracts whether a read or a write has failed.
+#[derive(Debug, Drop)]
+pub struct Watches {
+    /// Of the project's file.
+    pub(crate) file: FileWatch,
+    /// Of the schedule's text.
+    pub(crate) text: FileWatch,
+    /// Of what is written.
+    pub(crate) output: FileWatch,
+}
+
+impl Watches {
+    /// Watches through which nothing has failed.
+    pub fn new() -> Watches
+        ensures file { result.file.failed ≡ false }
+        ensures text { result.text.failed ≡ false }
+        ensures output { result.output.failed ≡ false }
+    {
+        Watches {
+            file: FileWatch::new(),
+            text: FileWatch::new(),
+            output: FileWatch::new(),
+        }
+    }
+}
