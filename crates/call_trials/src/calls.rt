@@ -7,8 +7,8 @@ use farm_core::{Name, Reply};
 use farm_pool::{Command, Gate, Pool, PoolPass};
 use session_lines::{Said, write_reply};
 use std::alloc::Global;
+use std::process::Abort;
 use std::sync::Wait;
-use std::test::Fail;
 use strategy::Strategy;
 
 /// The only tenant.
@@ -55,13 +55,12 @@ impl Gate for Open {
 }
 
 /// The line of a reply.
-pub(crate) fn text_of(alloc: Global, reply: Reply) -> Result<Vec<u8>, Fail> {
+pub(crate) fn text_of(rt: &impl Abort, alloc: Global, reply: Reply) -> Vec<u8> {
     let mut text = Vec::new(alloc);
-    text.reserve(256)?;
-    match write_reply(&mut text, Name::new(b"a"), &Said::Reply(reply)) {
-        Ok(()) => Ok(text),
-        Err(_) => Err(Fail::from("a line of 256 bytes")),
-    }
+    assert!(rt; text.reserve(256).is_ok(), "no memory");
+    let written = write_reply(&mut text, Name::new(b"a"), &Said::Reply(reply));
+    assert!(rt; written.is_ok(), "a line of 256 bytes");
+    text
 }
 
 /// A command that needs no search: the ledger, where it is none of the others.
@@ -89,34 +88,43 @@ fn work<R: Wait>(rt: &R, pool: &Pool, pass: &mut PoolPass) -> &'static str
     }
 }
 
+/// The submit of the last of the searches that are ready.
+fn submit_of<R: Abort>(rt: &R, ready: &mut Vec<Ready>, quanta: u64) -> Command<Box<dyn Strategy>> {
+    let Ready { plan, search } = ready.pop().expect(rt, "a search");
+    Command::Submit {
+        plan,
+        quanta,
+        search,
+    }
+}
+
+/// A text in a buffer.
+fn bytes_of(rt: &impl Abort, alloc: Global, said: &str) -> Vec<u8> {
+    let mut text = Vec::new(alloc);
+    assert!(rt;
+        text.extend_from_slice(said.as_bytes()).is_ok(),
+        "no memory"
+    );
+    text
+}
+
 /// Makes a call, and tells what is said of it. A submit takes the last of the searches that are ready.
-pub(crate) fn make<R: Wait>(
+pub(crate) fn make<R: Wait + Abort>(
     rt: &R,
     alloc: Global,
     pool: &Pool,
     pass: &mut PoolPass,
     ready: &mut Vec<Ready>,
     ask: Ask,
-) -> Result<Vec<u8>, Fail>
+) -> Vec<u8>
     requires own { IsPassOf pool.now.lock pass.old }
     requires known { length pool.now.lock.opening.tenants ≡ 1 }
     ensures own { IsPassOf pool.now.lock pass.new }
 {
-    if let Ask::Work = ask {
-        let mut text = Vec::new(alloc);
-        text.reserve(256)?;
-        text.extend_from_slice(work(rt, pool, pass).as_bytes())?;
-        return Ok(text);
-    }
-    let command = if let Ask::Submit(quanta) = ask {
-        let Ready { plan, search } = ready.pop().ok_or("a search")?;
-        Command::Submit {
-            plan,
-            quanta,
-            search,
-        }
-    } else {
-        command_of(ask)
+    let command = match ask {
+        Ask::Work => return bytes_of(rt, alloc, work(rt, pool, pass)),
+        Ask::Submit(quanta) => submit_of(rt, ready, quanta),
+        _ => command_of(ask),
     };
-    text_of(alloc, pool.call(rt, pass, A, command))
+    text_of(rt, alloc, pool.call(rt, pass, A, command))
 }

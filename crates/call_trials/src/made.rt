@@ -1,5 +1,5 @@
 //! A configuration, tills, and searches of a project.
-ghost use Rattle.std.specs.Prelude.{◌≡◌, IfOk};
+ghost use Rattle.std.specs.Prelude.{◌≡◌, IfOk, IfSome};
 ghost use Rattle.quanta_till.specs.Lease.{IsEmpty};
 ghost use Rattle.strategy.specs.declared.kind.Kind.TheVariants.{Tree};
 
@@ -8,7 +8,7 @@ use mrcpsp::Sequence;
 use psplib_mm::read;
 use quanta_till::{Desk, Lease, Till};
 use std::alloc::{AllocError, Global};
-use std::test::Fail;
+use std::process::Abort;
 use strategy::{Kind, Plan, Strategy};
 use tree_search::TreeSearch;
 
@@ -64,28 +64,31 @@ impl Purse {
 }
 
 /// Tenant a, of 100 quanta, two jobs and 100 entries; 2 workers and turns of so many nodes.
-pub(crate) fn config_of(alloc: Global, slice: u64) -> Result<Config, Fail> {
-    let name = Name::new(b"a").ok_or("a name")?;
-    let mut lines = Vec::new(alloc);
-    lines.push(TenantLine {
-        name,
+pub(crate) fn config_of(alloc: Global, slice: u64) -> Option<Config> {
+    let line = TenantLine {
+        name: Name::new(b"a")?,
         quanta: 100,
         jobs: 2,
         entries: 100,
         purse: None,
-    })?;
-    Ok(Config::new(Sequence::from(lines), 2, slice).ok_or("within the limits")?)
+    };
+    match Vec::from_array(alloc, [line]) {
+        Ok(lines) => Config::new(Sequence::from(lines), 2, slice),
+        Err(_) => None,
+    }
 }
 
 /// The plan of the diamond's tree.
-fn plan_of(alloc: Global) -> Result<Plan, Fail>
-    ensures { IfOk result (λ plan. plan.kind ≡ Tree) }
+fn plan_of(alloc: Global) -> Option<Plan>
+    ensures { IfSome result (λ plan. plan.kind ≡ Tree) }
 {
-    let project = read(alloc, DIAMOND.as_bytes())?;
-    Ok(Plan {
-        project,
-        kind: Kind::Tree,
-    })
+    match read(alloc, DIAMOND.as_bytes()) {
+        Ok(project) => Some(Plan {
+            project,
+            kind: Kind::Tree,
+        }),
+        Err(_) => None,
+    }
 }
 
 /// A plan and its search.
@@ -95,25 +98,38 @@ pub(crate) struct Ready {
     pub(crate) search: Box<dyn Strategy>,
 }
 
-/// The diamond's tree, and its plan.
-fn tree_of(alloc: Global, purse: &mut Purse) -> Result<Ready, Fail> {
-    let lease = purse.lease()?;
-    let searched = plan_of(alloc)?;
-    let plan = plan_of(alloc)?;
-    match TreeSearch::new(alloc, searched, lease) {
-        Ok(search) => {
-            let search: Box<dyn Strategy> = Box::new(alloc, search)?;
-            Ok(Ready { plan, search })
-        }
-        Err(_) => Err(Fail::from("no memory")),
+/// The diamond's tree in a box.
+fn boxed(rt: &impl Abort, alloc: Global, lease: Lease) -> Box<dyn Strategy>
+    requires { IsEmpty lease }
+{
+    let plan = plan_of(alloc).expect(rt, "no memory for a plan");
+    let Ok(search) = TreeSearch::new(alloc, plan, lease) else {
+        panic!(rt; "no memory");
+    };
+    match Box::new(alloc, search) {
+        Ok(boxed) => boxed,
+        Err(_) => panic!(rt; "no memory"),
     }
 }
 
+/// The diamond's tree, and its plan.
+fn tree_of(rt: &impl Abort, alloc: Global, purse: &mut Purse) -> Ready {
+    let lease = purse.lease().expect(rt, "no memory for a lease");
+    let search = boxed(rt, alloc, lease);
+    let plan = plan_of(alloc).expect(rt, "no memory for a plan");
+    Ready { plan, search }
+}
+
 /// So many of them.
-pub(crate) fn trees_of(alloc: Global, purse: &mut Purse, count: u32) -> Result<Vec<Ready>, Fail> {
+pub(crate) fn trees_of(
+    rt: &impl Abort,
+    alloc: Global,
+    purse: &mut Purse,
+    count: u32,
+) -> Vec<Ready> {
     let mut ready = Vec::new(alloc);
     for _ in 0..count {
-        ready.push(tree_of(alloc, purse)?)?;
+        assert!(rt; ready.push(tree_of(rt, alloc, purse)).is_ok(), "no memory");
     }
-    Ok(ready)
+    ready
 }

@@ -1,5 +1,5 @@
 //! A script is played on a pool of its own.
-ghost use Rattle.std.specs.Prelude.{◌≡◌, length, IfOk};
+ghost use Rattle.std.specs.Prelude.{◌≡◌, length, IfSome};
 ghost use Rattle.turn_lock.specs.Values.{IsPassOf};
 
 use crate::calls::{Ask, SCARCE, make};
@@ -9,7 +9,6 @@ use farm_pool::{Pool, PoolPass};
 use std::alloc::Global;
 use std::process::Abort;
 use std::sync::Wait;
-use std::test::Fail;
 
 /// What is asked, what is said then, and what status and ledger are from then on.
 #[derive(Clone, Copy)]
@@ -45,14 +44,36 @@ fn entries_of(ask: Ask) -> usize {
 }
 
 /// The pool of a configuration of one tenant, and its first pass.
-pub(crate) fn pool_of(alloc: Global, config: &Config) -> Result<(Pool, PoolPass), Fail>
-    ensures own { IfOk result (λ made. IsPassOf made.0.lock made.1) }
-    ensures known { IfOk result (λ made. length made.0.lock.opening.tenants ≡ 1) }
+pub(crate) fn pool_of(alloc: Global, config: &Config) -> Option<(Pool, PoolPass)>
+    ensures own { IfSome result (λ made. IsPassOf made.0.lock made.1) }
+    ensures known { IfSome result (λ made. length made.0.lock.opening.tenants ≡ 1) }
 {
     if config.tenants().len() != 1 {
-        return Err(Fail::from("one tenant"));
+        return None;
     }
-    Ok(Pool::new(alloc, config)?)
+    Pool::new(alloc, config).ok()
+}
+
+/// Makes a call, and compares what is said of it. The texts are for messages too, the second one that of the step that found no memory.
+fn see<R: Wait + Abort>(
+    rt: &R,
+    alloc: Global,
+    pool: &Pool,
+    pass: &mut PoolPass,
+    ready: &mut Vec<Ready>,
+    ask: Ask,
+    texts: [&str; 2],
+)
+    requires own { IsPassOf pool.now.lock pass.old }
+    requires known { length pool.now.lock.opening.tenants ≡ 1 }
+    ensures own { IsPassOf pool.now.lock pass.new }
+{
+    let [wanted, of_step] = texts;
+    let told = make(rt, alloc, pool, pass, ready, ask);
+    assert!(rt;
+        told.as_slice() == wanted.as_bytes(),
+        "{of_step}, once refused: {wanted}"
+    );
 }
 
 /// Makes a call. Where it finds no memory it has changed nothing, and is made again. Tells how many entries were left.
@@ -64,31 +85,39 @@ fn insist<R: Wait + Abort>(
     ready: &mut Vec<Ready>,
     step: Step,
     before: Known,
-) -> Result<usize, Fail>
+) -> usize
     requires own { IsPassOf pool.now.lock pass.old }
     requires known { length pool.now.lock.opening.tenants ≡ 1 }
     ensures own { IsPassOf pool.now.lock pass.new }
 {
     let Step(ask, wanted, _) = step;
-    let told = make(rt, alloc, pool, pass, ready, ask)?;
+    let told = make(rt, alloc, pool, pass, ready, ask);
     if told.as_slice() != SCARCE.as_bytes() {
         assert!(rt; told.as_slice() == wanted.as_bytes(), "{wanted}");
-        return Ok(entries_of(ask));
+        return entries_of(ask);
     }
     assert!(rt; may_want_memory(step), "a call that needs none: {wanted}");
-    let status = make(rt, alloc, pool, pass, ready, Ask::Status(1))?;
-    assert!(rt;
-        status.as_slice() == before.0.as_bytes(),
-        "{wanted}, the status"
+    let Known(status, ledger) = before;
+    see(
+        rt,
+        alloc,
+        pool,
+        pass,
+        ready,
+        Ask::Status(1),
+        [status, wanted],
     );
-    let ledger = make(rt, alloc, pool, pass, ready, Ask::Ledger)?;
-    assert!(rt;
-        ledger.as_slice() == before.1.as_bytes(),
-        "{wanted}, the ledger"
-    );
-    let told = make(rt, alloc, pool, pass, ready, ask)?;
-    assert!(rt; told.as_slice() == wanted.as_bytes(), "{wanted}, again");
-    Ok(entries_of(ask).saturating_add(2))
+    see(rt, alloc, pool, pass, ready, Ask::Ledger, [ledger, wanted]);
+    see(rt, alloc, pool, pass, ready, ask, [wanted, wanted]);
+    entries_of(ask).saturating_add(2)
+}
+
+/// The step of that place of a script, which stands behind so many calls for the ledger.
+fn step_at(lead: usize, steps: &[Step], at: usize) -> Step {
+    match steps.get(at.saturating_sub(lead)) {
+        Some(step) if lead <= at => *step,
+        _ => Step(Ask::Ledger, WHOLE, NOTHING),
+    }
 }
 
 /// Makes the calls one after another, behind so many for the ledger. Tells how many entries were left.
@@ -100,20 +129,20 @@ fn play_all<R: Wait + Abort>(
     ready: &mut Vec<Ready>,
     lead: usize,
     steps: &[Step],
-) -> Result<usize, Fail>
+) -> usize
     requires own { IsPassOf pool.now.lock pass.old }
     requires known { length pool.now.lock.opening.tenants ≡ 1 }
     ensures own { IsPassOf pool.now.lock pass.new }
 {
     let mut entries: usize = 0;
     let mut before = NOTHING;
-    let first = Step(Ask::Ledger, WHOLE, NOTHING);
-    for step in [first; 8][..lead.min(8)].iter().chain(steps) {
-        let left = insist(rt, alloc, pool, pass, ready, *step, before)?;
+    for at in 0..lead.saturating_add(steps.len()) {
+        let step = step_at(lead, steps, at);
+        let left = insist(rt, alloc, pool, pass, ready, step, before);
         entries = entries.saturating_add(left);
         before = step.2;
     }
-    Ok(entries)
+    entries
 }
 
 /// Plays a script on a pool of its own whose turns are of so many nodes, behind so many calls for the ledger, and compares how many entries the journal
@@ -124,19 +153,18 @@ pub(crate) fn play<R: Wait + Abort>(
     lead: usize,
     steps: &[Step],
     words: [u64; 3],
-) -> Result<(), Fail> {
-    let config = config_of(alloc, 10)?;
-    let (pool, mut pass) = pool_of(alloc, &config)?;
-    let mut purse = Purse::new(alloc)?;
-    let mut ready = trees_of(alloc, &mut purse, MOST_SUBMITS)?;
-    let entries = play_all(rt, alloc, &pool, &mut pass, &mut ready, lead, steps)?;
+) {
+    let config = config_of(alloc, 10).expect(rt, "no memory for a configuration");
+    let (pool, mut pass) = pool_of(alloc, &config).expect(rt, "no memory for a pool");
+    let mut purse = Purse::new(alloc).expect(rt, "no memory for a till");
+    let mut ready = trees_of(rt, alloc, &mut purse, MOST_SUBMITS);
+    let entries = play_all(rt, alloc, &pool, &mut pass, &mut ready, lead, steps);
     drop(ready);
-    let farm = pool.close(pass).ok_or("a farm")?;
+    let farm = pool.close(pass).expect(rt, "a farm");
     assert!(rt;
         farm.journal().len() == entries,
         "the entries of the journal"
     );
     drop(farm);
     assert!(rt; purse.words() == words, "the words of the till");
-    Ok(())
 }

@@ -1,10 +1,18 @@
 //! The trials.
+ghost use Rattle.std.specs.Prelude.{◌≡◌, length};
+ghost use Rattle.turn_lock.specs.Values.{IsPassOf};
+
 use crate::beside::{Barrier, cancel_beside};
 use crate::calls::Ask::{Cancel, Fetch, Forget, Fund, Ledger, Status, Submit, Work};
 use crate::calls::{A, WORKED, command_of, make, text_of};
 use crate::made::{Purse, config_of, trees_of};
 use crate::play::{Known, Step, play, pool_of};
-use std::test::Fail;
+use farm_core::Reply;
+use farm_pool::{Pool, PoolPass};
+use std::alloc::Global;
+use std::process::Abort;
+use std::sync::Wait;
+use std::thread::Threads;
 
 const WHOLE: &str = "@a ledger granted 100 free 100 held 0 spent 0\n";
 
@@ -113,15 +121,14 @@ const DRY: [Step; 3] = [
 
 // Behind eight numbers of entries, so that each call is made where the journal grows.
 #[test]
-fn each_call(rt: HostRuntime) -> Result<(), Fail> {
+fn each_call(rt: HostRuntime) {
     for lead in 0..8 {
-        play(&rt, rt.alloc(), lead, &EACH, [91, 9, 100])?;
+        play(&rt, rt.alloc(), lead, &EACH, [91, 9, 100]);
     }
-    Ok(())
 }
 
 #[test]
-fn cancels(rt: HostRuntime) -> Result<(), Fail> {
+fn cancels(rt: HostRuntime) {
     let rows: [(&[Step], [u64; 3]); 3] = [
         (&CANCELLED, [100, 0, 100]),
         (&BEGUN, [98, 2, 100]),
@@ -129,35 +136,58 @@ fn cancels(rt: HostRuntime) -> Result<(), Fail> {
     ];
     for (steps, words) in rows {
         for lead in 0..4 {
-            play(&rt, rt.alloc(), lead, steps, words)?;
+            play(&rt, rt.alloc(), lead, steps, words);
         }
     }
-    Ok(())
 }
 
-// The turn of two nodes goes on only once the job is cancelled.
-#[test]
-fn a_cancel_while_out(rt: HostRuntime) -> Result<(), Fail> {
-    let config = config_of(rt.alloc(), 2)?;
-    let (pool, mut pass) = pool_of(rt.alloc(), &config)?;
-    let mut purse = Purse::new(rt.alloc())?;
+/// Whether this is the line of a reply.
+fn is_line(rt: &impl Abort, alloc: Global, reply: Reply, line: &str) -> bool {
+    text_of(rt, alloc, reply).as_slice() == line.as_bytes()
+}
+
+/// Cancels job 1 beside its turn of two nodes, which goes on only once the job is cancelled, and compares what is said, and then the words of the till.
+fn cancel_while_out<R: Threads + Wait + Sync + Abort>(
+    rt: &R,
+    alloc: Global,
+    pool: &Pool,
+    pass: &mut PoolPass,
+)
+    requires own { IsPassOf pool.now.lock pass.old }
+    requires known { length pool.now.lock.opening.tenants ≡ 1 }
+    ensures own { IsPassOf pool.now.lock pass.new }
+{
     let gate = Barrier::new();
-    let mut ready = trees_of(rt.alloc(), &mut purse, 1)?;
-    make(&rt, rt.alloc(), &pool, &mut pass, &mut ready, Submit(6))?;
-    let (end, (first, second)) = cancel_beside(&rt, &pool, &mut pass, &gate);
+    let (end, (first, second)) = cancel_beside(rt, pool, pass, &gate);
     assert!(rt; end.turns == 1 && end.strangers == 0);
-    let told = text_of(rt.alloc(), first)?;
-    assert!(rt; told.as_slice() == b"@a job 1 leaving nodes 0 left 6 best none open\n".as_slice());
-    let told = text_of(rt.alloc(), second)?;
-    assert!(rt; told.as_slice() == b"@a no over\n".as_slice());
-    let told = text_of(
-        rt.alloc(),
-        pool.call(&rt, &mut pass, A, command_of(Status(1))),
-    )?;
     assert!(rt;
-        told.as_slice() == b"@a job 1 cancelled nodes 2 left 0 best none open\n".as_slice()
+        is_line(
+            rt,
+            alloc,
+            first,
+            "@a job 1 leaving nodes 0 left 6 best none open\n"
+        )
     );
-    drop(pool.close(pass).ok_or("a farm")?);
+    assert!(rt; is_line(rt, alloc, second, "@a no over\n"));
+    let third = pool.call(rt, pass, A, command_of(Status(1)));
+    assert!(rt;
+        is_line(
+            rt,
+            alloc,
+            third,
+            "@a job 1 cancelled nodes 2 left 0 best none open\n"
+        )
+    );
+}
+
+#[test]
+fn a_cancel_while_out(rt: HostRuntime) {
+    let config = config_of(rt.alloc(), 2).expect(&rt, "no memory for a configuration");
+    let (pool, mut pass) = pool_of(rt.alloc(), &config).expect(&rt, "no memory for a pool");
+    let mut purse = Purse::new(rt.alloc()).expect(&rt, "no memory for a till");
+    let mut ready = trees_of(&rt, rt.alloc(), &mut purse, 1);
+    make(&rt, rt.alloc(), &pool, &mut pass, &mut ready, Submit(6));
+    cancel_while_out(&rt, rt.alloc(), &pool, &mut pass);
+    drop(pool.close(pass).expect(&rt, "a farm"));
     assert!(rt; purse.words() == [98, 2, 100]);
-    Ok(())
 }

@@ -29,7 +29,7 @@ h
 ";
 
 /// Texts of schedules, and what is said of each with an empty proof. The clauses of 3 periods are refuted without one.
-const TEXTS: [(&[u8], Result<(), CertifyFault>); 7] = [
+const TEXTS: [(&[u8], Result<(), CertifyFault>); 8] = [
     (b"1:1:0 2:1:0 3:2:0 4:1:4", Ok(())),
     (
         b"@a job 1 makespan 4 ended 1:1:0 2:1:0 3:2:0 4:1:4\n",
@@ -47,6 +47,7 @@ const TEXTS: [(&[u8], Result<(), CertifyFault>); 7] = [
         b"1:1:0 2:1:0 3:2:0",
         Err(Certificate(Schedule(Breach::Shape))),
     ),
+    (b"", Err(Words)),
     (b"1:1:0  2:1:0 3:2:0 4:1:4", Err(Words)),
     (b"1:1:0 2:1:0 3:2:0 4:1:04", Err(Words)),
 ];

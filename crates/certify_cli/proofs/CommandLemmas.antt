@@ -1,5 +1,5 @@
 -- What was read of a command's readers.
-use Rattle.std.proofs.Common.{◌≡◌, ℕ, List, take, Option, Some, None, Ok, IfSome, ◌∙◌, subst}
+use Rattle.std.proofs.Common.{◌≡◌, ℕ, List, take, Option, Some, None, IfSome, ◌∙◌, subst}
 use Rattle.certify_cli.specs.declared.ending.TheConstants.{MOST_TEXT}
 
 -- what holds of the front that was read of one,

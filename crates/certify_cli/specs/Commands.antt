@@ -1,7 +1,12 @@
 -- What the commands of certificates write of the bytes that are read, and with which status they end.
 use Rattle.std.specs.Prelude.{◌≡◌, ℕ, true, List, ⊤, Option, Result, Ok, Err, IfSome, take}
+use Rattle.mrcpsp.specs.Project.{ProjectData}
+use Rattle.mrcpsp.specs.Schedule.{ScheduleData}
 use Rattle.psplib_mm.specs.Gives.{Fails}
 use Rattle.psplib_mm.specs.Reading.{reading}
+use Rattle.schedule_text.specs.ScheduleText.{Tells}
+use Rattle.schedule_clauses.specs.declared.certificate.CertificateFault.{CertificateFault}
+use Rattle.schedule_clauses.specs.Fault.{IsOfStocks, IsOfSchedule}
 use Rattle.watched_files.specs.declared.watch.FileWatch.{FileWatch}
 use Rattle.certify_cli.specs.Certified.{CertifiesOptimal, CertifiesInfeasible}
 use Rattle.certify_cli.specs.declared.ending.TheConstants.{MOST_TEXT}
@@ -11,13 +16,42 @@ use Rattle.certify_cli.specs.declared.fault.CommandFault.{CommandFault}
 use Rattle.certify_cli.specs.declared.fault.CommandFault.TheVariants.{File, Text, Proof, Certify}
 use Rattle.certify_cli.specs.declared.watches.Watches.{Watches}
 
--- the fault of a file is that of its bytes
+-- the file is of a project
+pub record IsFile (file : List ℕ) : Type 0 where
+  pub project : ProjectData
+  pub read : reading file ≡ Ok project
+
+-- the fault of a file is that of its bytes; any other but want of memory or of a write is told only of a file that is of a project
 abbrev pub IsOfFile : CertifyFault → List ℕ → Type 0
 IsOfFile (why.File fault) file = Fails fault (reading file)
-IsOfFile why.Words file = ⊤
-IsOfFile (why.Certificate fault) file = ⊤
+IsOfFile why.Words file = IsFile file
+IsOfFile (why.Certificate fault) file = IsFile file
 IsOfFile why.NoMemory file = ⊤
 IsOfFile why.Write file = ⊤
+
+-- this is why the schedule that the text tells is not certified for the file's project
+pub record IsUncertified (file text : List ℕ) (fault : CertificateFault) : Type 0 where
+  pub project : ProjectData
+  pub schedule : ScheduleData
+  pub read : reading file ≡ Ok project
+  pub told : Tells text schedule
+  pub of_schedule : IsOfSchedule project schedule fault
+
+-- the fault of a certificate is that of the schedule,
+abbrev pub IsOfText : CertifyFault → List ℕ → List ℕ → Type 0
+IsOfText (why.File fault) file text = ⊤
+IsOfText why.Words file text = ⊤
+IsOfText (why.Certificate fault) file text = IsUncertified file text fault
+IsOfText why.NoMemory file text = ⊤
+IsOfText why.Write file text = ⊤
+
+-- and where no schedule is asked for, never that there is none, a breach or a horizon
+abbrev pub IsOfProof : CertifyFault → Type 0
+IsOfProof (why.File fault) = ⊤
+IsOfProof why.Words = ⊥
+IsOfProof (why.Certificate fault) = IsOfStocks fault
+IsOfProof why.NoMemory = ⊤
+IsOfProof why.Write = ⊤
 
 -- nothing was written, or a write failed
 abbrev pub IsStopped : CertifyFault → FileWatch → Option (List ℕ) → Option (List ℕ) → Type 0
@@ -36,10 +70,18 @@ IsEndOf written (Err (Proof kind)) seen file before after = (after ≡ before) �
 IsEndOf written (Err (Certify fault)) seen file before after =
     IfSome file (λ bytes. IsOfFile fault (take MOST_TEXT bytes)) × IsStopped fault seen.output before after
 
+-- of which schedule a certificate's fault is
+abbrev pub IsJudged : Result ⊤ CommandFault → Option (List ℕ) → Option (List ℕ) → Type 0
+IsJudged (Ok done) file text = ⊤
+IsJudged (Err (File kind)) file text = ⊤
+IsJudged (Err (Text kind)) file text = ⊤
+IsJudged (Err (Proof kind)) file text = ⊤
+IsJudged (Err (Certify fault)) file text = IfSome file (λ bytes. IfSome text (λ words. IsOfText fault (take MOST_TEXT bytes) (take MOST_TEXT words)))
+
 -- of a file and of a schedule's text no more than so many bytes are read
 abbrev pub IsCertifyOf : Result ⊤ CommandFault → Watches → Option (List ℕ) → Option (List ℕ) → Option (List ℕ) → Option (List ℕ) → Type 0
 IsCertifyOf ended seen file text before after =
-    IsEndOf (IfSome file (λ bytes. IfSome text (λ words. CertifiesOptimal (take MOST_TEXT bytes) (take MOST_TEXT words) before after))) ended seen file before after
+    IsEndOf (IfSome file (λ bytes. IfSome text (λ words. CertifiesOptimal (take MOST_TEXT bytes) (take MOST_TEXT words) before after))) ended seen file before after × IsJudged ended file text
 
 abbrev pub IsInfeasibleOf : Result ⊤ CommandFault → Watches → Option (List ℕ) → Option (List ℕ) → Option (List ℕ) → Type 0
 IsInfeasibleOf ended seen file before after = IsEndOf (IfSome file (λ bytes. CertifiesInfeasible (take MOST_TEXT bytes) before after)) ended seen file before after
@@ -53,3 +95,8 @@ pub record Ends (IsSo : Result ⊤ CommandFault → Type 0) (status : ℕ) : Typ
   pub ended : Result ⊤ CommandFault
   pub is : IsSo ended
   pub ends : status ≡ command_status ended
+
+-- that of the clauses of a file
+abbrev pub clauses_status : Result ⊤ CertifyFault → ℕ
+clauses_status (Ok done) = 0
+clauses_status (Err fault) = 1

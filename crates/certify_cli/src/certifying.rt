@@ -4,7 +4,7 @@ ghost use Rattle.psplib_mm.specs.Gives.{Gives};
 ghost use Rattle.psplib_mm.specs.Reading.{reading};
 ghost use Rattle.mrcpsp.specs.Schedule.{IsInfeasible};
 ghost use Rattle.certify_cli.specs.Certified.{CertifiesOptimal, CertifiesInfeasible};
-ghost use Rattle.certify_cli.specs.Commands.{IsStopped, IsOfFile};
+ghost use Rattle.certify_cli.specs.Commands.{IsStopped, IsOfFile, IsOfText, IsOfProof};
 
 use crate::dimacs::write_formula;
 use crate::fault::CertifyFault;
@@ -27,6 +27,8 @@ pub fn certify<W: Write>(
     writer: &mut W,
 ) -> Result<(), CertifyFault>
     ensures ok { IfOk result (λ _. CertifiesOptimal file.now text.now (W.contents writer.old) (W.contents writer.new)) }
+    ensures file { IfErr result (λ fault. IsOfFile fault file.now) }
+    ensures judged { IfErr result (λ fault. IsOfText fault file.now text.now) }
     ensures fault { IfErr result (λ fault. (W.contents writer.new ≡ W.contents writer.old) ⊎ (fault ≡ CertifyFault.Write)) }
 {
     certify_watched(alloc, file, text, proof, writer, &mut FileWatch::new())
@@ -42,6 +44,7 @@ pub fn certify_watched<W: Write>(
     watch: &mut FileWatch,
 ) -> Result<(), CertifyFault>
     ensures ok { IfOk result (λ _. CertifiesOptimal file.now text.now (W.contents writer.old) (W.contents writer.new)) }
+    ensures judged { IfErr result (λ fault. IsOfText fault file.now text.now) }
     ensures fault { IfErr result (λ fault. IsOfFile fault file.now × IsStopped fault watch.new (W.contents writer.old) (W.contents writer.new)) }
 {
     let project = match read(alloc, file) {
@@ -71,6 +74,8 @@ pub fn certify_infeasible<W: Write>(
     writer: &mut W,
 ) -> Result<(), CertifyFault>
     ensures ok { IfOk result (λ _. CertifiesInfeasible file.now (W.contents writer.old) (W.contents writer.new)) }
+    ensures file { IfErr result (λ fault. IsOfFile fault file.now) }
+    ensures judged { IfErr result (λ fault. IsOfProof fault) }
     ensures fault { IfErr result (λ fault. (W.contents writer.new ≡ W.contents writer.old) ⊎ (fault ≡ CertifyFault.Write)) }
 {
     certify_infeasible_watched(alloc, file, proof, writer, &mut FileWatch::new())
@@ -85,6 +90,7 @@ pub fn certify_infeasible_watched<W: Write>(
     watch: &mut FileWatch,
 ) -> Result<(), CertifyFault>
     ensures ok { IfOk result (λ _. CertifiesInfeasible file.now (W.contents writer.old) (W.contents writer.new)) }
+    ensures judged { IfErr result (λ fault. IsOfProof fault) }
     ensures fault { IfErr result (λ fault. IsOfFile fault file.now × IsStopped fault watch.new (W.contents writer.old) (W.contents writer.new)) }
 {
     let project = match read(alloc, file) {
@@ -108,7 +114,8 @@ pub fn write_clauses<W: Write>(
     bound: Option<u32>,
     writer: &mut W,
 ) -> Result<(), CertifyFault>
-    ensures { IfErr result (λ fault. (W.contents writer.new ≡ W.contents writer.old) ⊎ (fault ≡ CertifyFault.Write)) }
+    ensures file { IfErr result (λ fault. IsOfFile fault file.now) }
+    ensures fault { IfErr result (λ fault. (W.contents writer.new ≡ W.contents writer.old) ⊎ (fault ≡ CertifyFault.Write)) }
 {
     let project = match read(alloc, file) {
         Ok(project) => project,

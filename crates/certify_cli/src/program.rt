@@ -1,6 +1,7 @@
 //! The commands on files: each ends with the status 0, or 1 and its fault on standard error.
-ghost use Rattle.std.specs.Prelude.{◌≤◌};
+ghost use Rattle.std.specs.Prelude.{◌≡◌, ◌≤◌};
 ghost use Rattle.std.specs.Process.{exit_status};
+ghost use Rattle.certify_cli.specs.Commands.{clauses_status};
 
 use crate::certifying::write_clauses;
 use crate::commands::{certify_to, infeasible_to};
@@ -43,7 +44,8 @@ fn read_path<R: Runtime + AllocGlobal>(rt: &R, path: &str, most: u64) -> Option<
 
 /// The status of a command, with its fault on standard error.
 fn end<R: Eprint>(rt: &R, ended: Result<(), CertifyFault>) -> ExitCode
-    ensures { exit_status result ≤ 1 }
+    ensures exact { exit_status result ≡ clauses_status ended }
+    ensures few { exit_status result ≤ 1 }
 {
     match ended {
         Ok(()) => ExitCode::SUCCESS,

@@ -5,8 +5,8 @@ use std::process::ExitCode;
 use std::rt::Runtime;
 use std::{env, io};
 
-/// The version of the program, and the kit by which it was proved.
-const VERSION: &str = "farm 0.1.0 (rattle-kit-13f logic dac8208d650f15bf)";
+/// The version of the program, and the logic in which it was proved, which kits of several revisions have.
+const VERSION: &str = "farm 0.1.0 (logic dac8208d650f15bf)";
 
 /// What the program is, for its help.
 const ABOUT: &str = "\

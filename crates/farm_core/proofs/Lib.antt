@@ -6,6 +6,7 @@ pub mod SeatLemmas
 pub mod PurseCountLemmas
 pub mod AloneLemmas
 pub mod DecisionLemmas
+pub mod NumberLemmas
 pub mod ReplayLemmas
 pub mod TruthLemmas
 pub mod RunLemmas
@@ -20,6 +21,7 @@ pub mod FarmLemmas
 pub mod MoveLemmas
 pub mod PassedLemmas
 pub mod StepLemmas
+pub mod ReplyLemmas
 pub mod OrderLemmas
 pub mod ChangeLemmas
 pub mod CommandLemmas

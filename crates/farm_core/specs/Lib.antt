@@ -9,6 +9,7 @@ pub mod Laws
 pub mod Truth
 pub mod Need
 pub mod Farm
+pub mod Command
 pub mod Turn
 pub mod Held
 pub mod NoTurnText

@@ -1,5 +1,5 @@
 -- Why what is answered about a job is true.
-use Rattle.std.specs.Prelude.{◌≡◌, ℕ, ⊤, List, Option, Some, slice_get, option_map, IsTrue, IfSome, IsSomeAnd}
+use Rattle.std.specs.Prelude.{◌≡◌, ℕ, ⊤, List, ◌∷◌, ◌++◌, Option, Some, slice_get, option_map, IsTrue, IfSome, IsSomeAnd}
 use Rattle.mrcpsp.specs.Project.{is_project}
 use Rattle.mrcpsp.specs.Schedule.{ScheduleData, makespan, IsFeasible, IsOptimal, IsInfeasible}
 use Rattle.strategy.specs.declared.plan.Plan.{Plan}
@@ -60,9 +60,11 @@ abbrev pub IsAmong : List Call → Call → Type 0
 IsAmong calls c = (k : ℕ) × (slice_get calls k ≡ Some c)
 
 -- one of these calls made tenant t a job of number s for the plan
-abbrev pub WasMade : List Call → ℕ → ℕ → Plan → Type 0
-WasMade calls t s plan =
-    (quanta : ℕ) × IsAmong calls (record { tenant = t; event = Submit plan quanta; answer = Replied (reply.Job s) })
+pub record WasMade (calls : List Call) (t s : ℕ) (plan : Plan) : Type 0 where
+  pub at : ℕ
+  pub quanta : ℕ
+  pub call :
+      slice_get calls at ≡ Some (record { tenant = t; event = Submit plan quanta; answer = Replied (reply.Job s) })
 
 -- what is submitted is a project
 abbrev pub IsPlanned : Event → Type 0
@@ -79,6 +81,11 @@ IsPlanned (Give s ran) = ⊤
 abbrev pub ArePlanned : List Call → Type 0
 ArePlanned calls = (c : Call) → IsAmong calls c → IsPlanned c.event
 
--- in each run of calls, each answer is true of a plan that the tenant has submitted under that number
-abbrev pub EachAnswerIsTrue : Type 0
-EachAnswerIsTrue = (config : ConfigData) (calls : List Call) (w : World) → Run config calls w → ArePlanned calls → (c : Call) → IsAmong calls c → IsTrueAnswer (WasMade calls c.tenant) c.answer
+-- in each run, where what was submitted before a call are projects, its answer is true of a plan that its tenant has
+-- submitted under that number before it. And one call made a tenant's job of a number: no two plans of a tenant were
+-- submitted under one
+pub record EachAnswerIsTrue : Type 0 where
+  pub told : (config : ConfigData) (before behind : List Call) (c : Call) (w : World) →
+      Run config (before ++ c ∷ behind) w → ArePlanned before → IsTrueAnswer (WasMade before c.tenant) c.answer
+  pub one : (config : ConfigData) (calls : List Call) (w : World) → Run config calls w → (t s : ℕ) (plan other : Plan) →
+      (here : WasMade calls t s plan) → (there : WasMade calls t s other) → here.at ≡ there.at

@@ -49,9 +49,9 @@ pub fn each_lone_tenant_is_isolated()
     ensures { EachLoneTenantIsIsolated }
 {}
 
-/// In every run of calls, each answer about a job is true of the plan that its tenant submits in that run under that number:
-/// a schedule is feasible and has the makespan that is named, with 'optimal' no feasible schedule is shorter, and with
-/// 'infeasible' there is none.
+/// In every run of calls, each answer about a job is true of the one plan that its tenant has submitted under that number, in the
+/// calls before: a schedule is feasible and has the makespan that is named, with 'optimal' no feasible schedule is shorter, and
+/// with 'infeasible' there is none.
 pub fn each_answer_is_true()
     ensures { EachAnswerIsTrue }
 {}

@@ -13,11 +13,13 @@
 //! - `account`: what is kept of each tenant beside its jobs.
 //! - `farm`: `Farm`: its making, its readers, and a call that changes nothing but the journal.
 //! - `commands`: submit, fund, status, result, cancel, forget, ledger.
+//! - `command`: what a tenant asks for as a value, and one call for all seven.
 //! - `turn`: turns, and how they are taken and given back.
 //! - `laws`: the theorems, as contracts of functions that do nothing.
 #![tactic(auto)]
 
 mod account;
+mod command;
 mod commands;
 mod config;
 mod entry;
@@ -29,6 +31,7 @@ mod reply;
 mod turn;
 
 pub use account::{Account, Numbers};
+pub use command::Command;
 pub use config::{Config, TenantLine};
 pub use entry::{Entry, Event};
 pub use farm::Farm;

@@ -19,7 +19,8 @@ use Rattle.turn_lock.proofs.Histories.{events_of-append, events_of-tagged}
 use Rattle.farm_pool.specs.declared.image.CallImage.TheVariants as said
 use Rattle.farm_pool.specs.declared.image.AnswerImage.TheVariants as told
 use Rattle.farm_pool.specs.Laws.{own_in, LegalHistoriesAreRuns, EachReplyIsAlone, EachReplyIsIsolated, AcceptedCancelsAreMade}
-use Rattle.farm_pool.specs.Served.{tenant_at, is_line, IsStep, IsAnswered, AreOfRun, Served}
+use Rattle.farm_core.specs.Command.{is_line}
+use Rattle.farm_pool.specs.Served.{tenant_at, IsStep, IsAnswered, AreOfRun, Served}
 use Rattle.farm_pool.specs.Worked.{PoolView}
 
 -- what follows legally on the entries of a run makes them those of a longer run

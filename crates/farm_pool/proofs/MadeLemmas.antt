@@ -208,9 +208,10 @@ can_serve config log legal t known event planned r is memory =
     }
 
 pub each_reply_can_be_made : EachReplyCanBeMade
-each_reply_can_be_made config log number legal t known event planned r is memory =
+each_reply_can_be_made config log number splits legal t known event planned r is memory =
     let entry : Option Entry = entry_if t event (Replied r) in
-    let v : PoolView = record { stage = Idle; number = number; opening = Some config; seen = log; mine = history.entries_of number log } in
+    let own = history.entries_of number log in
+    let v : PoolView = record { stage = Idle; number = number; opening = Some config; seen = log; mine = own; splits = splits } in
     let stands = can_serve config log legal t known event planned r is memory in
     let es : List (ℕ × Entry) = tagged number (listed entry) in
     record {

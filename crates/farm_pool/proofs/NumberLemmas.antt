@@ -1,60 +1,26 @@
 -- A tenant's numbers are given once.
-use Rattle.std.proofs.Common.{◌≡◌, ℕ, zero, suc, ◌+◌, ◌<◌, ◌≤◌, nat_le, nat_lt, ◌&&◌, List, [], ◌∷◌, ◌++◌, length, map, get_or, take, Option, Some, None, refl, sym, ap, ◌∙◌, subst, arith, append_assoc, append-nil, ⊎_elim}
+use Rattle.std.proofs.Common.{◌≡◌, ℕ, zero, suc, ◌+◌, ◌<◌, ◌≤◌, List, [], ◌∷◌, ◌++◌, length, map, get_or, take, Some, refl, sym, ap, ◌∙◌, subst, arith, append_assoc, append-nil, ⊎_elim}
 use Rattle.std.specs.Prelude.{slice_get}
-use Rattle.std.proofs.lemmas.Bool.{cases_eq, cases_lt, cond_both}
+use Rattle.std.proofs.lemmas.Bool.{cases_eq, cases_lt}
 use Rattle.std.proofs.lemmas.List.{length-map, length-set}
 use Rattle.strategy.specs.declared.plan.Plan.{Plan}
-use Rattle.job_table.specs.Table.{JobData, is_waiting, is_out, is_ended}
-use Rattle.job_table.specs.Job.{given_up}
 use Rattle.farm_core.specs.declared.config.TenantLine.{TenantLine}
 use Rattle.farm_core.specs.declared.entry.Entry.{Entry}
-use Rattle.farm_core.specs.declared.entry.Event.{Event}
-use Rattle.farm_core.specs.declared.entry.Event.TheVariants.{Submit, Fund, Status, Fetch, Cancel, Forget, Ledger, Take, Give}
-use Rattle.farm_core.specs.declared.reply.Reply.{Reply}
-use Rattle.farm_core.specs.declared.reply.Reply.TheVariants as reply
+use Rattle.farm_core.specs.declared.entry.Event.TheVariants.{Submit}
 use Rattle.farm_core.specs.Purses.{members_of}
 use Rattle.farm_core.specs.Config.{ConfigData, no_terms, purse_names}
-use Rattle.farm_core.specs.Tenant.{Tenant, Member, Purse, new_member, newcomers, no_member, seat, own_of, with_seat, find_job, free}
-use Rattle.farm_core.specs.Step.{Replied, Step, done, step}
+use Rattle.farm_core.specs.Tenant.{Tenant, Member, Purse, new_member, newcomers, no_member, seat, own_of, with_seat}
+use Rattle.farm_core.specs.Step.{step}
 use Rattle.farm_core.specs.World.{Asked, purse_in, place_in, opened_purse, events_of, after_alone}
-use Rattle.farm_core.proofs.DecisionLemmas.{Tells, each_decision}
+use Rattle.farm_core.proofs.NumberLemmas.{step_numbered}
 use Rattle.farm_core.proofs.SeatLemmas.{named, place_known}
 use Rattle.farm_core.proofs.ViewLemmas.{set_own}
 use Rattle.farm_pool.specs.Laws.{WasSubmitted}
 use Rattle.farm_pool.specs.Served.{tenant_at}
 use Rattle.farm_pool.proofs.EntryLemmas.{IsSound, AreSound, sound_back, sound_take, purse_at, purse_on, member_off}
 
--- ---- a step gives the next number, or none
-
--- a call that makes a job gives it the next number, and counts on
-record IsNumbered (t : Tenant) (s : Step) : Type 0 where
-  grows : t.next ≤ s.after.next
-  gives : (n : ℕ) → s.answer ≡ Replied (reply.Job n) → (n ≡ t.next) × (s.after.next ≡ n + 1)
-
--- a note is of no job that was made
-note_makes : (t : Tenant) (answer : Reply) (n : ℕ) → Tells t answer → Replied answer ≡ Replied (reply.Job n) → ⊥
-note_makes t (reply.Job m) n tells is = tells
-note_makes t answer n tells is = absurd (cc)
-
-step_numbered : (t : Tenant) (e : Event) → IsNumbered t (step t e)
-step_numbered t =
-    each_decision t (λ e f. IsNumbered t (done t f))
-    (record {
-      full = λ e. record { grows = omega arith; gives = λ n is. absurd (cc) };
-      idle = λ e. record { grows = omega arith; gives = λ n is. absurd (cc) };
-      notes = λ e answer room it. record { grows = omega arith; gives = λ n is. absurd (note_makes t answer n it.tells is) };
-      adds = λ plan quanta room some. record { grows = omega arith; gives = λ n is. let same : t.next ≡ n = cc in (sym same, ap (λ k. k + 1) same) };
-      funds = λ s quanta job room found can. record { grows = omega arith; gives = λ n is. absurd (cc) };
-      cancels = λ s job new room found gone. record { grows = omega arith; gives = λ n is. absurd (cc) };
-      drops = λ s job room found ended. record { grows = omega arith; gives = λ n is. absurd (cc) };
-      takes = λ s slice job room found waits. record { grows = omega arith; gives = λ n is. absurd (cc) };
-      gives = λ s ran job found may. record { grows = omega arith; gives = λ n is. absurd (cc) };
-    })
-
 least : (a b : ℕ) → b ≡ a → a ≤ b
 least a b is = omega arith
-
--- ---- over entries
 
 alone_count : (p : Purse) (asked : List Asked) → length (after_alone p asked).members ≡ length p.members
 alone_count p [] = refl

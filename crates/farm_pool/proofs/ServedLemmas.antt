@@ -1,12 +1,11 @@
 -- What a call of the farm is answered, by the entries before.
 use Rattle.farm_pool.specs.declared.held.FarmAnswer.{FarmAnswer}
-use Rattle.std.proofs.Common.{◌≡◌, ℕ, Bool, true, false, not, ◌&&◌, cond, List, [], ◌∷◌, ◌++◌, Option, Some, None, refl, sym, ap, ◌∙◌, subst, ◌<◌, length, ⊎_elim, inl, inr}
+use Rattle.std.proofs.Common.{◌≡◌, ℕ, Bool, true, false, cond, List, [], ◌∷◌, ◌++◌, Option, Some, None, refl, sym, ap, ◌∙◌, subst, ◌<◌, length, ⊎_elim, inl, inr}
 use Rattle.strategy.specs.Search.{Meaning}
 use Rattle.job_table.specs.Job.{IsStrange}
 use Rattle.farm_core.specs.declared.entry.Entry.{Entry}
 use Rattle.farm_core.specs.declared.entry.Event.{Event}
-use Rattle.farm_core.specs.declared.entry.Event.TheVariants.{Cancel, Take, Give}
-use Rattle.farm_core.specs.declared.reply.Line.{Line}
+use Rattle.farm_core.specs.declared.entry.Event.TheVariants.{Take, Give}
 use Rattle.farm_core.specs.declared.reply.Reply.{Reply}
 use Rattle.farm_core.specs.declared.reply.Reply.TheVariants as reply
 use Rattle.farm_core.specs.declared.turn.Turn.{Turn}
@@ -28,8 +27,9 @@ use Rattle.farm_pool.specs.declared.image.AnswerImage.TheVariants as told
 use Rattle.farm_pool.specs.declared.held.FarmCall.{FarmCall}
 use Rattle.farm_pool.specs.declared.held.FarmCall.TheVariants as asked
 use Rattle.farm_pool.specs.declared.held.FarmAnswer.TheVariants as given
-use Rattle.farm_pool.specs.Served.{tenant_at, entry_if, is_line, may_need, IsStep, IsAnswered, Answers}
-use Rattle.farm_pool.specs.declared.command.Command.{Command}
+use Rattle.farm_core.specs.Command.{may_need}
+use Rattle.farm_core.specs.declared.command.Command.{Command}
+use Rattle.farm_pool.specs.Served.{tenant_at, entry_if, IsStep, IsAnswered, Answers}
 use Rattle.farm_pool.specs.Calls.{call_image, MayAsk, DoesOn, AnswersOn}
 
 -- one entry or none, as a list
@@ -83,25 +83,6 @@ replies old new t e (reply.NoShort free) known at f needs = let it = steps_on ol
 pub asked_known : {J : Type 0} (meaning : J → Meaning) (config : ConfigData) (call : FarmCall J) (t : ℕ) (command : Command J) → call ≡ asked.Asked t command → MayAsk meaning config call
     → t < length config.tenants
 asked_known {J} meaning config call t command is may = subst (λ (c : FarmCall J). MayAsk meaning config c) is may
-
--- where a call is answered that there is no memory, it may need some
-pub room_needs : (old new : World) (t : ℕ) (e : Event) (r : Reply) → IsReply old t e r new → r ≡ reply.NoMemory → has_room 1 (view t old) ≡ true
-room_needs old new t e r f is = let none : IsReply old t e reply.NoMemory new = subst (λ (a : Reply). IsReply old t e a new) is f in none.1
-
-no_line : (answer : Answer) → ((line : Line) → answer ≡ Replied (reply.Line line) → ⊥) → not (is_line answer) ≡ true
-no_line (Replied (reply.Line line)) other = absurd (other line refl)
-no_line answer other = refl
-
-both_true : (a b : Bool) → a ≡ true → b ≡ true → (a && b) ≡ true
-both_true true b one two = two
-both_true false b one two = one
-
-pub cancel_needs : (old new : World) (t s : ℕ) (r : Reply) → IsReply old t (Cancel s) r new
-    → ((line : Line) → (step (view t old) (Cancel s)).answer ≡ Replied (reply.Line line) → r ≡ reply.Line line) → r ≡ reply.NoMemory → may_need (view t old) (Cancel s) ≡ true
-cancel_needs old new t s r f accepted is =
-    let room = room_needs old new t (Cancel s) r f is in
-    let left = no_line (step (view t old) (Cancel s)).answer (λ line told. let both : reply.NoMemory ≡ reply.Line line = sym is ∙ accepted line told in absurd (cc)) in
-    both_true (has_room 1 (view t old)) (not (is_line (step (view t old) (Cancel s)).answer)) room left
 
 -- an answer to a tenant
 pub asked_replied : {J : Type 0} (meaning : J → Meaning) (old new : World) (call : FarmCall J) (t : ℕ) (e : Event) (r : Reply) → call_image meaning call ≡ said.Asked t e

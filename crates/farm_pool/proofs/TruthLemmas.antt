@@ -1,20 +1,19 @@
 -- What a pool replies about a job is true of its plan.
-use Rattle.std.proofs.Common.{◌≡◌, ◌≢◌, ℕ, zero, suc, nat_le, nat_lt, List, [], ◌∷◌, ◌++◌, length, map, get_or, set, take, Option, Some, refl, sym, ap, ◌∙◌, subst, append_assoc, append-nil, ⊎_elim}
+use Rattle.std.proofs.Common.{◌≡◌, ℕ, zero, suc, List, [], ◌∷◌, ◌++◌, length, map, get_or, set, take, Option, Some, refl, sym, ap, ◌∙◌, subst, append_assoc, append-nil, ⊎_elim}
 use Rattle.std.specs.Prelude.{slice_get}
 use Rattle.std.proofs.Math.Seq.{take-append_seam}
-use Rattle.std.proofs.lemmas.Bool.{cases_eq, cond_both}
-use Rattle.strategy.specs.declared.plan.Plan.{Plan}
+use Rattle.std.proofs.lemmas.Bool.{cases_eq}
 use Rattle.farm_core.specs.declared.config.TenantLine.{TenantLine}
 use Rattle.farm_core.specs.declared.entry.Entry.{Entry}
 use Rattle.farm_core.specs.declared.entry.Event.{Event}
-use Rattle.farm_core.specs.declared.entry.Event.TheVariants.{Submit, Fund, Status, Fetch, Cancel, Forget, Ledger, Take, Give}
+use Rattle.farm_core.specs.declared.entry.Event.TheVariants.{Submit, Give}
 use Rattle.farm_core.specs.declared.reply.Reply.{Reply}
 use Rattle.farm_core.specs.declared.reply.Reply.TheVariants as reply
 use Rattle.farm_core.specs.Config.{ConfigData, lines_of}
-use Rattle.farm_core.specs.Tenant.{Tenant, Member, Purse, new_member, newcomers, no_member, seat, own_of, free}
+use Rattle.farm_core.specs.Tenant.{Tenant, Member, Purse, new_member, newcomers, no_member, seat, own_of}
 use Rattle.farm_core.specs.Step.{Replied, step}
 use Rattle.farm_core.specs.World.{purse_in, place_in}
-use Rattle.farm_core.specs.Truth.{IsTrueReply, IsTrueAnswer, IsPlanned}
+use Rattle.farm_core.specs.Truth.{IsTrueReply, IsTrueAnswer}
 use Rattle.farm_core.proofs.TruthLemmas.{Made, AreKnown, IsGood, Makes, step_good, step_told}
 use Rattle.turn_lock.specs.History as history
 use Rattle.turn_lock.specs.History.{listed}

@@ -13,6 +13,9 @@ use Rattle.farm_pool.specs.declared.work.Deed.TheVariants.{Turned, Strayed, Wait
 use Rattle.farm_pool.specs.Served.{Served}
 use Rattle.farm_pool.specs.Calls.{turn_image}
 use Rattle.farm_pool.specs.declared.work.Deed.{Deed}
+use Rattle.farm_pool.specs.declared.image.CallImage.{CallImage}
+use Rattle.farm_pool.specs.declared.image.AnswerImage.{AnswerImage}
+use Rattle.farm_pool.specs.Laws.{NoPassIsSplitOff}
 use Rattle.farm_pool.specs.Worked.{PoolView, run_out, Does, HasDone, Worked, turns_in, strangers_in}
 
 -- what is known of a turn that was sent out
@@ -84,3 +87,22 @@ begun slice v = record { deeds = []; done = refl; turns_are = refl; strangers_ar
 -- and last it waits
 pub ended : (slice : ℕ) (v m w : PoolView) (a b : ℕ) → WorkedTo slice v a b m → Does slice Waited m w → Worked slice v a b w
 ended slice v m w a b so did = record { deeds = so.deeds; done = (m, so.done, did); turns_are = so.turns_are; strangers_are = so.strangers_are }
+
+-- no deed splits the pass
+call_unsplit : (v w : PoolView) (call : CallImage) (answer : AnswerImage) → Called Served v call answer w → w.splits ≡ v.splits
+call_unsplit v w call answer called = ap (λ (x : PoolView). x.splits) called.after
+
+deed_unsplit : (slice : ℕ) (deed : Deed) (v w : PoolView) → Does slice deed v w → w.splits ≡ v.splits
+deed_unsplit slice Turned v w did = ap (λ (x : PoolView). x.splits) did.gave.gave.after ∙ ap (λ (x : PoolView). x.splits) did.took.after
+deed_unsplit slice Strayed v w did = ap (λ (x : PoolView). x.splits) did.gave.after ∙ ap (λ (x : PoolView). x.splits) did.took.after
+deed_unsplit slice Waited v w did = ap (λ (x : PoolView). x.splits) did.asked.after
+
+deeds_unsplit : (slice : ℕ) (deeds : List Deed) (v w : PoolView) → HasDone slice deeds v w → w.splits ≡ v.splits
+deeds_unsplit slice [] v w done = ap (λ (x : PoolView). x.splits) done
+deeds_unsplit slice (d ∷ deeds) v w done = deed_unsplit slice d done.0 w done.2 ∙ deeds_unsplit slice deeds v done.0 done.1
+
+pub no_pass_is_split_off : NoPassIsSplitOff
+no_pass_is_split_off = record {
+  called = call_unsplit;
+  worked = λ slice turns strangers v w worked. deeds_unsplit slice (Waited ∷ worked.deeds) v w worked.done;
+}

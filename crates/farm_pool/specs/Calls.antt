@@ -3,6 +3,7 @@ use Rattle.std.specs.Prelude.{◌≡◌, ⊤, ◌<◌, ◌++◌, length, Option}
 use Rattle.strategy.specs.Search.{Meaning}
 use Rattle.farm_core.specs.declared.entry.Entry.{Entry}
 use Rattle.farm_core.specs.declared.turn.Turn.{Turn}
+use Rattle.farm_core.specs.Command.{event_of}
 use Rattle.farm_core.specs.Config.{ConfigData}
 use Rattle.farm_core.specs.Turn.{IsTurn}
 use Rattle.farm_core.specs.World.{World}
@@ -16,7 +17,6 @@ use Rattle.farm_pool.specs.declared.held.FarmCall.{FarmCall}
 use Rattle.farm_pool.specs.declared.held.FarmCall.TheVariants as asked
 use Rattle.farm_pool.specs.declared.held.FarmAnswer.{FarmAnswer}
 use Rattle.farm_pool.specs.declared.held.FarmAnswer.TheVariants as given
-use Rattle.farm_pool.specs.Command.{event_of}
 use Rattle.farm_pool.specs.Served.{Answers, Served}
 
 abbrev pub turn_image : {J : Type 0} → (J → Meaning) → Turn J → TurnImage

@@ -21,7 +21,7 @@ use Rattle.farm_pool.specs.declared.image.CallImage.TheVariants as said
 use Rattle.farm_pool.specs.declared.image.AnswerImage.{AnswerImage}
 use Rattle.farm_pool.specs.declared.image.AnswerImage.TheVariants as told
 use Rattle.farm_pool.specs.Served.{tenant_at, IsAnswered, AreOfRun, Served}
-use Rattle.farm_pool.specs.Worked.{PoolView}
+use Rattle.farm_pool.specs.Worked.{PoolView, Worked}
 
 -- what a purse's members asked for among the entries of a history, in order
 abbrev pub own_in : ConfigData → ℕ → List (ℕ × Entry) → List Asked
@@ -47,8 +47,8 @@ abbrev pub EachReplyIsAlone : Type 0
 EachReplyIsAlone = (v w : PoolView) (t : ℕ) (event : Event) (reply : Reply) →
     (called : Called Served v (said.Asked t event) (told.Replied reply) w) → reply ≢ NoMemory → IsAlone called.opening t event reply called.before w.seen
 
--- two pools in which a purse begins alike give the member at a place of it the same reply to the same call after the same calls of its members, whatever
--- the other tenants and the workers do in each, and whatever numbers the purse and its members have
+-- two pools in which a purse begins alike give the member at a place of it the same reply to the same call after the same calls of its members and turns of
+-- their jobs, whatever the other tenants and the turns of their jobs do in each, and whatever numbers the purse and its members have
 abbrev pub EachReplyIsIsolated : Type 0
 EachReplyIsIsolated = (v w x y : PoolView) (t u : ℕ) (event : Event) (reply other : Reply) →
     (one : Called Served v (said.Asked t event) (told.Replied reply) w) → (two : Called Served x (said.Asked u event) (told.Replied other) y) →
@@ -77,21 +77,28 @@ pub record EachReplyIsTrue : Type 0 where
       WasSubmitted called.opening (history.events_of called.before) t s other → plan ≡ other
 
 -- a pass that has seen this history is given this reply to its next call
-pub record IsReplied (config : ConfigData) (log : List (ℕ × Entry)) (number t : ℕ) (event : Event) (reply : Reply) : Type 0 where
+pub record IsReplied (config : ConfigData) (log : List (ℕ × Entry)) (number splits t : ℕ) (event : Event) (reply : Reply) : Type 0 where
   pub after : PoolView
   pub called :
-      let seen : PoolView = record { stage = Idle; number = number; opening = Some config; seen = log; mine = history.entries_of number log } in
+      let own = history.entries_of number log in
+      let seen : PoolView = record { stage = Idle; number = number; opening = Some config; seen = log; mine = own; splits = splits } in
       Called Served seen (said.Asked t event) (told.Replied reply) after
   pub before : called.before ≡ log
 
 -- after each legal history each call of a tenant can be given the reply of the tenant's step there: so what is said of replies is never said of nothing
 abbrev pub EachReplyCanBeMade : Type 0
-EachReplyCanBeMade = (config : ConfigData) (log : List (ℕ × Entry)) (number : ℕ) → IsLegal Served config log →
+EachReplyCanBeMade = (config : ConfigData) (log : List (ℕ × Entry)) (number splits : ℕ) → IsLegal Served config log →
     (t : ℕ) → t < length config.tenants → (event : Event) → IsPlanned event → (reply : Reply) →
-    (step (tenant_at config (history.events_of log) t) event).answer ≡ Replied reply → reply ≢ NoMemory → IsReplied config log number t event reply
+    (step (tenant_at config (history.events_of log) t) event).answer ≡ Replied reply → reply ≢ NoMemory → IsReplied config log number splits t event reply
 
 -- whatever memory there is, a cancel that its tenant's step accepts is answered so
 abbrev pub AcceptedCancelsAreMade : Type 0
 AcceptedCancelsAreMade = (v w : PoolView) (t s : ℕ) (reply : Reply) →
     (called : Called Served v (said.Asked t (Cancel s)) (told.Replied reply) w) → (line : JobLine) →
     (step (tenant_at called.opening (history.events_of called.before) t) (Cancel s)).answer ≡ Replied (Line line) → reply ≡ Line line
+
+-- a pass has as many splits after a call, and after a worker, as it had before: neither made a pass of its own,
+-- by which it could make a call beside
+pub record NoPassIsSplitOff : Type 0 where
+  pub called : (v w : PoolView) (call : CallImage) (answer : AnswerImage) → Called Served v call answer w → w.splits ≡ v.splits
+  pub worked : (slice turns strangers : ℕ) (v w : PoolView) → Worked slice v turns strangers w → w.splits ≡ v.splits

@@ -1,14 +1,15 @@
 -- What a farm answers, by its configuration and the entries before.
-use Rattle.std.specs.Prelude.{◌≡◌, ◌⊎◌, ℕ, ◌<◌, Bool, true, false, not, ◌&&◌, List, length, Option, Some, None, cond, ◌++◌}
+use Rattle.std.specs.Prelude.{◌≡◌, ◌⊎◌, ℕ, ◌<◌, true, false, List, length, Option, Some, None, cond, ◌++◌}
 use Rattle.strategy.specs.Search.{Meaning}
 use Rattle.job_table.specs.Table.{JobData, is_waiting}
 use Rattle.job_table.specs.Job.{IsOwn, meaning_of}
 use Rattle.job_table.specs.declared.phase.Phase.TheVariants.{Out}
 use Rattle.farm_core.specs.declared.entry.Entry.{Entry}
 use Rattle.farm_core.specs.declared.entry.Event.{Event}
-use Rattle.farm_core.specs.declared.entry.Event.TheVariants.{Cancel, Take, Give}
+use Rattle.farm_core.specs.declared.entry.Event.TheVariants.{Take, Give}
 use Rattle.farm_core.specs.declared.reply.Reply.{Reply}
 use Rattle.farm_core.specs.declared.reply.Reply.TheVariants as reply
+use Rattle.farm_core.specs.Command.{may_need}
 use Rattle.farm_core.specs.Config.{ConfigData}
 use Rattle.farm_core.specs.Tenant.{Tenant, seat, find_job, line_of}
 use Rattle.farm_core.specs.Step.{Answer, Replied, Sent, step, has_room, is_slice}
@@ -33,16 +34,6 @@ entry_if t event answer = cond (is_noted answer) (Some (record { tenant = t; eve
 pub record IsStep (config : ConfigData) (before : List Entry) (t : ℕ) (event : Event) (entry : Option Entry) (answer : Answer) : Type 0 where
   pub answer_is : answer ≡ (step (tenant_at config before t) event).answer
   pub entry_is : entry ≡ entry_if t event answer
-
--- an answer that tells where a job stands
-abbrev pub is_line : Answer → Bool
-is_line (Replied (reply.Line line)) = true
-is_line answer = false
-
--- whether a tenant's call may need memory: where the journal has room for its entry, each call but a cancel that is accepted
-abbrev pub may_need : Tenant → Event → Bool
-may_need t (Cancel s) = has_room 1 t && not (is_line (step t (Cancel s)).answer)
-may_need t event = has_room 1 t
 
 -- or it may need memory, and there was none
 pub record IsUnanswered (config : ConfigData) (before : List Entry) (t : ℕ) (event : Event) (entry : Option Entry) : Type 0 where

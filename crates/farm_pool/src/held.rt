@@ -1,15 +1,10 @@
 //! The farm under the lock, and its calls.
-ghost use Rattle.std.specs.Prelude.{◌≡◌, ◌<◌, true, [], length, IfOk};
-ghost use Rattle.farm_core.specs.Farm.{IsReply};
+ghost use Rattle.std.specs.Prelude.{◌≡◌, ◌<◌, [], length, IfOk};
 ghost use Rattle.farm_core.specs.Turn.{IsTurn};
-ghost use Rattle.farm_core.specs.World.{view};
-ghost use Rattle.farm_pool.specs.Command.{event_of};
-ghost use Rattle.farm_pool.specs.Served.{may_need};
 ghost use Rattle.farm_pool.specs.Calls.{MayAsk, AnswersOn, DoesOn};
 
-use crate::Command;
 use crate::image::{AnswerImage, CallImage};
-use farm_core::{Config, Entry, Farm, NoTurn, Reply, Stranger, Turn};
+use farm_core::{Command, Config, Entry, Farm, NoTurn, Reply, Stranger, Turn};
 use std::alloc::{AllocError, Global};
 use strategy::Strategy;
 use turn_lock::{Kept, Runs};
@@ -77,28 +72,6 @@ impl<J> Kept for Held<J> {
     ghost relation = { Served };
 }
 
-/// Makes a call of a tenant.
-#[tactic(auto, using(crate::proofs::ServedLemmas::room_needs, crate::proofs::ServedLemmas::cancel_needs))]
-pub(crate) fn answer<J: Strategy>(farm: &mut Farm<J>, tenant: u32, command: Command<J>) -> Reply
-    requires { tenant < length farm.old.config.tenants }
-    ensures reply { IsReply farm.old tenant (event_of command) result farm.new }
-    ensures memory { result ≡ Reply.NoMemory → may_need (view tenant farm.old) (event_of command) ≡ true }
-{
-    match command {
-        Command::Submit {
-            plan,
-            quanta,
-            search,
-        } => farm.submit(tenant, plan, quanta, search),
-        Command::Fund { seq, quanta } => farm.fund(tenant, seq, quanta),
-        Command::Status(seq) => farm.status(tenant, seq),
-        Command::Fetch(seq) => farm.result(tenant, seq),
-        Command::Cancel(seq) => farm.cancel(tenant, seq),
-        Command::Forget(seq) => farm.forget(tenant, seq),
-        Command::Ledger => farm.ledger(tenant),
-    }
-}
-
 /// Takes a turn of some waiting job.
 fn next_of<J: Strategy>(farm: &mut Farm<J>, slice: u64) -> FarmAnswer<J>
     ensures { AnswersOn J.meaning farm.old (FarmCall.Next slice) result farm.new }
@@ -131,7 +104,7 @@ fn answer_on<J: Strategy>(farm: &mut Farm<J>, call: FarmCall<J>) -> FarmAnswer<J
 {
     farm.journal();
     match call {
-        FarmCall::Asked(tenant, command) => FarmAnswer::Replied(answer(farm, tenant, command)),
+        FarmCall::Asked(tenant, command) => FarmAnswer::Replied(farm.command(tenant, command)),
         FarmCall::Next(slice) => next_of(farm, slice),
         FarmCall::Back(turn) => back_to(farm, turn),
     }

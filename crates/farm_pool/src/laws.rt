@@ -1,5 +1,5 @@
 //! Laws of a pool: each is the proved contract of a function that does nothing.
-ghost use Rattle.farm_pool.specs.Laws.{AcceptedCancelsAreMade, EachReplyCanBeMade, EachReplyIsAlone, EachReplyIsIsolated, EachReplyIsTrue, LegalHistoriesAreRuns};
+ghost use Rattle.farm_pool.specs.Laws.{AcceptedCancelsAreMade, EachReplyCanBeMade, EachReplyIsAlone, EachReplyIsIsolated, EachReplyIsTrue, LegalHistoriesAreRuns, NoPassIsSplitOff};
 
 /// The entries of a legal history are those of a run of the farm. So what is proved of each run is true of each history: what a pass has
 /// seen, and what the farm of a closed pool has in its journal.
@@ -35,4 +35,9 @@ pub fn each_reply_can_be_made()
 /// In a running pool a cancel that its tenant's step accepts is answered so, whatever memory there is.
 pub fn accepted_cancels_are_made()
     ensures { AcceptedCancelsAreMade }
+{}
+
+/// A call and a worker split off no pass from the one that they are given, so neither makes a call beside its own by such a pass.
+pub fn no_pass_is_split_off()
+    ensures { NoPassIsSplitOff }
 {}

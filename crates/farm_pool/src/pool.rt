@@ -1,18 +1,17 @@
 //! The pool.
 ghost use Rattle.std.specs.Prelude.{◌≡◌, ◌≢◌, ◌<◌, length, IfOk, IfSome};
-ghost use Rattle.turn_lock.specs.Plays.{newcomer, BothSeen, Called};
+ghost use Rattle.turn_lock.specs.Plays.{having_split, newcomer, BothSeen, Called};
 ghost use Rattle.turn_lock.specs.Rule.{opened};
 ghost use Rattle.turn_lock.specs.Values.{IsPassOf};
+ghost use Rattle.farm_core.specs.Command.{event_of};
 ghost use Rattle.farm_pool.specs.declared.image.AnswerImage.TheVariants as told;
 ghost use Rattle.farm_pool.specs.declared.image.CallImage.TheVariants as said;
 ghost use Rattle.farm_pool.specs.Calls.{call_image, answer_image, MayAsk};
-ghost use Rattle.farm_pool.specs.Command.{event_of};
 ghost use Rattle.farm_pool.specs.Served.{Served};
 ghost use Rattle.farm_pool.specs.Worked.{IsClosed};
 
-use crate::Command;
 use crate::held::{FarmAnswer, FarmCall, Held};
-use farm_core::{Config, Farm, Reply};
+use farm_core::{Command, Config, Farm, Reply};
 use std::alloc::{AllocError, Global};
 use std::snapshot::Snapshot;
 use std::sync::Wait;
@@ -106,10 +105,10 @@ impl Pool {
         }
     }
 
-    /// A pass for another thread, which has seen as much as this one and has made no call.
+    /// A pass for another thread, which has seen as much as this one and has made no call. This one counts one split more, and stays as it was else.
     pub fn split_pass(&self, pass: &mut PoolPass) -> PoolPass
         requires own { IsPassOf self.now.lock pass.old }
-        ensures same { pass.new ≡ pass.old }
+        ensures split { pass.new ≡ record pass.old { view = having_split pass.old.view } }
         ensures own { IsPassOf self.now.lock result }
         ensures new { result.view ≡ newcomer pass.old.view result.view.number }
         ensures apart { result.view.number ≢ pass.old.view.number }
@@ -117,12 +116,12 @@ impl Pool {
         self.lock.split_pass(pass)
     }
 
-    /// Takes in another pass, which ends. What both had seen are beginnings of what this one has seen then.
+    /// Takes in another pass, which ends. What both had seen are beginnings of what this one has seen then, and the splits of both are its own.
     pub fn join_pass(&self, pass: &mut PoolPass, other: PoolPass)
         requires own { IsPassOf self.now.lock pass.old }
         requires other { IsPassOf self.now.lock other }
         ensures own { IsPassOf self.now.lock pass.new }
-        ensures both { BothSeen Served pass.old.view other.view.number other.view.seen other.view.mine pass.new.view }
+        ensures both { BothSeen Served pass.old.view other.view pass.new.view }
     {
         self.lock.join_pass(pass, other);
     }

@@ -1,6 +1,6 @@
 -- The turns that a script holds, over the calls of its farm.
 use Rattle.std.proofs.Common.{◌≡◌, ℕ, suc, ◌<◌, ◌+◌, ◌-◌, get_or, take, drop, position, ◌||◌, ◌&&◌, ◌==◌, ◌≤◌, nat_lt, Bool, true, false, cond, List, [], ◌∷◌, ◌++◌, length, Option, Some, None, refl, sym, ap, ◌∙◌, subst, arith, ◌⊎◌, inl, inr, ⊎_elim, append-nil, zero, set, ◌≢◌}
-use Rattle.std.specs.Prelude.{not, option_map}
+use Rattle.std.specs.Prelude.{option_map, not, IfSome}
 use Rattle.std.specs.List.{list_any, position_or_len}
 use Rattle.std.proofs.lemmas.Bool.{cond_both, cases_eq, cases_lt, eqb-true, and_parts, or_parts, both_ways}
 use Rattle.std.proofs.lemmas.Bool.Decides.{nat_tests}
@@ -10,7 +10,7 @@ use Rattle.std.proofs.lemmas.List.{take-append-drop}
 use Rattle.std.proofs.lemmas.List.Folds.{list_any-append}
 use Rattle.std.proofs.lemmas.List.Quantifiers.{position-Some}
 use Rattle.strategy.specs.Search.{Meaning, nodes_within, ran_on}
-use Rattle.job_table.specs.Table.{JobData, is_waiting, is_out}
+use Rattle.job_table.specs.Table.{JobData, is_out}
 use Rattle.job_table.specs.Job.{is_turn, back, IsStrange}
 use Rattle.job_table.specs.declared.phase.Phase.{Phase}
 use Rattle.job_table.specs.declared.phase.Phase.TheVariants.{Waiting, Out, Leaving, Dry, Closed, Cancelled}
@@ -22,22 +22,25 @@ use Rattle.farm_core.specs.declared.reply.Reply.TheVariants as reply
 use Rattle.farm_core.specs.declared.reply.NoTurn.{NoTurn}
 use Rattle.farm_core.specs.declared.reply.NoTurn.TheVariants as no_turn
 use Rattle.farm_core.specs.declared.turn.Turn.{Turn}
-use Rattle.farm_core.specs.Tenant.{Tenant, find_job, put_job, line_of, nodes_out_in, Member, Purse, no_member, seat, own_of, with_seat}
+use Rattle.farm_core.specs.Tenant.{Tenant, find_job, line_of, nodes_out_in, Member, Purse, no_member, seat, own_of, with_seat}
 use Rattle.farm_core.specs.Step as calls
 use Rattle.farm_core.specs.Step.{Answer, Replied, Sent, Step, Effect, Nothing, Changes, done, step, has_room, is_slice, about, may_have_run, to_give}
 use Rattle.farm_core.specs.Farm.{IsReply}
 use Rattle.farm_core.specs.Turn.{IsTurn, IsTaken, IsNotTaken}
 use Rattle.farm_core.specs.Config.{ConfigData}
-use Rattle.farm_core.specs.Config.{ConfigData}
+use Rattle.farm_core.specs.Command as command
 use Rattle.farm_core.specs.World.{World, opened, purse_in, place_in, spent_in, member, purse, view, Follows, IsReplayed}
 use Rattle.farm_core.proofs.SeatLemmas.{each_view_is_a_seat, steps_of, purse_after, purse_stays}
-use Rattle.farm_core.specs.Held.{is_out_of, nodes_out, takes, gives, IsHeld, AreHeld, TakenTurnsAreHeld, TakenJobsWereNotOut, TurnsStayHeld, HeldTurnsAreNoStrangers, HeldTurnsRunTheirNodes, OnlyTakenJobsAreOut, GivenJobsAreNotOut}
-use Rattle.farm_core.proofs.HeldLemmas.{taken_out}
+use Rattle.farm_core.specs.Held.{is_out_of, nodes_out, takes, gives, IsHeld, AreHeld}
+use Rattle.farm_core.proofs.HeldLemmas.{taken_out, taken_turns_are_held, taken_jobs_were_not_out, turns_stay_held, held_turns_are_no_strangers, held_turns_run_their_nodes, only_taken_jobs_are_out, given_jobs_are_not_out}
+use Rattle.farm_core.proofs.ReplayLemmas.{farms_are_replayed}
+use Rattle.farm_core.proofs.ReplyLemmas.{by_reply, command_needs}
 use Rattle.session_lines.specs.declared.request.What.{What}
 use Rattle.session_lines.specs.declared.request.What.TheVariants as what
 use Rattle.session_lines.specs.declared.said.Said.{Said}
 use Rattle.session_lines.specs.declared.said.Said.TheVariants as said
-use Rattle.farm_replay.specs.Output.{Told, said_for, told_by, told_to, told_under, given_back, turned, is_line, may_need}
+use Rattle.farm_session.specs.Command.{event_in}
+use Rattle.farm_replay.specs.Output.{Told, said_for, told_by, told_to, told_under, given_back, turned, may_need}
 use Rattle.farm_replay.specs.Floor.{is_turn_of, has_turn, AreApart, IsFloor, IsTold, untaken}
 
 -- ---- lists of turns
@@ -134,10 +137,10 @@ all_out meaning w (x ∷ turns) t s h e =
     or_is true b = refl
     or_is false b = refl
 
-held_over : {J : Type 0} (meaning : J → Meaning) → TurnsStayHeld → (old new : World) (t : ℕ) (e : Event) (answer : Answer) → Follows old t e answer new
+held_over : {J : Type 0} (meaning : J → Meaning) (old new : World) (t : ℕ) (e : Event) (answer : Answer) → Follows old t e answer new
     → (turns : List (Turn J)) → ((s : ℕ) → gives s e ≡ true → has_turn t s turns ≡ false) → AreHeld meaning old turns → AreHeld meaning new turns
-held_over meaning stay old new t e answer f [] apart h = tt
-held_over meaning stay old new t e answer f (x ∷ turns) apart h =
+held_over meaning old new t e answer f [] apart h = tt
+held_over meaning old new t e answer f (x ∷ turns) apart h =
     let not_given : t ≡ x.tenant → gives x.seq e ≡ false =
     λ same. elim (gives x.seq e) as (λ b. gives x.seq e ≡ b → b ≡ false) [
       | true ↦ λ given. absurd (both_ways (is_turn_of t x.seq x) (or_parts (is_turn_of t x.seq x) (has_turn t x.seq turns) (apart x.seq given)).0 (turn_is t x.seq x (sym same) refl))
@@ -145,71 +148,74 @@ held_over meaning stay old new t e answer f (x ∷ turns) apart h =
     ] refl in (
       h.0,
       subst (λ (n : ℕ). x.tenant < n) (ap (λ c. length c.tenants) (sym f.config)) h.1,
-      stay old new t e answer f x.tenant x.seq x.slice (meaning x.search) h.2 not_given,
-      held_over meaning stay old new t e answer f turns (λ s given. (or_parts (is_turn_of t s x) (has_turn t s turns) (apart s given)).1) h.3,
+      turns_stay_held old new t e answer f x.tenant x.seq x.slice (meaning x.search) h.2 not_given,
+      held_over meaning old new t e answer f turns (λ s given. (or_parts (is_turn_of t s x) (has_turn t s turns) (apart s given)).1) h.3,
     )
 
 -- ---- what the script holds
 
 -- a call that neither takes nor gives a turn leaves all turns as they are
-pub floor_over : {J : Type 0} (meaning : J → Meaning) → TurnsStayHeld → OnlyTakenJobsAreOut → (old new : World) (t : ℕ) (e : Event) (answer : Answer) → IsReplayed old
+pub floor_over : {J : Type 0} (meaning : J → Meaning) (old new : World) (t : ℕ) (e : Event) (answer : Answer)
     → Follows old t e answer new → ((s : ℕ) → gives s e ≡ false) → ((s : ℕ) → takes s e ≡ false) → (turns : List (Turn J)) → IsFloor meaning old turns → IsFloor meaning new turns
-floor_over meaning stay only old new t e answer replayed f nor_gives nor_takes turns floor = record {
-  held = held_over meaning stay old new t e answer f turns (λ s given. absurd (both_ways (gives s e) (nor_gives s) given)) floor.held;
+floor_over meaning old new t e answer f nor_gives nor_takes turns floor = record {
+  held = held_over meaning old new t e answer f turns (λ s given. absurd (both_ways (gives s e) (nor_gives s) given)) floor.held;
   apart = floor.apart;
   all = λ u s out.
       ⊎_elim (λ was. floor.all u s was) (λ (now : (t ≡ u) × (takes s e ≡ true)). absurd (both_ways (takes s e) (nor_takes s) now.1))
-      (only old new t e answer replayed f u s out);
+      (only_taken_jobs_are_out old new t e answer floor.replayed f u s out);
+  replayed = farms_are_replayed.kept old new t e answer floor.replayed f;
 }
 
 -- a turn that is taken is held with the others
-pub floor_taken : {J : Type 0} (meaning : J → Meaning) → TakenTurnsAreHeld → TakenJobsWereNotOut → TurnsStayHeld → OnlyTakenJobsAreOut → (old new : World) (t s slice : ℕ) → IsReplayed old
+pub floor_taken : {J : Type 0} (meaning : J → Meaning) (old new : World) (t s slice : ℕ)
     → (x : Turn J) → IsTaken old t s slice (meaning x.search) new → x.tenant ≡ t → x.seq ≡ s → x.slice ≡ slice → x.ran ≡ 0 → t < length old.config.tenants
     → (turns : List (Turn J)) → IsFloor meaning old turns → IsFloor meaning new (turns ++ x ∷ [])
-floor_taken meaning taken waited stay only old new t s slice replayed x it tenant seq most ran known turns floor =
+floor_taken meaning old new t s slice x it tenant seq most ran known turns floor =
     let f = it.follows in
     let answer : Answer = Sent (line_of (record it.job { phase = Out slice })) in
     let none : has_turn t s turns ≡ false =
     elim (has_turn t s turns) as (λ b. has_turn t s turns ≡ b → b ≡ false) [
-      | true ↦ λ has. absurd (both_ways (is_out_of (find_job s (view t old).jobs)) (waited old new t s slice (meaning x.search) it) (all_out meaning old turns t s floor.held has))
+      | true ↦ λ has. absurd (both_ways (is_out_of (find_job s (view t old).jobs)) (taken_jobs_were_not_out old new t s slice (meaning x.search) it) (all_out meaning old turns t s floor.held has))
       | false ↦ λ _. refl
     ] refl in
     let here : IsHeld new x.tenant x.seq x.slice (meaning x.search) =
-    rw (tenant, seq, most) (taken old new t s slice (meaning x.search) it) in
+    rw (tenant, seq, most) (taken_turns_are_held old new t s slice (meaning x.search) it) in
     record {
-      held = held_append meaning new turns (x ∷ []) (held_over meaning stay old new t (Take s slice) answer f turns (λ n given. absurd (cc)) floor.held)
+      held = held_append meaning new turns (x ∷ []) (held_over meaning old new t (Take s slice) answer f turns (λ n given. absurd (cc)) floor.held)
           (ran, rw tenant (subst (λ c. t < length c.tenants) (sym f.config) known), here, tt);
       apart = apart_push turns x floor.apart (rw (tenant, seq) none);
       all = λ u n out.
           has_pushed u n turns x
           (⊎_elim (λ was. inl (floor.all u n was))
           (λ (now : (t ≡ u) × (takes n (Take s slice) ≡ true)). inr (turn_is u n x (tenant ∙ now.0) (seq ∙ eqb-true s n now.1)))
-          (only old new t (Take s slice) answer replayed f u n out));
+          (only_taken_jobs_are_out old new t (Take s slice) answer floor.replayed f u n out));
+      replayed = farms_are_replayed.kept old new t (Take s slice) answer floor.replayed f;
     }
 
 -- a turn that is given back is held no more
-pub floor_given : {J : Type 0} (meaning : J → Meaning) → TurnsStayHeld → OnlyTakenJobsAreOut → GivenJobsAreNotOut → (old new : World) (t s ran : ℕ) (reply : Reply) → IsReplayed old
+pub floor_given : {J : Type 0} (meaning : J → Meaning) (old new : World) (t s ran : ℕ) (reply : Reply)
     → Follows old t (Give s ran) (Replied reply) new → (xs : List (Turn J)) (x : Turn J) (ys : List (Turn J)) → x.tenant ≡ t → x.seq ≡ s
     → IsFloor meaning old (xs ++ x ∷ ys) → IsFloor meaning new (xs ++ ys)
-floor_given meaning stay only given old new t s ran reply replayed f xs x ys tenant seq floor =
+floor_given meaning old new t s ran reply f xs x ys tenant seq floor =
     let apart = apart_without xs x ys floor.apart in
     let none : has_turn t s (xs ++ ys) ≡ false = rw (← tenant, ← seq) apart.0 in
     record {
-      held = held_over meaning stay old new t (Give s ran) (Replied reply) f (xs ++ ys)
+      held = held_over meaning old new t (Give s ran) (Replied reply) f (xs ++ ys)
           (λ n is. ap (λ k. has_turn t k (xs ++ ys)) (sym (eqb-true s n is)) ∙ none) (held_without meaning old xs x ys floor.held);
       apart = apart.1;
       all = λ u n out.
           let was : has_turn u n (xs ++ x ∷ ys) ≡ true =
           ⊎_elim (λ w. floor.all u n w) (λ (now : (t ≡ u) × (takes n (Give s ran) ≡ true)). absurd (cc))
-          (only old new t (Give s ran) (Replied reply) replayed f u n out) in
+          (only_taken_jobs_are_out old new t (Give s ran) (Replied reply) floor.replayed f u n out) in
           has_others u n xs x ys was
           (elim (is_turn_of u n x) as (λ b. is_turn_of u n x ≡ b → b ≡ false) [
             | true ↦ λ own.
                 let p = is_turn_in u n x own in
                 absurd (both_ways (is_out_of (find_job n (view u new).jobs))
-                (ap (λ k. is_out_of (find_job n (view k new).jobs)) (sym p.0 ∙ tenant) ∙ ap (λ k. is_out_of (find_job k (view t new).jobs)) (sym p.1 ∙ seq) ∙ given old new t s ran reply f) out)
+                (ap (λ k. is_out_of (find_job n (view k new).jobs)) (sym p.0 ∙ tenant) ∙ ap (λ k. is_out_of (find_job k (view t new).jobs)) (sym p.1 ∙ seq) ∙ given_jobs_are_not_out old new t s ran reply f) out)
             | false ↦ λ _. refl
           ] refl);
+      replayed = farms_are_replayed.kept old new t (Give s ran) (Replied reply) floor.replayed f;
     }
 
 -- ---- what is said
@@ -217,29 +223,16 @@ floor_given meaning stay only given old new t s ran reply replayed f xs x ys ten
 some_line : (job : JobData) (line : Line) (found : Option JobData) → found ≡ Some job → Some line ≡ option_map line_of found → line_of job ≡ line
 some_line job line found is told = cc (ap (option_map line_of) is)
 
+-- a turn that goes out is of a job that there is
+pub told_out : (old new : World) (t s slice : ℕ) (m : Meaning) → IsTaken old t s slice m new → option_map line_of (find_job s (view t new).jobs) ≡ None → ⊥
+told_out old new t s slice m it none = let both : Some (line_of (record it.job { phase = Out slice })) ≡ None = sym (ap (option_map line_of) (taken_out old new t s slice m it)) ∙ none in cc
+
 -- the line that is told of a turn that goes out is that of its job
 pub sent_line : (old new : World) (t s slice : ℕ) (m : Meaning) (line : Line) → IsTaken old t s slice m new → Some line ≡ option_map line_of (find_job s (view t new).jobs)
     → Follows old t (Take s slice) (Sent line) new
 sent_line old new t s slice m line it told =
     let out : JobData = record it.job { phase = Out slice } in
     subst (λ l. Follows old t (Take s slice) (Sent l) new) (some_line out line (find_job s (view t new).jobs) (taken_out old new t s slice m it) told) it.follows
-
-by_reply : (old : World) (t : ℕ) (e : Event) (answer : Reply) (new : World) → IsReply old t e answer new
-    → ((answer ≡ reply.NoMemory) × (new ≡ old) × (has_room 1 (view t old) ≡ true)) ⊎ Follows old t e (Replied answer) new
-by_reply old t e (reply.Job s) new h = inr h
-by_reply old t e (reply.Line line) new h = inr h
-by_reply old t e (reply.Ran ran line) new h = inr h
-by_reply old t e (reply.Best s schedule best verdict) new h = inr h
-by_reply old t e (reply.Forgotten s) new h = inr h
-by_reply old t e (reply.Ledger book) new h = inr h
-by_reply old t e reply.NoRoom new h = inr h
-by_reply old t e reply.NoUnknown new h = inr h
-by_reply old t e reply.NoBusy new h = inr h
-by_reply old t e reply.NoOver new h = inr h
-by_reply old t e reply.NoAmount new h = inr h
-by_reply old t e reply.NoJobs new h = inr h
-by_reply old t e (reply.NoShort free) new h = inr h
-by_reply old t e reply.NoMemory new h = inl (refl, h.0, h.1)
 
 -- ---- what is told is its purse's
 
@@ -305,37 +298,44 @@ replied old new t what e answer known same may h =
     (by_reply old t e answer new h)
 
 -- a command leaves the turns as they are
-pub floor_replied : {J : Type 0} (meaning : J → Meaning) → TurnsStayHeld → OnlyTakenJobsAreOut → (old new : World) (t : ℕ) (e : Event) (answer : Reply) → IsReplayed old
+pub floor_replied : {J : Type 0} (meaning : J → Meaning) (old new : World) (t : ℕ) (e : Event) (answer : Reply)
     → ((s : ℕ) → gives s e ≡ false) → ((s : ℕ) → takes s e ≡ false) → (turns : List (Turn J)) → IsReply old t e answer new → IsFloor meaning old turns → IsFloor meaning new turns
-floor_replied meaning stay only old new t e answer replayed nor_gives nor_takes turns h floor =
+floor_replied meaning old new t e answer nor_gives nor_takes turns h floor =
     ⊎_elim
     (λ (none : (answer ≡ reply.NoMemory) × (new ≡ old) × (has_room 1 (view t old) ≡ true)). subst (λ w. IsFloor meaning w turns) (sym none.1) floor)
-    (λ f. floor_over meaning stay only old new t e (Replied answer) replayed f nor_gives nor_takes turns floor)
+    (λ f. floor_over meaning old new t e (Replied answer) f nor_gives nor_takes turns floor)
     (by_reply old t e answer new h)
 
--- a cancel that is accepted is not answered for want of memory
-pub cancel_needs : (t : Tenant) (s : ℕ) (answer : Reply) → ((line : Line) → (step t (Cancel s)).answer ≡ Replied (reply.Line line) → answer ≡ reply.Line line) → answer ≡ reply.NoMemory
-    → has_room 1 t ≡ true → may_need t (what.Cancel s) ≡ true
-cancel_needs t s answer accepted none room =
-    ap (λ b. b && not (is_line (step t (Cancel s)).answer)) room ∙ no_line (step t (Cancel s)).answer (λ line is. absurd (cc (accepted line is)))
-  where
-    no_line : (a : Answer) → ((line : Line) → a ≡ Replied (reply.Line line) → ⊥) → not (is_line a) ≡ true
-    no_line (Replied (reply.Line line)) h = absurd (h line refl)
-    no_line (Replied (reply.Job n)) h = refl
-    no_line (Replied (reply.Ran ran line)) h = refl
-    no_line (Replied (reply.Best n schedule best verdict)) h = refl
-    no_line (Replied (reply.Forgotten n)) h = refl
-    no_line (Replied (reply.Ledger book)) h = refl
-    no_line (Replied reply.NoRoom) h = refl
-    no_line (Replied reply.NoUnknown) h = refl
-    no_line (Replied reply.NoBusy) h = refl
-    no_line (Replied reply.NoOver) h = refl
-    no_line (Replied reply.NoAmount) h = refl
-    no_line (Replied reply.NoJobs) h = refl
-    no_line (Replied (reply.NoShort free)) h = refl
-    no_line (Replied reply.NoMemory) h = refl
-    no_line (Sent line) h = refl
-    no_line calls.NoTurn h = refl
+-- a request for this event is told what its step answers, may need memory where the step may, and neither takes nor gives a turn
+record AsksFor (t : Tenant) (request : What) (e : Event) : Type 0 where
+  pub told : told_to t request ≡ told_by (step t e)
+  pub needs : command.may_need t e ≡ true → may_need t request ≡ true
+  pub nor_gives : (s : ℕ) → gives s e ≡ false
+  pub nor_takes : (s : ℕ) → takes s e ≡ false
+
+asks_for : (t : Tenant) (request : What) → IfSome (event_in request) (AsksFor t request)
+asks_for t (what.Submit kind quanta project) = record { told = refl; needs = λ _. refl; nor_gives = λ _. refl; nor_takes = λ _. refl }
+asks_for t (what.Take s slice) = tt
+asks_for t (what.Give s) = tt
+asks_for t (what.Turn s slice) = tt
+asks_for t request = record { told = refl; needs = λ h. h; nor_gives = λ _. refl; nor_takes = λ _. refl }
+
+asked_for : (t : Tenant) (request : What) (e : Event) → event_in request ≡ Some e → AsksFor t request e
+asked_for t request e is = subst (λ (o : Option Event). IfSome o (AsksFor t request)) is (asks_for t request)
+
+-- the reply to a command is what is said to its request,
+pub commanded : (old new : World) (t : ℕ) (request : What) (e : Event) (answer : Reply) → t < length old.config.tenants → event_in request ≡ Some e → IsReply old t e answer new
+    → ((s : ℕ) (line : Line) → e ≡ Cancel s → (step (view t old) (Cancel s)).answer ≡ Replied (reply.Line line) → answer ≡ reply.Line line) → IsTold old t request (said.Reply answer) new
+commanded old new t request e answer known is h accepted =
+    let it = asked_for (view t old) request e is in
+    replied old new t request e answer known it.told (λ none _. it.needs (command_needs old new t e answer h accepted none)) h
+
+-- and it leaves the turns as they are
+pub floor_commanded : {J : Type 0} (meaning : J → Meaning) (old new : World) (t : ℕ) (request : What) (e : Event) (answer : Reply) → event_in request ≡ Some e → (turns : List (Turn J))
+    → IsReply old t e answer new → IsFloor meaning old turns → IsFloor meaning new turns
+floor_commanded meaning old new t request e answer is turns h floor =
+    let it = asked_for (view t old) request e is in
+    floor_replied meaning old new t e answer it.nor_gives it.nor_takes turns h floor
 
 pub told_taken : (old new : World) (t s slice : ℕ) (line : Line) → Follows old t (Take s slice) (Sent line) new → IsTold old t (what.Take s slice) (said.Reply (reply.Line line)) new
 told_taken old new t s slice line f = stepped old new t (what.Take s slice) (Take s slice) (Sent line) refl f
@@ -453,11 +453,11 @@ found_turn meaning w t s turns rest i x at is others floor =
       held = held.2;
     }
 
-pub found_floor : {J : Type 0} (meaning : J → Meaning) → TurnsStayHeld → OnlyTakenJobsAreOut → GivenJobsAreNotOut → (old new : World) (t s ran : ℕ) (reply : Reply) (turns rest : List (Turn J)) (x : Turn J)
-    → IsReplayed old → IsFound meaning old t s turns rest x → Follows old t (Give s ran) (Replied reply) new → IsFloor meaning old turns → IsFloor meaning new rest
-found_floor meaning stay only given old new t s ran reply turns rest x replayed it f floor =
+pub found_floor : {J : Type 0} (meaning : J → Meaning) (old new : World) (t s ran : ℕ) (reply : Reply) (turns rest : List (Turn J)) (x : Turn J)
+    → IsFound meaning old t s turns rest x → Follows old t (Give s ran) (Replied reply) new → IsFloor meaning old turns → IsFloor meaning new rest
+found_floor meaning old new t s ran reply turns rest x it f floor =
     subst (λ ys. IsFloor meaning new ys) (sym it.others)
-    (floor_given meaning stay only given old new t s ran reply replayed f it.front x it.behind it.tenant it.seq (subst (λ ys. IsFloor meaning old ys) it.whole floor))
+    (floor_given meaning old new t s ran reply f it.front x it.behind it.tenant it.seq (subst (λ ys. IsFloor meaning old ys) it.whole floor))
 
 ran_none : (m : Meaning) → m ≡ ran_on 0 m
 ran_none m =
@@ -486,19 +486,19 @@ pub found_follows : {J : Type 0} (meaning : J → Meaning) (old new : World) (t 
 found_follows meaning old new t s turns rest x tenant seq slice ran result m answer it run f =
     subst (λ k. Follows old t (Give k ran) (Replied answer) new) (run.seq_is ∙ it.seq) (subst (λ k. Follows old k (Give seq ran) (Replied answer) new) (run.tenant_is ∙ it.tenant) f)
 
-pub found_told : {J : Type 0} (meaning : J → Meaning) → HeldTurnsRunTheirNodes → (old new : World) (t s : ℕ) (turns rest : List (Turn J)) (x : Turn J) (tenant seq slice ran result : ℕ) (m : Meaning) (answer : Reply)
+pub found_told : {J : Type 0} (meaning : J → Meaning) (old new : World) (t s : ℕ) (turns rest : List (Turn J)) (x : Turn J) (tenant seq slice ran result : ℕ) (m : Meaning) (answer : Reply)
     → IsFound meaning old t s turns rest x → IsRun meaning x tenant seq slice ran result m → Follows old tenant (Give seq ran) (Replied answer) new
     → IsTold old t (what.Give s) (said.Reply answer) new
-found_told meaning nodes old new t s turns rest x tenant seq slice ran result m answer it run f =
+found_told meaning old new t s turns rest x tenant seq slice ran result m answer it run f =
     told_given old new t s ran answer (found_follows meaning old new t s turns rest x tenant seq slice ran result m answer it run f)
-    (ran_all meaning x tenant seq slice ran result m run it.ran ∙ nodes old x.tenant x.seq x.slice (meaning x.search) it.held
+    (ran_all meaning x tenant seq slice ran result m run it.ran ∙ held_turns_run_their_nodes old x.tenant x.seq x.slice (meaning x.search) it.held
     ∙ ap (λ k. nodes_out (find_job x.seq (view k old).jobs)) it.tenant ∙ ap (λ k. nodes_out (find_job k (view t old).jobs)) it.seq)
 
-pub never_strange : {J : Type 0} (meaning : J → Meaning) → HeldTurnsAreNoStrangers → (old : World) (t s : ℕ) (turns rest : List (Turn J)) (x : Turn J) (tenant seq slice ran result : ℕ) (m : Meaning)
+pub never_strange : {J : Type 0} (meaning : J → Meaning) (old : World) (t s : ℕ) (turns rest : List (Turn J)) (x : Turn J) (tenant seq slice ran result : ℕ) (m : Meaning)
     → IsFound meaning old t s turns rest x → IsRun meaning x tenant seq slice ran result m → IsStrange old.rows tenant seq slice ran m → ⊥
-never_strange meaning known old t s turns rest x tenant seq slice ran result m it run strange =
+never_strange meaning old t s turns rest x tenant seq slice ran result m it run strange =
     let search : m ≡ ran_on (nodes_within x.slice (meaning x.search)) (meaning x.search) = run.search ∙ ap (λ n. ran_on n (meaning x.search)) (run.first it.ran) in
-    (known old x.tenant x.seq x.slice (meaning x.search) m it.held).0 search
+    (held_turns_are_no_strangers old x.tenant x.seq x.slice (meaning x.search) m it.held).0 search
     (subst (λ n. IsStrange old.rows x.tenant x.seq x.slice n m) (ran_all meaning x tenant seq slice ran result m run it.ran)
     (subst (λ k. IsStrange old.rows x.tenant x.seq k ran m) run.slice_is (subst (λ k. IsStrange old.rows x.tenant k slice ran m) run.seq_is
     (subst (λ k. IsStrange old.rows k seq slice ran m) run.tenant_is strange))))
@@ -526,7 +526,7 @@ lacks_turn t s turns h = none_passes (is_turn_of t s) turns (no_place (position_
 
 pub floor_opened : {J : Type 0} (meaning : J → Meaning) (config : ConfigData) (w : World) → w ≡ opened config → IsFloor meaning w []
 unfolding opened view member
-floor_opened meaning config w is = record { held = tt; apart = tt; all = λ t s out. absurd (cc (ap (λ v. is_out_of (find_job s (view t v).jobs)) is)) }
+floor_opened meaning config w is = record { held = tt; apart = tt; all = λ t s out. absurd (cc (ap (λ v. is_out_of (find_job s (view t v).jobs)) is)); replayed = subst IsReplayed (sym is) (farms_are_replayed.made config) }
 
 -- the last turn of those that are held
 pub found_last : {J : Type 0} (meaning : J → Meaning) (w : World) (turns xs : List (Turn J)) (x : Turn J) → turns ≡ xs ++ x ∷ [] → IsFloor meaning w turns
@@ -569,10 +569,10 @@ given_none old new t s ran answer none f u =
     (cases_eq (purse_in old.config u) (purse_in old.config t))
     ∙ sym (spent_is old u)
 
-pub unrun_known : {J : Type 0} (meaning : J → Meaning) → HeldTurnsAreNoStrangers → (old : World) (turns rest : List (Turn J)) (x : Turn J) → IsFound meaning old x.tenant x.seq turns rest x
+pub unrun_known : {J : Type 0} (meaning : J → Meaning) (old : World) (turns rest : List (Turn J)) (x : Turn J) → IsFound meaning old x.tenant x.seq turns rest x
     → IsStrange old.rows x.tenant x.seq x.slice x.ran (meaning x.search) → ⊥
-unrun_known meaning known old turns rest x it strange =
-    (known old x.tenant x.seq x.slice (meaning x.search) (meaning x.search) it.held).1 (subst (λ n. IsStrange old.rows x.tenant x.seq x.slice n (meaning x.search)) it.ran strange)
+unrun_known meaning old turns rest x it strange =
+    (held_turns_are_no_strangers old x.tenant x.seq x.slice (meaning x.search) (meaning x.search) it.held).1 (subst (λ n. IsStrange old.rows x.tenant x.seq x.slice n (meaning x.search)) it.ran strange)
 
 -- where no turn is held, no job is out
 pub none_out : {J : Type 0} (meaning : J → Meaning) (w : World) (turns : List (Turn J)) → turns ≡ [] → IsFloor meaning w turns → (t s : ℕ) → is_out_of (find_job s (view t w).jobs) ≡ false

@@ -86,7 +86,7 @@ same_asked config elsewhere refused one other who what p q (Some t) (Some s) (So
     }
 
 -- bytes that are no request are answered alike on every farm, and change nothing
-settled : (fault : LineFault) → (words : Said) × ((config : ConfigData) (refused : Bool) (parts : Parts) → answered config refused parts (heard_of config (Err fault)) ≡ says (who_in (Err fault)) words parts)
+pub settled : (fault : LineFault) → (words : Said) × ((config : ConfigData) (refused : Bool) (parts : Parts) → answered config refused parts (heard_of config (Err fault)) ≡ says (who_in (Err fault)) words parts)
 settled Eof = (said.Syntax, λ config refused parts. refl)
 settled Read = (said.Syntax, λ config refused parts. refl)
 settled (TooLong who) = (said.LongLine, λ config refused parts. refl)
@@ -107,7 +107,7 @@ same_answered config elsewhere refused one other p q seats (Err fault) own h =
     record { line = ap (λ (n : Next). n.line) here ∙ sym (ap (λ (n : Next). n.line) there); agree = ap (λ (n : Next). n.parts p) here ∙ h ∙ sym (ap (λ (n : Next). n.parts q) there) }
 
 -- the line of a request, by whether its text is unread
-abbrev pub next_if : Bool → ConfigData → Parts → Marked → Next
+abbrev next_if : Bool → ConfigData → Parts → Marked → Next
 next_if unread config parts m =
     if unread then says (who_in m.item.answer) (said.Reply reply.NoMemory) parts
     else answered config m.refused parts (heard_of config m.item.answer)

@@ -1,123 +1,143 @@
--- Each line of a script's output is true.
-use Rattle.std.proofs.Common.{◌≡◌, ℕ, ◌==◌, Bool, true, false, cond, ◌&&◌, List, [], ◌∷◌, ◌++◌, Option, Some, None, refl, sym, ap, ◌∙◌, subst, ⊎_elim, eq-eqb, append_assoc, append-nil, zero, suc, set, get_or, map, ◌<◌, length, ◌≢◌, ◌⊎◌, inl, inr}
-use Rattle.std.specs.Prelude.{Result, Ok, Err, ⊤}
-use Rattle.std.proofs.lemmas.Bool.{cases_eq, eqb-true}
+-- Each line of a script's output is true, and each number is one request's.
+use Rattle.std.proofs.Common.{◌≡◌, ℕ, ◌+◌, ◌==◌, ◌≤◌, Bool, cond, ◌&&◌, List, [], ◌∷◌, ◌++◌, Option, Some, None, refl, sym, ap, ◌∙◌, subst, arith, ⊎_elim, eq-eqb, append_assoc, append-nil, zero, suc, set, get_or, map, ◌<◌, length, ◌≢◌}
+use Rattle.std.specs.Prelude.{Result, Ok, Err}
+use Rattle.std.proofs.lemmas.Bool.{cases_eq, cond_both, eqb-true}
+use Rattle.std.proofs.lemmas.List.{length-map, length-set}
 use Rattle.psplib_mm.specs.Laws.{ReadingGivesProjects}
-use Rattle.strategy.specs.declared.kind.Kind.{Kind}
 use Rattle.strategy.specs.declared.plan.Plan.{Plan}
-use Rattle.mrcpsp.specs.Project.{ProjectData}
 use Rattle.farm_core.specs.declared.entry.Event.{Event}
 use Rattle.farm_core.specs.declared.entry.Event.TheVariants as event
 use Rattle.farm_core.specs.declared.reply.Reply.TheVariants as reply
-use Rattle.farm_core.specs.Config.{ConfigData, purse_names, lines_of}
-use Rattle.farm_core.specs.Tenant.{Tenant, find_job, Member, Purse, no_member, new_member, newcomers, seat, own_of, with_seat}
+use Rattle.farm_core.specs.Config.{ConfigData, no_terms, purse_names, lines_of}
+use Rattle.farm_core.specs.Tenant.{Tenant, find_job, Member, Purse, no_member, new_member, newcomers, own_of, with_seat}
 use Rattle.farm_core.specs.declared.config.TenantLine.{TenantLine}
 use Rattle.farm_core.specs.Purses.{members_of}
 use Rattle.farm_core.specs.World.{purse_in, place_in}
-use Rattle.farm_core.proofs.SeatLemmas.{named, found_at}
+use Rattle.farm_core.proofs.NumberLemmas.{step_numbered}
+use Rattle.farm_core.proofs.SeatLemmas.{named, found_at, place_known}
+use Rattle.farm_core.proofs.ViewLemmas.{set_own, set_other}
 use Rattle.farm_replay.proofs.CounterLemmas.{known_number}
 use Rattle.farm_core.specs.Step as calls
-use Rattle.farm_core.specs.Step.{Answer, Replied, Sent, Step, step}
+use Rattle.farm_core.specs.Step.{Answer, Replied, Sent, step}
 use Rattle.farm_core.specs.Held.{nodes_out}
-use Rattle.farm_core.specs.Truth.{IsTrueAnswer}
-use Rattle.farm_core.proofs.TruthLemmas.{Made, AreKnown, IsGood, step_good}
+use Rattle.farm_core.specs.Truth.{IsTrueAnswer, IsPlanned}
+use Rattle.farm_core.proofs.TruthLemmas.{Made, AreKnown, step_good, step_told}
 use Rattle.session_lines.specs.declared.request.Request.{Request}
 use Rattle.session_lines.specs.declared.request.What.{What}
 use Rattle.session_lines.specs.declared.request.What.TheVariants.{Submit, Fund, Status, Fetch, Cancel, Forget, Ledger, Take, Give, Turn}
 use Rattle.session_lines.specs.declared.request.LineFault.{LineFault}
-use Rattle.session_lines.specs.declared.request.LineFault.TheVariants.{Eof, Read, TooLong, Syntax, File, NoMemory}
+use Rattle.session_lines.specs.declared.said.Said.{Said}
 use Rattle.session_lines.specs.declared.said.Said.TheVariants as said
 use Rattle.farm_session.specs.Heard.{number_of, heard_for, heard_of}
-use Rattle.farm_replay.specs.Output.{Told, said_for, told_by, given_back, turned, told_to, may_need, told_under, Parts, opening, Next, says, answered, who_in, Marked, is_unread, next, parts_after, part_of, with_tenant}
-use Rattle.farm_replay.proofs.IsolationLemmas.{next_if}
+use Rattle.farm_replay.specs.Output.{Told, said_for, told_by, turned, told_to, may_need, told_under, Parts, opening, Next, says, answered, who_in, Marked, is_unread, next, parts_after, part_of, with_tenant}
+use Rattle.farm_replay.proofs.IsolationLemmas.{settled}
 use Rattle.farm_replay.proofs.PlayLemmas.{parts_more}
 use Rattle.farm_replay.proofs.PlannedLemmas.{IsPlannedWhat, IsPlannedRequest, ArePlanned, script_planned}
-use Rattle.farm_replay.specs.Truth.{IsTrueSaid, WasSubmitted, EachLineIsTrue}
+use Rattle.farm_replay.specs.Truth.{IsTrueSaid, IsAnswered, WasSubmitted, EachLineIsTrue}
 
 -- ---- one tenant
 
-record IsGoodTold (made : Made) (it : Told) : Type 0 where
+-- the farm's call for a request, and the first of a whole turn
+abbrev call_for : Tenant → What → Event
+call_for t (Submit kind quanta project) = event.Submit (record { project = project; kind = kind }) quanta
+call_for t (Fund s quanta) = event.Fund s quanta
+call_for t (Status s) = event.Status s
+call_for t (Fetch s) = event.Fetch s
+call_for t (Cancel s) = event.Cancel s
+call_for t (Forget s) = event.Forget s
+call_for t Ledger = event.Ledger
+call_for t (Take s slice) = event.Take s slice
+call_for t (Give s) = event.Give s (nodes_out (find_job s t.jobs))
+call_for t (Turn s slice) = event.Take s slice
+
+-- something that is so where memory is refused, of each call, and of each whole turn
+record Cases (t : Tenant) (P : Event → Told → Type 0) : Type 0 where
+  refuses : (e : Event) → P e (record { said = said.Reply reply.NoMemory; after = t })
+  steps : (e : Event) → P e (told_by (step t e))
+  turns : (s slice : ℕ) → P (event.Take s slice) (told_to t (Turn s slice))
+
+each_told : (t : Tenant) (P : Event → Told → Type 0) → Cases t P → (refused : Bool) (what : What) → P (call_for t what) (told_under refused t what)
+each_told t P c refused what =
+    cond_both (refused && may_need t what) _ (told_to t what) (P (call_for t what)) (λ _. c.refuses (call_for t what)) (λ _. by what)
+  where
+    by : (what : What) → P (call_for t what) (told_to t what)
+    by (Turn s slice) = c.turns s slice
+    by what = c.steps (call_for t what)
+
+-- what is said is true, and jobs stay known where a submit that is told of a job makes it known
+record IsGoodTold (made : Made) (e : Event) (it : Told) : Type 0 where
+  jobs : IsPlanned e → ((plan : Plan) (quanta s : ℕ) → e ≡ event.Submit plan quanta → it.said ≡ said.Reply (reply.Job s) → made s plan) → AreKnown made it.after.jobs
   said : IsTrueSaid made it.said
-  jobs : AreKnown made it.after.jobs
 
 true_said : (made : Made) (a : Answer) → IsTrueAnswer made a → IsTrueSaid made (said_for a)
 true_said made (Replied answer) h = h
 true_said made (Sent line) h = h
 true_said made calls.NoTurn h = tt
 
-good_told : (made : Made) (s : Step) → IsGood made s → IsGoodTold made (told_by s)
-good_told made s good = record { said = true_said made s.answer good.answer; jobs = good.jobs }
+call_good : (made : Made) (t : Tenant) (e : Event) → AreKnown made t.jobs → IsGoodTold made e (told_by (step t e))
+call_good made t e known = record {
+  said = true_said made (step t e).answer (step_told made t e known);
+  jobs = λ ok new. (step_good made t e known ok (λ plan quanta s is told. new plan quanta s is (ap said_for told))).jobs;
+}
 
-back_good : (made : Made) (t : Tenant) (s : ℕ) → AreKnown made t.jobs → IsGoodTold made (given_back t s)
-back_good made t s known =
-    let e : Event = event.Give s (nodes_out (find_job s t.jobs)) in
-    good_told made (step t e) (step_good made t e known tt (λ plan quanta n is told. absurd (cc)))
+turn_good : (made : Made) (e : Event) (a : Answer) (t : Tenant) (s : ℕ) → IsTrueAnswer made a → AreKnown made t.jobs → IsGoodTold made e (turned a t s)
+turn_good made e (Sent line) t s h known =
+    let back = call_good made t (call_for t (Give s)) known in
+    record { said = back.said; jobs = λ _ _. back.jobs tt (λ plan quanta n is. absurd (cc)) }
+turn_good made e (Replied answer) t s h known = record { said = h; jobs = λ _ _. known }
+turn_good made e calls.NoTurn t s h known = record { said = tt; jobs = λ _ _. known }
 
-turned_good : (made : Made) (a : Answer) (t : Tenant) (s : ℕ) → IsTrueAnswer made a → AreKnown made t.jobs → IsGoodTold made (turned a t s)
-turned_good made (Sent line) t s h known = back_good made t s known
-turned_good made (Replied answer) t s h known = record { said = h; jobs = known }
-turned_good made calls.NoTurn t s h known = record { said = tt; jobs = known }
+told_good : (made : Made) (t : Tenant) → AreKnown made t.jobs → Cases t (IsGoodTold made)
+told_good made t known = record {
+  refuses = λ e. record { said = tt; jobs = λ _ _. known };
+  steps = λ e. call_good made t e known;
+  turns = λ s slice.
+      let e : Event = event.Take s slice in
+      let good = step_good made t e known tt (λ plan quanta n is. absurd (cc)) in
+      turn_good made e (step t e).answer (step t e).after s good.answer good.jobs;
+}
 
--- what a submit makes is known
-abbrev IsMade : Made → Tenant → What → Type 0
-IsMade made t (Submit kind quanta project) =
-    (s : ℕ) → (step t (event.Submit (record { project = project; kind = kind }) quanta)).answer ≡ Replied (reply.Job s) → made s (record { project = project; kind = kind })
-IsMade made t what = ⊤
+-- a number that is said is not below the next, and the next is above it then
+record IsNumberedTold (t : Tenant) (e : Event) (it : Told) : Type 0 where
+  grows : t.next ≤ it.after.next
+  told : (s : ℕ) → it.said ≡ said.Reply (reply.Job s) → (t.next ≤ s) × (s < it.after.next)
 
-told_good : (made : Made) (t : Tenant) (what : What) → AreKnown made t.jobs → IsPlannedWhat what → IsMade made t what → IsGoodTold made (told_to t what)
-told_good made t (Submit kind quanta project) known planned new =
-    let plan : Plan = record { project = project; kind = kind } in
-    good_told made (step t (event.Submit plan quanta)) (step_good made t (event.Submit plan quanta) known planned (made_by made t plan quanta new))
-  where
-    made_by : (made : Made) (t : Tenant) (plan : Plan) (quanta : ℕ) → ((s : ℕ) → (step t (event.Submit plan quanta)).answer ≡ Replied (reply.Job s) → made s plan)
-        → (p : Plan) (q s : ℕ) → event.Submit plan quanta ≡ event.Submit p q → (step t (event.Submit plan quanta)).answer ≡ Replied (reply.Job s) → made s p
-    made_by made t plan quanta new p q s is told = let same : plan ≡ p = cc in subst (made s) same (new s told)
-told_good made t (Fund s quanta) known planned new = good_told made (step t (event.Fund s quanta)) (step_good made t (event.Fund s quanta) known tt (λ p q n is told. absurd (cc)))
-told_good made t (Status s) known planned new = good_told made (step t (event.Status s)) (step_good made t (event.Status s) known tt (λ p q n is told. absurd (cc)))
-told_good made t (Fetch s) known planned new = good_told made (step t (event.Fetch s)) (step_good made t (event.Fetch s) known tt (λ p q n is told. absurd (cc)))
-told_good made t (Cancel s) known planned new = good_told made (step t (event.Cancel s)) (step_good made t (event.Cancel s) known tt (λ p q n is told. absurd (cc)))
-told_good made t (Forget s) known planned new = good_told made (step t (event.Forget s)) (step_good made t (event.Forget s) known tt (λ p q n is told. absurd (cc)))
-told_good made t Ledger known planned new = good_told made (step t event.Ledger) (step_good made t event.Ledger known tt (λ p q n is told. absurd (cc)))
-told_good made t (Take s slice) known planned new = good_told made (step t (event.Take s slice)) (step_good made t (event.Take s slice) known tt (λ p q n is told. absurd (cc)))
-told_good made t (Give s) known planned new = back_good made t s known
-told_good made t (Turn s slice) known planned new =
-    let good = step_good made t (event.Take s slice) known tt (λ p q n is told. absurd (cc)) in
-    turned_good made (step t (event.Take s slice)).answer (step t (event.Take s slice)).after s good.answer good.jobs
+said_job : (a : Answer) (s : ℕ) → said_for a ≡ said.Reply (reply.Job s) → a ≡ Replied (reply.Job s)
+said_job (Replied answer) s is = cc
+said_job (Sent line) s is = absurd (cc)
+said_job calls.NoTurn s is = absurd (cc)
 
-under_good : (made : Made) (t : Tenant) (what : What) (refused : Bool) → AreKnown made t.jobs → IsPlannedWhat what
-    → ((refused && may_need t what) ≡ false → IsMade made t what) → IsGoodTold made (told_under refused t what)
-under_good made t what refused known planned new =
-    elim (refused && may_need t what) as (λ b. (refused && may_need t what) ≡ b → IsGoodTold made (cond b (record { said = said.Reply reply.NoMemory; after = t }) (told_to t what))) [
-      | true ↦ λ _. record { said = tt; jobs = known }
-      | false ↦ λ is. told_good made t what known planned (new is)
-    ] refl
+call_numbered : (t : Tenant) (e : Event) → IsNumberedTold t e (told_by (step t e))
+call_numbered t e =
+    let it = step_numbered t e in
+    record {
+      grows = it.grows;
+      told = λ s is. let number = it.gives s (said_job (step t e).answer s is) in (omega (arith, number), omega (arith, number));
+    }
+
+turn_numbered : (t : Tenant) (e : Event) (a : Answer) (u : Tenant) (s : ℕ) → IsNumberedTold t e (told_by (record { answer = a; after = u })) → IsNumberedTold t e (turned a u s)
+turn_numbered t e (Sent line) u s it =
+    let back = call_numbered u (call_for u (Give s)) in
+    record { grows = omega (arith, it.grows, back.grows); told = λ n is. (omega (arith, it.grows, back.told n is), (back.told n is).1) }
+turn_numbered t e (Replied answer) u s it = it
+turn_numbered t e calls.NoTurn u s it = it
+
+told_numbered : (t : Tenant) → Cases t (IsNumberedTold t)
+told_numbered t = record {
+  refuses = λ e. record { grows = omega arith; told = λ s is. absurd (cc) };
+  steps = call_numbered t;
+  turns = λ s slice. let e : Event = event.Take s slice in turn_numbered t e (step t e).answer (step t e).after s (call_numbered t e);
+}
 
 -- ---- all tenants
 
--- what each tenant's jobs are for is known
-abbrev AreAllKnown : ConfigData → (ℕ → Made) → Parts → Type 0
-AreAllKnown config made parts = (u : ℕ) → u < length config.tenants → AreKnown (made u) (part_of config parts u).jobs
+-- there is such a member at that place
+record IsSeated (P : Member → Type 0) (members : List Member) (place : ℕ) : Type 0 where
+  here : place < length members
+  own : P (get_or members place no_member)
 
-record IsGoodNext (config : ConfigData) (made : ℕ → Made) (owner : Option ℕ) (n : Next) : Type 0 where
-  said : (t : ℕ) → owner ≡ Some t → IsTrueSaid (made t) n.line.said
-  jobs : AreAllKnown config made n.parts
-
-quiet_good : (config : ConfigData) (made : ℕ → Made) (owner : Option ℕ) (n : Next) → ((t : ℕ) → IsTrueSaid (made t) n.line.said) → AreAllKnown config made n.parts → IsGoodNext config made owner n
-quiet_good config made owner n true_line known = record { said = λ t is. true_line t; jobs = known }
-
-set_get : (ms : List Member) (k j : ℕ) (m : Member) → (get_or (set ms k m) j no_member ≡ m) ⊎ (get_or (set ms k m) j no_member ≡ get_or ms j no_member)
-set_get [] k j m = inr refl
-set_get (x ∷ ms) zero zero m = inl refl
-set_get (x ∷ ms) zero (suc j) m = inr refl
-set_get (x ∷ ms) (suc k) zero m = inr refl
-set_get (x ∷ ms) (suc k) (suc j) m = set_get ms k j m
-
-set_apart : (ms : List Member) (k j : ℕ) (m : Member) → j ≢ k → get_or (set ms k m) j no_member ≡ get_or ms j no_member
-set_apart [] k j m ne = refl
-set_apart (x ∷ ms) zero zero m ne = absurd (ne refl)
-set_apart (x ∷ ms) zero (suc j) m ne = refl
-set_apart (x ∷ ms) (suc k) zero m ne = refl
-set_apart (x ∷ ms) (suc k) (suc j) m ne = set_apart ms k j m (λ e. ne (ap suc e))
+abbrev AreSeated : ConfigData → (ℕ → Member → Type 0) → Parts → Type 0
+AreSeated config P parts = (u : ℕ) → u < length config.tenants → IsSeated (P u) (parts (purse_in config u)).members (place_in config u)
 
 -- two members of one purse have different places
 places_differ : (config : ConfigData) (t u : ℕ) → t < length config.tenants → u < length config.tenants → purse_in config u ≡ purse_in config t → u ≢ t → place_in config u ≢ place_in config t
@@ -127,166 +147,225 @@ places_differ config t u known also same ne e =
     let there = found_at names u (named config.tenants u also) in
     ne (sym there ∙ ap (λ p. get_or (members_of names p) (place_in config u) 0) same ∙ ap (λ k. get_or (members_of names (purse_in config t)) k 0) e ∙ here)
 
-parts_good : (config : ConfigData) (made : ℕ → Made) (parts : Parts) (t : ℕ) (new : Tenant) → t < length config.tenants → AreAllKnown config made parts → AreKnown (made t) new.jobs
-    → AreAllKnown config made (with_tenant config parts t new)
-parts_good config made parts t new known all good u also =
+-- where one tenant stands otherwise, and the others as they stood
+seated_on : (config : ConfigData) (P Q : ℕ → Member → Type 0) (parts : Parts) (t : ℕ) (new : Tenant) → t < length config.tenants → AreSeated config P parts
+    → ((u : ℕ) → u ≢ t → (m : Member) → P u m → Q u m) → Q t (own_of new) → AreSeated config Q (with_tenant config parts t new)
+seated_on config P Q parts t new known all others good u also =
     let p = purse_in config t in
-    let q = purse_in config u in
     let place = place_in config t in
-    let then : Purse = with_seat (parts p) place new in
+    let ms : List Member = (parts p).members in
+    let after : Purse = with_seat (parts p) place new in
+    let count : length (set ms place (own_of new)) ≡ length ms = length-set ms place (own_of new) in
+    let first : IsSeated (Q t) after.members place = record {
+      here = omega (arith, (all t known).here, count);
+      own = subst (Q t) (sym (set_own ms place (own_of new) no_member (all t known).here)) good;
+    } in
     ⊎_elim
-    (λ (same : q ≡ p).
-    let here : with_tenant config parts t new q ≡ then = ap (λ b. cond b then (parts q)) (eq-eqb q p same) in
-    let old : parts p ≡ parts q = ap parts (sym same) in
-    subst (λ (x : Purse). AreKnown (made u) (seat x (place_in config u)).jobs) (sym here)
-    (⊎_elim
-    (λ (e : u ≡ t).
-    ⊎_elim
-    (λ (is : get_or then.members (place_in config u) no_member ≡ own_of new). subst (λ (m : Member). AreKnown (made u) m.jobs) (sym is) (subst (λ k. AreKnown (made k) new.jobs) (sym e) good))
-    (λ (is : get_or then.members (place_in config u) no_member ≡ get_or (parts p).members (place_in config u) no_member).
-    subst (λ (m : Member). AreKnown (made u) m.jobs) (sym is) (subst (λ (x : Purse). AreKnown (made u) (seat x (place_in config u)).jobs) (sym old) (all u also)))
-    (set_get (parts p).members place (place_in config u) (own_of new)))
-    (λ (d : u ≡ t → ⊥).
-    subst (λ (m : Member). AreKnown (made u) m.jobs) (sym (set_apart (parts p).members place (place_in config u) (own_of new) (places_differ config t u known also same d)))
-    (subst (λ (x : Purse). AreKnown (made u) (seat x (place_in config u)).jobs) (sym old) (all u also)))
-    (cases_eq u t)))
-    (λ (differ : q ≡ p → ⊥).
-    let here : with_tenant config parts t new q ≡ parts q = ap (λ b. cond b then (parts q)) (not_same q p differ) in
-    subst (λ (x : Purse). AreKnown (made u) (seat x (place_in config u)).jobs) (sym here) (all u also))
-    (cases_eq q p)
-  where
-    not_same : (u t : ℕ) → (u ≡ t → ⊥) → (u == t) ≡ false
-    not_same u t d = elim (u == t) as (λ b. (u == t) ≡ b → b ≡ false) [ true ↦ λ e. absurd (d (eqb-true u t e)) | false ↦ λ _. refl ] refl
-
-asked_good : (config : ConfigData) (made : ℕ → Made) (refused : Bool) (parts : Parts) (request : Request) (owner : Option ℕ) → ((t : ℕ) → owner ≡ Some t → t < length config.tenants)
-    → AreAllKnown config made parts → IsPlannedWhat request.what
-    → ((t : ℕ) → owner ≡ Some t → (refused && may_need (part_of config parts t) request.what) ≡ false → IsMade (made t) (part_of config parts t) request.what)
-    → IsGoodNext config made owner (answered config refused parts (heard_for request.who request.what owner))
-asked_good config made refused parts request None there known planned new = quiet_good config made None (answered config refused parts (heard_for request.who request.what None)) (λ t. tt) known
-asked_good config made refused parts request (Some t) there known planned new =
-    let it : Told = told_under refused (part_of config parts t) request.what in
-    let good = under_good (made t) (part_of config parts t) request.what refused (known t (there t refl)) planned (new t refl) in
+    (λ (same : u ≡ t).
+    subst (λ k. IsSeated (Q k) (with_tenant config parts t new (purse_in config k)).members (place_in config k)) (sym same)
+    (subst (λ b. IsSeated (Q t) (cond b after (parts p)).members place) (sym (eq-eqb p p refl)) first))
+    (λ (differ : u ≡ t → ⊥).
+    let q = purse_in config u in
+    let was = all u also in
+    cond_both (q == p) after (parts q) (λ (x : Purse). IsSeated (Q u) x.members (place_in config u))
+    (λ h.
+    let mates : q ≡ p = eqb-true q p h in
+    let there : IsSeated (P u) ms (place_in config u) = subst (λ k. IsSeated (P u) (parts k).members (place_in config u)) mates was in
     record {
-      said = λ u is. let same : t ≡ u = cc in subst (λ k. IsTrueSaid (made k) it.said) same good.said;
-      jobs = parts_good config made parts t it.after (there t refl) known good.jobs;
-    }
+      here = omega (arith, there.here, count);
+      own = subst (Q u) (sym (set_other ms (place_in config u) place (own_of new) no_member (places_differ config t u known also mates differ))) (others u differ _ there.own);
+    })
+    (λ _. record { here = was.here; own = others u differ _ was.own }))
+    (cases_eq u t)
 
+-- the tenant whose request it is
 abbrev owner_of : ConfigData → Result Request LineFault → Option ℕ
 owner_of config (Ok request) = number_of request.who config
 owner_of config (Err fault) = None
 
--- what a request makes is known
-abbrev NewAt : (ℕ → Made) → ConfigData → Bool → Parts → Result Request LineFault → Type 0
-NewAt made config refused parts (Ok request) =
-    (t : ℕ) → number_of request.who config ≡ Some t → (refused && may_need (part_of config parts t) request.what) ≡ false → IsMade (made t) (part_of config parts t) request.what
-NewAt made config refused parts (Err fault) = ⊤
+-- a tenant of the farm asks for this
+record IsAsked (config : ConfigData) (m : Marked) : Type 0 where
+  who : List ℕ
+  what : What
+  tenant : ℕ
+  asks : m.item.answer ≡ Ok (record { who = who; what = what })
+  number : number_of who config ≡ Some tenant
 
--- bytes that are no request change nothing
-fault_good : (made : ℕ → Made) (config : ConfigData) (refused : Bool) (parts : Parts) (why : LineFault) → AreAllKnown config made parts → IsGoodNext config made None (answered config refused parts (heard_of config (Err why)))
-fault_good made config refused parts Eof known = quiet_good config made None (answered config refused parts (heard_of config (Err Eof))) (λ t. tt) known
-fault_good made config refused parts Read known = quiet_good config made None (answered config refused parts (heard_of config (Err Read))) (λ t. tt) known
-fault_good made config refused parts (TooLong who) known = quiet_good config made None (answered config refused parts (heard_of config (Err (TooLong who)))) (λ t. tt) known
-fault_good made config refused parts (Syntax who) known = quiet_good config made None (answered config refused parts (heard_of config (Err (Syntax who)))) (λ t. tt) known
-fault_good made config refused parts (File who f) known = quiet_good config made None (answered config refused parts (heard_of config (Err (File who f)))) (λ t. tt) known
-fault_good made config refused parts (NoMemory who) known = quiet_good config made None (answered config refused parts (heard_of config (Err (NoMemory who)))) (λ t. tt) known
+-- the tenant that asks is the owner
+own_asked : (config : ConfigData) (m : Marked) (a : IsAsked config m) (t : ℕ) → owner_of config m.item.answer ≡ Some t → a.tenant ≡ t
+own_asked config m a t own = let same : Some a.tenant ≡ Some t = sym a.number ∙ sym (ap (owner_of config) a.asks) ∙ own in cc
 
-answered_good : (made : ℕ → Made) (config : ConfigData) (refused : Bool) (parts : Parts) (answer : Result Request LineFault) → AreAllKnown config made parts → IsPlannedRequest answer
-    → NewAt made config refused parts answer → IsGoodNext config made (owner_of config answer) (answered config refused parts (heard_of config answer))
-answered_good made config refused parts (Ok request) known planned new = asked_good config made refused parts request (number_of request.who config) (λ t at. known_number request.who config t at) known planned new
-answered_good made config refused parts (Err why) known planned new = fault_good made config refused parts why known
+-- what is so where nothing changes and no tenant is told of a job, and where one asks for something, is so of each request
+next_so : (config : ConfigData) (parts : Parts) (m : Marked) (P : Next → Type 0)
+    → ((who : Option (List ℕ)) (words : Said) → ((t : ℕ) → owner_of config m.item.answer ≡ Some t → words ≡ said.Reply reply.NoMemory) → P (says who words parts))
+    → ((a : IsAsked config m) → let it : Told = told_under m.refused (part_of config parts a.tenant) a.what in P (says (Some a.who) it.said (with_tenant config parts a.tenant it.after)))
+    → P (next config parts m)
+next_so config parts m P quiet asked =
+    cond_both (is_unread m) _ _ P (λ _. quiet (who_in m.item.answer) (said.Reply reply.NoMemory) (λ t own. refl)) (λ _. by m.item.answer refl)
+  where
+    silent : (a : Result Request LineFault) (words : Said) → m.item.answer ≡ a → owner_of config a ≡ None → (t : ℕ) → owner_of config m.item.answer ≡ Some t → words ≡ said.Reply reply.NoMemory
+    silent a words is none t own = let nobody : None ≡ Some t = sym none ∙ sym (ap (owner_of config) is) ∙ own in absurd (cc)
 
-next_good : (made : ℕ → Made) (config : ConfigData) (parts : Parts) (m : Marked) → AreAllKnown config made parts → IsPlannedRequest m.item.answer
-    → (is_unread m ≡ false → NewAt made config m.refused parts m.item.answer) → IsGoodNext config made (owner_of config m.item.answer) (next config parts m)
-next_good made config parts m known planned new =
-    let owner = owner_of config m.item.answer in
-    elim (is_unread m) as (λ unread. is_unread m ≡ unread → IsGoodNext config made owner (next_if unread config parts m)) [
-      | true ↦ λ _. quiet_good config made owner (says (who_in m.item.answer) (said.Reply reply.NoMemory) parts) (λ t. tt) known
-      | false ↦ λ read. answered_good made config m.refused parts m.item.answer known planned (new read)
-    ] refl
+    owned : (request : Request) (owner : Option ℕ) → m.item.answer ≡ Ok request → number_of request.who config ≡ owner
+        → P (answered config m.refused parts (heard_for request.who request.what owner))
+    owned request None is at = quiet (Some request.who) said.NoTenant (silent (Ok request) said.NoTenant is at)
+    owned request (Some t) is at = asked (record { who = request.who; what = request.what; tenant = t; asks = is; number = at })
+
+    by : (a : Result Request LineFault) → m.item.answer ≡ a → P (answered config m.refused parts (heard_of config a))
+    by (Ok request) is = owned request (number_of request.who config) is refl
+    by (Err why) is = subst P (sym ((settled why).1 config m.refused parts)) (quiet (who_in (Err why)) (settled why).0 (silent (Err why) (settled why).0 is refl))
+
+-- ---- truth
+
+abbrev Knows : (ℕ → Made) → ℕ → Member → Type 0
+Knows made u m = AreKnown (made u) m.jobs
+
+planned_call : (t : Tenant) (what : What) → IsPlannedWhat what → IsPlanned (call_for t what)
+planned_call t (Submit kind quanta project) ok = ok
+planned_call t what ok = tt
+
+submits : (t : Tenant) (what : What) (plan : Plan) (quanta : ℕ) → call_for t what ≡ event.Submit plan quanta → what ≡ Submit plan.kind quanta plan.project
+submits t (Submit kind q project) plan quanta is =
+    let same : (let p : Plan = record { project = project; kind = kind } in p) ≡ plan = cc in
+    let amount : q ≡ quanta = cc in
+    ap (λ (p : Plan). Submit p.kind q p.project) same ∙ ap (λ n. Submit plan.kind n plan.project) amount
+submits t what plan quanta is = absurd (cc)
+
+-- what is said to its tenant is true, and all jobs stay known where a submit that is told of a job makes it known
+record IsGoodNext (config : ConfigData) (made : ℕ → Made) (m : Marked) (n : Next) : Type 0 where
+  jobs : IsPlannedRequest m.item.answer
+      → ((who : List ℕ) (t s quanta : ℕ) (plan : Plan) → m.item.answer ≡ Ok (record { who = who; what = Submit plan.kind quanta plan.project }) → number_of who config ≡ Some t
+      → n.line.said ≡ said.Reply (reply.Job s) → made t s plan)
+      → AreSeated config (Knows made) n.parts
+  said : (t : ℕ) → owner_of config m.item.answer ≡ Some t → IsTrueSaid (made t) n.line.said
+
+next_good : (config : ConfigData) (made : ℕ → Made) (parts : Parts) (m : Marked) → AreSeated config (Knows made) parts → IsGoodNext config made m (next config parts m)
+next_good config made parts m known =
+    next_so config parts m (IsGoodNext config made m)
+    (λ who words silent. record { said = λ t own. subst (IsTrueSaid (made t)) (sym (silent t own)) tt; jobs = λ ok new. known })
+    (λ a.
+    let t : Tenant = part_of config parts a.tenant in
+    let it : Told = told_under m.refused t a.what in
+    let there = known_number a.who config a.tenant a.number in
+    let good : IsGoodTold (made a.tenant) (call_for t a.what) it =
+    each_told t (IsGoodTold (made a.tenant)) (told_good (made a.tenant) t (known a.tenant there).own) m.refused a.what in
+    record {
+      said = λ u own. subst (λ k. IsTrueSaid (made k) it.said) (own_asked config m a u own) good.said;
+      jobs = λ ok new.
+          seated_on config (Knows made) (Knows made) parts a.tenant it.after there known (λ u differ x h. h)
+          (good.jobs (planned_call t a.what (subst IsPlannedRequest a.asks ok))
+          (λ plan quanta s is.
+          new a.who a.tenant s quanta plan (a.asks ∙ ap (λ w. Ok (let r : Request = record { who = a.who; what = w } in r)) (submits t a.what plan quanta is)) a.number));
+    })
+
+-- ---- numbers
+
+-- tenant t's next number is not below b
+abbrev IsFrom : ℕ → ℕ → ℕ → Member → Type 0
+IsFrom t b u m = u ≡ t → b ≤ m.next
+
+-- it stays so, and a number that t is told is not below b, and the next is above it then
+record IsNumberedNext (config : ConfigData) (t b : ℕ) (m : Marked) (n : Next) : Type 0 where
+  from : AreSeated config (IsFrom t b) n.parts
+  told : (s : ℕ) → owner_of config m.item.answer ≡ Some t → n.line.said ≡ said.Reply (reply.Job s) → (b ≤ s) × AreSeated config (IsFrom t (s + 1)) n.parts
+
+next_numbered : (config : ConfigData) (t b : ℕ) (parts : Parts) (m : Marked) → AreSeated config (IsFrom t b) parts → IsNumberedNext config t b m (next config parts m)
+next_numbered config t b parts m from =
+    next_so config parts m (IsNumberedNext config t b m)
+    (λ who words silent. record {
+      from = from;
+      told = λ s own is. let none : said.Reply reply.NoMemory ≡ said.Reply (reply.Job s) = sym (silent t own) ∙ is in absurd (cc);
+    })
+    (λ a.
+    let v : Tenant = part_of config parts a.tenant in
+    let it : Told = told_under m.refused v a.what in
+    let there = known_number a.who config a.tenant a.number in
+    let number = each_told v (IsNumberedTold v) (told_numbered v) m.refused a.what in
+    record {
+      from = seated_on config (IsFrom t b) (IsFrom t b) parts a.tenant it.after there from (λ u differ x h. h) (λ same. omega (arith, (from a.tenant there).own same, number.grows));
+      told = λ s own is.
+          let same = own_asked config m a t own in (
+            omega (arith, (from a.tenant there).own same, (number.told s is).0),
+            seated_on config (IsFrom t b) (IsFrom t (s + 1)) parts a.tenant it.after there from (λ u differ x h e. absurd (differ (e ∙ sym same))) (λ _. omega (arith, (number.told s is).1)),
+          );
+    })
+
+-- the request at that place of these is tenant t's, and it is told number s
+abbrev IsToldAt : ConfigData → Parts → List Marked → ℕ → ℕ → ℕ → Type 0
+IsToldAt config parts [] t s k = ⊥
+IsToldAt config parts (m ∷ ms) t s zero = (owner_of config m.item.answer ≡ Some t) × ((next config parts m).line.said ≡ said.Reply (reply.Job s))
+IsToldAt config parts (m ∷ ms) t s (suc k) = IsToldAt config (next config parts m).parts ms t s k
+
+not_below : (config : ConfigData) (t s b : ℕ) (parts : Parts) (ms : List Marked) (k : ℕ) → AreSeated config (IsFrom t b) parts → IsToldAt config parts ms t s k → b ≤ s
+not_below config t s b parts [] k from it = absurd it
+not_below config t s b parts (m ∷ ms) zero from it = ((next_numbered config t b parts m from).told s it.0 it.1).0
+not_below config t s b parts (m ∷ ms) (suc k) from it = not_below config t s b (next config parts m).parts ms k (next_numbered config t b parts m from).from it
+
+-- a number that was told is not told later
+never_again : (config : ConfigData) (t s b : ℕ) (parts : Parts) (m : Marked) (ms : List Marked) (k : ℕ) → AreSeated config (IsFrom t b) parts
+    → IsToldAt config parts (m ∷ ms) t s zero → IsToldAt config parts (m ∷ ms) t s (suc k) → ⊥
+never_again config t s b parts m ms k from here there =
+    let later = not_below config t s (s + 1) (next config parts m).parts ms k ((next_numbered config t b parts m from).told s here.0 here.1).1 there in omega arith
+
+one_request : (config : ConfigData) (t s b : ℕ) (parts : Parts) (ms : List Marked) (i j : ℕ) → AreSeated config (IsFrom t b) parts
+    → IsToldAt config parts ms t s i → IsToldAt config parts ms t s j → i ≡ j
+one_request config t s b parts [] i j from here there = absurd here
+one_request config t s b parts (m ∷ ms) zero zero from here there = refl
+one_request config t s b parts (m ∷ ms) zero (suc j) from here there = absurd (never_again config t s b parts m ms j from here there)
+one_request config t s b parts (m ∷ ms) (suc i) zero from here there = absurd (never_again config t s b parts m ms i from there here)
+one_request config t s b parts (m ∷ ms) (suc i) (suc j) from here there =
+    ap suc (one_request config t s b (next config parts m).parts ms i j (next_numbered config t b parts m from).from here there)
 
 -- ---- a whole script
 
-no_jobs : (lines : List TenantLine) (place : ℕ) → (get_or (map new_member lines) place no_member).jobs ≡ []
-no_jobs [] place = refl
-no_jobs (line ∷ lines) zero = refl
-no_jobs (line ∷ lines) (suc place) = no_jobs lines place
-
-module _ (config : ConfigData) (all : List Marked) where
-  made_in : ℕ → Made
-  made_in u = WasSubmitted config all u
-
-  after : List Marked → Parts
-  after done = parts_after config (opening config) done
-
-  says_job : (parts : Parts) (m : Marked) (who : List ℕ) (kind : Kind) (quanta : ℕ) (project : ProjectData) (t s : ℕ) → m.item.answer ≡ Ok (record { who = who; what = Submit kind quanta project })
-      → is_unread m ≡ false → number_of who config ≡ Some t → (m.refused && may_need (part_of config parts t) (Submit kind quanta project)) ≡ false
-      → (step (part_of config parts t) (event.Submit (record { project = project; kind = kind }) quanta)).answer ≡ Replied (reply.Job s) → said.Reply (reply.Job s) ≡ (next config parts m).line.said
-  says_job parts m who kind quanta project t s asks read number kept told =
-      let r : Bool = m.refused in
-      ap said_for (sym told)
-      ∙ ap (λ b. (cond b (let it : Told = record { said = said.Reply reply.NoMemory; after = part_of config parts t } in it) (told_to (part_of config parts t) (Submit kind quanta project))).said) (sym kept)
-      ∙ ap (λ n. (answered config r parts (heard_for who (Submit kind quanta project) n)).line.said) (sym number)
-      ∙ ap (λ a. (answered config r parts (heard_of config a)).line.said) (sym asks)
-      ∙ ap (λ b. (next_if b config parts m).line.said) (sym read)
-
-  new_by : (before : List Marked) (m : Marked) (behind : List Marked) → all ≡ before ++ m ∷ behind → (who : List ℕ) (what : What) → m.item.answer ≡ Ok (record { who = who; what = what })
-      → is_unread m ≡ false → (t : ℕ) → number_of who config ≡ Some t → (m.refused && may_need (part_of config (after before) t) what) ≡ false
-      → IsMade (made_in t) (part_of config (after before) t) what
-  unfolding made_in after
-  new_by before m behind whole who (Submit kind quanta project) asks read t number kept = λ s told. (
-    quanta,
+seated_opening : (config : ConfigData) (P : ℕ → Member → Type 0) → ((u : ℕ) (line : TenantLine) → P u (new_member line)) → AreSeated config P (opening config)
+unfolding newcomers
+seated_opening config P each u known =
+    let lines = lines_of config.tenants (purse_in config u) in
+    let count = length-map (members_of (purse_names config.tenants) (purse_in config u)) (λ t. get_or config.tenants t no_terms) in
     record {
-      before = before;
-      request = m;
-      behind = behind;
-      whole = whole;
-      who = who;
-      asks = asks;
-      number = number;
-      says = says_job (parts_after config (opening config) before) m who kind quanta project t s asks read number kept told;
-    },
-  )
-  new_by before m behind whole who (Fund s q) asks read t number kept = tt
-  new_by before m behind whole who (Status s) asks read t number kept = tt
-  new_by before m behind whole who (Fetch s) asks read t number kept = tt
-  new_by before m behind whole who (Cancel s) asks read t number kept = tt
-  new_by before m behind whole who (Forget s) asks read t number kept = tt
-  new_by before m behind whole who Ledger asks read t number kept = tt
-  new_by before m behind whole who (Take s slice) asks read t number kept = tt
-  new_by before m behind whole who (Give s) asks read t number kept = tt
-  new_by before m behind whole who (Turn s slice) asks read t number kept = tt
+      here = omega (arith, place_known (purse_names config.tenants) u (named config.tenants u known), length-map lines new_member, count);
+      own = by lines (place_in config u);
+    }
+  where
+    by : (lines : List TenantLine) (place : ℕ) → P u (get_or (map new_member lines) place no_member)
+    by [] place = each u no_terms
+    by (line ∷ lines) zero = each u line
+    by (line ∷ lines) (suc place) = by lines place
 
-  new_at : (before : List Marked) (m : Marked) (behind : List Marked) → all ≡ before ++ m ∷ behind → is_unread m ≡ false → (answer : Result Request LineFault)
-      → m.item.answer ≡ answer → NewAt made_in config m.refused (after before) answer
-  new_at before m behind whole read (Ok request) is = λ t number kept. new_by before m behind whole request.who request.what is read t number kept
-  new_at before m behind whole read (Err why) is = tt
+known_on : (config : ConfigData) (all done todo : List Marked) → all ≡ done ++ todo → ArePlanned todo → AreSeated config (Knows (WasSubmitted config all)) (parts_after config (opening config) done)
+    → AreSeated config (Knows (WasSubmitted config all)) (parts_after config (opening config) all)
+known_on config all done [] whole planned known =
+    subst (λ l. AreSeated config (Knows (WasSubmitted config all)) (parts_after config (opening config) l)) (sym (whole ∙ append-nil done)) known
+known_on config all done (m ∷ ms) whole planned known =
+    known_on config all (done ++ m ∷ []) ms (whole ∙ sym (append_assoc done (m ∷ []) ms)) planned.1
+    (subst (AreSeated config (Knows (WasSubmitted config all))) (sym (parts_more config (opening config) done m))
+    ((next_good config (WasSubmitted config all) (parts_after config (opening config) done) m known).jobs planned.0
+    (λ who t s quanta plan asks number told.
+    (quanta, record { before = done; request = m; behind = ms; whole = whole; who = who; asks = asks; number = number; says = sym told }))))
 
-  good_at : (before : List Marked) (m : Marked) (behind : List Marked) → all ≡ before ++ m ∷ behind → AreAllKnown config made_in (after before) → IsPlannedRequest m.item.answer
-      → IsGoodNext config made_in (owner_of config m.item.answer) (next config (after before) m)
-  good_at before m behind whole known planned = next_good made_in config (after before) m known planned (λ read. new_at before m behind whole read m.item.answer refl)
+planned_front : (xs ys : List Marked) → ArePlanned (xs ++ ys) → ArePlanned xs
+planned_front [] ys h = tt
+planned_front (x ∷ xs) ys h = (h.0, planned_front xs ys h.1)
 
-  known_on : (done todo behind : List Marked) → all ≡ done ++ (todo ++ behind) → ArePlanned todo → AreAllKnown config made_in (after done) → AreAllKnown config made_in (after (done ++ todo))
-  unfolding after
-  known_on done [] behind whole planned known = subst (λ l. AreAllKnown config made_in (after l)) (sym (append-nil done)) known
-  known_on done (m ∷ ms) behind whole planned known =
-      let good = good_at done m (ms ++ behind) whole known planned.0 in
-      let more : AreAllKnown config made_in (after (done ++ m ∷ [])) = subst (AreAllKnown config made_in) (sym (parts_more config (opening config) done m)) good.jobs in
-      subst (λ l. AreAllKnown config made_in (after l)) (append_assoc done (m ∷ []) ms)
-      (known_on (done ++ m ∷ []) ms behind (whole ∙ sym (append_assoc done (m ∷ []) (ms ++ behind))) planned.1 more)
-
-  none_known : AreAllKnown config made_in (after [])
-  unfolding after newcomers
-  none_known u known = rw (no_jobs (lines_of config.tenants (purse_in config u)) (place_in config u)) tt
-
-planned_parts : (xs ys : List Marked) → ArePlanned (xs ++ ys) → ArePlanned xs × ArePlanned ys
-planned_parts [] ys h = (tt, h)
-planned_parts (x ∷ xs) ys h = let p = planned_parts xs ys h.1 in ((h.0, p.0), p.1)
+told_at : (config : ConfigData) (requests : List Marked) (t s : ℕ) (what : What) → (it : IsAnswered config requests t what (said.Reply (reply.Job s)))
+    → IsToldAt config (opening config) requests t s (length it.before)
+told_at config requests t s what it =
+    subst (λ ms. IsToldAt config (opening config) ms t s (length it.before)) (sym it.whole) (by (opening config) it.before (ap (owner_of config) it.asks ∙ it.number, sym it.says))
+  where
+    by : (parts : Parts) (ms : List Marked) → IsToldAt config (parts_after config parts ms) (it.request ∷ []) t s zero → IsToldAt config parts (ms ++ it.request ∷ it.behind) t s (length ms)
+    by parts [] h = h
+    by parts (m ∷ ms) h = by (next config parts m).parts ms h
 
 pub each_line_is_true : ReadingGivesProjects → EachLineIsTrue
-unfolding made_in after
-each_line_is_true projects config script requests is t what words it =
-    let planned = script_planned projects script requests is in
-    let parts = planned_parts it.before (it.request ∷ it.behind) (subst ArePlanned it.whole planned) in
-    let known = known_on config requests [] it.before (it.request ∷ it.behind) it.whole parts.0 (none_known config requests) in
-    let good = good_at config requests it.before it.request it.behind it.whole known parts.1.0 in
-    subst (IsTrueSaid (WasSubmitted config requests t)) (sym it.says) (good.said t (ap (owner_of config) it.asks ∙ it.number))
+each_line_is_true projects = record {
+  told = λ config script requests is t what words it.
+      let planned = subst ArePlanned it.whole (script_planned projects script requests is) in
+      let known = known_on config it.before [] it.before refl (planned_front it.before (it.request ∷ it.behind) planned)
+      (seated_opening config (Knows (WasSubmitted config it.before)) (λ u line. tt)) in
+      let good = next_good config (WasSubmitted config it.before) (parts_after config (opening config) it.before) it.request known in
+      subst (IsTrueSaid (WasSubmitted config it.before t)) (sym it.says) (good.said t (ap (owner_of config) it.asks ∙ it.number));
+  one = λ config requests t s what other here there.
+      one_request config t s 0 (opening config) requests (length here.before) (length there.before) (seated_opening config (IsFrom t 0) (λ u line same. omega arith))
+      (told_at config requests t s what here) (told_at config requests t s other there);
+}

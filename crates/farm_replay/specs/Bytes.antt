@@ -34,7 +34,7 @@ EachOutputIsAlone = (config : ConfigData) (script : List ℕ) (requests : List M
     lines_beginning names (output_of config requests) ≡ lines_of (output_of config (own_requests config p requests))
 
 -- and so they are the same in the outputs of two scripts in which the purse begins alike, has members of the same names at the same places,
--- and these ask for the same
+-- and these ask for the same and are refused memory for the same
 abbrev pub OutputsAreIsolated : Type 0
 OutputsAreIsolated = (config elsewhere : ConfigData) (script other : List ℕ) (requests others : List Marked) →
     items_of requests ≡ requests_of script → items_of others ≡ requests_of other →

@@ -7,7 +7,7 @@ use Rattle.farm_core.specs.declared.reply.Reply.TheVariants as reply
 use Rattle.farm_core.specs.declared.reply.NoTurn.{NoTurn}
 use Rattle.farm_core.specs.declared.reply.NoTurn.TheVariants as no_turn
 use Rattle.farm_core.specs.Tenant.{find_job, with_seat}
-use Rattle.farm_core.specs.World.{World, view, purse_in, place_in, purse}
+use Rattle.farm_core.specs.World.{World, view, purse_in, place_in, purse, IsReplayed}
 use Rattle.farm_core.specs.Held.{AreHeld, is_out_of}
 use Rattle.session_lines.specs.declared.request.What.{What}
 use Rattle.session_lines.specs.declared.said.Said.{Said}
@@ -26,11 +26,12 @@ abbrev pub AreApart : {J : Type 0} → List (Turn J) → Type 0
 AreApart [] = ⊤
 AreApart (turn ∷ turns) = (has_turn turn.tenant turn.seq turns ≡ false) × AreApart turns
 
--- each turn is of a job that is out, and has not run; each job that is out has its turn here, and one alone
+-- each turn is of a job that is out, and has not run; each job that is out has its turn here, and one alone; and the farm is where its journal leads
 pub record IsFloor {J : Type 0} (meaning : J → Meaning) (w : World) (turns : List (Turn J)) : Type 0 where
   pub held : AreHeld meaning w turns
   pub apart : AreApart turns
   pub all : (t s : ℕ) → is_out_of (find_job s (view t w).jobs) ≡ true → has_turn t s turns ≡ true
+  pub replayed : IsReplayed w
 
 -- a tenant's request was answered, whether or not memory was refused: its purse stands as after that, and nothing changed for the other purses
 pub record IsTold (old : World) (t : ℕ) (what : What) (answer : Said) (new : World) : Type 0 where

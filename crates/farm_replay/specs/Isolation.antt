@@ -40,8 +40,8 @@ abbrev pub EachReplaysAlone : Type 0
 EachReplaysAlone = (config : ConfigData) (requests : List Marked) (p : ℕ) →
     own_lines config p (lines_for config (opening config) requests) ≡ lines_for config (opening config) (own_requests config p requests)
 
--- two replays in which a purse begins alike, has members of the same names at the same places, and these ask for the same, tell them the same,
--- whatever the other tenants do
+-- two replays in which a purse begins alike, has members of the same names at the same places, and these ask for the same and
+-- are refused memory for the same, tell them the same, whatever the other tenants do
 abbrev pub ReplaysAreIsolated : Type 0
 ReplaysAreIsolated = (config elsewhere : ConfigData) (requests others : List Marked) (p q : ℕ) →
     opened_purse config p ≡ opened_purse elsewhere q → ((who : List ℕ) → seat_of config p who ≡ seat_of elsewhere q who) →

@@ -8,6 +8,7 @@ use Rattle.farm_core.specs.Config.{ConfigData}
 use Rattle.farm_core.specs.Tenant.{Tenant, Purse, seat, with_seat, find_job}
 use Rattle.farm_core.specs.Step as step
 use Rattle.farm_core.specs.Step.{Step, Answer, Replied, Sent, step, has_room}
+use Rattle.farm_core.specs.Command.{is_line}
 use Rattle.farm_core.specs.World.{purse_in, place_in, opened_purse}
 use Rattle.farm_core.specs.Held.{nodes_out}
 use Rattle.session_lines.specs.declared.request.Request.{Request}
@@ -65,11 +66,7 @@ told_to t (Take s slice) = told_by (step t (event.Take s slice))
 told_to t (Give s) = given_back t s
 told_to t (Turn s slice) = turned (step t (event.Take s slice)).answer (step t (event.Take s slice)).after s
 
-abbrev pub is_line : Answer → Bool
-is_line (Replied (reply.Line line)) = true
-is_line answer = false
-
--- whether a request may need memory: a submit and a turn that is taken do; a give does not; and a command does only where the journal has room
+-- whether a request may need memory: a submit and a request for a turn do, also where there is none to take; a give does not; and a command does only where the journal has room
 -- for its entry, but for a cancel that is accepted
 abbrev pub may_need : Tenant → What → Bool
 may_need t (Submit kind quanta project) = true

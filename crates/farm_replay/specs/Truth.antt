@@ -1,5 +1,5 @@
 -- Why what a replay writes about a job is true.
-use Rattle.std.specs.Prelude.{◌≡◌, ℕ, ⊤, List, ◌∷◌, ◌++◌, Some, Ok}
+use Rattle.std.specs.Prelude.{◌≡◌, ℕ, ⊤, List, ◌∷◌, ◌++◌, length, Some, Ok}
 use Rattle.strategy.specs.declared.plan.Plan.{Plan}
 use Rattle.farm_core.specs.declared.reply.Reply.TheVariants as reply
 use Rattle.farm_core.specs.Config.{ConfigData}
@@ -36,8 +36,14 @@ pub record IsAnswered (config : ConfigData) (requests : List Marked) (t : ℕ) (
 abbrev pub WasSubmitted : ConfigData → List Marked → ℕ → ℕ → Plan → Type 0
 WasSubmitted config requests t s plan = (quanta : ℕ) × IsAnswered config requests t (Submit plan.kind quanta plan.project) (said.Reply (reply.Job s))
 
--- in the output of a script, whatever memory was refused, each line about a job is true of the plan that its tenant has submitted under that number: a
--- schedule is feasible and has the makespan that is named, with 'optimal' no feasible schedule is shorter, and with 'infeasible' there is none
-abbrev pub EachLineIsTrue : Type 0
-EachLineIsTrue = (config : ConfigData) (script : List ℕ) (requests : List Marked) → items_of requests ≡ requests_of script → (t : ℕ) (what : What) (words : Said) →
-    IsAnswered config requests t what words → IsTrueSaid (WasSubmitted config requests t) words
+-- in the output of a script, whatever memory was refused, each line about a job is true of a plan that its tenant has
+-- submitted under that number before it: a schedule is feasible and has the makespan that is named, with 'optimal' no
+-- feasible schedule is shorter, and with 'infeasible' there is none. And only one request of a tenant is told that it made
+-- the job of a number, so no two plans of a tenant were submitted under one
+pub record EachLineIsTrue : Type 0 where
+  pub told : (config : ConfigData) (script : List ℕ) (requests : List Marked) → items_of requests ≡ requests_of script →
+      (t : ℕ) (what : What) (words : Said) → (it : IsAnswered config requests t what words) →
+      IsTrueSaid (WasSubmitted config it.before t) words
+  pub one : (config : ConfigData) (requests : List Marked) (t s : ℕ) (what other : What) →
+      (here : IsAnswered config requests t what (said.Reply (reply.Job s))) →
+      (there : IsAnswered config requests t other (said.Reply (reply.Job s))) → length here.before ≡ length there.before

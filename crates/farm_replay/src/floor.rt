@@ -2,17 +2,17 @@
 ghost use Rattle.std.specs.Prelude.{◌≡◌, ◌≢◌, ℕ, ◌<◌, ◌-◌, [], length, position, false, IfOk, IfErr, IfSome};
 ghost use Rattle.quanta_till.specs.Lease.{empty_lease};
 ghost use Rattle.farm_core.specs.Tenant.{find_job};
-ghost use Rattle.farm_core.specs.World.{World, opened, purse_in, view, IsReplayed, Follows};
+ghost use Rattle.farm_core.specs.World.{opened, purse_in, view, Follows};
 ghost use Rattle.farm_core.specs.Step.{Sent};
 ghost use Rattle.farm_core.specs.Turn.{IsNotTaken};
-ghost use Rattle.farm_core.specs.Held.{is_out_of, TakenTurnsAreHeld, TakenJobsWereNotOut, TurnsStayHeld, HeldTurnsAreNoStrangers, HeldTurnsRunTheirNodes, OnlyTakenJobsAreOut, GivenJobsAreNotOut};
+ghost use Rattle.farm_core.specs.Held.{is_out_of};
 ghost use Rattle.session_lines.specs.declared.request.What.TheVariants as what;
 ghost use Rattle.farm_replay.specs.Counter.{counter_of, counter_for};
 ghost use Rattle.farm_replay.specs.Floor.{IsFloor, IsTold, is_turn_of, untaken};
 
 use crate::counter::Counter;
-use farm_core::{Config, Event, Farm, Line, NoTurn, Reply, Stranger, Turn, laws};
-use farm_session::Ready;
+use farm_core::{Config, Event, Farm, Line, NoTurn, Reply, Stranger, Turn};
+use farm_session::{Ready, command_of};
 use session_lines::{Said, What};
 use std::alloc::{AllocError, Global};
 use strategy::{Plan, Strategy};
@@ -51,27 +51,6 @@ fn ready_for(alloc: Global, counter: &mut Counter, tenant: u32, plan: &Plan) -> 
     Ready::of(alloc, lease, plan)
 }
 
-/// What each call does to turns that are out, for proofs. Does nothing.
-fn know_turns<J: Strategy>(farm: &Farm<J>)
-    ensures replayed { IsReplayed farm.now }
-    ensures taken { TakenTurnsAreHeld }
-    ensures waited { TakenJobsWereNotOut }
-    ensures stay { TurnsStayHeld }
-    ensures known { HeldTurnsAreNoStrangers }
-    ensures nodes { HeldTurnsRunTheirNodes }
-    ensures only { OnlyTakenJobsAreOut }
-    ensures given { GivenJobsAreNotOut }
-{
-    farm.journal();
-    laws::taken_turns_are_held();
-    laws::taken_jobs_were_not_out();
-    laws::turns_stay_held();
-    laws::held_turns_are_no_strangers();
-    laws::held_turns_run_their_nodes();
-    laws::only_taken_jobs_are_out();
-    laws::given_jobs_are_not_out();
-}
-
 impl<J: Strategy> Floor<J> {
     /// A new farm of the configuration, of which no turn is held.
     pub(crate) fn new(alloc: Global, config: &Config) -> Result<Floor<J>, AllocError>
@@ -104,7 +83,6 @@ impl<J: Strategy> Floor<J> {
         ensures told { IsTold self.old.farm tenant (what.Submit plan.kind quanta plan.project) result self.new.farm }
         ensures floor { IsFloor J.meaning self.new.farm self.new.held.items }
     {
-        know_turns(&self.farm);
         let Some(ready) = ready_for(alloc, counter, tenant, &plan) else {
             return Said::Reply(Reply::NoMemory);
         };
@@ -123,7 +101,6 @@ impl<J: Strategy> Floor<J> {
         ensures refused { IfErr result (λ why. IsNotTaken self.old.farm tenant seq slice why self.new.farm) }
         ensures floor { IsFloor J.meaning self.new.farm self.new.held.items }
     {
-        know_turns(&self.farm);
         let Ok(()) = self.held.reserve(1) else {
             return Err(NoTurn::NoMemory);
         };
@@ -155,7 +132,6 @@ impl<J: Strategy> Floor<J> {
         ensures told { IsTold self.old.farm tenant (what.Give seq) result self.new.farm }
         ensures floor { IsFloor J.meaning self.new.farm self.new.held.items }
     {
-        know_turns(&self.farm);
         let Some(place) = place_of(&self.held, tenant, seq) else {
             return Said::NoTurn;
         };
@@ -201,7 +177,9 @@ impl<J: Strategy> Floor<J> {
         ensures told { IsTold self.old.farm tenant asked result self.new.farm }
         ensures floor { IsFloor J.meaning self.new.farm self.new.held.items }
     {
-        know_turns(&self.farm);
+        if let Some(command) = command_of(&asked) {
+            return Said::Reply(self.farm.command(tenant, command));
+        }
         match asked {
             What::Submit {
                 kind,
@@ -211,15 +189,10 @@ impl<J: Strategy> Floor<J> {
                 let plan = Plan { project, kind };
                 self.submit(alloc, counter, tenant, plan, quanta, make)
             }
-            What::Fund { seq, quanta } => Said::Reply(self.farm.fund(tenant, seq, quanta)),
-            What::Status(seq) => Said::Reply(self.farm.status(tenant, seq)),
-            What::Fetch(seq) => Said::Reply(self.farm.result(tenant, seq)),
-            What::Cancel(seq) => Said::Reply(self.farm.cancel(tenant, seq)),
-            What::Forget(seq) => Said::Reply(self.farm.forget(tenant, seq)),
-            What::Ledger => Said::Reply(self.farm.ledger(tenant)),
             What::Take { seq, slice } => self.take(tenant, seq, slice),
             What::Give(seq) => self.give(tenant, seq),
             What::Turn { seq, slice } => self.turn(tenant, seq, slice),
+            _ => unreachable!(),
         }
     }
 
@@ -230,7 +203,6 @@ impl<J: Strategy> Floor<J> {
         ensures fewer { length self.new.held.items ≡ length self.old.held.items - 1 }
         ensures unrun { (t : ℕ) → (view t self.new.farm).spent ≡ (view t self.old.farm).spent }
     {
-        know_turns(&self.farm);
         let Some(turn) = self.held.pop() else {
             return;
         };

@@ -11,8 +11,8 @@ pub fn each_replays_alone()
     ensures { EachReplaysAlone }
 {}
 
-/// Two replays in which a purse begins alike, has members of the same names at the same places, and these ask for the same, write the
-/// same lines for them, whatever the other tenants ask for.
+/// Two replays in which a purse begins alike, has members of the same names at the same places, and these ask for the same and are
+/// refused memory for the same, write the same lines for them, whatever the other tenants ask for.
 pub fn replays_are_isolated()
     ensures { ReplaysAreIsolated }
 {}
@@ -39,14 +39,14 @@ pub fn each_output_is_alone()
 {}
 
 /// The outputs of two scripts in which a purse begins alike, has members of the same names at the same places, and these ask for the
-/// same, have the same lines that begin with their names, byte for byte, whatever the other tenants ask for.
+/// same and are refused memory for the same, have the same lines that begin with their names, byte for byte, whatever the other tenants ask for.
 pub fn outputs_are_isolated()
     ensures { OutputsAreIsolated }
 {}
 
-/// In the output of every script, each line about a job is true of the plan that its tenant has submitted under that number: a
-/// schedule is feasible and has the makespan that is named, with 'optimal' no feasible schedule is shorter, and with 'infeasible'
-/// there is none.
+/// In the output of every script, each line about a job is true of the one plan that its tenant has submitted under that number, in
+/// the requests before: a schedule is feasible and has the makespan that is named, with 'optimal' no feasible schedule is shorter,
+/// and with 'infeasible' there is none.
 pub fn each_line_is_true()
     ensures { EachLineIsTrue }
 {

@@ -8,6 +8,7 @@ use Rattle.session_lines.specs.declared.request.What.{What}
 use Rattle.session_lines.specs.declared.request.What.TheVariants as what
 use Rattle.session_lines.specs.declared.said.Said.{Said}
 use Rattle.session_lines.specs.declared.said.Said.TheVariants as said
+use Rattle.farm_session.specs.Command.{event_in}
 use Rattle.farm_service.specs.declared.shared.Asked.{Asked}
 use Rattle.farm_service.specs.declared.shared.Asked.TheVariants.{Fund, Status, Fetch, Cancel, Forget, Ledger}
 
@@ -19,19 +20,6 @@ event_for (Fetch seq) = event.Fetch seq
 event_for (Cancel seq) = event.Cancel seq
 event_for (Forget seq) = event.Forget seq
 event_for Ledger = event.Ledger
-
--- the event for which a tenant's request asks; a turn is no request of a tenant
-abbrev pub event_in : What → Option Event
-event_in (what.Submit kind quanta project) = Some (event.Submit (record { project = project; kind = kind }) quanta)
-event_in (what.Fund seq quanta) = Some (event.Fund seq quanta)
-event_in (what.Status seq) = Some (event.Status seq)
-event_in (what.Fetch seq) = Some (event.Fetch seq)
-event_in (what.Cancel seq) = Some (event.Cancel seq)
-event_in (what.Forget seq) = Some (event.Forget seq)
-event_in what.Ledger = Some event.Ledger
-event_in (what.Take seq slice) = None
-event_in (what.Give seq) = None
-event_in (what.Turn seq slice) = None
 
 -- the call for which a request asks has that event; a job is asked for otherwise
 abbrev pub IsAskedBy : What → Option Asked → Type 0

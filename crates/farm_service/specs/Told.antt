@@ -14,7 +14,8 @@ use Rattle.session_lines.specs.ReplyText.{reply_line}
 use Rattle.farm_session.specs.Heard.{heard_of}
 use Rattle.farm_session.specs.declared.heard.Heard.{Heard}
 use Rattle.farm_session.specs.declared.heard.Heard.TheVariants.{Over, Broken, Told, Asked}
-use Rattle.farm_service.specs.Asked.{event_in, IsSaidTo}
+use Rattle.farm_session.specs.Command.{event_in}
+use Rattle.farm_service.specs.Asked.{IsSaidTo}
 
 -- a line that only a script may have is no request of a connection
 abbrev pub unless_scripted : What → Heard → Heard

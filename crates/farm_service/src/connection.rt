@@ -2,7 +2,8 @@
 ghost use Rattle.std.specs.Prelude.{◌≡◌, ◌<◌, length, Some, IfSome};
 ghost use Rattle.quanta_till.specs.Lease.{empty_lease};
 ghost use Rattle.farm_core.specs.declared.entry.Event.TheVariants as event;
-ghost use Rattle.farm_service.specs.Asked.{event_in, IsAskedBy, IsSaidTo, IsSubmitted};
+ghost use Rattle.farm_session.specs.Command.{event_in};
+ghost use Rattle.farm_service.specs.Asked.{IsAskedBy, IsSaidTo, IsSubmitted};
 ghost use Rattle.farm_service.specs.Known.{IsKnown};
 ghost use Rattle.farm_service.specs.Told.{heard_in, IsToldOf};
 ghost use Rattle.farm_pool.specs.Settle.{AreTillsOf};

@@ -1,11 +1,14 @@
-//! What scripts and connections share: what a request comes to before the farm is asked, and the search of a submitted job.
+//! What scripts and connections share: what a request comes to before the farm is asked, its command, and the search of a submitted job.
 //!
 //! - `heard`: whose a request is, or what is said where it is nobody's or cannot be read.
+//! - `command`: the command for which a request asks.
 //! - `ready`: a plan with an empty lease, and the searches that are made of it.
 #![tactic(auto)]
 
+mod command;
 mod heard;
 mod ready;
 
+pub use command::command_of;
 pub use heard::{Heard, hear};
 pub use ready::Ready;

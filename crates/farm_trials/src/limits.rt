@@ -2,31 +2,37 @@
 use farm_core::{Config, Name, TenantLine};
 use mrcpsp::Sequence;
 use std::alloc::Global;
-use std::test::Fail;
+use std::process::Abort;
+
+/// A tenant's line with these quanta, jobs and entries.
+fn line_of(name: &str, [quanta, jobs, entries]: [u64; 3]) -> Option<TenantLine> {
+    Some(TenantLine {
+        name: Name::new(name.as_bytes())?,
+        quanta,
+        jobs,
+        entries,
+        purse: None,
+    })
+}
 
 /// Whether tenants of these names, each with these quanta, jobs and entries, make a configuration.
 fn is_config(
+    rt: &impl Abort,
     alloc: Global,
     names: &[&str],
-    [quanta, jobs, entries]: [u64; 3],
+    terms: [u64; 3],
     [workers, slice]: [u64; 2],
-) -> Result<bool, Fail> {
+) -> bool {
     let mut lines = Vec::new(alloc);
     for name in names {
-        let name = Name::new(name.as_bytes()).ok_or("a name")?;
-        lines.push(TenantLine {
-            name,
-            quanta,
-            jobs,
-            entries,
-            purse: None,
-        })?;
+        let line = line_of(name, terms).expect(rt, "a name");
+        assert!(rt; lines.push(line).is_ok(), "no memory");
     }
-    Ok(Config::new(Sequence::from(lines), workers, slice).is_some())
+    Config::new(Sequence::from(lines), workers, slice).is_some()
 }
 
 #[test]
-fn limits(rt: HostRuntime) -> Result<(), Fail> {
+fn limits(rt: HostRuntime) {
     let rows = [
         ([0, 1, 1], [1, 1], true),
         ([1_000_000_000_000, 1_000, 1_000_000], [16, 1_000_000], true),
@@ -41,14 +47,13 @@ fn limits(rt: HostRuntime) -> Result<(), Fail> {
         ([0, 1, 1], [1, 1_000_001], false),
     ];
     for (terms, numbers, good) in rows {
-        let is_good = is_config(rt.alloc(), &["a"], terms, numbers)?;
+        let is_good = is_config(&rt, rt.alloc(), &["a"], terms, numbers);
         assert!(rt; is_good == good, "{terms:?} {numbers:?}");
     }
-    Ok(())
 }
 
 #[test]
-fn tenants(rt: HostRuntime) -> Result<(), Fail> {
+fn tenants(rt: HostRuntime) {
     let rows: [(&[&str], bool); 5] = [
         (&[], false),
         (&["a", "b", "ab"], true),
@@ -57,8 +62,7 @@ fn tenants(rt: HostRuntime) -> Result<(), Fail> {
         (&["a", "abcdefghijklmnopqrstuvwxyz"], true),
     ];
     for (names, good) in rows {
-        let is_good = is_config(rt.alloc(), names, [5, 1, 1], [2, 1_000])?;
+        let is_good = is_config(&rt, rt.alloc(), names, [5, 1, 1], [2, 1_000]);
         assert!(rt; is_good == good, "{names:?}");
     }
-    Ok(())
 }

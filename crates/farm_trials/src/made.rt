@@ -1,5 +1,5 @@
 //! The projects' texts, tills, searches and a farm's configuration.
-ghost use Rattle.std.specs.Prelude.{◌≡◌, IfOk};
+ghost use Rattle.std.specs.Prelude.{◌≡◌, IfOk, IfSome};
 ghost use Rattle.quanta_till.specs.Lease.{IsEmpty};
 ghost use Rattle.rule_search.specs.Rule.{IsRule};
 ghost use Rattle.strategy.specs.declared.kind.Kind.TheVariants.{Tree};
@@ -11,7 +11,7 @@ use quanta_till::{Desk, Lease, Till};
 use rule_search::RuleSearch;
 use sample_search::SampleSearch;
 use std::alloc::{AllocError, Global};
-use std::test::Fail;
+use std::process::Abort;
 use strategy::{Kind, Plan};
 use tree_search::TreeSearch;
 
@@ -136,8 +136,8 @@ h
 ";
 
 /// The project of a text.
-pub(crate) fn plan_of(alloc: Global, text: Text, kind: Kind) -> Result<Plan, Fail>
-    ensures { IfOk result (λ plan. plan.kind ≡ kind) }
+pub(crate) fn plan_of(alloc: Global, text: Text, kind: Kind) -> Option<Plan>
+    ensures { IfSome result (λ plan. plan.kind ≡ kind) }
 {
     let lines = match text {
         Text::Diamond => DIAMOND,
@@ -147,51 +147,55 @@ pub(crate) fn plan_of(alloc: Global, text: Text, kind: Kind) -> Result<Plan, Fai
         Text::Shared => SHARED,
         Text::Roomy => ROOMY,
     };
-    let project = read(alloc, lines.as_bytes())?;
-    Ok(Plan { project, kind })
+    match read(alloc, lines.as_bytes()) {
+        Ok(project) => Some(Plan { project, kind }),
+        Err(_) => None,
+    }
 }
 
 /// The search of a project's precedence tree, which has run nothing.
-pub(crate) fn tree_of(alloc: Global, text: Text, lease: Lease) -> Result<TreeSearch, Fail>
+pub(crate) fn tree_of(rt: &impl Abort, alloc: Global, text: Text, lease: Lease) -> TreeSearch
     requires { IsEmpty lease }
 {
-    let plan = plan_of(alloc, text, Kind::Tree)?;
+    let plan = plan_of(alloc, text, Kind::Tree).expect(rt, "no memory for a plan");
     match TreeSearch::new(alloc, plan, lease) {
-        Ok(search) => Ok(search),
-        Err(_) => Err(Fail::from("no memory")),
+        Ok(search) => search,
+        Err(_) => panic!(rt; "no memory"),
     }
 }
 
 /// The search of one pass by a rule, which has run nothing.
 pub(crate) fn rule_of(
+    rt: &impl Abort,
     alloc: Global,
     text: Text,
     kind: Kind,
     lease: Lease,
-) -> Result<RuleSearch, Fail>
+) -> RuleSearch
     requires kind { IsRule kind }
     requires lease { IsEmpty lease }
 {
-    let plan = plan_of(alloc, text, kind)?;
+    let plan = plan_of(alloc, text, kind).expect(rt, "no memory for a plan");
     match RuleSearch::new(alloc, plan, lease) {
-        Ok(search) => Ok(search),
-        Err(_) => Err(Fail::from("no memory")),
+        Ok(search) => search,
+        Err(_) => panic!(rt; "no memory"),
     }
 }
 
 /// The search of passes drawn from a seed, which has run nothing.
 pub(crate) fn sample_of(
+    rt: &impl Abort,
     alloc: Global,
     text: Text,
     seed: u64,
     lease: Lease,
-) -> Result<SampleSearch, Fail>
+) -> SampleSearch
     requires { IsEmpty lease }
 {
-    let plan = plan_of(alloc, text, Kind::Sample(seed))?;
+    let plan = plan_of(alloc, text, Kind::Sample(seed)).expect(rt, "no memory for a plan");
     match SampleSearch::new(alloc, plan, lease) {
-        Ok(search) => Ok(search),
-        Err(_) => Err(Fail::from("no memory")),
+        Ok(search) => search,
+        Err(_) => panic!(rt; "no memory"),
     }
 }
 
@@ -235,21 +239,21 @@ pub(crate) struct Purses {
 
 impl Purses {
     /// The tills of a, with 100 quanta, and of b, with 10.
-    pub(crate) fn new(alloc: Global) -> Result<Purses, AllocError> {
-        Ok(Purses {
-            first: Purse::new(alloc, 0, 100)?,
-            second: Purse::new(alloc, 1, 10)?,
+    pub(crate) fn new(rt: &impl Abort, alloc: Global) -> Purses {
+        Purses {
+            first: Purse::new(alloc, 0, 100).expect(rt, "no memory for a till"),
+            second: Purse::new(alloc, 1, 10).expect(rt, "no memory for a till"),
             members: 1,
-        })
+        }
     }
 
     /// The tills of the purse that a and b share, with 10 quanta, and of c, with 10.
-    pub(crate) fn shared(alloc: Global) -> Result<Purses, AllocError> {
-        Ok(Purses {
-            first: Purse::new(alloc, 0, 10)?,
-            second: Purse::new(alloc, 1, 10)?,
+    pub(crate) fn shared(rt: &impl Abort, alloc: Global) -> Purses {
+        Purses {
+            first: Purse::new(alloc, 0, 10).expect(rt, "no memory for a till"),
+            second: Purse::new(alloc, 1, 10).expect(rt, "no memory for a till"),
             members: 2,
-        })
+        }
     }
 
     /// An empty lease of a tenant.
@@ -268,40 +272,36 @@ impl Purses {
     }
 }
 
-/// The line of a tenant who may keep two jobs, and has a purse of its own.
-fn line_of(name: &str, quanta: u64, entries: u64) -> Result<TenantLine, Fail> {
-    let name = Name::new(name.as_bytes()).ok_or("a name")?;
-    Ok(TenantLine {
-        name,
+/// The line of a tenant who may keep two jobs, in the purse of that name, or in one of its own where that is none.
+fn line_of(name: &[u8], purse: &[u8], quanta: u64, entries: u64) -> Option<TenantLine> {
+    Some(TenantLine {
+        name: Name::new(name)?,
         quanta,
         jobs: 2,
         entries,
-        purse: None,
+        purse: Name::new(purse),
     })
 }
 
 /// Tenants a with 100 quanta and so many entries of the journal, and b with 10 quanta and 100 entries; two workers, and turns
 /// of 2 nodes.
-pub(crate) fn config_of(alloc: Global, entries: u64) -> Result<Config, Fail> {
-    let mut lines = Vec::new(alloc);
-    lines.push(line_of("a", 100, entries)?)?;
-    lines.push(line_of("b", 10, 100)?)?;
-    Ok(Config::new(Sequence::from(lines), 2, 2).ok_or("within the limits")?)
-}
-
-/// The line of a tenant in the purse p, with 100 entries of the journal.
-fn in_purse(name: &str, quanta: u64) -> Result<TenantLine, Fail> {
-    let line = line_of(name, quanta, 100)?;
-    let purse = Name::new(b"p");
-    Ok(TenantLine { purse, ..line })
+pub(crate) fn config_of(alloc: Global, entries: u64) -> Option<Config> {
+    let first = line_of(b"a", b"", 100, entries)?;
+    let second = line_of(b"b", b"", 10, 100)?;
+    match Vec::from_array(alloc, [first, second]) {
+        Ok(lines) => Config::new(Sequence::from(lines), 2, 2),
+        Err(_) => None,
+    }
 }
 
 /// Tenants a with 6 quanta and b with 4 in the purse p, and c with 10 in its own, each with 100 entries of the journal; two
 /// workers, and turns of 2 nodes.
-pub(crate) fn shared_config(alloc: Global) -> Result<Config, Fail> {
-    let mut lines = Vec::new(alloc);
-    lines.push(in_purse("a", 6)?)?;
-    lines.push(in_purse("b", 4)?)?;
-    lines.push(line_of("c", 10, 100)?)?;
-    Ok(Config::new(Sequence::from(lines), 2, 2).ok_or("within the limits")?)
+pub(crate) fn shared_config(alloc: Global) -> Option<Config> {
+    let first = line_of(b"a", b"p", 6, 100)?;
+    let second = line_of(b"b", b"p", 4, 100)?;
+    let third = line_of(b"c", b"", 10, 100)?;
+    match Vec::from_array(alloc, [first, second, third]) {
+        Ok(lines) => Config::new(Sequence::from(lines), 2, 2),
+        Err(_) => None,
+    }
 }

@@ -1,6 +1,7 @@
 //! The scripts of two tenants in one.
 use crate::play::Step;
 use std::alloc::{AllocError, Global};
+use std::slice::Iter;
 
 /// Which of two comes next: x becomes x * 1103515245 + 12345 modulo 2^31, and its bit 16 tells.
 #[derive(Drop)]
@@ -22,6 +23,14 @@ impl Coin {
     }
 }
 
+/// The next step of the first script that has one left.
+fn next_of<'a>(first: &mut Iter<'a, Step>, second: &mut Iter<'a, Step>) -> Option<&'a Step> {
+    match first.next() {
+        Some(step) => Some(step),
+        None => second.next(),
+    }
+}
+
 /// All steps of two scripts, those of each in their order.
 pub(crate) fn mixed(
     alloc: Global,
@@ -33,9 +42,9 @@ pub(crate) fn mixed(
     let (mut rest, mut rest_of_other) = (one.iter(), other.iter());
     for _ in 0..one.len().saturating_add(other.len()) {
         let next = if coin.toss() {
-            rest.next().or_else(|| rest_of_other.next())
+            next_of(&mut rest, &mut rest_of_other)
         } else {
-            rest_of_other.next().or_else(|| rest.next())
+            next_of(&mut rest_of_other, &mut rest)
         };
         if let Some(step) = next {
             steps.push(*step)?;
@@ -51,9 +60,9 @@ pub(crate) fn in_turn(
     other: &[Step],
 ) -> Result<Vec<Step>, AllocError> {
     let mut steps = Vec::new(alloc);
-    for (step, step_of_other) in one.iter().zip(other) {
-        steps.push(*step)?;
-        steps.push(*step_of_other)?;
+    for at in 0..one.len().min(other.len()) {
+        steps.push(one[at])?;
+        steps.push(other[at])?;
     }
     Ok(steps)
 }

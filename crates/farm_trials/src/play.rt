@@ -8,7 +8,6 @@ use crate::ready::{Wanted, all_ready};
 use farm_core::{Event, Farm, Turn};
 use std::alloc::{AllocError, Global};
 use std::process::Abort;
-use std::test::Fail;
 use strategy::{Kind, Strategy};
 
 /// A call of the tenant of that number, and what is answered.
@@ -199,9 +198,8 @@ fn play_with<J: Strategy>(
     ready: Vec<Ready<J>>,
     steps: &[Step],
     journals: [Option<&[Noted]>; 2],
-) -> Result<(), Fail> {
-    let config = config_of(alloc, stage.entries)?;
-    let mut farm = Farm::new(alloc, &config)?;
+) {
+    let mut farm = farm_of(rt, alloc, stage.entries);
     play_all(rt, &mut farm, ready, stage, steps);
     if let Some(entries) = journals[0] {
         compare_journal(rt, &farm, 0, entries, stage.name);
@@ -209,7 +207,15 @@ fn play_with<J: Strategy>(
     if let Some(entries) = journals[1] {
         compare_journal(rt, &farm, 1, entries, stage.name);
     }
-    Ok(())
+}
+
+/// The farm of a configuration whose tenant a has so many entries of the journal.
+pub(crate) fn farm_of<J>(rt: &impl Abort, alloc: Global, entries: u64) -> Farm<J> {
+    let config = config_of(alloc, entries).expect(rt, "no memory for a configuration");
+    match Farm::new(alloc, &config) {
+        Ok(farm) => farm,
+        Err(_) => panic!(rt; "no memory"),
+    }
 }
 
 /// Plays a script on a farm of its own. The entries of the journal are compared where a's and b's are told, and then the words of
@@ -221,12 +227,11 @@ pub(crate) fn play(
     steps: &[Step],
     journals: [Option<&[Noted]>; 2],
     words: [[u64; 3]; 2],
-) -> Result<(), Fail> {
-    let mut purses = Purses::new(alloc)?;
-    let submits = submits_of(alloc, stage.manner, steps)?;
-    let ready = all_ready(alloc, &mut purses, &submits)?;
-    play_with(rt, alloc, stage, ready, steps, journals)?;
+) {
+    let mut purses = Purses::new(rt, alloc);
+    let submits = submits_of(alloc, stage.manner, steps).expect(rt, "no memory for the submits");
+    let ready = all_ready(rt, alloc, &mut purses, &submits);
+    play_with(rt, alloc, stage, ready, steps, journals);
     let name = stage.name;
     assert!(rt; purses.words() == words, "{name}, the words of the tills");
-    Ok(())
 }

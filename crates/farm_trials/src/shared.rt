@@ -10,7 +10,6 @@ use farm_core::Farm;
 use job_table::Phase::{Cancelled, Out, Waiting};
 use std::alloc::Global;
 use std::process::Abort;
-use std::test::Fail;
 use strategy::Kind::Tree;
 use strategy::Strategy;
 use strategy::Verdict::Going;
@@ -51,13 +50,9 @@ fn purses_of<J>(farm: &Farm<J>) -> Option<[u32; 4]> {
 }
 
 /// Makes the calls on a farm of their own, with searches for the submits.
-fn play_shared<J: Strategy>(
-    rt: &impl Abort,
-    alloc: Global,
-    ready: Vec<Ready<J>>,
-) -> Result<(), Fail> {
-    let config = shared_config(alloc)?;
-    let mut farm = Farm::new(alloc, &config)?;
+fn play_shared<J: Strategy>(rt: &impl Abort, alloc: Global, ready: Vec<Ready<J>>) {
+    let config = shared_config(alloc).expect(rt, "no memory for a configuration");
+    let mut farm = Farm::new(alloc, &config).expect(rt, "no memory for a farm");
     assert!(rt; purses_of(&farm) == Some([2, 0, 0, 1]));
     let stage = Stage {
         name: "a shared purse",
@@ -65,16 +60,17 @@ fn play_shared<J: Strategy>(
         manner: Manner::Ample,
     };
     play_all(rt, &mut farm, ready, stage, &STEPS);
-    Ok(())
 }
 
 // In the end b's job hands back its 6, and a's 4 stay spent.
 #[test]
-fn two_tenants_of_one_purse(rt: HostRuntime) -> Result<(), Fail> {
-    let mut purses = Purses::shared(rt.alloc())?;
-    let submits = submits_of(rt.alloc(), Manner::Ample, &STEPS)?;
-    let ready = all_ready(rt.alloc(), &mut purses, &submits)?;
-    play_shared(&rt, rt.alloc(), ready)?;
+fn two_tenants_of_one_purse(rt: HostRuntime) {
+    let mut purses = Purses::shared(&rt, rt.alloc());
+    let submits = submits_of(rt.alloc(), Manner::Ample, &STEPS).expect(
+        &rt,
+        "no memory for the submits",
+    );
+    let ready = all_ready(&rt, rt.alloc(), &mut purses, &submits);
+    play_shared(&rt, rt.alloc(), ready);
     assert!(rt; purses.words() == [[6, 4, 10], [10, 0, 10]]);
-    Ok(())
 }

@@ -1,9 +1,9 @@
 //! The trials.
 use crate::calls::Ready;
 use crate::cancels;
-use crate::made::{Purses, Text, config_of};
+use crate::made::{Purses, Text};
 use crate::mixed::{Coin, in_turn, mixed};
-use crate::play::{Manner, Noted, Stage, Step, play};
+use crate::play::{Manner, Noted, Stage, Step, farm_of, play};
 use crate::ready::{Wanted, ready_of};
 use crate::scripts::{
     ABANDONED, BOUNDED_TREE, CANCEL_WHILE_OUT, CHAIN_RULE, CHAIN_SAMPLE, DRY_RULE, FEW_ENTRIES,
@@ -11,30 +11,27 @@ use crate::scripts::{
     STARVED_TREE, THREE_COMMANDS, THREE_REFUSALS, TREE, WHILE_OUT, WHOLE_TREES, rule,
 };
 use crate::strangers::{exchange, stray, take_any, take_turns};
-use farm_core::Farm;
 use std::alloc::Global;
 use std::process::Abort;
-use std::test::Fail;
 use strategy::{Kind, Strategy};
 
 /// A script of a's, how many entries of the journal a has, and the words of a's till in the end.
 type Ending<'a> = (&'static str, u64, &'a [Step], [u64; 3]);
 
 /// Plays each script, and compares the words of a's till; that of b is whole.
-fn end_with(rt: &impl Abort, alloc: Global, rows: &[Ending<'_>]) -> Result<(), Fail> {
+fn end_with(rt: &impl Abort, alloc: Global, rows: &[Ending<'_>]) {
     for (name, entries, steps, words) in rows {
         let stage = Stage {
             name,
             entries: *entries,
             manner: Manner::Ample,
         };
-        play(rt, alloc, stage, steps, [None, None], [*words, [10, 0, 10]])?;
+        play(rt, alloc, stage, steps, [None, None], [*words, [10, 0, 10]]);
     }
-    Ok(())
 }
 
 #[test]
-fn worked_scripts(rt: HostRuntime) -> Result<(), Fail> {
+fn worked_scripts(rt: HostRuntime) {
     let rows: [Ending<'_>; 18] = [
         ("a tree", 100, &TREE, [91, 9, 100]),
         ("whole trees", 100, &WHOLE_TREES, [83, 17, 100]),
@@ -70,11 +67,11 @@ fn worked_scripts(rt: HostRuntime) -> Result<(), Fail> {
         ),
         ("one activity", 100, &LONE_TREE, [99, 1, 100]),
     ];
-    end_with(&rt, rt.alloc(), &rows)
+    end_with(&rt, rt.alloc(), &rows);
 }
 
 #[test]
-fn refusals_cancels_and_turns_that_are_out(rt: HostRuntime) -> Result<(), Fail> {
+fn refusals_cancels_and_turns_that_are_out(rt: HostRuntime) {
     let rows: [Ending<'_>; 12] = [
         ("each refusal", 100, &REFUSALS, [96, 4, 100]),
         ("a cancel while out", 100, &CANCEL_WHILE_OUT, [98, 2, 100]),
@@ -94,7 +91,7 @@ fn refusals_cancels_and_turns_that_are_out(rt: HostRuntime) -> Result<(), Fail> 
         ("a leaving job", 100, &cancels::LEAVING, [98, 2, 100]),
         ("a cancelled job", 100, &cancels::GIVEN_UP, [100, 0, 100]),
     ];
-    end_with(&rt, rt.alloc(), &rows)
+    end_with(&rt, rt.alloc(), &rows);
 }
 
 const NOTED_OF_TREE: [Noted; 8] = [
@@ -139,7 +136,7 @@ const NOTED_OF_REFUSALS: [Noted; 16] = [
 ];
 
 /// Plays the scripts of the journals with 100 entries for a, and compares the journals and the words of the tills.
-fn note_down(rt: &impl Abort, alloc: Global, manner: Manner) -> Result<(), Fail> {
+fn note_down(rt: &impl Abort, alloc: Global, manner: Manner) {
     let rows: [(&'static str, &[Step], &[Noted], [u64; 3]); 3] = [
         ("a tree", &TREE, &NOTED_OF_TREE, [91, 9, 100]),
         (
@@ -163,19 +160,18 @@ fn note_down(rt: &impl Abort, alloc: Global, manner: Manner) -> Result<(), Fail>
             steps,
             [Some(noted), Some(&[])],
             [words, [10, 0, 10]],
-        )?;
+        );
     }
-    Ok(())
 }
 
 #[test]
-fn the_journal(rt: HostRuntime) -> Result<(), Fail> {
-    note_down(&rt, rt.alloc(), Manner::Ample)
+fn the_journal(rt: HostRuntime) {
+    note_down(&rt, rt.alloc(), Manner::Ample);
 }
 
 #[test]
-fn scarce_memory(rt: HostRuntime) -> Result<(), Fail> {
-    note_down(&rt, rt.alloc(), Manner::Scarce)
+fn scarce_memory(rt: HostRuntime) {
+    note_down(&rt, rt.alloc(), Manner::Scarce);
 }
 
 /// The turn that is held in the end is given back as it is.
@@ -199,14 +195,13 @@ fn play_mixed(
     other: &[Step],
     journals: [Option<&[Noted]>; 2],
     words: [u64; 3],
-) -> Result<(), Fail> {
+) {
     let mut coin = Coin::new(42);
     for _ in 0..20 {
-        let steps = mixed(alloc, &mut coin, one, other)?;
-        assert_eq!(rt; steps.len(), one.len().saturating_add(other.len()));
-        play(rt, alloc, stage, &steps, journals, [words, [6, 4, 10]])?;
+        let steps = mixed(alloc, &mut coin, one, other).expect(rt, "no memory for the steps");
+        assert!(rt; steps.len() == one.len().saturating_add(other.len()));
+        play(rt, alloc, stage, &steps, journals, [words, [6, 4, 10]]);
     }
-    Ok(())
 }
 
 /// A stage with memory and entries enough.
@@ -219,7 +214,7 @@ fn ample(name: &'static str) -> Stage {
 }
 
 #[test]
-fn a_funded_tree_beside_another_tenant(rt: HostRuntime) -> Result<(), Fail> {
+fn a_funded_tree_beside_another_tenant(rt: HostRuntime) {
     let journals: [Option<&[Noted]>; 2] = [Some(&NOTED_OF_TREE), Some(&NOTED_OF_OTHER)];
     let stage = ample("a tree beside b");
     play_mixed(
@@ -230,11 +225,11 @@ fn a_funded_tree_beside_another_tenant(rt: HostRuntime) -> Result<(), Fail> {
         &OTHER,
         journals,
         [91, 9, 100],
-    )
+    );
 }
 
 #[test]
-fn a_cancelled_tree_beside_another_tenant(rt: HostRuntime) -> Result<(), Fail> {
+fn a_cancelled_tree_beside_another_tenant(rt: HostRuntime) {
     let journals: [Option<&[Noted]>; 2] = [Some(&NOTED_OF_CANCEL), Some(&NOTED_OF_OTHER[..6])];
     let stage = ample("a cancel beside b");
     let other = &OTHER[..5];
@@ -246,11 +241,11 @@ fn a_cancelled_tree_beside_another_tenant(rt: HostRuntime) -> Result<(), Fail> {
         other,
         journals,
         [98, 2, 100],
-    )
+    );
 }
 
 #[test]
-fn refusals_beside_another_tenant(rt: HostRuntime) -> Result<(), Fail> {
+fn refusals_beside_another_tenant(rt: HostRuntime) {
     let journals: [Option<&[Noted]>; 2] = [Some(&NOTED_OF_REFUSALS), Some(&NOTED_OF_OTHER)];
     let stage = ample("refusals beside b");
     play_mixed(
@@ -261,14 +256,14 @@ fn refusals_beside_another_tenant(rt: HostRuntime) -> Result<(), Fail> {
         &OTHER,
         journals,
         [96, 4, 100],
-    )
+    );
 }
 
 #[test]
-fn two_tenants_in_turn(rt: HostRuntime) -> Result<(), Fail> {
+fn two_tenants_in_turn(rt: HostRuntime) {
     let stage = ample("two tenants in turn");
-    let steps = in_turn(rt.alloc(), &TREE, &OTHER)?;
-    assert_eq!(rt; steps.len(), 12);
+    let steps = in_turn(rt.alloc(), &TREE, &OTHER).expect(&rt, "no memory for the steps");
+    assert!(rt; steps.len() == 12);
     let journals: [Option<&[Noted]>; 2] = [Some(&NOTED_OF_TREE), Some(&NOTED_OF_OTHER)];
     play(
         &rt,
@@ -277,63 +272,59 @@ fn two_tenants_in_turn(rt: HostRuntime) -> Result<(), Fail> {
         &steps,
         journals,
         [[91, 9, 100], [6, 4, 10]],
-    )
+    );
 }
 
 /// The plans and searches of two trees, the first of them that of the diamond.
 type Pair = (Ready<Box<dyn Strategy>>, Ready<Box<dyn Strategy>>);
 
 /// Trees of two tenants, or of one.
-fn pair_of(alloc: Global, text: Text, tenant: u32) -> Result<Pair, Fail> {
-    let mut purses = Purses::new(alloc)?;
+fn pair_of(rt: &impl Abort, alloc: Global, text: Text, tenant: u32) -> Pair {
+    let mut purses = Purses::new(rt, alloc);
     let kind = Kind::Tree;
     let first = Wanted {
         tenant: 0,
         kind,
         text: Text::Diamond,
     };
-    let own = ready_of(alloc, &mut purses, first)?;
-    let other = ready_of(alloc, &mut purses, Wanted { tenant, kind, text })?;
-    Ok((own, other))
+    let own = ready_of(rt, alloc, &mut purses, first);
+    let other = ready_of(rt, alloc, &mut purses, Wanted { tenant, kind, text });
+    (own, other)
 }
 
-/// A farm whose tenant a has so many entries of the journal.
-fn farm_of(alloc: Global, entries: u64) -> Result<Farm<Box<dyn Strategy>>, Fail> {
-    let config = config_of(alloc, entries)?;
-    Ok(Farm::new(alloc, &config)?)
+/// A turn of one farm at another one, whose tree is of that project and whose turn of at most so many nodes.
+fn stray_at(rt: &impl Abort, alloc: Global, text: Text, slice: u64) {
+    let (own, other) = pair_of(rt, alloc, text, 0);
+    let (mut home, mut farm) = (farm_of(rt, alloc, 100), farm_of(rt, alloc, 100));
+    stray(rt, &mut home, &mut farm, own, other, slice);
 }
 
 #[test]
-fn strangers_are_handed_back(rt: HostRuntime) -> Result<(), Fail> {
+fn strangers_are_handed_back(rt: HostRuntime) {
     for (text, slice) in [(Text::Chain, 2), (Text::Starved, 2), (Text::Diamond, 3)] {
-        let (own, other) = pair_of(rt.alloc(), text, 0)?;
-        let (mut home, mut farm) = (farm_of(rt.alloc(), 100)?, farm_of(rt.alloc(), 100)?);
-        stray(&rt, &mut home, &mut farm, own, other, slice);
+        stray_at(&rt, rt.alloc(), text, slice);
     }
-    Ok(())
 }
 
 #[test]
-fn turns_that_agree_in_all(rt: HostRuntime) -> Result<(), Fail> {
-    let (own, other) = pair_of(rt.alloc(), Text::Diamond, 0)?;
-    let (mut home, mut farm) = (farm_of(rt.alloc(), 100)?, farm_of(rt.alloc(), 100)?);
+fn turns_that_agree_in_all(rt: HostRuntime) {
+    let (own, other) = pair_of(&rt, rt.alloc(), Text::Diamond, 0);
+    let mut home = farm_of(&rt, rt.alloc(), 100);
+    let mut farm = farm_of(&rt, rt.alloc(), 100);
     exchange(&rt, &mut home, &mut farm, own, other);
-    Ok(())
 }
 
 #[test]
-fn the_next_turn_of_any_tenant(rt: HostRuntime) -> Result<(), Fail> {
-    let (own, other) = pair_of(rt.alloc(), Text::Diamond, 1)?;
-    let mut farm = farm_of(rt.alloc(), 1)?;
+fn the_next_turn_of_any_tenant(rt: HostRuntime) {
+    let (own, other) = pair_of(&rt, rt.alloc(), Text::Diamond, 1);
+    let mut farm = farm_of(&rt, rt.alloc(), 1);
     take_any(&rt, &mut farm, own, other);
-    Ok(())
 }
 
 #[test]
-fn jobs_take_turns(rt: HostRuntime) -> Result<(), Fail> {
-    let (first, other) = pair_of(rt.alloc(), Text::Diamond, 1)?;
-    let (second, _) = pair_of(rt.alloc(), Text::Diamond, 0)?;
-    let mut farm = farm_of(rt.alloc(), 100)?;
+fn jobs_take_turns(rt: HostRuntime) {
+    let (first, other) = pair_of(&rt, rt.alloc(), Text::Diamond, 1);
+    let (second, _) = pair_of(&rt, rt.alloc(), Text::Diamond, 0);
+    let mut farm = farm_of(&rt, rt.alloc(), 100);
     take_turns(&rt, &mut farm, first, second, other);
-    Ok(())
 }

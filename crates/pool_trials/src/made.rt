@@ -14,8 +14,8 @@ use psplib_mm::read;
 use quanta_till::{Desk, Lease, Till};
 use rule_search::RuleSearch;
 use std::alloc::{AllocError, Global};
+use std::process::Abort;
 use std::sync::Arc;
-use std::test::Fail;
 use strategy::{Kind, Plan, Strategy};
 use tree_search::TreeSearch;
 
@@ -80,39 +80,41 @@ impl Purse {
     }
 }
 
-/// A tenant's line, with 2 jobs and a purse of its own.
-fn line_of(name: &str, quanta: u64, entries: u64) -> Result<TenantLine, Fail> {
-    let name = Name::new(name.as_bytes()).ok_or("a name")?;
-    Ok(TenantLine {
-        name,
+/// The line of a tenant with 2 jobs, in the purse of that name, or in one of its own where that is none.
+fn line_of(name: &[u8], purse: &[u8], quanta: u64, entries: u64) -> Option<TenantLine> {
+    Some(TenantLine {
+        name: Name::new(name)?,
         quanta,
         jobs: 2,
         entries,
-        purse: None,
+        purse: Name::new(purse),
     })
 }
 
-/// Tenants a, of 100 quanta and so many entries, and b, of 10 quanta and 100 entries; 2 workers and a slice of 2.
-pub(crate) fn config_of(alloc: Global, entries: u64) -> Result<Config, Fail> {
-    let mut lines = Vec::new(alloc);
-    lines.push(line_of("a", 100, entries)?)?;
-    lines.push(line_of("b", 10, 100)?)?;
-    Ok(Config::new(Sequence::from(lines), 2, 2).ok_or("within the limits")?)
+/// The configuration of two tenants, with 2 workers and a slice of 2.
+fn config_with(alloc: Global, first: TenantLine, second: TenantLine) -> Option<Config> {
+    match Vec::from_array(alloc, [first, second]) {
+        Ok(lines) => Config::new(Sequence::from(lines), 2, 2),
+        Err(_) => None,
+    }
 }
 
-/// The line of a tenant in the purse p, with 100 entries of the journal.
-fn in_purse(name: &str, quanta: u64) -> Result<TenantLine, Fail> {
-    let line = line_of(name, quanta, 100)?;
-    let purse = Name::new(b"p");
-    Ok(TenantLine { purse, ..line })
+/// Tenants a, of 100 quanta and so many entries, and b, of 10 quanta and 100 entries, each with a purse of its own; 2 workers and a slice of 2.
+pub(crate) fn config_of(alloc: Global, entries: u64) -> Option<Config> {
+    config_with(
+        alloc,
+        line_of(b"a", b"", 100, entries)?,
+        line_of(b"b", b"", 10, 100)?,
+    )
 }
 
 /// Tenants a, of 6 quanta, and b, of 14, in the purse p, each of 100 entries; 2 workers and a slice of 2.
-pub(crate) fn shared_config(alloc: Global) -> Result<Config, Fail> {
-    let mut lines = Vec::new(alloc);
-    lines.push(in_purse("a", 6)?)?;
-    lines.push(in_purse("b", 14)?)?;
-    Ok(Config::new(Sequence::from(lines), 2, 2).ok_or("within the limits")?)
+pub(crate) fn shared_config(alloc: Global) -> Option<Config> {
+    config_with(
+        alloc,
+        line_of(b"a", b"p", 6, 100)?,
+        line_of(b"b", b"p", 14, 100)?,
+    )
 }
 
 /// The pool of a configuration of two tenants, and its first pass.
@@ -128,39 +130,53 @@ pub(crate) fn pool_of(alloc: Global, config: &Config) -> Option<(Pool, PoolPass)
 }
 
 /// The plan of a search of the diamond.
-fn plan_of(alloc: Global, kind: Kind) -> Result<Plan, Fail>
-    ensures { IfOk result (λ plan. plan.kind ≡ kind) }
+fn plan_of(alloc: Global, kind: Kind) -> Option<Plan>
+    ensures { IfSome result (λ plan. plan.kind ≡ kind) }
 {
-    let project = read(alloc, DIAMOND.as_bytes())?;
-    Ok(Plan { project, kind })
-}
-
-/// The diamond's tree with an empty lease, and its plan.
-pub(crate) fn tree_of(alloc: Global, lease: Lease) -> Result<(Plan, TreeSearch), Fail>
-    requires { IsEmpty lease }
-{
-    let searched = plan_of(alloc, Kind::Tree)?;
-    let plan = plan_of(alloc, Kind::Tree)?;
-    match TreeSearch::new(alloc, searched, lease) {
-        Ok(search) => Ok((plan, search)),
-        Err(_) => Err(Fail::from("no memory")),
+    match read(alloc, DIAMOND.as_bytes()) {
+        Ok(project) => Some(Plan { project, kind }),
+        Err(_) => None,
     }
 }
 
-/// The diamond's pass by a rule with an empty lease, whose first node waits at a meeting, and its plan.
+/// A plan and its search.
+#[derive(Drop)]
+pub(crate) struct Ready {
+    pub(crate) plan: Plan,
+    pub(crate) search: Box<dyn Strategy>,
+}
+
+/// The diamond's tree with an empty lease.
+pub(crate) fn tree_of(rt: &impl Abort, alloc: Global, lease: Lease) -> Ready
+    requires { IsEmpty lease }
+{
+    let searched = plan_of(alloc, Kind::Tree).expect(rt, "no memory for a plan");
+    let Ok(search) = TreeSearch::new(alloc, searched, lease) else {
+        panic!(rt; "no memory");
+    };
+    let search: Box<dyn Strategy> = Box::new(alloc, search).expect(rt, "no memory for a box");
+    let plan = plan_of(alloc, Kind::Tree).expect(rt, "no memory for a plan");
+    Ready { plan, search }
+}
+
+/// The diamond's pass by a rule with an empty lease, whose first node waits at a meeting.
 pub(crate) fn patient_of(
+    rt: &impl Abort,
     alloc: Global,
     lease: Lease,
-    meeting: Arc<Meeting, Global>,
-) -> Result<(Plan, Patient), Fail>
+    meeting: &Arc<Meeting, Global>,
+) -> Ready
     requires { IsEmpty lease }
 {
-    let searched = plan_of(alloc, Kind::RuleSpt)?;
-    let plan = plan_of(alloc, Kind::RuleSpt)?;
-    match RuleSearch::new(alloc, searched, lease) {
-        Ok(search) => Ok((plan, Patient::new(search, meeting))),
-        Err(_) => Err(Fail::from("no memory")),
-    }
+    let searched = plan_of(alloc, Kind::RuleSpt).expect(rt, "no memory for a plan");
+    let Ok(search) = RuleSearch::new(alloc, searched, lease) else {
+        panic!(rt; "no memory");
+    };
+    let meeting = meeting.clone().expect(rt, "no memory for a meeting");
+    let patient = Patient::new(search, meeting);
+    let search: Box<dyn Strategy> = Box::new(alloc, patient).expect(rt, "no memory for a box");
+    let plan = plan_of(alloc, Kind::RuleSpt).expect(rt, "no memory for a plan");
+    Ready { plan, search }
 }
 
 /// How a farm of two purses is settled with them.

@@ -1,23 +1,18 @@
 //! A pool of two tenants with a pass, and the tills of their purses.
-ghost use Rattle.std.specs.Prelude.{◌≡◌, ◌<◌, length, IfOk};
+ghost use Rattle.std.specs.Prelude.{◌≡◌, ◌<◌, length};
 ghost use Rattle.quanta_till.specs.Lease.{IsEmpty};
 ghost use Rattle.turn_lock.specs.Values.{IsPassOf};
 
 use crate::crew::{work_both, work_in_fours, work_while_cancelled};
-use crate::gates::Meeting;
-use crate::made::{
-    Purse, config_of, patient_of, pool_of, settle, settle_shared, shared_config, tree_of,
-};
-use crate::patient::Patient;
+use crate::made::{Purse, Ready, config_of, pool_of, settle, settle_shared, shared_config};
 use farm_core::{Config, Reply};
 use farm_pool::{Command, Gate, Pool, PoolPass, Settled, Unsettled, WorkEnd};
 use quanta_till::Lease;
-use std::alloc::{AllocError, Global};
-use std::sync::{Arc, Wait};
-use std::test::Fail;
+use std::alloc::Global;
+use std::process::Abort;
+use std::sync::Wait;
 use std::thread::Threads;
-use strategy::{Plan, Strategy};
-use tree_search::TreeSearch;
+use strategy::Strategy;
 
 /// The first tenant.
 pub(crate) const A: u32 = 0;
@@ -40,32 +35,32 @@ pub(crate) struct Stand {
 
 impl Stand {
     /// Each tenant has a purse of its own: a one of 100 quanta and so many entries of the journal, b one of 10 and 100.
-    pub(crate) fn new(alloc: Global, entries: u64) -> Result<Stand, Fail> {
-        let config = config_of(alloc, entries)?;
-        let first = Purse::new(alloc, A, 100)?;
-        let second = Some(Purse::new(alloc, B, 10)?);
-        let (pool, pass) = pool_of(alloc, &config).ok_or("a pool")?;
-        Ok(Stand {
+    pub(crate) fn new(rt: &impl Abort, alloc: Global, entries: u64) -> Stand {
+        let config = config_of(alloc, entries).expect(rt, "no memory for a configuration");
+        let first = Purse::new(alloc, A, 100).expect(rt, "no memory for a purse");
+        let second = Some(Purse::new(alloc, B, 10).expect(rt, "no memory for a purse"));
+        let (pool, pass) = pool_of(alloc, &config).expect(rt, "no memory for a pool");
+        Stand {
             config,
             pool,
             pass,
             first,
             second,
-        })
+        }
     }
 
     /// Both share a purse of 20 quanta, and each has 100 entries of the journal.
-    pub(crate) fn shared(alloc: Global) -> Result<Stand, Fail> {
-        let config = shared_config(alloc)?;
-        let first = Purse::new(alloc, A, 20)?;
-        let (pool, pass) = pool_of(alloc, &config).ok_or("a pool")?;
-        Ok(Stand {
+    pub(crate) fn shared(rt: &impl Abort, alloc: Global) -> Stand {
+        let config = shared_config(alloc).expect(rt, "no memory for a configuration");
+        let first = Purse::new(alloc, A, 20).expect(rt, "no memory for a purse");
+        let (pool, pass) = pool_of(alloc, &config).expect(rt, "no memory for a pool");
+        Stand {
             config,
             pool,
             pass,
             first,
             second: None,
-        })
+        }
     }
 
     /// Makes a call of one of the tenants.
@@ -82,49 +77,30 @@ impl Stand {
     }
 
     /// An empty lease of the tenant's purse.
-    fn lease(&mut self, tenant: u32) -> Result<Lease, AllocError>
-        ensures empty { IfOk result IsEmpty }
+    pub(crate) fn lease(&mut self, rt: &impl Abort, tenant: u32) -> Lease
+        ensures empty { IsEmpty result }
         ensures pool { self.new.pool ≡ self.old.pool }
     {
         if tenant == B {
             if let Some(second) = &mut self.second {
-                return second.lease(tenant);
+                return second.lease(tenant).expect(rt, "no memory for a lease");
             }
         }
-        self.first.lease(tenant)
+        self.first.lease(tenant).expect(rt, "no memory for a lease")
     }
 
-    /// The diamond's tree for one of the tenants, and its plan.
-    pub(crate) fn tree(&mut self, alloc: Global, tenant: u32) -> Result<(Plan, TreeSearch), Fail>
-        ensures { self.new.pool ≡ self.old.pool }
-    {
-        tree_of(alloc, self.lease(tenant)?)
-    }
-
-    /// The diamond's pass by a rule for one of the tenants, whose first node waits at a meeting, and its plan.
-    pub(crate) fn patient(
-        &mut self,
-        alloc: Global,
-        tenant: u32,
-        meeting: Arc<Meeting, Global>,
-    ) -> Result<(Plan, Patient), Fail>
-        ensures { self.new.pool ≡ self.old.pool }
-    {
-        patient_of(alloc, self.lease(tenant)?, meeting)
-    }
-
-    /// Submits a search of a plan for one of the tenants.
+    /// Submits a search for one of the tenants.
     pub(crate) fn submit<R: Wait>(
         &mut self,
         rt: &R,
         tenant: u32,
         quanta: u64,
-        plan: Plan,
-        search: Box<dyn Strategy>,
+        ready: Ready,
     ) -> Reply
         requires { tenant < 2 }
         ensures { self.new.pool ≡ self.old.pool }
     {
+        let Ready { plan, search } = ready;
         let command = Command::Submit {
             plan,
             quanta,

@@ -1,6 +1,7 @@
 //! Certificates: a proof that the clauses of a shorter makespan cannot all be true makes a schedule optimal.
-ghost use Rattle.std.specs.Prelude.{◌≡◌, IfOk};
+ghost use Rattle.std.specs.Prelude.{◌≡◌, IfOk, IfErr};
 ghost use Rattle.mrcpsp.specs.Schedule.{IsOptimal, IsInfeasible, makespan};
+ghost use Rattle.schedule_clauses.specs.Fault.{IsOfClauses, IsOfBound, IsOfStocks, IsOfSchedule};
 ghost use Rattle.schedule_clauses.specs.Satisfied.{SatisfiedByShort, SatisfiedByFeasible, EachExceeds};
 
 use crate::builder::{encode, encode_stocks};
@@ -29,6 +30,11 @@ pub enum CertificateFault {
 }
 
 impl From<AllocError> for CertificateFault {
+    ghost use Rattle.std.specs.Prelude.{◌≡◌};
+    ghost use Rattle.schedule_clauses.specs.declared.certificate.CertificateFault.TheVariants.{NoMemory};
+
+    ghost from_gives = { λ _ fault. fault ≡ NoMemory };
+
     fn from(_: AllocError) -> CertificateFault {
         CertificateFault::NoMemory
     }
@@ -59,7 +65,8 @@ fn formula_of(encoding: Encoding) -> Formula
 /// bound above the horizon, or want of memory, for which more than 999,999,999 variables count too.
 #[tactic(auto, using(crate::proofs::EncodingLemmas::short_rules))]
 pub fn clauses(alloc: Global, project: &Project, bound: u32) -> Result<Formula, CertificateFault>
-    ensures { IfOk result (λ formula. SatisfiedByShort project.now bound formula.clauses.items) }
+    ensures clauses { IfOk result (λ formula. SatisfiedByShort project.now bound formula.clauses.items) }
+    ensures fault { IfErr result (λ fault. IsOfClauses project.now bound fault) }
 {
     let horizon = project.horizon();
     if horizon < bound {
@@ -72,7 +79,8 @@ pub fn clauses(alloc: Global, project: &Project, bound: u32) -> Result<Formula, 
 /// Clauses on modes and stocks alone, which each feasible schedule satisfies, whatever its makespan.
 #[tactic(auto, using(crate::proofs::EncodingLemmas::feasible_rules))]
 pub fn stock_clauses(alloc: Global, project: &Project) -> Result<Formula, CertificateFault>
-    ensures { IfOk result (λ formula. SatisfiedByFeasible project.now formula.clauses.items) }
+    ensures clauses { IfOk result (λ formula. SatisfiedByFeasible project.now formula.clauses.items) }
+    ensures fault { IfErr result (λ fault. fault ≡ CertificateFault.NoMemory) }
 {
     let encoding = encode_stocks(alloc, project)?;
     Ok(formula_of(encoding))
@@ -86,7 +94,8 @@ pub fn certify_bound(
     bound: u32,
     proof: &[u8],
 ) -> Result<(), CertificateFault>
-    ensures { IfOk result (λ _. EachExceeds project.now bound) }
+    ensures exceeds { IfOk result (λ _. EachExceeds project.now bound) }
+    ensures fault { IfErr result (λ fault. IsOfBound project.now bound fault) }
 {
     let formula = clauses(alloc, project, bound)?;
     match refute(alloc, formula.clauses, proof) {
@@ -102,7 +111,8 @@ pub fn certify_infeasible(
     project: &Project,
     proof: &[u8],
 ) -> Result<(), CertificateFault>
-    ensures { IfOk result (λ _. IsInfeasible project.now) }
+    ensures infeasible { IfOk result (λ _. IsInfeasible project.now) }
+    ensures fault { IfErr result (λ fault. IsOfStocks fault) }
 {
     let formula = stock_clauses(alloc, project)?;
     match refute(alloc, formula.clauses, proof) {
@@ -122,6 +132,7 @@ pub fn certify(
 ) -> Result<u32, CertificateFault>
     ensures optimal { IfOk result (λ _. IsOptimal project.now schedule.now) }
     ensures makespan { IfOk result (λ m. m ≡ makespan project.now schedule.now) }
+    ensures fault { IfErr result (λ fault. IsOfSchedule project.now schedule.now fault) }
 {
     let makespan = match check(project, schedule) {
         Ok(makespan) => makespan,

@@ -1,5 +1,5 @@
 -- The text of a schedule: for each activity a word of its number, its mode and its start, with colons between them.
-use Rattle.std.specs.Prelude.{◌⊎◌, ℕ, ◌+◌, ◌==◌, IsTrue, List, [], ◌∷◌, ◌++◌, codes, decimal}
+use Rattle.std.specs.Prelude.{◌≡◌, ◌⊎◌, ℕ, ◌+◌, ◌<◌, ◌==◌, IsTrue, List, [], ◌∷◌, ◌++◌, length, codes, decimal}
 use Rattle.std.specs.List.{ends_with}
 use Rattle.mrcpsp.specs.Schedule.{ScheduleData}
 use Rattle.schedule_text.specs.ScheduleJson.{TellsJson}
@@ -23,6 +23,8 @@ TellsWords text s =
     IsTrue (ends_with ◌==◌ (32 ∷ text) (schedule_text s))
     ⊎ IsTrue (ends_with ◌==◌ (32 ∷ text) (schedule_text s ++ 10 ∷ []))
 
--- the text ends with the schedule, as words or as JSON
-abbrev pub Tells : List ℕ → ScheduleData → Type 0
-Tells text s = TellsWords text s ⊎ TellsJson text s
+-- the text ends with the schedule, as words or as JSON, of as many modes as starts, and of one activity at least
+pub record Tells (text : List ℕ) (s : ScheduleData) : Type 0 where
+  pub some : 0 < length s.modes
+  pub even : length s.modes ≡ length s.starts
+  pub ends : TellsWords text s ⊎ TellsJson text s

@@ -1,5 +1,6 @@
 //! The schedule that a text tells. How it is found is a hint: its own words are compared with the text's.
-ghost use Rattle.std.specs.Prelude.{◌≡◌, true, IfOk, IfSome};
+ghost use Rattle.std.specs.Prelude.{◌≡◌, ◌⊎◌, ◌<◌, true, length, IfOk, IfSome};
+ghost use Rattle.schedule_text.specs.ScheduleJson.{TellsJson};
 ghost use Rattle.schedule_text.specs.ScheduleText.{TellsWords, Tells};
 
 use crate::json::read_json;
@@ -86,14 +87,37 @@ fn read_words(alloc: Global, text: &[u8]) -> Result<Option<Schedule>, AllocError
     }
 }
 
-/// The schedule that a text tells: a result line of a farm, or the words `J:MODE:START` of its activities alone, with one
-/// blank between them and in the order of their numbers; or as JSON what `solve --json` prints, or its array alone, in any order.
-/// `None` where it tells none. An error is want of memory.
-pub fn read_schedule(alloc: Global, text: &[u8]) -> Result<Option<Schedule>, AllocError>
-    ensures { IfOk result (λ found. IfSome found (λ schedule. Tells text.now schedule)) }
+/// Whether a schedule has as many modes as starts, and one at least.
+fn is_even(schedule: &Schedule) -> bool
+    ensures some { result ≡ true → 0 < length schedule.now.modes }
+    ensures even { result ≡ true → length schedule.now.modes ≡ length schedule.now.starts }
+{
+    let modes = schedule.modes.as_slice();
+    !modes.is_empty() && modes.len() == schedule.starts.as_slice().len()
+}
+
+/// The schedule that a text ends with, as JSON or as words.
+fn read_ending(alloc: Global, text: &[u8]) -> Result<Option<Schedule>, AllocError>
+    ensures { IfOk result (λ found. IfSome found (λ schedule. TellsWords text.now schedule ⊎ TellsJson text.now schedule)) }
 {
     match read_json(alloc, text)? {
         Some(schedule) => Ok(Some(schedule)),
         None => read_words(alloc, text),
+    }
+}
+
+/// The schedule that a text tells: a result line of a farm, or the words `J:MODE:START` of its activities alone, with one
+/// blank between them and in the order of their numbers; or as JSON what `solve --json` prints, or its array alone, in any order.
+/// `None` where it tells none, as an empty text does. An error is want of memory.
+pub fn read_schedule(alloc: Global, text: &[u8]) -> Result<Option<Schedule>, AllocError>
+    ensures { IfOk result (λ found. IfSome found (λ schedule. Tells text.now schedule)) }
+{
+    let Some(schedule) = read_ending(alloc, text)? else {
+        return Ok(None);
+    };
+    if is_even(&schedule) {
+        Ok(Some(schedule))
+    } else {
+        Ok(None)
     }
 }

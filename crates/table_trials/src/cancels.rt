@@ -7,7 +7,7 @@ use std::process::Abort;
 use strategy::Strategy;
 
 /// What comes before the cancel.
-#[derive(Clone, Copy, Debug)]
+#[derive(Clone, Copy)]
 pub(crate) enum Before {
     /// Nothing.
     Nothing,
@@ -21,11 +21,12 @@ pub(crate) enum Before {
     Cancelled,
 }
 
-/// A job with some quanta, what comes before the cancel, whether that is taken, where the job then stands, how many nodes a
+/// A name for messages, a job with some quanta, what comes before the cancel, whether that is taken, where the job then stands, how many nodes a
 /// turn that is out then runs, where the job stands once that is back, and the words POOL, SPENT and GRANTED of its till
 /// in the end.
-#[derive(Clone, Copy, Debug)]
+#[derive(Clone, Copy)]
 pub(crate) struct Case {
+    pub(crate) name: &'static str,
     pub(crate) quanta: u32,
     before: Before,
     cancels: bool,
@@ -38,6 +39,7 @@ pub(crate) struct Case {
 /// Each phase, and turns that are given back run and unrun.
 pub(crate) const CASES: [Case; 8] = [
     Case {
+        name: "a fresh job",
         quanta: 6,
         before: Before::Nothing,
         cancels: true,
@@ -47,6 +49,7 @@ pub(crate) const CASES: [Case; 8] = [
         words: [100, 0, 100],
     },
     Case {
+        name: "a job after a turn",
         quanta: 6,
         before: Before::Turn(2),
         cancels: true,
@@ -56,6 +59,7 @@ pub(crate) const CASES: [Case; 8] = [
         words: [98, 2, 100],
     },
     Case {
+        name: "a job that is out",
         quanta: 6,
         before: Before::Out,
         cancels: true,
@@ -65,6 +69,7 @@ pub(crate) const CASES: [Case; 8] = [
         words: [98, 2, 100],
     },
     Case {
+        name: "a turn given back unrun",
         quanta: 6,
         before: Before::Out,
         cancels: true,
@@ -74,6 +79,7 @@ pub(crate) const CASES: [Case; 8] = [
         words: [100, 0, 100],
     },
     Case {
+        name: "a dry job",
         quanta: 6,
         before: Before::Turn(10),
         cancels: true,
@@ -83,6 +89,7 @@ pub(crate) const CASES: [Case; 8] = [
         words: [94, 6, 100],
     },
     Case {
+        name: "a closed job",
         quanta: 10,
         before: Before::Turn(10),
         cancels: false,
@@ -92,6 +99,7 @@ pub(crate) const CASES: [Case; 8] = [
         words: [91, 9, 100],
     },
     Case {
+        name: "a leaving job",
         quanta: 6,
         before: Before::Leaving,
         cancels: false,
@@ -101,6 +109,7 @@ pub(crate) const CASES: [Case; 8] = [
         words: [98, 2, 100],
     },
     Case {
+        name: "a cancelled job",
         quanta: 6,
         before: Before::Cancelled,
         cancels: false,
@@ -141,18 +150,22 @@ fn give<J: Strategy>(table: &mut JobTable<J>, mut search: J, runs: u64) -> bool
     table.take_back(0, 1, 2, ran, search).is_ok()
 }
 
-/// Where the job stands.
-fn phase_of<J>(table: &JobTable<J>) -> Option<Phase> {
-    Some(table.find(0, 1)?.phase())
+/// Whether the job stands there.
+fn stands<J>(table: &JobTable<J>, phase: Phase) -> bool {
+    match table.find(0, 1) {
+        Some(job) => job.phase() == phase,
+        None => false,
+    }
 }
 
 /// Cancels the job of a case.
 pub(crate) fn cancel_in<J: Strategy>(rt: &impl Abort, table: &mut JobTable<J>, case: &Case) {
+    let name = case.name;
     let out = begin(table, case.before);
-    assert_eq!(rt; table.cancel(0, 1), case.cancels, "{case:?}");
-    assert_eq!(rt; phase_of(table), Some(case.phase), "{case:?}");
+    assert!(rt; table.cancel(0, 1) == case.cancels, "{name}");
+    assert!(rt; stands(table, case.phase), "{name}, cancelled");
     if let Some(search) = out {
-        assert!(rt; give(table, search, case.runs), "{case:?}");
+        assert!(rt; give(table, search, case.runs), "{name}, given back");
     }
-    assert_eq!(rt; phase_of(table), Some(case.end), "{case:?}");
+    assert!(rt; stands(table, case.end), "{name}, in the end");
 }

@@ -1,11 +1,11 @@
 //! What is told of a job, and turns of it.
 ghost use Rattle.std.specs.Prelude.{◌≡◌, false};
 
-use job_table::{JobTable, Phase};
+use job_table::{Job, JobTable, Phase};
 use strategy::{Strategy, Verdict};
 
 /// Where a job stands, how many nodes it has run, how many quanta it holds, and what it has found.
-#[derive(Clone, Copy, Debug, PartialEq, Eq)]
+#[derive(Clone, Copy, PartialEq)]
 pub(crate) struct Line {
     pub(crate) phase: Phase,
     pub(crate) nodes: u64,
@@ -23,16 +23,23 @@ pub(crate) const FRESH: Line = Line {
     verdict: Verdict::Going,
 };
 
-/// The line of a tenant's job of that number.
-pub(crate) fn line_of<J>(table: &JobTable<J>, tenant: u32, seq: u64) -> Option<Line> {
-    let job = table.find(tenant, seq)?;
-    Some(Line {
+/// The line of a job.
+fn line_of<J>(job: &Job<J>) -> Line {
+    Line {
         phase: job.phase(),
         nodes: job.nodes(),
         left: job.left(),
         best: job.makespan(),
         verdict: job.verdict(),
-    })
+    }
+}
+
+/// Whether this is the line of a tenant's job 1.
+pub(crate) fn is_told<J>(table: &JobTable<J>, tenant: u32, line: Line) -> bool {
+    match table.find(tenant, 1) {
+        Some(job) => line_of(job) == line,
+        None => false,
+    }
 }
 
 /// Runs a search for at most so many nodes, while it holds quanta and is not over. Tells how many it ran.

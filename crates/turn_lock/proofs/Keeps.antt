@@ -12,7 +12,7 @@ use Rattle.turn_lock.specs.declared.view.Stage.{Stage}
 use Rattle.turn_lock.specs.declared.view.Stage.TheVariants.{Spent, New, Idle, Turn, Joined}
 use Rattle.turn_lock.specs.History.{listed, tagged, events_of, entries_of, IsLegal}
 use Rattle.turn_lock.specs.Rule.{opened, spent, Knows, FitsAt, IsKept}
-use Rattle.turn_lock.specs.Plays.{split_off, numbered, taking_in, having_seen, having_made, told, Holds, MayEnd, Called, Ended, took, released, BothSeen, learned}
+use Rattle.turn_lock.specs.Plays.{having_split, split_off, numbered, taking_in, having_seen, having_made, told, Holds, MayEnd, Called, Ended, took, released, BothSeen, learned}
 use Rattle.turn_lock.proofs.Histories.{events_of-append, events_of-tagged, entries_of-append, entries_of-own, entries_of-others, drop-own, prefix_self, prefix_longer, legal-more}
 
 -- the number below the length at which something stands
@@ -94,29 +94,33 @@ module _ {T O E C A : Type 0} (opening_of : T → O) (events : T → List E) (re
       (numbered m.0 id, keeps, tt, unmoved s k id m.1 m.0 (numbered m.0 id) at (λ e. absurd (cc (e, new))) (f.0, refl), ((λ e. f.1 (sym e)), refl))
 
   -- a pass that took in another learns what it had seen
-  pub learns : (slots id : ℕ) (m : Seat') (other : ℕ) (seen mine : List (ℕ × E)) → m.0.stage ≡ Joined other seen mine → (st : Step (Option T)) → Allows Rule slots id m 0 (λ n. n) (learned relation st m)
-  learns slots id m other seen mine joined st s k wide at fits_word =
+  pub learns : (slots id : ℕ) (v w : View O E) (m : Seat') → m.0 ≡ taking_in v w → (st : Step (Option T)) → Allows Rule slots id m 0 (λ n. n) (learned relation st m)
+  learns slots id v w m is st s k wide at fits_word =
+      let joined : m.0.stage ≡ Joined w.number w.seen w.mine = ap (λ (x : View O E). x.stage) is in
       let f = subst (λ (x : Stage E). FitsAt (get_or s.words 0 0) k.holder k.log o s.views id m.0 x) joined (k.fits id m.0 at) in
-      let w = having_seen m.0 Idle k.log in
+      let x = having_seen m.0 Idle k.log in
       let own : entries_of m.0.number k.log ≡ m.0.mine = subst (λ (n : ℕ). entries_of n k.log ≡ m.0.mine) (sym f.1) f.0.1.2 in (
-        w,
+        x,
         keeps,
         tt,
-        unmoved s k id m.1 m.0 w at (λ e. absurd (cc (e, joined))) ((f.0.0, (([], append-nil k.log), f.0.1.2, f.0.1.2)), f.1),
+        unmoved s k id m.1 m.0 x at (λ e. absurd (cc (e, joined))) ((f.0.0, (([], append-nil k.log), f.0.1.2, f.0.1.2)), f.1),
         (
           refl,
-          λ other' seen' mine' is.
-              let same : other ≡ other' = cc (joined, is) in
-              let same_seen : seen ≡ seen' = cc (joined, is) in
-              let same_mine : mine ≡ mine' = cc (joined, is) in
+          λ v' w' is'.
+              let stages : Joined w.number w.seen w.mine ≡ Joined w'.number w'.seen w'.mine = sym joined ∙ ap (λ (y : View O E). y.stage) is' in
+              let same : w.number ≡ w'.number = cc stages in
+              let same_seen : w.seen ≡ w'.seen = cc stages in
+              let same_mine : w.mine ≡ w'.mine = cc stages in
+              let number : m.0.number ≡ v'.number = ap (λ (y : View O E). y.number) is' in
+              let opening' : m.0.opening ≡ v'.opening = ap (λ (y : View O E). y.opening) is' in
               record {
-                after = refl;
-                this = f.0.1.0;
+                after = ap (λ (y : View O E). having_seen y Idle k.log) is';
+                this = subst (λ (y : View O E). IsPrefix y.seen k.log) is' f.0.1.0;
                 that = subst (λ (l : List (ℕ × E)). IsPrefix l k.log) same_seen f.3.0;
-                own = own;
-                other_own = subst (λ (n : ℕ). entries_of n k.log ≡ mine') same (f.3.2 ∙ same_mine);
-                apart = λ e. f.2 (same ∙ (e ∙ f.1));
-                legal = λ o' is'. subst (λ (x : O). IsLegal relation x k.log) (cc (f.0.0, is')) k.legal;
+                own = subst (λ (y : View O E). entries_of y.number k.log ≡ y.mine) is' own;
+                other_own = subst (λ (n : ℕ). entries_of n k.log ≡ w'.mine) same (f.3.2 ∙ same_mine);
+                apart = λ e. f.2 (same ∙ (e ∙ (sym number ∙ f.1)));
+                legal = λ o' opens. subst (λ (y : O). IsLegal relation y k.log) (cc (f.0.0, opening', opens)) k.legal;
               },
         ),
       )
@@ -203,26 +207,29 @@ module _ {T O E C A : Type 0} (opening_of : T → O) (events : T → List E) (re
       rest' c x is = ap (λ (l : List (ℕ × Option T)). Rattle.atomic_table.specs.Table.rest l) is
 
   -- a pass is cut in two
-  pub splits : (id : ℕ) (v : View O E) → v.stage ≡ Idle → Splits Rule id v v (split_off v)
+  pub splits : (id : ℕ) (v : View O E) → v.stage ≡ Idle → Splits Rule id v (having_split v) (split_off v)
   splits id v idle s k at =
       let word = get_or s.words 0 0 in
       let f = subst (λ (x : Stage E). FitsAt word k.holder k.log o s.views id v x) idle (k.fits id v at) in
-      let n = length s.views in
+      let w = having_split v in
+      let views' = set s.views id w in
+      let n = length views' in
+      let same : n ≡ length s.views = length-set s.views id w in
       let below = at_below s.views id v at in
-      let views' = s.views ++ split_off v ∷ [] in
-      subst (λ (vs : List (View O E)). Rule record { words = s.words; homes = s.homes; views = vs ++ split_off v ∷ [] }) (sym (set_again s.views id v at)) record {
+      record {
         log = k.log;
         holder = k.holder;
         one_word = k.one_word;
         legal = k.legal;
         at_home = k.at_home;
-        fits = λ j u e. fits_snoc word k.holder k.log s.views (split_off v) k.fits (λ (none : entries_of n k.log ≡ []). ((f.0.0, (f.0.1.0, seen_none k.log n v.seen f.0.1.0 none, none)), (λ (x : v.number ≡ n). absurd (omega arith)))) (k.later n (le_self n)) j u e;
-        later = λ by le. k.later by (omega (arith, length-append s.views (split_off v ∷ [])));
+        fits = fits_snoc word k.holder k.log views' (split_off v)
+            (each_fits word k.holder k.log o s.views views' id w (subst (λ (x : Stage E). FitsAt word k.holder k.log o views' id w x) (sym idle) (f.0, f.1))
+            (λ j u apart e. others word k.holder word k.holder k.log k.log o s.views id v w at (λ x. absurd (cc (x, idle))) (λ _ _ _ _ x. x) (λ _ _ one _. (one, refl, refl)) j u apart u.stage (k.fits j u e)))
+            (λ (none : entries_of n k.log ≡ []). ((f.0.0, (f.0.1.0, seen_none k.log n v.seen f.0.1.0 none, none)), (λ (x : v.number ≡ n). absurd (omega arith))))
+            (k.later n (omega arith));
+        later = λ by le. k.later by (omega (arith, length-append views' (split_off v ∷ [])));
       }
     where
-      le_self : (n : ℕ) → n ≤ n
-      le_self n = omega arith
-
       nothing : (xs ys : List (ℕ × E)) → xs ++ ys ≡ [] → xs ≡ []
       nothing [] ys e = refl
       nothing (x ∷ xs) ys e = absurd cc
@@ -349,24 +356,11 @@ module _ {T O E C A : Type 0} (opening_of : T → O) (events : T → List E) (re
       (ends_turn slots id (m.0, (0, Some value) ∷ []) value h.call h.answer h.event turn refl h.opened h.has h.stands one_slot st)
 
   -- one pass has taken in another
-  pub learns_as : (slots id : ℕ) (v w : View O E) (m : Seat') → m.0 ≡ taking_in v w → (st : Step (Option T)) → Allows Rule slots id m 0 (λ n. n) (learned relation st m)
-  learns_as slots id v w m is st = learns slots id m w.number w.seen w.mine (ap (λ (x : View O E). x.stage) is) st
+  pub both_seen : (v w : View O E) (m n : Seat') (st : Step (Option T)) → m.0 ≡ taking_in v w → learned relation st m 0 n → BothSeen relation v w n.0
+  both_seen v w m n st is told = told.1 v w is
 
-  pub both_seen : (v w : View O E) (m n : Seat') (st : Step (Option T)) → m.0 ≡ taking_in v w → learned relation st m 0 n → BothSeen relation v w.number w.seen w.mine n.0
-  both_seen v w m n st is told =
-      let b = told.1 w.number w.seen w.mine (ap (λ (x : View O E). x.stage) is) in
-      record {
-        after = b.after ∙ ap (λ (x : View O E). having_seen x Idle n.0.seen) is;
-        this = subst (λ (x : View O E). IsPrefix x.seen n.0.seen) is b.this;
-        that = b.that;
-        own = subst (λ (x : View O E). entries_of x.number n.0.seen ≡ x.mine) is b.own;
-        other_own = b.other_own;
-        apart = λ e. b.apart (e ∙ ap (λ (x : View O E). x.number) (sym is));
-        legal = λ o' e. b.legal o' (ap (λ (x : View O E). x.opening) is ∙ e);
-      }
-
-  pub both_seen_at : (v v' w w' n : View O E) → v' ≡ v → w' ≡ w → BothSeen relation v' w'.number w'.seen w'.mine n → BothSeen relation v w.number w.seen w.mine n
-  both_seen_at v v' w w' n is is' b = subst (λ (x : View O E × View O E). BothSeen relation x.0 x.1.number x.1.seen x.1.mine n) (λ i. (is i, is' i)) b
+  pub both_seen_at : (v v' w w' n : View O E) → v' ≡ v → w' ≡ w → BothSeen relation v' w' n → BothSeen relation v w n
+  both_seen_at v v' w w' n is is' b = subst (λ (x : View O E × View O E). BothSeen relation x.0 x.1 n) (λ i. (is i, is' i)) b
 
   pub called_at : (v v' w : View O E) (call : C) (answer : A) → v' ≡ v → Called relation v' call answer w → Called relation v call answer w
   called_at v v' w call answer is h = subst (λ (x : View O E). Called relation x call answer w) is h

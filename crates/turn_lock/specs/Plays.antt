@@ -1,5 +1,5 @@
 -- What each step tells its pass.
-use Rattle.std.specs.Prelude.{◌≡◌, ◌≢◌, ℕ, List, [], ◌∷◌, ◌++◌, Option, Some, None, length, drop}
+use Rattle.std.specs.Prelude.{◌≡◌, ◌≢◌, ℕ, ◌+◌, List, [], ◌∷◌, ◌++◌, Option, Some, None, length, drop}
 use mathlib.Core.List.{IsPrefix}
 use Rattle.atomic_table.specs.Table.{Me, Step}
 use Rattle.turn_lock.specs.History.{listed, tagged, events_of, entries_of, IsLegal}
@@ -8,25 +8,33 @@ use Rattle.turn_lock.specs.declared.view.Stage.{Stage}
 use Rattle.turn_lock.specs.declared.view.Stage.TheVariants.{New, Idle, Turn, Joined}
 
 module _ {O E : Type 0} where
+  -- a pass is as it was, and one more was split off from it
+  abbrev pub having_split : View O E → View O E
+  having_split v = record v { splits = v.splits + 1 }
+
   -- a pass that is split off has seen as much, and did nothing
   abbrev pub split_off : View O E → View O E
-  split_off v = record { stage = New; number = v.number; opening = v.opening; seen = v.seen; mine = [] }
+  split_off v = record v { stage = New; mine = []; splits = 0 }
 
   abbrev pub newcomer : View O E → ℕ → View O E
-  newcomer v number = record { stage = Idle; number = number; opening = v.opening; seen = v.seen; mine = [] }
+  newcomer v number = record v { stage = Idle; number = number; mine = []; splits = 0 }
 
   abbrev pub numbered : View O E → ℕ → View O E
-  numbered v number = record { stage = Idle; number = number; opening = v.opening; seen = v.seen; mine = v.mine }
+  numbered v number = record v { stage = Idle; number = number }
 
   abbrev pub taking_in : View O E → View O E → View O E
-  taking_in v w = record { stage = Joined w.number w.seen w.mine; number = v.number; opening = v.opening; seen = v.seen; mine = v.mine }
+  taking_in v w = record v { stage = Joined w.number w.seen w.mine; splits = v.splits + w.splits }
+
+  -- it took in w, and has seen so much then. What was split off from w counts as split off from it
+  abbrev pub having_taken_in : View O E → View O E → List (ℕ × E) → View O E
+  having_taken_in v w seen = record v { stage = Idle; seen = seen; splits = v.splits + w.splits }
 
   abbrev pub having_seen : View O E → Stage E → List (ℕ × E) → View O E
-  having_seen v stage seen = record { stage = stage; number = v.number; opening = v.opening; seen = seen; mine = v.mine }
+  having_seen v stage seen = record v { stage = stage; seen = seen }
 
   -- after these events, which are its own
   abbrev pub having_made : View O E → List (ℕ × E) → List E → View O E
-  having_made v before es = record { stage = Idle; number = v.number; opening = v.opening; seen = before ++ tagged v.number es; mine = v.mine ++ tagged v.number es }
+  having_made v before es = record v { stage = Idle; seen = before ++ tagged v.number es; mine = v.mine ++ tagged v.number es }
 
   abbrev pub told : {S : Type 0} → Step S → Me S (View O E) → ℕ → Me S (View O E) → Type 0
   told st m r n = (n.0.number ≢ m.0.number) × (n ≡ (numbered m.0 n.0.number, m.1))
@@ -78,17 +86,17 @@ module _ {T O E C A : Type 0} (opening_of : T → O) (events : T → List E) (re
 
 module _ {O E C A : Type 0} (relation : O → List E → C → Option E → A → Type 0) where
   -- one history, which begins with what both had seen, and in which the entries of each are what it had made
-  pub record BothSeen (v : View O E) (other : ℕ) (seen mine : List (ℕ × E)) (w : View O E) : Type 0 where
-    pub after : w ≡ having_seen v Idle w.seen
+  pub record BothSeen (v other w : View O E) : Type 0 where
+    pub after : w ≡ having_taken_in v other w.seen
     pub this : IsPrefix v.seen w.seen
-    pub that : IsPrefix seen w.seen
+    pub that : IsPrefix other.seen w.seen
     pub own : entries_of v.number w.seen ≡ v.mine
-    pub other_own : entries_of other w.seen ≡ mine
-    pub apart : other ≢ v.number
+    pub other_own : entries_of other.number w.seen ≡ other.mine
+    pub apart : other.number ≢ v.number
     pub legal : (opening : O) → v.opening ≡ Some opening → IsLegal relation opening w.seen
 
   abbrev pub learned : {S : Type 0} → Step S → Me S (View O E) → ℕ → Me S (View O E) → Type 0
-  learned st m r n = (n.1 ≡ m.1) × ((other : ℕ) (seen mine : List (ℕ × E)) → m.0.stage ≡ Joined other seen mine → BothSeen m.0 other seen mine n.0)
+  learned st m r n = (n.1 ≡ m.1) × ((v w : View O E) → m.0 ≡ taking_in v w → BothSeen v w n.0)
 
   -- one call of a pass
   pub record Called (v : View O E) (call : C) (answer : A) (w : View O E) : Type 0 where

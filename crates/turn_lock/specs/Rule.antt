@@ -16,11 +16,11 @@ module _ {E : Type 0} where
 
 module _ {O E : Type 0} where
   abbrev pub opened : O → View O E
-  opened opening = record { stage = Idle; number = 0; opening = Some opening; seen = []; mine = [] }
+  opened opening = record { stage = Idle; number = 0; opening = Some opening; seen = []; mine = []; splits = 0 }
 
   -- the one view of a pass that was taken in
   abbrev pub spent : View O E
-  spent = record { stage = Spent; number = 0; opening = None; seen = []; mine = [] }
+  spent = record { stage = Spent; number = 0; opening = None; seen = []; mine = []; splits = 0 }
 
   module _ (word holder : ℕ) (log : List (ℕ × E)) (opening : O) (views : List (View O E)) (by : ℕ) (v : View O E) where
     abbrev pub Live : Type 0

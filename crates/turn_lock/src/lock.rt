@@ -1,7 +1,7 @@
 //! The lock, and its passes.
 ghost use Rattle.std.specs.Prelude.{◌≡◌, ◌≢◌, [], ◌∷◌, None, length, drop, IfOk, IfErr, IfSome};
 ghost use Rattle.turn_lock.specs.Rule.{opened};
-ghost use Rattle.turn_lock.specs.Plays.{having_made, newcomer, Holds, MayEnd, BothSeen, Called, Ended};
+ghost use Rattle.turn_lock.specs.Plays.{having_made, having_split, newcomer, Holds, MayEnd, BothSeen, Called, Ended};
 ghost use Rattle.turn_lock.specs.Values.{IsPassOf, Keeps};
 ghost use Rattle.turn_lock.specs.declared.view.Stage.TheVariants.{Idle, Turn};
 
@@ -126,10 +126,10 @@ impl<T: Kept + Drop> TurnLock<T> {
         shared.store::<Release<T>>(seat, 0, FREE);
     }
 
-    /// A pass for another thread, which has seen as much as this one and has made no call.
+    /// A pass for another thread, which has seen as much as this one and has made no call. This one counts one split more, and stays as it was else.
     pub fn split_pass(&self, pass: &mut Pass<T>) -> Pass<T>
         requires own { IsPassOf self.now pass.old }
-        ensures same { pass.new ≡ pass.old }
+        ensures split { pass.new ≡ record pass.old { view = having_split pass.old.view } }
         ensures own { IsPassOf self.now result }
         ensures new { result.view ≡ newcomer pass.old.view result.view.number }
         ensures apart { result.view.number ≢ pass.old.view.number }
@@ -140,12 +140,12 @@ impl<T: Kept + Drop> TurnLock<T> {
         Pass { seat }
     }
 
-    /// Takes in another pass, which ends. What both had seen are beginnings of what this one has seen then.
+    /// Takes in another pass, which ends. What both had seen are beginnings of what this one has seen then, and the splits of both are its own.
     pub fn join_pass(&self, pass: &mut Pass<T>, other: Pass<T>)
         requires own { IsPassOf self.now pass.old }
         requires other { IsPassOf self.now other }
         ensures own { IsPassOf self.now pass.new }
-        ensures both { BothSeen T.relation pass.old.view other.view.number other.view.seen other.view.mine pass.new.view }
+        ensures both { BothSeen T.relation pass.old.view other.view pass.new.view }
     {
         let Pass { seat } = other;
         let shared = &self.table.shared;

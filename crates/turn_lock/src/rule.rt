@@ -18,13 +18,13 @@ impl<T: Kept> TableRule<Option<T>, View<T::Opening, T::Event>, Snapshot<T>> for 
     ghost first = { λ key. opened (T.opening key.value) };
 }
 
-/// A pass is split: it stays as it is, and one more is made.
+/// A pass is split: it stays as it is but for the count of its splits, and one more is made.
 pub(crate) struct SplitOff;
 
 impl<O, E> Split<View<O, E>> for SplitOff {
-    ghost use Rattle.turn_lock.specs.Plays.{split_off};
+    ghost use Rattle.turn_lock.specs.Plays.{having_split, split_off};
 
-    ghost left = { λ v. v };
+    ghost left = { having_split };
 
     ghost right = { split_off };
 }

@@ -27,4 +27,6 @@ pub struct View<O, E> {
     pub seen: LinkedList<(u64, E)>,
     /// Its own entries.
     pub mine: LinkedList<(u64, E)>,
+    /// How many passes were split off from it, and from those that it took in.
+    pub splits: u64,
 }

@@ -1,5 +1,5 @@
 use Rattle.turn_lock.specs.Values.{IsPassOf}
 use Rattle.call_trials.proofs.play.play_all.Given as goal
 
-abbrev pub invariant-loop-step : goal.invariant-loop-step
-invariant-loop-step g l = IsPassOf l.pool.lock l.pass
+abbrev pub invariant-loop-at : goal.invariant-loop-at
+invariant-loop-at g l = IsPassOf l.pool.lock l.pass

@@ -8,4 +8,4 @@ returns-clause-optimal c =
     let f : IsFeasible c.args.project.now c.args.schedule.now = (c.in-Ok.ensures.feasible.0 refl).1 in
     let m : c.in-Ok.makespan ≡ makespan c.args.project.now c.args.schedule.now = c.in-Ok.ensures.makespan in
     let e : makespan c.args.project.now c.args.schedule.now ≡ (c.in-Ok.makespan - 1) + 1 = omega arith in
-    optimal c.args.project.now c.args.schedule.now (c.in-Ok.makespan - 1) f e c.in_ok-certify_bound.ensures
+    optimal c.args.project.now c.args.schedule.now (c.in-Ok.makespan - 1) f e c.in_ok-certify_bound.ensures.exceeds

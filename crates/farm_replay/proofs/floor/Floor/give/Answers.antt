@@ -27,7 +27,7 @@ returns-in-Ok-clause-told g c =
     let m = g.J.Strategy.meaning c.run.new.self.search in
     let run : IsRun g.J.Strategy.meaning c.remove-turn.result turn.tenant turn.seq turn.slice turn.ran c.run.result m =
     record { tenant_is = c.run.ensures.tenant; seq_is = c.run.ensures.seq; slice_is = c.run.ensures.slice; first = c.run.ensures.first; ran_is = c.run.ensures.ran; search = c.run.ensures.search } in
-    found_told g.J.Strategy.meaning c.know_turns.ensures.nodes c.args.self.now.farm c.give.new.self c.args.tenant c.args.seq c.args.self.now.held.items c.remove-turn.new.self.items c.remove-turn.result
+    found_told g.J.Strategy.meaning c.args.self.now.farm c.give.new.self c.args.tenant c.args.seq c.args.self.now.held.items c.remove-turn.new.self.items c.remove-turn.result
     turn.tenant turn.seq turn.slice turn.ran c.run.result m c.in-Ok.reply found run c.in-Ok.ensures.given.follows
 
 pub returns-in-Ok-clause-floor : goal.returns-in-Ok-clause-floor
@@ -38,9 +38,8 @@ returns-in-Ok-clause-floor g c =
     let m = g.J.Strategy.meaning c.run.new.self.search in
     let run : IsRun g.J.Strategy.meaning c.remove-turn.result turn.tenant turn.seq turn.slice turn.ran c.run.result m =
     record { tenant_is = c.run.ensures.tenant; seq_is = c.run.ensures.seq; slice_is = c.run.ensures.slice; first = c.run.ensures.first; ran_is = c.run.ensures.ran; search = c.run.ensures.search } in
-    let know = c.know_turns.ensures in
-    found_floor g.J.Strategy.meaning know.stay know.only know.given c.args.self.now.farm c.give.new.self c.args.tenant c.args.seq turn.ran c.in-Ok.reply c.args.self.now.held.items c.remove-turn.new.self.items
-    c.remove-turn.result know.replayed found
+    found_floor g.J.Strategy.meaning c.args.self.now.farm c.give.new.self c.args.tenant c.args.seq turn.ran c.in-Ok.reply c.args.self.now.held.items c.remove-turn.new.self.items
+    c.remove-turn.result found
     (found_follows g.J.Strategy.meaning c.args.self.now.farm c.give.new.self c.args.tenant c.args.seq c.args.self.now.held.items c.remove-turn.new.self.items c.remove-turn.result
     turn.tenant turn.seq turn.slice turn.ran c.run.result m c.in-Ok.reply found run c.in-Ok.ensures.given.follows)
     c.requires.floor
@@ -53,7 +52,7 @@ returns-in-Err-clause-told g c =
     let m = g.J.Strategy.meaning c.run.new.self.search in
     let run : IsRun g.J.Strategy.meaning c.remove-turn.result turn.tenant turn.seq turn.slice turn.ran c.run.result m =
     record { tenant_is = c.run.ensures.tenant; seq_is = c.run.ensures.seq; slice_is = c.run.ensures.slice; first = c.run.ensures.first; ran_is = c.run.ensures.ran; search = c.run.ensures.search } in
-    absurd (never_strange g.J.Strategy.meaning c.know_turns.ensures.known c.args.self.now.farm c.args.tenant c.args.seq c.args.self.now.held.items c.remove-turn.new.self.items c.remove-turn.result
+    absurd (never_strange g.J.Strategy.meaning c.args.self.now.farm c.args.tenant c.args.seq c.args.self.now.held.items c.remove-turn.new.self.items c.remove-turn.result
     turn.tenant turn.seq turn.slice turn.ran c.run.result m found run c.in-Err.ensures.strange)
 
 pub returns-in-Err-clause-floor : goal.returns-in-Err-clause-floor
@@ -64,5 +63,5 @@ returns-in-Err-clause-floor g c =
     let m = g.J.Strategy.meaning c.run.new.self.search in
     let run : IsRun g.J.Strategy.meaning c.remove-turn.result turn.tenant turn.seq turn.slice turn.ran c.run.result m =
     record { tenant_is = c.run.ensures.tenant; seq_is = c.run.ensures.seq; slice_is = c.run.ensures.slice; first = c.run.ensures.first; ran_is = c.run.ensures.ran; search = c.run.ensures.search } in
-    absurd (never_strange g.J.Strategy.meaning c.know_turns.ensures.known c.args.self.now.farm c.args.tenant c.args.seq c.args.self.now.held.items c.remove-turn.new.self.items c.remove-turn.result
+    absurd (never_strange g.J.Strategy.meaning c.args.self.now.farm c.args.tenant c.args.seq c.args.self.now.held.items c.remove-turn.new.self.items c.remove-turn.result
     turn.tenant turn.seq turn.slice turn.ran c.run.result m found run c.in-Err.ensures.strange)

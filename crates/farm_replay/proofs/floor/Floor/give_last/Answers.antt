@@ -12,10 +12,9 @@ give-requires-clause-turn g c κs within =
 
 pub returns-in-Ok-clause-floor : goal.returns-in-Ok-clause-floor
 returns-in-Ok-clause-floor g c =
-    let know = c.know_turns.ensures in
     let found = found_last g.J.Strategy.meaning c.args.self.now.farm c.args.self.now.held.items c.pop.new.self.items c.in-Some.turn c.in-Some.ensures.items c.requires in
-    found_floor g.J.Strategy.meaning know.stay know.only know.given c.args.self.now.farm c.give.new.self c.in-Some.turn.tenant c.in-Some.turn.seq c.in-Some.turn.ran c.in-Ok.reply
-    c.args.self.now.held.items c.pop.new.self.items c.in-Some.turn know.replayed found c.in-Ok.ensures.given.follows c.requires
+    found_floor g.J.Strategy.meaning c.args.self.now.farm c.give.new.self c.in-Some.turn.tenant c.in-Some.turn.seq c.in-Some.turn.ran c.in-Ok.reply
+    c.args.self.now.held.items c.pop.new.self.items c.in-Some.turn found c.in-Ok.ensures.given.follows c.requires
 
 pub returns-in-Ok-clause-unrun : goal.returns-in-Ok-clause-unrun
 returns-in-Ok-clause-unrun g c =
@@ -25,4 +24,4 @@ returns-in-Ok-clause-unrun g c =
 pub returns-in-Err-clause-floor : goal.returns-in-Err-clause-floor
 returns-in-Err-clause-floor g c =
     let found = found_last g.J.Strategy.meaning c.args.self.now.farm c.args.self.now.held.items c.pop.new.self.items c.in-Some.turn c.in-Some.ensures.items c.requires in
-    absurd (unrun_known g.J.Strategy.meaning c.know_turns.ensures.known c.args.self.now.farm c.args.self.now.held.items c.pop.new.self.items c.in-Some.turn found c.in-Err.ensures.strange)
+    absurd (unrun_known g.J.Strategy.meaning c.args.self.now.farm c.args.self.now.held.items c.pop.new.self.items c.in-Some.turn found c.in-Err.ensures.strange)

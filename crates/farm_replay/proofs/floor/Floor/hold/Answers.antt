@@ -1,7 +1,17 @@
 use Rattle.std.proofs.Common.{◌++◌, ◌∷◌, [], ap, subst, sym, ◌∙◌}
 use Rattle.farm_replay.specs.Floor.{IsFloor}
-use Rattle.farm_replay.proofs.FloorLemmas.{floor_taken, sent_line}
+use Rattle.farm_replay.proofs.FloorLemmas.{floor_taken, sent_line, told_out}
 use Rattle.farm_replay.proofs.floor.Floor.hold.Goals as goal
+
+pub returns-in_default-snapshot-clause-refused : goal.returns-in_default-snapshot-clause-refused
+returns-in_default-snapshot-clause-refused g c =
+    absurd (told_out c.args.self.now.farm c.take.new.self c.args.tenant c.args.seq c.args.slice (g.J.Strategy.meaning c.in_ok-turn.turn.search) c.in_ok-turn.ensures.taken
+    (cc (c.snapshot.ensures, c.in_default-snapshot.is)))
+
+pub returns-in_default-snapshot-clause-floor : goal.returns-in_default-snapshot-clause-floor
+returns-in_default-snapshot-clause-floor g c =
+    absurd (told_out c.args.self.now.farm c.take.new.self c.args.tenant c.args.seq c.args.slice (g.J.Strategy.meaning c.in_ok-turn.turn.search) c.in_ok-turn.ensures.taken
+    (cc (c.snapshot.ensures, c.in_default-snapshot.is)))
 
 pub returns-clause-held : goal.returns-clause-held
 returns-clause-held g c =
@@ -10,8 +20,7 @@ returns-clause-held g c =
 
 pub returns-clause-floor : goal.returns-clause-floor
 returns-clause-floor g c =
-    let know = c.know_turns.ensures in
     let turn = c.in_ok-turn.ensures in
-    let pushed = floor_taken g.J.Strategy.meaning know.taken know.waited know.stay know.only c.args.self.now.farm c.take.new.self c.args.tenant c.args.seq c.args.slice know.replayed
+    let pushed = floor_taken g.J.Strategy.meaning c.args.self.now.farm c.take.new.self c.args.tenant c.args.seq c.args.slice
     c.in_ok-turn.turn turn.taken turn.tenant turn.seq turn.slice turn.ran c.requires.known c.args.self.now.held.items c.requires.floor in
     subst (λ turns. IsFloor g.J.Strategy.meaning c.take.new.self turns) (ap (λ turns. turns ++ c.in_ok-turn.turn ∷ []) (sym c.reserve.ensures.items) ∙ sym c.push_reserved.ensures.items) pushed

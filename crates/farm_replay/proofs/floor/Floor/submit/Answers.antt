@@ -17,6 +17,5 @@ returns-clause-told g c =
 
 pub returns-clause-floor : goal.returns-clause-floor
 returns-clause-floor g c =
-    let know = c.know_turns.ensures in
-    floor_replied g.J.Strategy.meaning know.stay know.only c.args.self.now.farm c.submit.new.self c.args.tenant (Submit c.args.plan c.args.quanta) c.submit.result know.replayed
+    floor_replied g.J.Strategy.meaning c.args.self.now.farm c.submit.new.self c.args.tenant (Submit c.args.plan c.args.quanta) c.submit.result
     (λ s. refl) (λ s. refl) c.args.self.now.held.items c.submit.ensures.follows c.requires.floor

@@ -1,0 +1,27 @@
+-- What a tenant's request asks of the farm.
+use Rattle.std.specs.Prelude.{◌≡◌, ⊤, Option, Some, None}
+use Rattle.farm_core.specs.declared.command.Command.{Command}
+use Rattle.farm_core.specs.declared.entry.Event.{Event}
+use Rattle.farm_core.specs.declared.entry.Event.TheVariants as event
+use Rattle.farm_core.specs.Command.{event_of}
+use Rattle.session_lines.specs.declared.request.What.{What}
+use Rattle.session_lines.specs.declared.request.What.TheVariants.{Submit, Fund, Status, Fetch, Cancel, Forget, Ledger, Take, Give, Turn}
+
+-- the event for which a tenant's request asks; a turn is no request of a tenant
+abbrev pub event_in : What → Option Event
+event_in (Submit kind quanta project) = Some (event.Submit (record { project = project; kind = kind }) quanta)
+event_in (Fund seq quanta) = Some (event.Fund seq quanta)
+event_in (Status seq) = Some (event.Status seq)
+event_in (Fetch seq) = Some (event.Fetch seq)
+event_in (Cancel seq) = Some (event.Cancel seq)
+event_in (Forget seq) = Some (event.Forget seq)
+event_in Ledger = Some event.Ledger
+event_in (Take seq slice) = None
+event_in (Give seq) = None
+event_in (Turn seq slice) = None
+
+-- the command for which a request asks is of that event, and where there is none, a job is asked for, or nothing
+abbrev pub IsCommandOf : {J : Type 0} → What → Option (Command J) → Type 0
+IsCommandOf request (Some command) = event_in request ≡ Some (event_of command)
+IsCommandOf (Submit kind quanta project) None = ⊤
+IsCommandOf request None = event_in request ≡ None

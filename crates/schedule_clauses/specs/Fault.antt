@@ -1,0 +1,39 @@
+-- Why something is not certified.
+use Rattle.std.specs.Prelude.{◌≡◌, ⊤, ℕ, ◌-◌, ◌<◌}
+use Rattle.mrcpsp.specs.Project.{ProjectData, horizon}
+use Rattle.mrcpsp.specs.Schedule.{ScheduleData, IsFeasible, makespan}
+use Rattle.mrcpsp.specs.Breach.{IsFirstBreach}
+use Rattle.schedule_clauses.specs.declared.certificate.CertificateFault.{CertificateFault}
+use Rattle.schedule_clauses.specs.declared.certificate.CertificateFault.TheVariants.{NoMemory, Horizon, Schedule, Proof}
+
+-- the bound is above this horizon
+abbrev pub IsBeyond : ProjectData → ℕ → ℕ → Type 0
+IsBeyond p bound h = (h ≡ horizon p.activities) × (h < bound)
+
+-- there are no clauses of the bound
+abbrev pub IsOfClauses : ProjectData → ℕ → CertificateFault → Type 0
+IsOfClauses p bound NoMemory = ⊤
+IsOfClauses p bound (Horizon h) = IsBeyond p bound h
+IsOfClauses p bound (Schedule b) = ⊥
+IsOfClauses p bound (Proof f) = ⊥
+
+-- or the bytes are no proof
+abbrev pub IsOfBound : ProjectData → ℕ → CertificateFault → Type 0
+IsOfBound p bound NoMemory = ⊤
+IsOfBound p bound (Horizon h) = IsBeyond p bound h
+IsOfBound p bound (Schedule b) = ⊥
+IsOfBound p bound (Proof f) = ⊤
+
+-- without a bound
+abbrev pub IsOfStocks : CertificateFault → Type 0
+IsOfStocks NoMemory = ⊤
+IsOfStocks (Horizon h) = ⊥
+IsOfStocks (Schedule b) = ⊥
+IsOfStocks (Proof f) = ⊤
+
+-- the schedule breaks this first; or it is feasible, and the bytes are no proof, or it is too long for the clauses
+abbrev pub IsOfSchedule : ProjectData → ScheduleData → CertificateFault → Type 0
+IsOfSchedule p s NoMemory = ⊤
+IsOfSchedule p s (Horizon h) = IsFeasible p s × IsBeyond p (makespan p s - 1) h
+IsOfSchedule p s (Schedule b) = IsFirstBreach p s b
+IsOfSchedule p s (Proof f) = IsFeasible p s
