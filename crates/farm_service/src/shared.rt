@@ -52,6 +52,8 @@ pub(crate) trait Shared {
 
     ghost tells: { Self → Self.Token → ℕ → Event → Reply → Self.Token → Type 0 };
 
+    ghost splits: { Self.Token → ℕ };
+
     /// Submits a tenant's job, with its search: the reply is to that call of the tenant.
     fn submit<R: Wait>(
         &self,
@@ -74,10 +76,11 @@ pub(crate) trait Shared {
         ensures own { owns self.now token.new }
         ensures told { tells self.now token.old tenant (event_for asked) result token.new };
 
-    /// Takes turns of the jobs, as long as the gate lets it.
+    /// Takes turns of the jobs, as long as the gate lets it, and makes no call beside them by a token of its own.
     fn work<R: Wait, G: Gate>(&self, rt: &R, token: &mut Self::Token, gate: &G)
         requires { owns self.now token.old }
-        ensures { owns self.now token.new };
+        ensures own { owns self.now token.new }
+        ensures alone { splits token.new ≡ splits token.old };
 
     /// A token for another thread.
     fn split(&self, token: &mut Self::Token) -> Self::Token
@@ -108,6 +111,8 @@ impl Shared for Pool {
     ghost owns = { λ pool pass. IsPassOf pool.lock pass };
 
     ghost tells = { λ pool pass t e r new. Called Served pass.view (said.Asked t e) (told.Replied r) new.view };
+
+    ghost splits = { λ pass. pass.view.splits };
 
     fn submit<R: Wait>(
         &self,

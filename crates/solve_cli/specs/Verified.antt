@@ -1,5 +1,5 @@
 -- What a verified schedule is, and why a text is of none.
-use Rattle.std.specs.Prelude.{◌≡◌, ℕ, ◌<◌, ⊤, List, length, Ok}
+use Rattle.std.specs.Prelude.{◌≡◌, ℕ, ⊤, List, Ok}
 use Rattle.mrcpsp.specs.Project.{ProjectData}
 use Rattle.mrcpsp.specs.Schedule.{ScheduleData, IsFeasible, makespan}
 use Rattle.mrcpsp.specs.Breach.{IsFirstBreach}
@@ -23,13 +23,12 @@ pub record IsFile (file : List ℕ) : Type 0 where
   pub project : ProjectData
   pub read : reading file ≡ Ok project
 
--- the file is of a project, and the text tells a schedule of at least one activity that breaks this first
+-- the file is of a project, and the text tells a schedule that breaks this first
 pub record IsBroken (file text : List ℕ) (b : Breach) : Type 0 where
   pub project : ProjectData
   pub schedule : ScheduleData
   pub read : reading file ≡ Ok project
   pub told : Tells text schedule
-  pub some : 0 < length schedule.modes
   pub first : IsFirstBreach project schedule b
 
 abbrev pub IsAtFault : List ℕ → List ℕ → VerifyFault → Type 0

@@ -35,9 +35,6 @@ pub fn verify(alloc: Global, file: &[u8], text: &[u8]) -> Result<Verified, Verif
     let Some(schedule) = found else {
         return Err(VerifyFault::Words);
     };
-    if schedule.modes.as_slice().is_empty() {
-        return Err(VerifyFault::Words);
-    }
     match check(&project, &schedule) {
         Ok(makespan) => Ok(Verified {
             project,
