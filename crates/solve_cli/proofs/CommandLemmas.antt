@@ -1,5 +1,5 @@
 -- What was read of a command's readers, and what was written of it.
-use Rattle.std.proofs.Common.{◌≡◌, ℕ, List, Bool, take, Option, Some, None, Ok, IfSome, ◌∙◌, sym, subst}
+use Rattle.std.proofs.Common.{◌≡◌, ℕ, List, Bool, take, Option, Some, None, Ok, IfSome, ◌∙◌, subst}
 use Rattle.std.specs.Io.KnownBytes.{Appends}
 use Rattle.mrcpsp.specs.Project.{ProjectData}
 use Rattle.psplib_mm.specs.Reading.{reading}

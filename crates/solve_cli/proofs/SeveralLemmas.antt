@@ -1,11 +1,11 @@
 -- What several searches have found together: it is true, and that of one search is its own.
-use Rattle.std.proofs.Common.{◌≡◌, ◌<◌, ◌≤◌, ℕ, ◌+◌, arith, refl, sym, ap, ◌∙◌, ◌⊎◌, ⊎_elim, cond, nat_lt, true, false, IsTrue, subst, get_or, drop, drop-cons, add-one, length, List, [], ◌∷◌, Option, Some, None, IfSome, option_map, fold, zero-add, inl, inr}
+use Rattle.std.proofs.Common.{◌≡◌, ◌<◌, ◌≤◌, ℕ, ◌+◌, arith, refl, sym, ◌∙◌, ◌⊎◌, ⊎_elim, cond, nat_lt, true, false, IsTrue, subst, get_or, drop, drop-cons, add-one, length, List, [], ◌∷◌, Option, Some, None, IfSome, option_map, fold, zero-add, inl, inr}
 use Rattle.std.specs.Prelude.{IsSomeAnd}
 use Rattle.std.proofs.lemmas.List.{drop_all}
 use Rattle.std.proofs.lemmas.Bool.{cond_both, ltb-true, ltb-false}
 use Rattle.mrcpsp.specs.Project.{ProjectData, is_project}
-use Rattle.mrcpsp.specs.Schedule.{ScheduleData, IsFeasible, IsOptimal, IsInfeasible, makespan}
-use Rattle.strategy.specs.Outcome.{better, best_after, verdict_after}
+use Rattle.mrcpsp.specs.Schedule.{ScheduleData, IsFeasible, IsOptimal, makespan}
+use Rattle.strategy.specs.Outcome.{better}
 use Rattle.strategy.specs.declared.plan.Plan.{Plan}
 use Rattle.strategy.specs.declared.kind.Kind.{Kind}
 use Rattle.strategy.specs.declared.verdict.Verdict.{Verdict}
@@ -104,8 +104,7 @@ joined_to_nothing p kind most f is =
     let n : 0 + f.nodes ≡ f.nodes = zero-add f.nodes in
     let b = nothing_is_best p f.best in
     record {
-      few = rw n is.few;
-      whole = rw n is.whole;
+      nodes = n ∙ is.nodes;
       best = rw n (b ∙ is.best);
       makespan = refl;
       verdict = rw n is.verdict;

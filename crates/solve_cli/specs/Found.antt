@@ -1,15 +1,15 @@
 -- What one search finds within so many nodes.
-use Rattle.std.specs.Prelude.{◌≡◌, ℕ, ◌+◌, ◌≤◌, ◌⊎◌, true, false, option_map}
+use Rattle.std.specs.Prelude.{◌≡◌, ℕ, ◌+◌, ◌≤◌, ◌<◌, ◌⊎◌, true, false, option_map}
+use Rattle.mrcpsp.specs.Numbers.{first_from}
 use Rattle.mrcpsp.specs.Schedule as schedule
 use Rattle.strategy.specs.Outcome.{best_after, is_closed, verdict_after}
 use Rattle.strategy.specs.Search.{Meaning, shown_closed}
 use Rattle.strategy.specs.declared.plan.Plan.{Plan}
 use Rattle.solve_cli.specs.declared.searching.Found.{Found}
 
--- what the search of the plan gives after its nodes, which are at most so many, and fewer only where the search is over then
+-- what the search of the plan gives after the first number of nodes at which it is over, or after so many where it is not over before
 pub record IsFound (plan : Plan) (most : ℕ) (f : Found) : Type 0 where
-  pub few : f.nodes ≤ most
-  pub whole : (is_closed plan f.nodes ≡ true) ⊎ (f.nodes ≡ most)
+  pub nodes : f.nodes ≡ first_from (is_closed plan) most 0
   pub best : f.best ≡ best_after plan f.nodes
   pub makespan : f.makespan ≡ option_map (schedule.makespan plan.project) f.best
   pub verdict : f.verdict ≡ verdict_after plan f.nodes
@@ -20,11 +20,12 @@ pub record IsFresh (m : Meaning) : Type 0 where
   pub left : m.left ≡ 0
   pub taken : m.taken ≡ false
 
--- the same search, with some of its quanta used for as many nodes
+-- the same search, with some of its quanta used for as many nodes, none of which it ran once it was over
 pub record IsAt (before after : Meaning) : Type 0 where
   pub plan : after.plan ≡ before.plan
   pub taken : after.taken ≡ before.taken
   pub paid : after.nodes + after.left ≡ before.nodes + before.left
+  pub going : (n : ℕ) → before.nodes ≤ n → n < after.nodes → is_closed before.plan n ≡ false
 
 -- it is over, or has nothing left
 abbrev pub IsOver : Meaning → Type 0

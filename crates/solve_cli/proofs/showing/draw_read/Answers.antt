@@ -1,5 +1,4 @@
 use Rattle.std.proofs.Common.{refl, string_bytes}
-use Rattle.solve_cli.specs.Commands.{GivesText}
 use Rattle.solve_cli.proofs.CommandLemmas.{shown}
 use Rattle.solve_cli.proofs.showing.draw_read.Goals as goal
 

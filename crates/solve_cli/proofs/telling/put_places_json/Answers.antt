@@ -1,4 +1,4 @@
-use Rattle.std.proofs.Common.{◌+◌, ◌++◌, get_or, take, string_bytes, arith, sym, ap, ◌∙◌, append_assoc}
+use Rattle.std.proofs.Common.{◌++◌, get_or, take, string_bytes, arith, sym, ap, ◌∙◌, append_assoc}
 use Rattle.solve_cli.specs.FoundText.{next_json, places_json}
 use Rattle.solve_cli.proofs.JsonLemmas.{json_more}
 use Rattle.solve_cli.proofs.telling.put_places_json.Goals as goal
