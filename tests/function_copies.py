@@ -29,9 +29,15 @@ def begin_of(text, at):
     return len("".join(f"{it}\n" for it in lines))
 
 
+def calls_itself(name, text, is_method):
+    """Returns whether the function of that name and text calls itself: its proof files speak of such calls, and a copy's would be of the function as it stands."""
+    called = rf"(?:\bself\.|\bSelf::){name}(?=\(|::<)" if is_method else rf"(?<![\w.:]){name}(?=\(|::<)"
+    return re.search(called, text[text.find("{\n") :]) is not None
+
+
 def copyables(path, file, text):
-    """Returns the functions of the file that may have that path and may have copies beside them: none that is a method of a trait or of its impl, or one of several
-    functions that call each other."""
+    """Returns the functions of the file that may have that path and may have copies beside them: none that is a method of a trait or of its impl, one that calls
+    itself, or one of several functions that call each other."""
     found = []
     for fn in FN.finditer(text):
         begin, indent = begin_of(text, fn.start()), re.match(r"[ \t]*", fn[0])[0]
@@ -40,8 +46,9 @@ def copyables(path, file, text):
             continue
         blocks = [*BLOCK.finditer(text, 0, begin)] if indent else []
         is_free = not indent or blocks and blocks[-1][0].startswith("impl") and " for " not in re.sub(r"for<[^>]*>", "", blocks[-1][0])
-        if is_free and not (indent and "\n}\n" in text[blocks[-1].start() : begin]):
-            found.append(Copyable(path, file, fn[1], text[begin : end + len(indent) + 3], fn.start(1) - begin))
+        whole = text[begin : end + len(indent) + 3]
+        if is_free and not (indent and "\n}\n" in text[blocks[-1].start() : begin]) and not calls_itself(fn[1], whole, bool(indent)):
+            found.append(Copyable(path, file, fn[1], whole, fn.start(1) - begin))
     return found
 
 
