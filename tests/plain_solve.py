@@ -20,6 +20,8 @@ import plain_searches  # noqa: E402
 
 DECIDED = ["optimal", "infeasible"]
 MOST_START = 1_000_000_000
+# The most bytes of a schedule's text.
+MOST_TEXT = 1_048_576
 # A number of more digits than these is none of a schedule.
 WORD = re.compile(rb"(0|[1-9][0-9]{,9}):(0|[1-9][0-9]{,9}):(0|[1-9][0-9]{,9})")
 
@@ -145,6 +147,8 @@ def schedule_of(text):
 
 def verified(p, text):
     """Whether the schedule of a text is feasible, and the line that says so, or what is wrong."""
+    if len(text) > MOST_TEXT:
+        return False, "no schedule TooLong"
     schedule = schedule_of(text)
     if schedule is None:
         return False, "no schedule Words"

@@ -1,10 +1,11 @@
 -- What the commands of certificates write of the bytes that are read, and with which status they end.
-use Rattle.std.specs.Prelude.{◌≡◌, ℕ, true, List, ⊤, Option, Result, Ok, Err, IfSome, take}
+use Rattle.std.specs.Prelude.{◌≡◌, ℕ, ◌<◌, ◌≤◌, true, List, length, ⊤, Option, Result, Ok, Err, IfSome, take}
 use Rattle.mrcpsp.specs.Project.{ProjectData}
 use Rattle.mrcpsp.specs.Schedule.{ScheduleData}
 use Rattle.psplib_mm.specs.Gives.{Fails}
 use Rattle.psplib_mm.specs.Reading.{reading}
 use Rattle.schedule_text.specs.ScheduleText.{Tells}
+use Rattle.schedule_text.specs.declared.reading.TheConstants.{MOST_BYTES}
 use Rattle.schedule_clauses.specs.declared.certificate.CertificateFault.{CertificateFault}
 use Rattle.schedule_clauses.specs.Fault.{IsOfStocks, IsOfSchedule}
 use Rattle.watched_files.specs.declared.watch.FileWatch.{FileWatch}
@@ -25,6 +26,7 @@ pub record IsFile (file : List ℕ) : Type 0 where
 abbrev pub IsOfFile : CertifyFault → List ℕ → Type 0
 IsOfFile (why.File fault) file = Fails fault (reading file)
 IsOfFile why.Words file = IsFile file
+IsOfFile why.TooLong file = IsFile file
 IsOfFile (why.Certificate fault) file = IsFile file
 IsOfFile why.NoMemory file = ⊤
 IsOfFile why.Write file = ⊤
@@ -40,7 +42,8 @@ pub record IsUncertified (file text : List ℕ) (fault : CertificateFault) : Typ
 -- the fault of a certificate is that of the schedule,
 abbrev pub IsOfText : CertifyFault → List ℕ → List ℕ → Type 0
 IsOfText (why.File fault) file text = ⊤
-IsOfText why.Words file text = ⊤
+IsOfText why.Words file text = length text ≤ MOST_BYTES
+IsOfText why.TooLong file text = MOST_BYTES < length text
 IsOfText (why.Certificate fault) file text = IsUncertified file text fault
 IsOfText why.NoMemory file text = ⊤
 IsOfText why.Write file text = ⊤
@@ -49,6 +52,7 @@ IsOfText why.Write file text = ⊤
 abbrev pub IsOfProof : CertifyFault → Type 0
 IsOfProof (why.File fault) = ⊤
 IsOfProof why.Words = ⊥
+IsOfProof why.TooLong = ⊥
 IsOfProof (why.Certificate fault) = IsOfStocks fault
 IsOfProof why.NoMemory = ⊤
 IsOfProof why.Write = ⊤
@@ -57,6 +61,7 @@ IsOfProof why.Write = ⊤
 abbrev pub IsStopped : CertifyFault → FileWatch → Option (List ℕ) → Option (List ℕ) → Type 0
 IsStopped (why.File fault) seen before after = after ≡ before
 IsStopped why.Words seen before after = after ≡ before
+IsStopped why.TooLong seen before after = after ≡ before
 IsStopped (why.Certificate fault) seen before after = after ≡ before
 IsStopped why.NoMemory seen before after = after ≡ before
 IsStopped why.Write seen before after = seen.failed ≡ true

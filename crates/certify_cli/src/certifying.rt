@@ -11,7 +11,7 @@ use crate::fault::CertifyFault;
 use mrcpsp::Project;
 use psplib_mm::read;
 use schedule_clauses::{clauses, stock_clauses};
-use schedule_text::read_schedule;
+use schedule_text::{MOST_BYTES, read_schedule};
 use std::alloc::Global;
 use std::io::Write;
 use watched_files::FileWatch;
@@ -53,6 +53,7 @@ pub fn certify_watched<W: Write>(
     };
     let schedule = match read_schedule(alloc, text) {
         Ok(Some(schedule)) => schedule,
+        Ok(None) if text.len() > MOST_BYTES => return Err(CertifyFault::TooLong),
         Ok(None) => return Err(CertifyFault::Words),
         Err(_) => return Err(CertifyFault::NoMemory),
     };

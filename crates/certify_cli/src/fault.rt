@@ -14,6 +14,9 @@ pub enum CertifyFault {
     /// The text does not end with a word `J:MODE:START` for each activity 1, 2, and so on.
     #[error("no schedule Words")]
     Words,
+    /// The text has more than 1,048,576 bytes.
+    #[error("no schedule TooLong")]
+    TooLong,
     /// The schedule is not feasible, or the proof is none.
     #[error("{0}")]
     Certificate(CertificateFault),

@@ -106,12 +106,18 @@ fn read_ending(alloc: Global, text: &[u8]) -> Result<Option<Schedule>, AllocErro
     }
 }
 
+/// The most bytes that a schedule's text may have.
+pub const MOST_BYTES: usize = 1_048_576;
+
 /// The schedule that a text tells: a result line of a farm, or the words `J:MODE:START` of its activities alone, with one
 /// blank between them and in the order of their numbers; or as JSON what `solve --json` prints, or its array alone, in any order.
-/// `None` where it tells none, as an empty text does. An error is want of memory.
+/// `None` where it tells none, as an empty text does, or has more than 1,048,576 bytes. An error is want of memory.
 pub fn read_schedule(alloc: Global, text: &[u8]) -> Result<Option<Schedule>, AllocError>
     ensures { IfOk result (λ found. IfSome found (λ schedule. Tells text.now schedule)) }
 {
+    if text.len() > MOST_BYTES {
+        return Ok(None);
+    }
     let Some(schedule) = read_ending(alloc, text)? else {
         return Ok(None);
     };

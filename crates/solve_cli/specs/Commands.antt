@@ -78,6 +78,7 @@ IsUnsolved (File kind) seen file = seen.file.failed ≡ true
 IsUnsolved (Text kind) seen file = ⊥
 IsUnsolved (Verify (verify.File fault)) seen file = IfSome file (λ bytes. Fails fault (reading (take MOST_TEXT bytes)))
 IsUnsolved (Verify verify.Words) seen file = ⊥
+IsUnsolved (Verify verify.TooLong) seen file = ⊥
 IsUnsolved (Verify (verify.Breach breach)) seen file = ⊥
 IsUnsolved (Verify verify.NoMemory) seen file = ⊤
 

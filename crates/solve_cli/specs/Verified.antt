@@ -1,5 +1,5 @@
 -- What a verified schedule is, and why a text is of none.
-use Rattle.std.specs.Prelude.{◌≡◌, ℕ, ⊤, List, Ok}
+use Rattle.std.specs.Prelude.{◌≡◌, ℕ, ◌<◌, ◌≤◌, ⊤, List, length, Ok}
 use Rattle.mrcpsp.specs.Project.{ProjectData}
 use Rattle.mrcpsp.specs.Schedule.{ScheduleData, IsFeasible, makespan}
 use Rattle.mrcpsp.specs.Breach.{IsFirstBreach}
@@ -7,6 +7,7 @@ use Rattle.mrcpsp.specs.declared.breach.Breach.{Breach}
 use Rattle.psplib_mm.specs.Gives.{Fails}
 use Rattle.psplib_mm.specs.Reading.{reading}
 use Rattle.schedule_text.specs.ScheduleText.{Tells}
+use Rattle.schedule_text.specs.declared.reading.TheConstants.{MOST_BYTES}
 use Rattle.solve_cli.specs.declared.verifying.Verified.{Verified}
 use Rattle.solve_cli.specs.declared.fault.VerifyFault.{VerifyFault}
 use Rattle.solve_cli.specs.declared.fault.VerifyFault.TheVariants as fault
@@ -33,6 +34,7 @@ pub record IsBroken (file text : List ℕ) (b : Breach) : Type 0 where
 
 abbrev pub IsAtFault : List ℕ → List ℕ → VerifyFault → Type 0
 IsAtFault file text (fault.File f) = Fails f (reading file)
-IsAtFault file text fault.Words = IsFile file
+IsAtFault file text fault.Words = IsFile file × (length text ≤ MOST_BYTES)
+IsAtFault file text fault.TooLong = IsFile file × (MOST_BYTES < length text)
 IsAtFault file text (fault.Breach b) = IsBroken file text b
 IsAtFault file text fault.NoMemory = ⊤

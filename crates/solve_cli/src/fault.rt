@@ -14,6 +14,9 @@ pub enum VerifyFault {
     /// The text does not end with a word `J:MODE:START` for each activity 1, 2, and so on, nor with JSON that has each once.
     #[error("no schedule Words")]
     Words,
+    /// The text has more than 1,048,576 bytes.
+    #[error("no schedule TooLong")]
+    TooLong,
     /// The schedule breaks this first.
     #[error("breach {0}")]
     Breach(Breach),

@@ -5,7 +5,7 @@ ghost use Rattle.solve_cli.specs.Verified.{IsVerified, IsAtFault};
 use crate::fault::VerifyFault;
 use mrcpsp::{Project, Schedule, check};
 use psplib_mm::read;
-use schedule_text::read_schedule;
+use schedule_text::{MOST_BYTES, read_schedule};
 use std::alloc::Global;
 
 /// A project, a feasible schedule of it, and that schedule's makespan in periods.
@@ -33,7 +33,11 @@ pub fn verify(alloc: Global, file: &[u8], text: &[u8]) -> Result<Verified, Verif
         return Err(VerifyFault::NoMemory);
     };
     let Some(schedule) = found else {
-        return Err(VerifyFault::Words);
+        return Err(if text.len() > MOST_BYTES {
+            VerifyFault::TooLong
+        } else {
+            VerifyFault::Words
+        });
     };
     match check(&project, &schedule) {
         Ok(makespan) => Ok(Verified {
