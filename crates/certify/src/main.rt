@@ -17,10 +17,12 @@ fn needed<'a>(alloc: Global, name: &'a str, help: &'a str) -> Arg<'a> {
 fn command<'a>(alloc: Global) -> Result<Command<'a>, AllocError> {
     let clauses = Command::new(alloc, "clauses")
         .about("Writes the clauses of a project and a bound in DIMACS form")
+        .override_usage("farm clauses <FILE> <BOUND>")
         .arg(needed(alloc, "FILE", "A PSPLIB multi-mode file"))?
         .arg(needed(alloc, "BOUND", "Periods, or none: modes and stocks alone"))?;
     let check = Command::new(alloc, "check")
         .about("Checks a schedule and a proof that none is shorter")
+        .override_usage("farm certify <FILE> <SCHEDULE> [PROOF]")
         .arg(needed(alloc, "FILE", "A PSPLIB multi-mode file"))?
         .arg(needed(
             alloc,
@@ -32,6 +34,7 @@ fn command<'a>(alloc: Global) -> Result<Command<'a>, AllocError> {
         ))?;
     let infeasible = Command::new(alloc, "infeasible")
         .about("Checks a proof that no schedule is feasible")
+        .override_usage("farm infeasible <FILE> <PROOF>")
         .arg(needed(alloc, "FILE", "A PSPLIB multi-mode file"))?
         .arg(needed(
             alloc,
