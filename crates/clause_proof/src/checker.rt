@@ -15,7 +15,8 @@ pub(crate) fn attach(
     assignment: &mut Assignment,
 ) -> Result<bool, AllocError>
     requires { at < length clauses.now }
-    ensures { IfOk result (λ conflict. Propagates clauses.now assignment.old.values.items assignment.new.values.items 4294967295 conflict) }
+    ensures { IfOk result (λ conflict.
+        Propagates clauses.now assignment.old.values.items assignment.new.values.items 4294967295 conflict) }
 {
     let clause = clauses[at].as_slice();
     let Some(first) = open_literal(clause, &assignment.values, ALWAYS, UNWATCHED) else {
@@ -56,7 +57,8 @@ fn assume(
 ) -> Result<bool, AllocError>
     requires settled { IsSettled clauses.now assignment.old.values.items mark }
     requires mark { mark < 4294967295 }
-    ensures assumes { IfOk result (λ found. found ≡ false → Assumes clauses.now clause.now (length clause.now) assignment.new.values.items mark) }
+    ensures assumes { IfOk result (λ found.
+        found ≡ false → Assumes clauses.now clause.now (length clause.now) assignment.new.values.items mark) }
     ensures settled { IfOk result (λ _. IsSettled clauses.now assignment.new.values.items (mark + 1)) }
     ensures follows { IfOk result (λ found. found ≡ true → Follows clauses.now clause.now) }
 {

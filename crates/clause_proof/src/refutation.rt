@@ -61,7 +61,8 @@ fn attach_all(
     hints: &mut Hints,
     assignment: &mut Assignment,
 ) -> Result<bool, AllocError>
-    ensures { IfOk result (λ conflict. Propagates clauses.now assignment.old.values.items assignment.new.values.items 4294967295 conflict) }
+    ensures { IfOk result (λ conflict.
+        Propagates clauses.now assignment.old.values.items assignment.new.values.items 4294967295 conflict) }
 {
     for at in 0..clauses.len() {
         hints.index.add(signature(clauses[at].as_slice()))?;
@@ -94,7 +95,8 @@ fn add_clause(
 ) -> Result<bool, ProofFault>
     requires settled { IsSettled clauses.old.items assignment.old.values.items mark }
     requires mark { mark < 4294967295 }
-    ensures { IfOk result (λ over. Steps clauses.old.items clauses.new.items assignment.new.values.items (mark + 1) over) }
+    ensures { IfOk result (λ over.
+        Steps clauses.old.items clauses.new.items assignment.new.values.items (mark + 1) over) }
 {
     if !does_follow(
         alloc,

@@ -55,7 +55,8 @@ pub(crate) fn infer(
 ) -> Result<bool, AllocError>
     requires follows { Follows clauses.now clause.now }
     requires only { HasOnly clause.now assignment.old.values.items mark other }
-    ensures { IfOk result (λ conflict. Propagates clauses.now assignment.old.values.items assignment.new.values.items mark conflict) }
+    ensures { IfOk result (λ conflict.
+        Propagates clauses.now assignment.old.values.items assignment.new.values.items mark conflict) }
 {
     if mark <= mark_of(&assignment.values, negated(other)) {
         return Ok(true);
@@ -74,7 +75,8 @@ fn visit_one(
     falsified: u32,
     mark: u32,
 ) -> Result<Visit, AllocError>
-    ensures { IfOk result (λ visit. Propagates clauses.now assignment.old.values.items assignment.new.values.items mark (is_conflict visit)) }
+    ensures { IfOk result (λ visit.
+        Propagates clauses.now assignment.old.values.items assignment.new.values.items mark (is_conflict visit)) }
 {
     if mark <= mark_of(&assignment.values, watch.blocker) {
         return Ok(Visit::Stays);
@@ -112,7 +114,8 @@ fn visit_all(
     falsified: u32,
     mark: u32,
 ) -> Result<bool, AllocError>
-    ensures { IfOk result (λ conflict. Propagates clauses.now assignment.old.values.items assignment.new.values.items mark conflict) }
+    ensures { IfOk result (λ conflict.
+        Propagates clauses.now assignment.old.values.items assignment.new.values.items mark conflict) }
 {
     let mut kept = 0;
     let mut conflict = false;
@@ -162,7 +165,8 @@ fn falsify(
     falsified: u32,
     mark: u32,
 ) -> Result<bool, AllocError>
-    ensures { IfOk result (λ conflict. Propagates clauses.now assignment.old.values.items assignment.new.values.items mark conflict) }
+    ensures { IfOk result (λ conflict.
+        Propagates clauses.now assignment.old.values.items assignment.new.values.items mark conflict) }
 {
     let at = falsified as usize;
     if at >= watches.lists.len() {
@@ -185,7 +189,8 @@ pub(crate) fn propagate(
     assignment: &mut Assignment,
     mark: u32,
 ) -> Result<bool, AllocError>
-    ensures { IfOk result (λ conflict. Propagates clauses.now assignment.old.values.items assignment.new.values.items mark conflict) }
+    ensures { IfOk result (λ conflict.
+        Propagates clauses.now assignment.old.values.items assignment.new.values.items mark conflict) }
 {
     for next in 0..usize::MAX {
         if assignment.trail.len() <= next {

@@ -24,7 +24,8 @@ impl Model for Parts {
 
     ghost view = { λ p. record { activities = p.activities; renewable = p.renewable; nonrenewable = p.nonrenewable } };
 
-    ghost invariant = { λ p. IsTrue (is_project (record { activities = p.activities; renewable = p.renewable; nonrenewable = p.nonrenewable })) };
+    ghost invariant = { λ p. IsTrue (is_project
+        (record { activities = p.activities; renewable = p.renewable; nonrenewable = p.nonrenewable })) };
 }
 
 impl Parts {

@@ -46,7 +46,8 @@ impl Project {
         renewable: Sequence<u32>,
         nonrenewable: Sequence<u32>,
     ) -> Option<Project>
-        ensures { let given : ProjectData = record { activities = activities; renewable = renewable; nonrenewable = nonrenewable } in
+        ensures { let given : ProjectData =
+                record { activities = activities; renewable = renewable; nonrenewable = nonrenewable } in
             result ≡ (if is_project given then Some given else None) }
     {
         let all = activities.as_slice();

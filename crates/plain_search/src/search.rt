@@ -47,7 +47,8 @@ fn best_at(visits: &[Visit], nodes: usize) -> Option<&Schedule>
 
 /// The makespan of a best schedule, which is feasible.
 fn makespan_of(project: &Project, best: &Schedule) -> Option<u32>
-    ensures { (plan : PlanData) (k : ℕ) → project.now ≡ plan.project → Some best.now ≡ best_after plan k → result ≡ Some (makespan plan.project best.now) }
+    ensures { (plan : PlanData) (k : ℕ) → project.now ≡ plan.project → Some best.now ≡ best_after plan k
+        → result ≡ Some (makespan plan.project best.now) }
 {
     // The proof reads from these that the project is within its limits.
     let _ = project.activities();

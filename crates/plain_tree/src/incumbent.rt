@@ -80,7 +80,8 @@ fn is_shorter(project: &Project, schedule: &Schedule, nodes: &[Visit]) -> bool
     requires shape { HasShape project.now schedule.now }
     requires modes { HasModes project.now schedule.now }
     requires known { IsKnown project.now (after None nodes.now) }
-    ensures { improved project.now (after None nodes.now) schedule.now ≡ (if result then Some schedule.now else after None nodes.now) }
+    ensures { improved project.now (after None nodes.now) schedule.now
+        ≡ (if result then Some schedule.now else after None nodes.now) }
 {
     match incumbent(nodes) {
         Some(best) => makespan(project, schedule) < makespan(project, best),

@@ -27,7 +27,8 @@ pub(crate) fn place_of(board: &Board, candidate: Candidate) -> Place
     requires early { IsEarly board.now.project board.now.placed }
     ensures exact { result ≡ placing board.now.project board.now.placed candidate }
     ensures most { result.start ≤ 404000 }
-    ensures early { IsTrue (is_executable board.now.project candidate.activity candidate.mode) → IsEarly board.now.project (board.now.placed ++ result ∷ []) }
+    ensures early { IsTrue (is_executable board.now.project candidate.activity candidate.mode)
+        → IsEarly board.now.project (board.now.placed ++ result ∷ []) }
 {
     let Candidate { activity, mode } = candidate;
     let from = last_start(board.placed());

@@ -53,7 +53,8 @@ fn push_node(
     pruned: bool,
     best: Option<Schedule>,
 ) -> Result<(), AllocError>
-    ensures { OnOk result (nodes.new.items ≡ nodes.old.items ++ record { place = place; pruned = pruned; best = best } ∷ []) }
+    ensures { OnOk result (nodes.new.items
+        ≡ nodes.old.items ++ record { place = place; pruned = pruned; best = best } ∷ []) }
 {
     let node = Visit {
         place,
@@ -79,7 +80,9 @@ fn visit_one(
     requires below { length board.old.placed + 1 + below ≡ size board.old.project }
     requires known { IsKnown board.old.project (after None nodes.old.items) }
     ensures board { OnOk result (board.new ≡ board.old) }
-    ensures nodes { OnOk result (nodes.new.items ≡ nodes.old.items ++ nodes_of (nodes_below board.old.project below) board.old.project board.old.placed candidate (after None nodes.old.items)) }
+    ensures nodes { OnOk result (nodes.new.items ≡ nodes.old.items
+        ++ nodes_of (nodes_below board.old.project below) board.old.project board.old.placed candidate
+            (after None nodes.old.items)) }
     ensures known { OnOk result (IsKnown board.old.project (after None nodes.new.items)) }
 {
     let place = place_of(board, candidate);
@@ -109,7 +112,8 @@ fn visit_level(
     requires unplaced { length board.old.placed + unplaced ≡ size board.old.project }
     requires known { IsKnown board.old.project (after None nodes.old.items) }
     ensures board { OnOk result (board.new ≡ board.old) }
-    ensures nodes { OnOk result (nodes.new.items ≡ nodes.old.items ++ nodes_below board.old.project unplaced board.old.placed (after None nodes.old.items)) }
+    ensures nodes { OnOk result (nodes.new.items
+        ≡ nodes.old.items ++ nodes_below board.old.project unplaced board.old.placed (after None nodes.old.items)) }
     ensures known { OnOk result (IsKnown board.old.project (after None nodes.new.items)) }
 {
     if unplaced == 0 {

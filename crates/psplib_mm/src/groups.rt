@@ -38,7 +38,12 @@ impl<'a> Model for ModeLine<'a> {
 
     ghost Value = { ModeRecord };
 
-    ghost view = { λ m. record { mode = m.mode; duration = m.duration; renewable = m.renewable.now; nonrenewable = m.nonrenewable.now } };
+    ghost view = { λ m. record {
+      mode = m.mode;
+      duration = m.duration;
+      renewable = m.renewable.now;
+      nonrenewable = m.nonrenewable.now
+    } };
 }
 
 /// The modes of a job that are still to come, whose words are known to be as many as they need.
@@ -58,7 +63,8 @@ impl<'a> Model for Modes<'a> {
 
     ghost view = { λ m. records (times (mode_at m.resources.renewable m.resources.nonrenewable) m.left m.cells.now) };
 
-    ghost invariant = { λ m. IsTrue (is_ok (times (mode_at m.resources.renewable m.resources.nonrenewable) m.left m.cells.now)) };
+    ghost invariant = { λ m. IsTrue (is_ok
+        (times (mode_at m.resources.renewable m.resources.nonrenewable) m.left m.cells.now)) };
 }
 
 impl<'a> Modes<'a> {
@@ -123,7 +129,8 @@ impl<'a> Model for Groups<'a> {
 
     ghost view = { λ g. records (groups_at g.resources.renewable g.resources.nonrenewable g.jobs g.cells.now) };
 
-    ghost invariant = { λ g. IsTrue (is_ok (groups_at g.resources.renewable g.resources.nonrenewable g.jobs g.cells.now)) };
+    ghost invariant = { λ g. IsTrue (is_ok
+        (groups_at g.resources.renewable g.resources.nonrenewable g.jobs g.cells.now)) };
 }
 
 impl<'a> Groups<'a> {
@@ -133,7 +140,8 @@ impl<'a> Groups<'a> {
         cells: &'a [Cell],
         resources: Resources,
     ) -> Result<Groups<'a>, MmFault>
-        ensures { Gives (λ groups. groups) result (groups_of resources.renewable resources.nonrenewable jobs.now cells.now) }
+        ensures { Gives (λ groups. groups) result
+            (groups_of resources.renewable resources.nonrenewable jobs.now cells.now) }
     {
         let mut jobs_left = jobs.again();
         let mut rest = cells;
@@ -179,7 +187,8 @@ impl<'a> Groups<'a> {
 }
 
 fn group_of(cells: &[Cell], modes: u32, resources: Resources) -> Option<(Group<'_>, &[Cell])>
-    ensures { option_map (λ x. (x.0, x.1.now)) result ≡ result_ok (group_at resources.renewable resources.nonrenewable modes cells.now) }
+    ensures { option_map (λ x. (x.0, x.1.now)) result
+        ≡ result_ok (group_at resources.renewable resources.nonrenewable modes cells.now) }
 {
     let [job, others @ ..] = cells else {
         return None;
@@ -189,7 +198,8 @@ fn group_of(cells: &[Cell], modes: u32, resources: Resources) -> Option<(Group<'
 }
 
 fn modes_of(cells: &[Cell], count: u32, resources: Resources) -> Option<(Modes<'_>, &[Cell])>
-    ensures { option_map (λ x. (x.0, x.1.now)) result ≡ result_ok (times (mode_at resources.renewable resources.nonrenewable) count cells.now) }
+    ensures { option_map (λ x. (x.0, x.1.now)) result
+        ≡ result_ok (times (mode_at resources.renewable resources.nonrenewable) count cells.now) }
 {
     let mut rest = cells;
     for _ in 0..count {
@@ -205,7 +215,8 @@ fn modes_of(cells: &[Cell], count: u32, resources: Resources) -> Option<(Modes<'
 }
 
 fn mode_of(cells: &[Cell], resources: Resources) -> Option<(ModeLine<'_>, &[Cell])>
-    ensures { option_map (λ x. (x.0, x.1.now)) result ≡ result_ok (mode_at resources.renewable resources.nonrenewable cells.now) }
+    ensures { option_map (λ x. (x.0, x.1.now)) result
+        ≡ result_ok (mode_at resources.renewable resources.nonrenewable cells.now) }
 {
     let [mode, duration, others @ ..] = cells else {
         return None;

@@ -69,7 +69,8 @@ fn is_any_activity_long(activities: &[Activity]) -> bool
 }
 
 fn is_any_activity_large(activities: &[Activity]) -> bool
-    ensures { result ≡ list_any (λ a. list_any (λ m. any_above 1000000 m.renewable || any_above 1000000 m.nonrenewable) a.modes) activities.now }
+    ensures { result ≡ list_any (λ a.
+        list_any (λ m. any_above 1000000 m.renewable || any_above 1000000 m.nonrenewable) a.modes) activities.now }
 {
     activities
         .iter()
@@ -105,7 +106,8 @@ pub fn broken_size(
     nonrenewable: &[u32],
 ) -> Option<LimitName>
     requires { length activities.now ≤ 202 }
-    ensures { let given : ProjectData = record { activities = activities.now; renewable = renewable.now; nonrenewable = nonrenewable.now } in
+    ensures { let given : ProjectData =
+            record { activities = activities.now; renewable = renewable.now; nonrenewable = nonrenewable.now } in
         result ≡ broken_amount given }
 {
     if is_any_activity_long(activities) {

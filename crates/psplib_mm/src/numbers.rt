@@ -75,7 +75,8 @@ impl Numbers {
 
 /// Adds the numbers of a line, up to a word that is none. Then gives its line.
 fn push_words(cells: &mut Vec<Cell>, line: &Piece<'_>) -> Result<Option<u32>, AllocError>
-    ensures { IfOk result (λ stray. cells_or stray cells.new.items ≡ joined (Ok cells.old.items) (kept_cells (words_in line.now))) }
+    ensures { IfOk result (λ stray.
+        cells_or stray cells.new.items ≡ joined (Ok cells.old.items) (kept_cells (words_in line.now))) }
 {
     let mut words = Words::of(line);
     while let Some(word) = words.next_word() {
@@ -97,7 +98,8 @@ fn push_words_up_to(
     line: &Piece<'_>,
     most: usize,
 ) -> Result<Option<u32>, AllocError>
-    ensures { IfOk result (λ stray. cells_or stray cells.new.items ≡ joined_up_to most (Ok cells.old.items) (words_in line.now)) }
+    ensures { IfOk result (λ stray.
+        cells_or stray cells.new.items ≡ joined_up_to most (Ok cells.old.items) (words_in line.now)) }
 {
     let mut words = Words::of(line);
     while cells.len() < most {

@@ -56,7 +56,8 @@ pub fn read_section(
     next: SectionName,
 ) -> Result<Numbers, MmFault>
     ensures rest { Gives (λ _. lines.new) result (lines_after next lines.old) }
-    ensures numbers { IfOk result (λ numbers. numbers ≡ kept_cells (words_below (before_first (begins next) lines.old))) }
+    ensures numbers { IfOk result (λ numbers.
+        numbers ≡ kept_cells (words_below (before_first (begins next) lines.old))) }
 {
     let mut numbers = Numbers::new(alloc);
     let mut heads = false;

@@ -23,7 +23,8 @@ pub fn project(
     requests: &[Cell],
     availabilities: &[Cell],
 ) -> Result<Project, MmFault>
-    ensures { Gives (λ p. p) result (contents sizes.jobs sizes.renewable sizes.nonrenewable precedence.now requests.now availabilities.now) }
+    ensures { Gives (λ p. p) result
+        (contents sizes.jobs sizes.renewable sizes.nonrenewable precedence.now requests.now availabilities.now) }
 {
     let resources = Resources {
         renewable: sizes.renewable,

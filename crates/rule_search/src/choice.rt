@@ -29,7 +29,8 @@ fn is_ahead(measures: &Measures, kind: Kind, one: usize, other: usize) -> bool
 fn first_activity(pass: &Pass, measures: &Measures, kind: Kind) -> Option<usize>
     requires rule { IsRule kind }
     requires measured { measures.now ≡ measures_of pass.now.project }
-    ensures exact { (i : ℕ) → result ≡ activity_at pass.now.project kind i (eligible_in pass.now.project pass.now.placed) }
+    ensures exact { (i : ℕ) → result ≡ activity_at pass.now.project kind i
+        (eligible_in pass.now.project pass.now.placed) }
     ensures inside { IfSome result (λ j. j < size pass.now.project) }
 {
     let (head, rest) = pass.eligible().split_first()?;

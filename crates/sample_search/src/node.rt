@@ -41,7 +41,8 @@ pub(crate) fn run_node(pass: &mut Pass, measures: &Measures, words: &mut Words)
     requires measures { AreMeasures project measures.now }
     requires few { words.old.drawn + 2 < 2 ^ 64 }
     ensures words { words.new ≡ record words.old { drawn = words.old.drawn + 2 } }
-    ensures pass { let first = word_at words.old.seed words.old.drawn in let second = word_at words.old.seed (words.old.drawn + 1) in
+    ensures pass { let first = word_at words.old.seed words.old.drawn in
+        let second = word_at words.old.seed (words.old.drawn + 1) in
         pass.new ≡ record pass.old { placed = after_words project first second pass.old.placed } }
 {
     let first = words.next();

@@ -85,7 +85,9 @@ fn end_pass(pass: &mut Pass, best: &mut Best)
     ensures pass { pass.new ≡ passes.fresh pass.old.project }
     ensures kept { IsKept pass.old.project best.new }
     ensures taken { is_taken best.new ≡ is_taken best.old }
-    ensures best { is_taken best.old ≡ false → best_in best.new ≡ better pass.old.project (best_in best.old) (option_map (schedule_of (size pass.old.project)) pass.old.placed) }
+    ensures best { is_taken best.old ≡ false
+        → best_in best.new ≡ better pass.old.project (best_in best.old)
+            (option_map (schedule_of (size pass.old.project)) pass.old.placed) }
 {
     let last = mem::replace(best, Best::Taken);
     *best = better(last, pass);

@@ -12,7 +12,8 @@ use std::alloc::{AllocError, Global};
 
 /// Clauses that each feasible schedule of at most this makespan satisfies.
 pub(crate) fn encode(alloc: Global, project: &Project, bound: u32) -> Result<Encoding, AllocError>
-    ensures { IfOk result (λ encoding. AreGood project.now (Some bound) encoding.meanings.items encoding.clauses.items) }
+    ensures { IfOk result (λ encoding.
+        AreGood project.now (Some bound) encoding.meanings.items encoding.clauses.items) }
 {
     let measures = Measures::of(alloc, project)?;
     let windows = Windows::new(alloc, project, &measures, bound)?;

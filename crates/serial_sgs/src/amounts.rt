@@ -25,7 +25,8 @@ pub(crate) fn subtract(amounts: &mut [u32; 8], less: &[u32; 8])
 /// Whether these amounts are within the most of each, with so much more of each.
 pub(crate) fn fits(amounts: &[u32; 8], more: &[u32; 8], most: &[u32; 8]) -> bool
     requires few { (r : ℕ) → r < 8 → slice_index amounts.now r + slice_index more.now r ≤ 4000000000 }
-    ensures { IsTrue result ↔ ((r : ℕ) → r < 8 → slice_index amounts.now r + slice_index more.now r ≤ slice_index most.now r) }
+    ensures { IsTrue result ↔ ((r : ℕ) → r < 8
+        → slice_index amounts.now r + slice_index more.now r ≤ slice_index most.now r) }
 {
     let mut holds = true;
     for kind in 0..8 {

@@ -54,7 +54,8 @@ fn extras_of(project: &Project, measures: &Measures, activity: usize, mode: usiz
     requires measured { measures.now ≡ measures_of project.now }
     requires activity { activity < size project.now }
     requires mode { mode < mode_count project.now activity }
-    ensures { (r : ℕ) → r < 8 → slice_index result r + least project.now activity r ≡ consumption project.now activity mode r }
+    ensures { (r : ℕ) → r < 8
+        → slice_index result r + least project.now activity r ≡ consumption project.now activity mode r }
 {
     let mut extras = [0u32; 8];
     for resource in 0..project.nonrenewables() {
@@ -163,7 +164,8 @@ impl Rows {
     /// The row of a mode of an activity.
     pub(crate) fn row(&self, activity: usize, mode: usize) -> &Row
         requires { (p : ProjectData) × IsTable p self.now × (activity < size p) × (mode < mode_count p activity) }
-        ensures { (p : ProjectData) → IsTable p self.now → activity < size p → mode < mode_count p activity → IsRow p activity mode result.now }
+        ensures { (p : ProjectData) → IsTable p self.now → activity < size p → mode < mode_count p activity
+            → IsRow p activity mode result.now }
     {
         &self.rows[activity].as_slice()[mode]
     }
