@@ -77,7 +77,8 @@ fn natural_or(value: &Value, key: &str, missing: u64) -> Option<u64>
 
 /// The text at a key that may be missing, or `None` where its value is no string.
 fn text_if_any<'a>(value: &'a Value, key: &str) -> Option<Option<&'a [u8]>>
-    ensures { option_map (λ text. option_map (λ bytes. bytes.now) text) result ≡ text_if_any (get key.now (view value.now)) }
+    ensures { option_map (λ text. option_map (λ bytes. bytes.now) text) result
+        ≡ text_if_any (get key.now (view value.now)) }
 {
     match value.get(key) {
         Some(text) => Some(Some(text.as_str()?.as_bytes())),

@@ -34,7 +34,8 @@ fn purse_of(draft: &LineDraft<'_>) -> Option<Option<Name>>
 
 /// The line of a tenant after these, or `None` where its name or its purse is ill formed, or one of these has its name.
 fn named_line(draft: &LineDraft<'_>, earlier: &[TenantLine]) -> Option<TenantLine>
-    ensures { result ≡ (if is_well_named draft.now && not (has_name draft.now.name earlier.now) then Some draft.now else None) }
+    ensures { result
+        ≡ (if is_well_named draft.now && not (has_name draft.now.name earlier.now) then Some draft.now else None) }
 {
     let name = Name::new(draft.name)?;
     let purse = purse_of(draft)?;
@@ -52,7 +53,8 @@ fn named_line(draft: &LineDraft<'_>, earlier: &[TenantLine]) -> Option<TenantLin
 
 /// The lines of the tenants, or the first whose name or purse is ill formed, or whose name is that of one before it.
 fn named(alloc: Global, drafts: &[LineDraft<'_>]) -> Result<Vec<TenantLine>, ConfigFault>
-    ensures { Gives (λ lines. lines.items) result (unless (option_map misnamed (first_misnamed drafts.now)) drafts.now) }
+    ensures { Gives (λ lines. lines.items) result
+        (unless (option_map misnamed (first_misnamed drafts.now)) drafts.now) }
 {
     let mut lines = Vec::new(alloc);
     for (index, draft) in drafts.iter().enumerate() {

@@ -212,7 +212,8 @@ fn part_to_blame(line: &LineDraft<'_>) -> Part
 
 /// Where the tenant at this place of the list is misnamed. It is not known where memory ran out.
 fn misnamed_place(alloc: Global, bytes: &[u8], index: usize) -> Option<Place>
-    ensures { IfSome result (λ place. (part : Part) × (to_blame bytes.now index ≡ Some part) × (place ≡ Place.Tenant index part)) }
+    ensures { IfSome result (λ place.
+        (part : Part) × (to_blame bytes.now index ≡ Some part) × (place ≡ Place.Tenant index part)) }
 {
     let Ok(value) = value_of(alloc, bytes) else {
         return None;
@@ -229,7 +230,8 @@ fn misnamed_place(alloc: Global, bytes: &[u8], index: usize) -> Option<Place>
 /// Where the fault of these bytes lies. It is not known where memory ran out.
 pub fn place_of(alloc: Global, bytes: &[u8], fault: ConfigFault) -> Option<Place>
     ensures { (index : ℕ) → fault ≡ misnamed index →
-        IfSome result (λ place. (part : Part) × (to_blame bytes.now index ≡ Some part) × (place ≡ Place.Tenant index part)) }
+        IfSome result (λ place.
+        (part : Part) × (to_blame bytes.now index ≡ Some part) × (place ≡ Place.Tenant index part)) }
 {
     if let ConfigFault::Name(index) = fault {
         return misnamed_place(alloc, bytes, index);

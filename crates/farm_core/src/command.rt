@@ -47,7 +47,8 @@ impl<J: Strategy> Farm<J> {
         ensures follows { IsReply self.old tenant (event_of command) result self.new }
         ensures turns { WaitsThen self.old tenant (event_of command) result self.new }
         ensures accepted { (seq : ℕ) (line : Line) → event_of command ≡ Event.Cancel seq
-            → (step (view tenant self.old) (Event.Cancel seq)).answer ≡ Replied (Reply.Line line) → result ≡ Reply.Line line }
+            → (step (view tenant self.old) (Event.Cancel seq)).answer ≡ Replied (Reply.Line line)
+            → result ≡ Reply.Line line }
     {
         match command {
             Command::Submit {

@@ -300,7 +300,9 @@ impl<J: Strategy> Farm<J> {
         requires { tenant < length self.old.config.tenants }
         ensures follows { IsReply self.old tenant (Event.Cancel seq) result self.new }
         ensures turns { KeepsTurns self.old tenant seq self.new }
-        ensures accepted { (line : Line) → (step (view tenant self.old) (Event.Cancel seq)).answer ≡ Replied (Reply.Line line) → result ≡ Reply.Line line }
+        ensures accepted { (line : Line)
+            → (step (view tenant self.old) (Event.Cancel seq)).answer ≡ Replied (Reply.Line line)
+            → result ≡ Reply.Line line }
     {
         let Some(line) = self.snapshot(tenant, seq) else {
             return self.noted(tenant, Event::Cancel(seq), Reply::NoUnknown);

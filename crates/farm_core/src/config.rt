@@ -42,7 +42,8 @@ impl Model for Config {
 
     ghost view = { λ c. record { tenants = c.tenants; workers = c.workers; slice = c.slice } };
 
-    ghost invariant = { λ c. IsTrue (is_config (record { tenants = c.tenants; workers = c.workers; slice = c.slice })) };
+    ghost invariant = { λ c.
+        IsTrue (is_config (record { tenants = c.tenants; workers = c.workers; slice = c.slice })) };
 }
 
 impl TenantLine {

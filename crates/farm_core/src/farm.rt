@@ -44,12 +44,37 @@ impl<J> Model for Farm<J> {
 
     ghost Value = { World };
 
-    ghost view = { λ f. record { config = f.config; rows = f.jobs.rows; waiting = f.jobs.waiting; journal = f.journal.items; books = f.ledgers.books.items; numbers = f.ledgers.numbers.items } };
+    ghost view = { λ f. record {
+      config = f.config;
+      rows = f.jobs.rows;
+      waiting = f.jobs.waiting;
+      journal = f.journal.items;
+      books = f.ledgers.books.items;
+      numbers = f.ledgers.numbers.items;
+    } };
 
     ghost invariant = { λ f.
-        IsFarm (record { config = f.config; rows = f.jobs.rows; waiting = f.jobs.waiting; journal = f.journal.items; books = f.ledgers.books.items; numbers = f.ledgers.numbers.items }) (vec_capacity f.journal)
+        IsFarm
+        (record {
+          config = f.config;
+          rows = f.jobs.rows;
+          waiting = f.jobs.waiting;
+          journal = f.journal.items;
+          books = f.ledgers.books.items;
+          numbers = f.ledgers.numbers.items;
+        })
+        (vec_capacity f.journal)
         × (f.ledgers.purses.items ≡ purse_numbers f.config)
-        × ArePassed (record { config = f.config; rows = f.jobs.rows; waiting = f.jobs.waiting; journal = f.journal.items; books = f.ledgers.books.items; numbers = f.ledgers.numbers.items }) f.passed };
+        × ArePassed
+        (record {
+          config = f.config;
+          rows = f.jobs.rows;
+          waiting = f.jobs.waiting;
+          journal = f.journal.items;
+          books = f.ledgers.books.items;
+          numbers = f.ledgers.numbers.items;
+        })
+        f.passed };
 }
 
 /// The number of each tenant's purse. A configuration keeps its limits.
@@ -116,7 +141,8 @@ pub(crate) fn write_down(
     requires room { vec_len journal.old < vec_capacity journal.old }
     ensures purses { ledgers.new.purses.items ≡ ledgers.old.purses.items }
     ensures books { ledgers.new.books.items ≡ slice_set ledgers.old.books.items purse account.book }
-    ensures numbers { ledgers.new.numbers.items ≡ slice_set ledgers.old.numbers.items tenant (record { next = account.next; used = account.used }) }
+    ensures numbers { ledgers.new.numbers.items
+        ≡ slice_set ledgers.old.numbers.items tenant (record { next = account.next; used = account.used }) }
     ensures journal { journal.new.items ≡ journal.old.items ++ record { tenant = tenant; event = event } ∷ [] }
     ensures capacity { vec_capacity journal.new ≡ vec_capacity journal.old }
 {

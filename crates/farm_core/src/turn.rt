@@ -160,8 +160,11 @@ impl<J: Strategy> Farm<J> {
     pub fn give(&mut self, turn: Turn<J>) -> Result<Reply, Stranger<J>>
         requires known { turn.tenant < length self.old.config.tenants }
         requires turn { IsTurn turn.slice turn.ran (J.meaning turn.search) }
-        ensures given { IfOk result (λ reply. IsGiven self.old turn.tenant turn.seq turn.slice turn.ran (J.meaning turn.search) reply self.new) }
-        ensures strange { OnErr result (IsStrange self.old.rows turn.tenant turn.seq turn.slice turn.ran (J.meaning turn.search)) }
+        ensures given { IfOk result
+            (λ reply.
+            IsGiven self.old turn.tenant turn.seq turn.slice turn.ran (J.meaning turn.search) reply self.new) }
+        ensures strange { OnErr result
+            (IsStrange self.old.rows turn.tenant turn.seq turn.slice turn.ran (J.meaning turn.search)) }
         ensures kept { OnErr result (self.new ≡ self.old) }
         ensures back { IfErr result (λ stranger. stranger.0 ≡ turn) }
     {
@@ -249,7 +252,8 @@ impl<J: Strategy> Farm<J> {
     /// back stands behind those that wait. Only where there is one is there `NoMemory`. Goes over a waiting job of a tenant
     /// without entries once, and over all of these again where such a tenant cancels or forgets a job, which it can do once.
     pub fn take_next(&mut self, slice: u64) -> Result<Turn<J>, NoTurn>
-        ensures taken { IfOk result (λ turn. IsTaken self.old turn.tenant turn.seq slice (J.meaning turn.search) self.new) }
+        ensures taken { IfOk result
+            (λ turn. IsTaken self.old turn.tenant turn.seq slice (J.meaning turn.search) self.new) }
         ensures first { IfOk result (λ turn. IsFirstReady self.old turn.tenant turn.seq slice) }
         ensures known { IfOk result (λ turn. turn.tenant < length self.old.config.tenants) }
         ensures slice { IfOk result (λ turn. turn.slice ≡ slice) }

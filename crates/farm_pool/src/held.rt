@@ -137,7 +137,8 @@ impl Runs for Held<Box<dyn Strategy>> {
 
     ghost may = { λ held call. MayAsk (λ b. (Strategy-box b).meaning b.value) held.farm.config call };
 
-    ghost does = { λ old call answer new. DoesOn (λ b. (Strategy-box b).meaning b.value) old.farm call answer new.farm };
+    ghost does = { λ old call answer new.
+        DoesOn (λ b. (Strategy-box b).meaning b.value) old.farm call answer new.farm };
 
     fn apply(&mut self, call: FarmCall<Box<dyn Strategy>>) -> FarmAnswer<Box<dyn Strategy>> {
         serve_on(&mut self.farm, call)

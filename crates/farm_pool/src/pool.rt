@@ -55,7 +55,8 @@ pub(crate) fn ask<R: Wait>(
     requires own { IsPassOf lock.now pass.old }
     requires may { MayAsk (λ b. meaning b) lock.now.opening call }
     ensures own { IsPassOf lock.now pass.new }
-    ensures called { Called Served pass.old.view (call_image (λ b. meaning b) call) (answer_image (λ b. meaning b) result) pass.new.view }
+    ensures called { Called Served pass.old.view
+        (call_image (λ b. meaning b) call) (answer_image (λ b. meaning b) result) pass.new.view }
 {
     lock.with_turn(rt, pass, call)
 }
@@ -97,7 +98,8 @@ impl Pool {
         requires own { IsPassOf self.now.lock pass.old }
         requires known { tenant < length self.now.lock.opening.tenants }
         ensures own { IsPassOf self.now.lock pass.new }
-        ensures called { Called Served pass.old.view (said.Asked tenant (event_of command)) (told.Replied result) pass.new.view }
+        ensures called { Called Served pass.old.view
+            (said.Asked tenant (event_of command)) (told.Replied result) pass.new.view }
     {
         match ask(rt, &self.lock, pass, FarmCall::Asked(tenant, command)) {
             FarmAnswer::Replied(reply) => reply,

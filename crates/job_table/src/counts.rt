@@ -42,7 +42,8 @@ pub(crate) fn begin_counts(
 /// Tells other counts of a tenant. Takes no memory.
 pub(crate) fn set_counts(counts: &mut IndexMap<u32, Counts>, tenant: u32, to: Counts)
     requires { ContainsKey nat_eq counts.old tenant }
-    ensures { (t : ℕ) → counted (get nat_eq counts.new t) ≡ cond (nat_eq tenant t) to (counted (get nat_eq counts.old t)) }
+    ensures { (t : ℕ) → counted (get nat_eq counts.new t)
+        ≡ cond (nat_eq tenant t) to (counted (get nat_eq counts.old t)) }
 {
     if let Some(place) = counts.get_mut(&tenant) {
         *place = to;
@@ -53,8 +54,12 @@ pub(crate) fn set_counts(counts: &mut IndexMap<u32, Counts>, tenant: u32, to: Co
 pub(crate) fn recount(counts: &mut IndexMap<u32, Counts>, tenant: u32, was: bool, is: bool)
     requires there { ContainsKey nat_eq counts.old tenant }
     requires least { was ≡ true → 1 ≤ (counted (get nat_eq counts.old tenant)).out }
-    requires most { was ≡ false → is ≡ true → (counted (get nat_eq counts.old tenant)).out < (counted (get nat_eq counts.old tenant)).kept }
-    ensures { (t : ℕ) → counted (get nat_eq counts.new t) ≡ cond (nat_eq tenant t) (moved was is (counted (get nat_eq counts.old tenant))) (counted (get nat_eq counts.old t)) }
+    requires most { was ≡ false → is ≡ true
+        → (counted (get nat_eq counts.old tenant)).out < (counted (get nat_eq counts.old tenant)).kept }
+    ensures { (t : ℕ) → counted (get nat_eq counts.new t)
+        ≡ cond (nat_eq tenant t)
+        (moved was is (counted (get nat_eq counts.old tenant)))
+        (counted (get nat_eq counts.old t)) }
 {
     let Counts { kept, out } = counts_in(counts, tenant);
     let out = match (was, is) {
@@ -70,7 +75,10 @@ pub(crate) fn count_in(counts: &mut IndexMap<u32, Counts>, tenant: u32, is: bool
     requires there { ContainsKey nat_eq counts.old tenant }
     requires kept { (counted (get nat_eq counts.old tenant)).kept < 2 ^ 63 }
     requires out { (counted (get nat_eq counts.old tenant)).out < 2 ^ 63 }
-    ensures { (t : ℕ) → counted (get nat_eq counts.new t) ≡ cond (nat_eq tenant t) (one_more is (counted (get nat_eq counts.old tenant))) (counted (get nat_eq counts.old t)) }
+    ensures { (t : ℕ) → counted (get nat_eq counts.new t)
+        ≡ cond (nat_eq tenant t)
+        (one_more is (counted (get nat_eq counts.old tenant)))
+        (counted (get nat_eq counts.old t)) }
 {
     let Counts { kept, out } = counts_in(counts, tenant);
     let out = if is { out + 1 } else { out };
@@ -89,7 +97,10 @@ pub(crate) fn count_out(counts: &mut IndexMap<u32, Counts>, tenant: u32, was: bo
     requires there { ContainsKey nat_eq counts.old tenant }
     requires kept { 1 ≤ (counted (get nat_eq counts.old tenant)).kept }
     requires out { was ≡ true → 1 ≤ (counted (get nat_eq counts.old tenant)).out }
-    ensures { (t : ℕ) → counted (get nat_eq counts.new t) ≡ cond (nat_eq tenant t) (one_less was (counted (get nat_eq counts.old tenant))) (counted (get nat_eq counts.old t)) }
+    ensures { (t : ℕ) → counted (get nat_eq counts.new t)
+        ≡ cond (nat_eq tenant t)
+        (one_less was (counted (get nat_eq counts.old tenant)))
+        (counted (get nat_eq counts.old t)) }
 {
     let Counts { kept, out } = counts_in(counts, tenant);
     let out = if was { out - 1 } else { out };

@@ -44,7 +44,10 @@ impl<J> Model for Job<J> {
 
 /// Whether a search is at this point, with its best schedule, and not over.
 fn agrees<S: Strategy>(search: &S, tenant: u32, plan: &Plan, nodes: u64, left: u64) -> bool
-    ensures { IsTrue result ↔ ((S.meaning search.now ≡ record { tenant = tenant; plan = plan.now; nodes = nodes; left = left; taken = false }) × (is_closed plan.now nodes ≡ false)) }
+    ensures { IsTrue result
+        ↔ ((S.meaning search.now
+        ≡ record { tenant = tenant; plan = plan.now; nodes = nodes; left = left; taken = false })
+        × (is_closed plan.now nodes ≡ false)) }
 {
     !search.closed()
         && search.tenant() == tenant
@@ -63,7 +66,8 @@ fn fund_own<S: Strategy>(
     quanta: u64,
 ) -> bool
     requires { nodes + left + quanta ≤ 1000000000000 }
-    ensures own { IsTrue result → S.meaning search.old ≡ record { tenant = tenant; plan = plan.now; nodes = nodes; left = left; taken = false } }
+    ensures own { IsTrue result → S.meaning search.old
+        ≡ record { tenant = tenant; plan = plan.now; nodes = nodes; left = left; taken = false } }
     ensures going { IsTrue result → is_closed plan.now nodes ≡ false }
     ensures funded { IsTrue result → S.meaning search.new ≡ funded quanta (S.meaning search.old) }
     ensures drawn { IsTrue result → S.lease search.new ≡ after_draw (S.lease search.old) quanta }
@@ -124,8 +128,10 @@ impl<J: Strategy> Job<J> {
         mut search: J,
     ) -> Option<Job<J>>
         requires { quanta ≤ 1000000000000 }
-        ensures made { IfSome result (λ job. job ≡ record { seq = seq; plan = plan; phase = Phase.Waiting; nodes = 0; left = quanta }) }
-        ensures own { OnSome result (J.meaning search ≡ record { tenant = tenant; plan = plan; nodes = 0; left = 0; taken = false }) }
+        ensures made { IfSome result
+            (λ job. job ≡ record { seq = seq; plan = plan; phase = Phase.Waiting; nodes = 0; left = quanta }) }
+        ensures own { OnSome result
+            (J.meaning search ≡ record { tenant = tenant; plan = plan; nodes = 0; left = 0; taken = false }) }
     {
         let Ok(best) = Best::new(alloc, plan.project.activities().len()) else {
             return None;
@@ -265,7 +271,8 @@ impl<J: Strategy> Job<J> {
     pub fn fund(&mut self, tenant: u32, quanta: u64) -> bool
         requires phase { IsTrue (is_here self.old.phase) }
         requires limited { self.old.nodes + self.old.left + quanta ≤ 1000000000000 }
-        ensures funded { IsTrue result → self.new ≡ record self.old { phase = Phase.Waiting; left = self.old.left + quanta } }
+        ensures funded { IsTrue result
+            → self.new ≡ record self.old { phase = Phase.Waiting; left = self.old.left + quanta } }
         ensures kept { IsFalse result → self.new ≡ self.old }
     {
         let Some(mut search) = self.search.take() else {

@@ -92,7 +92,8 @@ fn put_before<J>(
 /// Joins the neighbours of a job that had these links and stands in the queue no longer.
 pub(crate) fn unlink<J>(jobs: &mut IndexMap<(u32, u64), Linked<J>>, queue: &mut Queue, links: Links)
     requires { 0 < queue.old.len }
-    ensures links { (t s : ℕ) → links_at t s jobs.new.entries ≡ option_map (joined links t s) (links_at t s jobs.old.entries) }
+    ensures links { (t s : ℕ) → links_at t s jobs.new.entries
+        ≡ option_map (joined links t s) (links_at t s jobs.old.entries) }
     ensures jobs { jobs_in jobs.new.entries ≡ jobs_in jobs.old.entries }
     ensures queue { queue.new ≡ one_gone links queue.old }
 {
@@ -109,7 +110,8 @@ fn link_last<J>(
     seq: u64,
 )
     requires { queue.old.len < 2 ^ 63 }
-    ensures links { (t s : ℕ) → links_at t s jobs.new.entries ≡ option_map (lengthened tenant seq queue.old.last t s) (links_at t s jobs.old.entries) }
+    ensures links { (t s : ℕ) → links_at t s jobs.new.entries
+        ≡ option_map (lengthened tenant seq queue.old.last t s) (links_at t s jobs.old.entries) }
     ensures jobs { jobs_in jobs.new.entries ≡ jobs_in jobs.old.entries }
     ensures queue { queue.new ≡ one_come tenant seq queue.old }
 {
@@ -139,7 +141,8 @@ pub(crate) fn requeue<J>(
     requires there { is_some (links_at tenant seq jobs.old.entries) ≡ true }
     requires stood { length (filter (is_key tenant seq) (line_of jobs.old.entries queue.old)) ≡ cond was 1 0 }
     requires few { was ≡ false → is ≡ true → length (line_of jobs.old.entries queue.old) < 2 ^ 63 }
-    ensures linked { IsLinked jobs.new.entries queue.new (waiting_then tenant seq was is (line_of jobs.old.entries queue.old)) }
+    ensures linked { IsLinked jobs.new.entries queue.new
+        (waiting_then tenant seq was is (line_of jobs.old.entries queue.old)) }
     ensures jobs { jobs_in jobs.new.entries ≡ jobs_in jobs.old.entries }
 {
     if was == is {

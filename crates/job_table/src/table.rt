@@ -275,7 +275,8 @@ impl<J: Strategy> JobTable<J> {
     /// Gives a job up that is not at its end. Tells whether it did; if not, nothing has changed. Takes no memory.
     pub fn cancel(&mut self, tenant: u32, seq: u64) -> bool
         ensures given_up { IsTrue result → IsGivenUp self.old tenant seq self.new }
-        ensures refused { IsFalse result → IfSome (find_row tenant seq self.old.rows) (λ job. given_up job job.phase ≡ None) }
+        ensures refused { IsFalse result
+            → IfSome (find_row tenant seq self.old.rows) (λ job. given_up job job.phase ≡ None) }
         ensures kept { IsFalse result → self.new ≡ self.old }
     {
         let Some(linked) = self.jobs.get_mut(&(tenant, seq)) else {

@@ -35,7 +35,8 @@ pub trait Nodes: Send + Drop {
 
     /// The makespan of the best schedule, in periods.
     fn makespan(&self) -> Option<u32>
-        ensures { (plan : PlanData) (k : ℕ) → stands self.now plan k → result ≡ option_map (makespan plan.project) (best_after plan k) };
+        ensures { (plan : PlanData) (k : ℕ) → stands self.now plan k
+            → result ≡ option_map (makespan plan.project) (best_after plan k) };
 
     /// The best schedule.
     fn best(&self) -> Option<&Schedule>
@@ -44,7 +45,8 @@ pub trait Nodes: Send + Drop {
     /// Runs one node. A search has fewer than 1,000,000,000,000 before its last one.
     fn advance(&mut self)
         requires { GoesOn stands self.old }
-        ensures { (plan : PlanData) (k : ℕ) → stands self.old plan k → all_run plan.project plan.kind k ≡ false → stands self.new plan (k + 1) };
+        ensures { (plan : PlanData) (k : ℕ) → stands self.old plan k → all_run plan.project plan.kind k ≡ false
+            → stands self.new plan (k + 1) };
 
     /// Hands out the best schedule.
     fn take_best(&mut self) -> Option<Schedule>

@@ -30,7 +30,10 @@ impl<N: Nodes> Model for Paid<N> {
 
     ghost Value = { Meaning × LeaseValue };
 
-    ghost view = { λ s. (record { tenant = s.lease.tenant; plan = s.plan; nodes = s.nodes; left = s.lease.left; taken = s.taken }, s.lease) };
+    ghost view = { λ s. (
+      record { tenant = s.lease.tenant; plan = s.plan; nodes = s.nodes; left = s.lease.left; taken = s.taken },
+      s.lease,
+    ) };
 
     ghost invariant = { λ s. IsPaid N.stands s.plan s.lease s.nodes s.bound s.taken s.shown s.run };
 }

@@ -27,7 +27,8 @@ fn final_verdict(kind: Kind, is_found: bool) -> Verdict
 
 /// Whether there is a best schedule, of this makespan, and it is as short as the bound.
 fn is_at_bound(makespan: Option<u32>, bound: u32) -> bool
-    ensures { (p : ProjectData) (best : Option ScheduleData) → makespan ≡ option_map (greatest_finish p) best → bound ≡ bound_of p → result ≡ is_at_bound p best }
+    ensures { (p : ProjectData) (best : Option ScheduleData)
+        → makespan ≡ option_map (greatest_finish p) best → bound ≡ bound_of p → result ≡ is_at_bound p best }
 {
     match makespan {
         Some(shortest) => shortest <= bound,
@@ -38,7 +39,9 @@ fn is_at_bound(makespan: Option<u32>, bound: u32) -> bool
 /// What a search shows, by the makespan of its best schedule and whether all its nodes have run. When a search stops is
 /// decided here and nowhere else.
 pub(crate) fn verdict_by(kind: Kind, makespan: Option<u32>, bound: u32, all_run: bool) -> Verdict
-    ensures { (plan : Plan) (k : ℕ) → kind ≡ plan.kind → makespan ≡ option_map (greatest_finish plan.project) (best_after plan k) → bound ≡ bound_of plan.project → all_run ≡ all_nodes_run plan.project plan.kind k → result ≡ verdict_after plan k }
+    ensures { (plan : Plan) (k : ℕ) → kind ≡ plan.kind
+        → makespan ≡ option_map (greatest_finish plan.project) (best_after plan k) → bound ≡ bound_of plan.project
+        → all_run ≡ all_nodes_run plan.project plan.kind k → result ≡ verdict_after plan k }
 {
     if is_at_bound(makespan, bound) {
         Verdict::Optimal

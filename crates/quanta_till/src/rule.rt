@@ -120,5 +120,6 @@ impl Play<(), SeatView> for LoadGranted {
     ghost use Rattle.quanta_till.specs.Till.{after_granted_load};
     ghost use Rattle.quanta_till.specs.declared.rule.TheConstants.{GRANTED};
 
-    ghost then = { λ step before found after. (step.word ≡ GRANTED) × (found ≡ before.0.granted) × (after.0 ≡ after_granted_load before.0) };
+    ghost then = { λ step before found after.
+        (step.word ≡ GRANTED) × (found ≡ before.0.granted) × (after.0 ≡ after_granted_load before.0) };
 }

@@ -119,7 +119,8 @@ impl<T: Kept + Drop> TurnLock<T> {
         requires turn { (seat.old.me.0.stage ≡ Turn) × (seat.old.me.1 ≡ (0, None) ∷ []) }
         requires value { MayEnd T.opening T.events T.relation seat.old.me.0 value }
         ensures own { seat.new.table_id ≡ seat.old.table_id }
-        ensures made { seat.new.me ≡ (having_made seat.old.me.0 seat.old.me.0.seen (drop (length seat.old.me.0.seen) (T.events value)), []) }
+        ensures made { seat.new.me
+            ≡ (having_made seat.old.me.0 seat.old.me.0.seen (drop (length seat.old.me.0.seen) (T.events value)), []) }
     {
         let shared = &self.table.shared;
         drop(shared.exchange(seat, 0, Some(value)));
@@ -173,7 +174,8 @@ impl<T: Kept + Runs<Says = <T as Kept>::Said, Tells = <T as Kept>::Told> + Drop>
     pub fn with_turn<R: Wait>(&self, rt: &R, pass: &mut Pass<T>, call: T::Call) -> T::Answer
         requires own { IsPassOf self.now pass.old }
         requires can { (t : T) → T.opening t ≡ self.now.opening → T.may t call }
-        requires keeps { (t : T) (a : T.Answer) (u : T) → T.does t call a u → Keeps T.opening T.events T.relation t (T.said call) (T.told a) u }
+        requires keeps { (t : T) (a : T.Answer) (u : T) → T.does t call a u
+            → Keeps T.opening T.events T.relation t (T.said call) (T.told a) u }
         ensures own { IsPassOf self.now pass.new }
         ensures called { Called T.relation pass.old.view (T.said call) (T.told result) pass.new.view }
     {
