@@ -29,7 +29,8 @@ pub fn certify<W: Write>(
     ensures ok { IfOk result (λ _. CertifiesOptimal file.now text.now (W.contents writer.old) (W.contents writer.new)) }
     ensures file { IfErr result (λ fault. IsOfFile fault file.now) }
     ensures judged { IfErr result (λ fault. IsOfText fault file.now text.now) }
-    ensures fault { IfErr result (λ fault. (W.contents writer.new ≡ W.contents writer.old) ⊎ (fault ≡ CertifyFault.Write)) }
+    ensures fault { IfErr result (λ fault.
+        (W.contents writer.new ≡ W.contents writer.old) ⊎ (fault ≡ CertifyFault.Write)) }
 {
     certify_watched(alloc, file, text, proof, writer, &mut FileWatch::new())
 }
@@ -45,7 +46,8 @@ pub fn certify_watched<W: Write>(
 ) -> Result<(), CertifyFault>
     ensures ok { IfOk result (λ _. CertifiesOptimal file.now text.now (W.contents writer.old) (W.contents writer.new)) }
     ensures judged { IfErr result (λ fault. IsOfText fault file.now text.now) }
-    ensures fault { IfErr result (λ fault. IsOfFile fault file.now × IsStopped fault watch.new (W.contents writer.old) (W.contents writer.new)) }
+    ensures fault { IfErr result (λ fault.
+        IsOfFile fault file.now × IsStopped fault watch.new (W.contents writer.old) (W.contents writer.new)) }
 {
     let project = match read(alloc, file) {
         Ok(project) => project,
@@ -77,7 +79,8 @@ pub fn certify_infeasible<W: Write>(
     ensures ok { IfOk result (λ _. CertifiesInfeasible file.now (W.contents writer.old) (W.contents writer.new)) }
     ensures file { IfErr result (λ fault. IsOfFile fault file.now) }
     ensures judged { IfErr result (λ fault. IsOfProof fault) }
-    ensures fault { IfErr result (λ fault. (W.contents writer.new ≡ W.contents writer.old) ⊎ (fault ≡ CertifyFault.Write)) }
+    ensures fault { IfErr result (λ fault.
+        (W.contents writer.new ≡ W.contents writer.old) ⊎ (fault ≡ CertifyFault.Write)) }
 {
     certify_infeasible_watched(alloc, file, proof, writer, &mut FileWatch::new())
 }
@@ -92,7 +95,8 @@ pub fn certify_infeasible_watched<W: Write>(
 ) -> Result<(), CertifyFault>
     ensures ok { IfOk result (λ _. CertifiesInfeasible file.now (W.contents writer.old) (W.contents writer.new)) }
     ensures judged { IfErr result (λ fault. IsOfProof fault) }
-    ensures fault { IfErr result (λ fault. IsOfFile fault file.now × IsStopped fault watch.new (W.contents writer.old) (W.contents writer.new)) }
+    ensures fault { IfErr result (λ fault.
+        IsOfFile fault file.now × IsStopped fault watch.new (W.contents writer.old) (W.contents writer.new)) }
 {
     let project = match read(alloc, file) {
         Ok(project) => project,
@@ -116,7 +120,8 @@ pub fn write_clauses<W: Write>(
     writer: &mut W,
 ) -> Result<(), CertifyFault>
     ensures file { IfErr result (λ fault. IsOfFile fault file.now) }
-    ensures fault { IfErr result (λ fault. (W.contents writer.new ≡ W.contents writer.old) ⊎ (fault ≡ CertifyFault.Write)) }
+    ensures fault { IfErr result (λ fault.
+        (W.contents writer.new ≡ W.contents writer.old) ⊎ (fault ≡ CertifyFault.Write)) }
 {
     let project = match read(alloc, file) {
         Ok(project) => project,

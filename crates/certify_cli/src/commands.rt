@@ -22,7 +22,9 @@ pub fn certify_read<S: Read + Drop, T: Read + Drop, P: Read + Drop, W: Write>(
     writer: &mut W,
     watches: &mut Watches,
 ) -> Result<(), CommandFault>
-    ensures { IsCertifyOf result watches.new (S.remaining file) (T.remaining text) (W.contents writer.old) (W.contents writer.new) }
+    ensures { IsCertifyOf result watches.new (S.remaining file) (T.remaining text)
+        (W.contents writer.old)
+        (W.contents writer.new) }
 {
     let bytes = match watches.file.read_front(alloc, file, MOST_TEXT) {
         Ok(bytes) => bytes,
@@ -84,7 +86,11 @@ pub fn certify_to<
     writer: &mut W,
     watches: &mut Watches,
 ) -> ExitCode
-    ensures { Ends (λ ended. IsCertifyOf ended watches.new (S.remaining file) (T.remaining text) (W.contents writer.old) (W.contents writer.new)) (exit_status result) }
+    ensures { Ends
+        (λ ended. IsCertifyOf ended watches.new (S.remaining file) (T.remaining text)
+            (W.contents writer.old)
+            (W.contents writer.new))
+        (exit_status result) }
 {
     let ended = certify_read(rt.alloc(), file, text, proof, writer, watches);
     end_command(rt, paths, ended)
@@ -99,7 +105,9 @@ pub fn infeasible_to<R: AllocGlobal + Eprint, S: Read + Drop, P: Read + Drop, W:
     writer: &mut W,
     watches: &mut Watches,
 ) -> ExitCode
-    ensures { Ends (λ ended. IsInfeasibleOf ended watches.new (S.remaining file) (W.contents writer.old) (W.contents writer.new)) (exit_status result) }
+    ensures { Ends
+        (λ ended. IsInfeasibleOf ended watches.new (S.remaining file) (W.contents writer.old) (W.contents writer.new))
+        (exit_status result) }
 {
     let ended = infeasible_read(rt.alloc(), file, proof, writer, watches);
     end_command(rt, paths, ended)

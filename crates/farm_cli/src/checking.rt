@@ -97,7 +97,9 @@ pub fn check_to<R: AllocGlobal + Eprint, S: Read + Drop, W: Write>(
     writer: &mut W,
     watches: &mut CheckWatches,
 ) -> ExitCode
-    ensures { IsChecked (exit_status result) watches.new (S.remaining reader) (W.contents writer.old) (W.contents writer.new) }
+    ensures { IsChecked (exit_status result) watches.new (S.remaining reader)
+        (W.contents writer.old)
+        (W.contents writer.new) }
 {
     let ended = check(rt.alloc(), reader, writer, watches);
     end_check(rt, path, ended)

@@ -34,7 +34,10 @@ pub fn replay_text<S: Read + Drop, W: Write + Drop>(
     notes: &mut Notes,
 ) -> Result<(), ReplayStop>
     requires { writer_buffer output.old ≡ [] }
-    ensures { IsReplayOf result text.now watches.new sends.new (S.remaining script) (W.contents (writer_inner output.old)) (W.contents (writer_inner output.new)) }
+    ensures { IsReplayOf result text.now watches.new sends.new
+        (S.remaining script)
+        (W.contents (writer_inner output.old))
+        (W.contents (writer_inner output.new)) }
 {
     let config = match read_config(alloc, text) {
         Ok(config) => config,
@@ -113,7 +116,10 @@ pub fn replay_to<R: AllocGlobal + Eprint, S: Read + Drop, W: Write + Drop>(
     notes: &mut Notes,
 ) -> ExitCode
     requires { writer_buffer output.old ≡ [] }
-    ensures { IsReplayed (exit_status result) is_strict notes.new.refused text.now watches.new sends.new (S.remaining script) (W.contents (writer_inner output.old)) (W.contents (writer_inner output.new)) }
+    ensures { IsReplayed (exit_status result) is_strict notes.new.refused text.now watches.new sends.new
+        (S.remaining script)
+        (W.contents (writer_inner output.old))
+        (W.contents (writer_inner output.new)) }
 {
     let ended = replay_text(rt.alloc(), text, script, output, watches, sends, notes);
     end_replay(rt, text, ended, *notes, is_strict)

@@ -46,7 +46,8 @@ fn search_of<J, M: Fn(Ready) -> Option<J>>(
     make: &M,
 ) -> Option<J>
     requires { M.IsAlwaysCallable make.now }
-    ensures made { IfSome result (λ search. M.post make.now (record { plan = plan.now; lease = empty_lease branch.old tenant }) (Some search)) }
+    ensures made { IfSome result (λ search.
+        M.post make.now (record { plan = plan.now; lease = empty_lease branch.old tenant }) (Some search)) }
     ensures kept { branch.new ≡ branch.old }
 {
     let lease = branch.lease(tenant).ok()?;
@@ -72,7 +73,8 @@ fn submit<D: Shared, R: Wait, M: Fn(Ready) -> Option<D::Search>>(
     requires till { IsTillOf (D.config shared.now) tenant branch.old }
     requires make { M.IsAlwaysCallable make.now }
     ensures own { D.owns shared.now token.new }
-    ensures told { IsSubmitted (D.tells shared.now token.old tenant) token.old (event.Submit plan quanta) result token.new }
+    ensures told { IsSubmitted (D.tells shared.now token.old tenant)
+        token.old (event.Submit plan quanta) result token.new }
     ensures kept { branch.new ≡ branch.old }
 {
     match search_of(alloc, branch, tenant, &plan, make) {
@@ -164,7 +166,10 @@ fn reply<D: Shared, R: Wait, W: Write, M: Fn(Ready) -> Option<D::Search>>(
     requires make { M.IsAlwaysCallable make.now }
     ensures own { D.owns shared.now token.new }
     ensures tills { AreTillsOf config.now branches.new }
-    ensures told { IsToldOf (D.tells shared.now) token.old heard result (W.contents writer.old) (W.contents writer.new) token.new }
+    ensures told { IsToldOf (D.tells shared.now) token.old heard result
+        (W.contents writer.old)
+        (W.contents writer.new)
+        token.new }
 {
     match heard {
         Heard::Over | Heard::Broken => Ok(()),

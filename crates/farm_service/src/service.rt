@@ -116,8 +116,10 @@ fn next_part<'a>(
     is_worker: bool,
     places: &mut Vec<Vec<Branch<'a>>>,
 ) -> Result<Part<'a>, ServeFault>
-    ensures left { (config : ConfigData) → All (λ own. AreTillsOf config own.items) places.old.items → All (λ own. AreTillsOf config own.items) places.new.items }
-    ensures own { (config : ConfigData) → All (λ own. AreTillsOf config own.items) places.old.items → IfOk result (IsAtTills config) }
+    ensures left { (config : ConfigData) → All (λ own. AreTillsOf config own.items) places.old.items
+        → All (λ own. AreTillsOf config own.items) places.new.items }
+    ensures own { (config : ConfigData) → All (λ own. AreTillsOf config own.items) places.old.items
+        → IfOk result (IsAtTills config) }
 {
     if is_worker {
         return Ok(Part::Worker);
@@ -159,7 +161,10 @@ fn attend<
         thread::scope_env(),
         rt,
         move |scope| -> (D::Token, Option<ServeFault>)
-            requires { D.owns shared.now mine × (D.config shared.now ≡ config.now) × All (λ own. AreTillsOf config.now own.items) places.items × M.IsAlwaysCallable make.now }
+            requires { D.owns shared.now mine
+                × (D.config shared.now ≡ config.now)
+                × All (λ own. AreTillsOf config.now own.items) places.items
+                × M.IsAlwaysCallable make.now }
             ensures { D.owns shared.entry.now result.0 }
         {
             let (mut mine, mut places) = (mine, places);
@@ -178,7 +183,10 @@ fn attend<
                 let spawned = scope.spawn_with(
                     promise_of(shared),
                     move || -> D::Token
-                        requires { D.owns shared.now theirs × (D.config shared.now ≡ config.now) × IsAtTills config.now part × M.IsAlwaysCallable make.now }
+                        requires { D.owns shared.now theirs
+                            × (D.config shared.now ≡ config.now)
+                            × IsAtTills config.now part
+                            × M.IsAlwaysCallable make.now }
                         ensures { D.owns shared.entry.now result }
                     { take_part(rt, alloc, config, shared, theirs, lobby, part, make) },
                 );

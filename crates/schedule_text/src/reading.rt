@@ -98,7 +98,8 @@ fn is_even(schedule: &Schedule) -> bool
 
 /// The schedule that a text ends with, as JSON or as words.
 fn read_ending(alloc: Global, text: &[u8]) -> Result<Option<Schedule>, AllocError>
-    ensures { IfOk result (λ found. IfSome found (λ schedule. TellsWords text.now schedule ⊎ TellsJson text.now schedule)) }
+    ensures { IfOk result (λ found. IfSome found (λ schedule.
+        TellsWords text.now schedule ⊎ TellsJson text.now schedule)) }
 {
     match read_json(alloc, text)? {
         Some(schedule) => Ok(Some(schedule)),

@@ -20,7 +20,8 @@ fn read_verified<S: Read + Drop, T: Read + Drop>(
     text: T,
     watches: &mut Watches,
 ) -> Result<Verified, InputFault>
-    ensures verified { IfOk result (λ verified. OfBoth (S.remaining file) (T.remaining text) (λ bytes words. IsVerified bytes words verified)) }
+    ensures verified { IfOk result (λ verified.
+        OfBoth (S.remaining file) (T.remaining text) (λ bytes words. IsVerified bytes words verified)) }
     ensures feasible { IfOk result (λ verified. IsFeasible verified.project verified.schedule) }
     ensures fault { IfErr result (λ fault. IsUnverified fault watches.new (S.remaining file) (T.remaining text)) }
 {
@@ -47,7 +48,9 @@ pub fn verify_read<S: Read + Drop, T: Read + Drop, W: Write>(
     writer: &mut W,
     watches: &mut Watches,
 ) -> Result<(), CommandFault>
-    ensures { IsShowOf TellsMakespan result watches.new (S.remaining file) (T.remaining text) (W.contents writer.old) (W.contents writer.new) }
+    ensures { IsShowOf TellsMakespan result watches.new (S.remaining file) (T.remaining text)
+        (W.contents writer.old)
+        (W.contents writer.new) }
 {
     let makespan = match read_verified(alloc, file, text, watches) {
         Ok(verified) => verified.makespan,
@@ -75,7 +78,9 @@ pub fn draw_read<
     draw: D,
 ) -> Result<(), CommandFault>
     requires { (verified : Verified) → IsFeasible verified.project verified.schedule → D.pre draw verified }
-    ensures { IsShowOf (GivesText (D.post draw)) result watches.new (S.remaining file) (T.remaining text) (W.contents writer.old) (W.contents writer.new) }
+    ensures { IsShowOf (GivesText (D.post draw)) result watches.new (S.remaining file) (T.remaining text)
+        (W.contents writer.old)
+        (W.contents writer.new) }
 {
     let verified = match read_verified(alloc, file, text, watches) {
         Ok(verified) => verified,
@@ -101,7 +106,11 @@ pub fn verify_to<R: AllocGlobal + Eprint, S: Read + Drop, T: Read + Drop, W: Wri
     writer: &mut W,
     watches: &mut Watches,
 ) -> ExitCode
-    ensures { Ends (λ ended. IsShowOf TellsMakespan ended watches.new (S.remaining file) (T.remaining text) (W.contents writer.old) (W.contents writer.new)) (exit_status result) }
+    ensures { Ends
+        (λ ended. IsShowOf TellsMakespan ended watches.new (S.remaining file) (T.remaining text)
+            (W.contents writer.old)
+            (W.contents writer.new))
+        (exit_status result) }
 {
     let ended = verify_read(rt.alloc(), file, text, writer, watches);
     end_command(rt, paths, ended)
@@ -124,7 +133,11 @@ pub fn draw_to<
     draw: D,
 ) -> ExitCode
     requires { (verified : Verified) → IsFeasible verified.project verified.schedule → D.pre draw verified }
-    ensures { Ends (λ ended. IsShowOf (GivesText (D.post draw)) ended watches.new (S.remaining file) (T.remaining text) (W.contents writer.old) (W.contents writer.new)) (exit_status result) }
+    ensures { Ends
+        (λ ended. IsShowOf (GivesText (D.post draw)) ended watches.new (S.remaining file) (T.remaining text)
+            (W.contents writer.old)
+            (W.contents writer.new))
+        (exit_status result) }
 {
     let ended = draw_read(rt.alloc(), file, text, writer, watches, draw);
     end_command(rt, paths, ended)

@@ -34,7 +34,8 @@ fn read_project<S: Read + Drop>(
     file: S,
     watches: &mut Watches,
 ) -> Result<Project, InputFault>
-    ensures project { IfOk result (λ project. IfSome (S.remaining file) (λ all. reading (take MOST_TEXT all) ≡ Ok project)) }
+    ensures project { IfOk result (λ project.
+        IfSome (S.remaining file) (λ all. reading (take MOST_TEXT all) ≡ Ok project)) }
     ensures fault { IfErr result (λ fault. IsUnsolved fault watches.new (S.remaining file)) }
 {
     let bytes = match watches.file.read_front(alloc, file, MOST_TEXT) {
@@ -70,7 +71,10 @@ pub fn solve_read<S: Read + Drop, W: Write, L: Watch>(
 ) -> Result<(), CommandFault>
     requires few { asked.most ≤ MOST_NODES }
     requires short { length asked.kinds.now ≤ MOST_SEARCHES }
-    ensures { IsSolveOf asked.entry.is_json asked.entry.kinds.now asked.entry.most result watches.new (S.remaining file) (W.contents writer.old) (W.contents writer.new) }
+    ensures { IsSolveOf asked.entry.is_json asked.entry.kinds.now asked.entry.most result watches.new
+        (S.remaining file)
+        (W.contents writer.old)
+        (W.contents writer.new) }
 {
     let project = match read_project(alloc, file, watches) {
         Ok(project) => project,
@@ -103,7 +107,12 @@ pub fn solve_to<R: AllocGlobal + Eprint, S: Read + Drop, W: Write, L: Watch>(
 ) -> ExitCode
     requires few { asked.most ≤ MOST_NODES }
     requires short { length asked.kinds.now ≤ MOST_SEARCHES }
-    ensures { Ends (λ ended. IsSolveOf asked.entry.is_json asked.entry.kinds.now asked.entry.most ended watches.new (S.remaining file) (W.contents writer.old) (W.contents writer.new)) (exit_status result) }
+    ensures { Ends
+        (λ ended. IsSolveOf asked.entry.is_json asked.entry.kinds.now asked.entry.most ended watches.new
+            (S.remaining file)
+            (W.contents writer.old)
+            (W.contents writer.new))
+        (exit_status result) }
 {
     let ended = solve_read(rt.alloc(), file, asked, looks, writer, watches);
     let paths = Paths {

@@ -103,7 +103,8 @@ fn put_place_json(text: &mut String, place: usize, mode: u32, start: u32) -> Res
 /// Adds the places of a schedule's activities as JSON objects, with commas between them.
 #[tactic(auto, using(crate::proofs::JsonLemmas::json_rules))]
 fn put_places_json(text: &mut String, schedule: &Schedule) -> Result<(), AllocError>
-    ensures { IfOk result (λ _. string_bytes text.new ≡ string_bytes text.old ++ places_json 0 schedule.now.modes schedule.now.starts) }
+    ensures { IfOk result (λ _.
+        string_bytes text.new ≡ string_bytes text.old ++ places_json 0 schedule.now.modes schedule.now.starts) }
 {
     let modes = schedule.modes.as_slice();
     let starts = schedule.starts.as_slice();
@@ -124,7 +125,8 @@ fn put_array(text: &mut String, schedule: &Schedule) -> Result<(), AllocError>
 
 /// Adds a schedule as a JSON array, or `null`.
 fn put_json(text: &mut String, best: Option<&Schedule>) -> Result<(), AllocError>
-    ensures { IfOk result (λ _. string_bytes text.new ≡ string_bytes text.old ++ schedule_json (option_copied best.entry)) }
+    ensures { IfOk result (λ _.
+        string_bytes text.new ≡ string_bytes text.old ++ schedule_json (option_copied best.entry)) }
 {
     match best {
         Some(schedule) => put_array(text, schedule),
@@ -151,7 +153,9 @@ fn put_object(
     word: &str,
     best: Option<&Schedule>,
 ) -> Result<(), AllocError>
-    ensures { IfOk result (λ _. string_bytes text.new ≡ string_bytes text.old ++ object_json nodes makespan word.now (option_copied best.entry)) }
+    ensures { IfOk result (λ _.
+        string_bytes text.new
+            ≡ string_bytes text.old ++ object_json nodes makespan word.now (option_copied best.entry)) }
 {
     write!(text, "{{\"nodes\":{nodes},\"makespan\":")?;
     put_makespan_json(text, makespan)?;
@@ -183,7 +187,8 @@ pub fn tell_better_json(
     makespan: u32,
     best: &Schedule,
 ) -> Result<String, AllocError>
-    ensures { IfOk result (λ text. string_bytes text ≡ object_json nodes (Some makespan) (codes "open") (Some best.now)) }
+    ensures { IfOk result (λ text.
+        string_bytes text ≡ object_json nodes (Some makespan) (codes "open") (Some best.now)) }
 {
     let mut text = String::new(alloc);
     put_object(&mut text, nodes, Some(makespan), "open", Some(best))?;

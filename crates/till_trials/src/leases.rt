@@ -73,7 +73,8 @@ fn the_pool_goes_below_zero_modulo_2_to_the_64(rt: HostRuntime) -> Result<(), Fa
 // The sum of what the tills' pools have and what was spent, as far as it fits.
 fn accounted(tills: &[Till], desks: &mut [Desk]) -> u64
     requires count { length desks.old ≡ length tills.now }
-    requires seated { (i : ℕ) (t : TillValue) (d : DeskValue) → slice_get tills.now i ≡ Some t → slice_get desks.old i ≡ Some d → d.id ≡ t.id }
+    requires seated { (i : ℕ) (t : TillValue) (d : DeskValue)
+        → slice_get tills.now i ≡ Some t → slice_get desks.old i ≡ Some d → d.id ≡ t.id }
 {
     let mut sum: u64 = 0;
     for (i, till) in tills.iter().enumerate() {
