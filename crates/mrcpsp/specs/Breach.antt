@@ -3,6 +3,7 @@
 use Rattle.std.specs.Prelude.{◌≡◌, ℕ, ◌-◌, ◌<◌, ◌≤◌, ◌⊎◌, true, List, [], ◌∷◌, length, All, Option, Some, None}
 use Rattle.mrcpsp.specs.Project.{ProjectData, size, renewables, nonrenewables, capacity, stock, precedes}
 use Rattle.mrcpsp.specs.Schedule.{ScheduleData, HasMode, start_of, finish, use_of, consumed}
+use Rattle.mrcpsp.specs.declared.feasibility.TheConstants.{MOST_START}
 use Rattle.mrcpsp.specs.declared.breach.Breach.{Breach}
 use Rattle.mrcpsp.specs.declared.breach.Breach.TheVariants.{Shape, Mode, Precedence, Renewable, Nonrenewable}
 
@@ -10,7 +11,7 @@ use Rattle.mrcpsp.specs.declared.breach.Breach.TheVariants.{Shape, Mode, Precede
 pub record HasShape (p : ProjectData) (s : ScheduleData) : Type 0 where
   pub modes : length s.modes ≡ size p
   pub starts : length s.starts ≡ size p
-  pub early : All (λ t. t ≤ 1000000000) s.starts
+  pub early : All (λ t. t ≤ MOST_START) s.starts
 
 -- each activity has the mode that the schedule gives it
 abbrev pub HasModes : ProjectData → ScheduleData → Type 0

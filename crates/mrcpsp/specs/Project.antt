@@ -2,6 +2,7 @@
 -- (Sprecher and Drexl 1998; the limits are this project's own). Activities are numbered from 1 in a list of successors.
 use Rattle.std.specs.Prelude.{ℕ, ◌+◌, Bool, true, not, ◌&&◌, List, [], ◌∷◌, ◌++◌, length, get_or, max, nat_le, nat_lt, ◌==◌}
 use Rattle.std.specs.List.{list_all, list_any}
+use Rattle.mrcpsp.specs.declared.limits.TheConstants.{MOST_AMOUNT, MOST_DURATION, MOST_HORIZON}
 
 -- its duration in periods, its request of each renewable resource per period, its consumption of each nonrenewable one
 pub record ModeData : Type 0 where
@@ -34,11 +35,11 @@ horizon (a ∷ more) = longest a.modes + horizon more
 
 -- so many numbers, each at most 1,000,000
 abbrev pub are_amounts : ℕ → List ℕ → Bool
-are_amounts count amounts = (length amounts == count) && list_all (λ a. nat_le a 1000000) amounts
+are_amounts count amounts = (length amounts == count) && list_all (λ a. nat_le a MOST_AMOUNT) amounts
 
 -- a mode for r renewable and v nonrenewable resources
 abbrev pub is_mode : ℕ → ℕ → ModeData → Bool
-is_mode r v m = nat_le m.duration 1000 && are_amounts r m.renewable && are_amounts v m.nonrenewable
+is_mode r v m = nat_le m.duration MOST_DURATION && are_amounts r m.renewable && are_amounts v m.nonrenewable
 
 -- successors of activity j of n, after those that were named before: each above j, at most n, and not named before
 abbrev pub are_successors : ℕ → ℕ → List ℕ → List ℕ → Bool
@@ -57,9 +58,9 @@ are_activities r v n j (a ∷ more) =
 abbrev pub is_project : ProjectData → Bool
 is_project p = is_between 1 202 (length p.activities)
     && nat_le (length p.renewable) 8 && nat_le (length p.nonrenewable) 8
-    && list_all (λ a. nat_le a 1000000) p.renewable && list_all (λ a. nat_le a 1000000) p.nonrenewable
+    && list_all (λ a. nat_le a MOST_AMOUNT) p.renewable && list_all (λ a. nat_le a MOST_AMOUNT) p.nonrenewable
     && are_activities (length p.renewable) (length p.nonrenewable) (length p.activities) 1 p.activities
-    && nat_le (horizon p.activities) 20000
+    && nat_le (horizon p.activities) MOST_HORIZON
 
 -- What follows names activities, modes and resources by their places in the lists, from 0.
 

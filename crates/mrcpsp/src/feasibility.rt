@@ -6,8 +6,8 @@ ghost use Rattle.mrcpsp.specs.Breach.{HasShape, HasModes, TellsFirst, IsFirstBre
 
 use crate::{Breach, Project, Schedule};
 
-/// The latest start that a schedule may have.
-const MOST_START: u32 = 1_000_000_000;
+/// The latest start that a schedule may give an activity, as a period, from 0.
+pub const MOST_START: u32 = 1_000_000_000;
 
 /// The makespan of a feasible schedule, or the first condition that a schedule breaks: its shape, the activity that has
 /// no such mode, the activities whose precedence is broken, the renewable resource and the period in which its
@@ -78,7 +78,7 @@ fn start_at(project: &Project, schedule: &Schedule, activity: usize) -> u32
     requires shape { HasShape project.now schedule.now }
     requires activity { activity < size project.now }
     ensures exact { result ≡ start_of schedule.now activity }
-    ensures early { result ≤ 1000000000 }
+    ensures early { result ≤ MOST_START }
 {
     schedule.start(activity)
 }

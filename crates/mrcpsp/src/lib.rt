@@ -28,7 +28,8 @@ mod sequence;
 
 pub use activity::Activity;
 pub use breach::Breach;
-pub use feasibility::{check, makespan};
+pub use feasibility::{MOST_START, check, makespan};
+pub use limits::{MOST_AMOUNT, MOST_DURATION, MOST_HORIZON};
 pub use mode::Mode;
 pub use project::{Project, same};
 pub use schedule::Schedule;

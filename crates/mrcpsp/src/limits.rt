@@ -5,14 +5,17 @@ ghost use Rattle.mrcpsp.specs.Project.{is_mode, are_amounts, are_successors, are
 
 use crate::{Activity, Mode};
 
-/// The most that a request, a consumption or a capacity may be.
-const MOST_AMOUNT: u32 = 1_000_000;
+/// The most that a request, a consumption or a capacity may be, in units of its resource.
+pub const MOST_AMOUNT: u32 = 1_000_000;
 
-/// The longest duration of a mode, in periods.
-const MOST_DURATION: u32 = 1_000;
+/// The longest duration that a mode may have, in periods.
+pub const MOST_DURATION: u32 = 1_000;
+
+/// The longest horizon that a project may have, the sum of its activities' longest durations, in periods.
+pub const MOST_HORIZON: u64 = 20_000;
 
 pub(crate) fn are_small(amounts: &[u32]) -> bool
-    ensures { result ≡ list_all (λ a. nat_le a 1000000) amounts.now }
+    ensures { result ≡ list_all (λ a. nat_le a MOST_AMOUNT) amounts.now }
 {
     amounts.iter().all(|amount| *amount <= MOST_AMOUNT)
 }

@@ -3,7 +3,7 @@ ghost use Rattle.std.specs.Prelude.{◌≡◌, ◌↔◌, ◌<◌, ◌≤◌, �
 ghost use Rattle.mrcpsp.specs.Limits.{IsLimited, IsProject};
 ghost use Rattle.mrcpsp.specs.Project.{ProjectData, is_project, horizon, no_activity, no_mode, modes, size, renewables, nonrenewables, mode_count, successors, precedes, duration, request, consumption, capacity, stock};
 
-use crate::limits::{all_keep, are_small, horizon_of};
+use crate::limits::{MOST_AMOUNT, MOST_DURATION, MOST_HORIZON, all_keep, are_small, horizon_of};
 use crate::parts::{Parts, same_parts};
 use crate::{Activity, Mode, Sequence};
 use std::alloc::{AllocError, Global};
@@ -58,7 +58,7 @@ impl Project {
             && are_small(kinds.0)
             && are_small(kinds.1)
             && all_keep(all, kinds.0.len(), kinds.1.len())
-            && horizon_of(all) <= 20_000;
+            && horizon_of(all) <= MOST_HORIZON;
         if holds {
             let lists = Lists::Own(Parts {
                 activities,
@@ -191,7 +191,7 @@ impl Project {
     pub fn capacity(&self, resource: usize) -> u32
         requires { resource < renewables self.now }
         ensures exact { result ≡ capacity self.now resource }
-        ensures most { result ≤ 1000000 }
+        ensures most { result ≤ MOST_AMOUNT }
     {
         self.renewable()[resource]
     }
@@ -201,7 +201,7 @@ impl Project {
     pub fn stock(&self, resource: usize) -> u32
         requires { resource < nonrenewables self.now }
         ensures exact { result ≡ stock self.now resource }
-        ensures most { result ≤ 1000000 }
+        ensures most { result ≤ MOST_AMOUNT }
     {
         self.nonrenewable()[resource]
     }
@@ -245,7 +245,7 @@ impl Project {
         requires activity { activity < size self.now }
         requires mode { mode < mode_count self.now activity }
         ensures exact { result ≡ duration self.now activity mode }
-        ensures most { result ≤ 1000 }
+        ensures most { result ≤ MOST_DURATION }
     {
         self.mode(activity, mode).duration
     }
@@ -257,7 +257,7 @@ impl Project {
         requires mode { mode < mode_count self.now activity }
         requires resource { resource < renewables self.now }
         ensures exact { result ≡ request self.now activity mode resource }
-        ensures most { result ≤ 1000000 }
+        ensures most { result ≤ MOST_AMOUNT }
     {
         self.mode(activity, mode).renewable.as_slice()[resource]
     }
@@ -269,7 +269,7 @@ impl Project {
         requires mode { mode < mode_count self.now activity }
         requires resource { resource < nonrenewables self.now }
         ensures exact { result ≡ consumption self.now activity mode resource }
-        ensures most { result ≤ 1000000 }
+        ensures most { result ≤ MOST_AMOUNT }
     {
         self.mode(activity, mode).nonrenewable.as_slice()[resource]
     }

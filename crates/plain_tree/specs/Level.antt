@@ -1,5 +1,6 @@
 -- What each level of the tree keeps (Sprecher and Drexl 1998).
 use Rattle.std.specs.Prelude.{◌≡◌, ◌*◌, ◌<◌, ◌≤◌, true, List, length, Option, IfSome}
+use Rattle.mrcpsp.specs.declared.limits.TheConstants.{MOST_DURATION}
 use Rattle.mrcpsp.specs.Project.{ProjectData, size, mode_count}
 use Rattle.mrcpsp.specs.Schedule.{ScheduleData}
 use Rattle.mrcpsp.specs.Breach.{HasShape, HasModes}
@@ -14,7 +15,7 @@ pub record IsCandidate (p : ProjectData) (placed : List Placed) (c : Candidate) 
 
 -- no longer than the longest durations one after the other
 pub record IsEarly (p : ProjectData) (placed : List Placed) : Type 0 where
-  pub finish : latest p placed ≤ 1000 * length placed
+  pub finish : latest p placed ≤ MOST_DURATION * length placed
 
 -- an incumbent, if there is one, has a mode and a start for each activity
 abbrev pub IsKnown : ProjectData → Option ScheduleData → Type 0

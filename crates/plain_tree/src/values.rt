@@ -3,13 +3,13 @@ ghost use Rattle.std.specs.Prelude.{◌≡◌, ◌*◌, ◌<◌, ◌≤◌};
 ghost use Rattle.mrcpsp.specs.Project.{size};
 ghost use Rattle.mrcpsp.specs.Values.{shortest, chain, tail};
 
-use mrcpsp::Project;
+use mrcpsp::{MOST_DURATION, Project};
 
 /// The shortest duration of an activity, in periods.
 fn shortest(project: &Project, activity: usize) -> u32
     requires { activity < size project.now }
     ensures exact { result ≡ shortest project.now activity }
-    ensures most { result ≤ 1000 }
+    ensures most { result ≤ MOST_DURATION }
 {
     let modes = project.mode_count(activity);
     let mut lowest = project.duration(activity, 0);
@@ -24,7 +24,7 @@ fn chain(project: &Project, steps: usize, activity: usize) -> u32
     requires activity { activity < size project.now }
     requires few { steps ≤ 202 }
     ensures exact { result ≡ chain project.now steps activity }
-    ensures most { result ≤ 1000 * steps }
+    ensures most { result ≤ MOST_DURATION * steps }
 {
     if steps == 0 {
         return 0;

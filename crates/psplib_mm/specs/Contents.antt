@@ -2,6 +2,7 @@
 -- and the faults in them.
 use Rattle.std.specs.Prelude.{ℕ, zero, suc, ◌+◌, Bool, not, ◌||◌, List, [], ◌∷◌, ◌++◌, length, map, take, drop, Option, Some, None, Result, Ok, Err, nat_lt, nat_le, ◌==◌, if◌then◌else◌}
 use Rattle.std.specs.List.{list_any}
+use Rattle.mrcpsp.specs.declared.limits.TheConstants.{MOST_AMOUNT, MOST_DURATION, MOST_HORIZON}
 use Rattle.mrcpsp.specs.Project.{ModeData, ActivityData, ProjectData, is_between, horizon}
 use Rattle.psplib_mm.specs.declared.cell.Cell.{Cell}
 use Rattle.psplib_mm.specs.declared.fault.MmFault.{MmFault}
@@ -150,10 +151,10 @@ broken p = first_broken (
     ∷ (list_any (λ a. not (is_between 1 10 (length a.modes))) p.activities, limit.Modes)
     ∷ (nat_lt 8 (length p.renewable), limit.Renewable)
     ∷ (nat_lt 8 (length p.nonrenewable), limit.Nonrenewable)
-    ∷ (any_mode (λ m. nat_lt 1000 m.duration) p, limit.Duration)
-    ∷ (any_mode (λ m. any_above 1000000 m.renewable || any_above 1000000 m.nonrenewable) p, limit.Request)
-    ∷ (any_above 1000000 p.renewable || any_above 1000000 p.nonrenewable, limit.Capacity)
-    ∷ (nat_lt 20000 (horizon p.activities), limit.Horizon)
+    ∷ (any_mode (λ m. nat_lt MOST_DURATION m.duration) p, limit.Duration)
+    ∷ (any_mode (λ m. any_above MOST_AMOUNT m.renewable || any_above MOST_AMOUNT m.nonrenewable) p, limit.Request)
+    ∷ (any_above MOST_AMOUNT p.renewable || any_above MOST_AMOUNT p.nonrenewable, limit.Capacity)
+    ∷ (nat_lt MOST_HORIZON (horizon p.activities), limit.Horizon)
     ∷ [])
 
 abbrev pub unless_broken : Option LimitName → ProjectData → Result ProjectData MmFault

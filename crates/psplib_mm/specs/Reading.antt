@@ -4,6 +4,7 @@ use Rattle.std.specs.Prelude.{ℕ, ◌+◌, Bool, not, ◌&&◌, ◌||◌, List,
 use Rattle.std.specs.List.{find, position, filter, flat_map, before_first, after_first}
 use Rattle.std.specs.Option.{ok_or}
 use Rattle.mrcpsp.specs.Project.{ProjectData}
+use Rattle.psplib_mm.specs.declared.reading.TheConstants.{MOST_BYTES}
 use Rattle.psplib_mm.specs.declared.fault.MmFault.{MmFault}
 use Rattle.psplib_mm.specs.declared.fault.MmFault.TheVariants as fault
 use Rattle.psplib_mm.specs.declared.fault.SectionName.{SectionName}
@@ -94,4 +95,4 @@ meaning lines = do
   contents sizes.jobs sizes.renewable sizes.nonrenewable precedence requests availabilities
 
 abbrev pub reading : List ℕ → Result ProjectData MmFault
-reading text = if nat_lt 1048576 (length text) then Err fault.TooLong else meaning (lines_of text)
+reading text = if nat_lt MOST_BYTES (length text) then Err fault.TooLong else meaning (lines_of text)

@@ -3,6 +3,7 @@
 use Rattle.std.specs.Prelude.{◌≡◌, ℕ, ◌+◌, ◌-◌, ◌^◌, min, Bool, not, ◌||◌, List, [], ◌∷◌, ◌++◌, length, map, take, drop, Option, Some, None, Result, Ok, Err, nat_lt, ◌==◌, codes, if◌then◌else◌}
 use Rattle.std.specs.Option.{option_or}
 use Rattle.std.specs.List.{find, list_any, position_or_len, before_first}
+use Rattle.mrcpsp.specs.declared.limits.TheConstants.{MOST_AMOUNT, MOST_DURATION, MOST_HORIZON}
 use Rattle.mrcpsp.specs.Project.{ProjectData, is_between, horizon}
 use Rattle.psplib_mm.specs.declared.cell.Cell.{Cell}
 use Rattle.psplib_mm.specs.declared.fault.MmFault.{MmFault}
@@ -147,8 +148,8 @@ broken_count jobs r v = first_broken (
 -- the first of the other limits that is broken
 abbrev pub broken_amount : ProjectData → Option LimitName
 broken_amount p = first_broken (
-    (any_mode (λ m. nat_lt 1000 m.duration) p, limit.Duration)
-    ∷ (any_mode (λ m. any_above 1000000 m.renewable || any_above 1000000 m.nonrenewable) p, limit.Request)
-    ∷ (any_above 1000000 p.renewable || any_above 1000000 p.nonrenewable, limit.Capacity)
-    ∷ (nat_lt 20000 (horizon p.activities), limit.Horizon)
+    (any_mode (λ m. nat_lt MOST_DURATION m.duration) p, limit.Duration)
+    ∷ (any_mode (λ m. any_above MOST_AMOUNT m.renewable || any_above MOST_AMOUNT m.nonrenewable) p, limit.Request)
+    ∷ (any_above MOST_AMOUNT p.renewable || any_above MOST_AMOUNT p.nonrenewable, limit.Capacity)
+    ∷ (nat_lt MOST_HORIZON (horizon p.activities), limit.Horizon)
     ∷ [])

@@ -8,7 +8,7 @@ ghost use Rattle.psplib_mm.specs.Scan.{broken_count, broken_amount};
 use crate::fault::LimitName;
 use crate::groups::Resources;
 use crate::jobs::Jobs;
-use mrcpsp::{Activity, Mode};
+use mrcpsp::{Activity, MOST_AMOUNT, MOST_DURATION, MOST_HORIZON, Mode};
 
 fn are_modes_miscounted(jobs: &Jobs<'_>) -> bool
     ensures { result ≡ list_any (λ j. not (is_between 1 10 j.modes.number)) jobs.now }
@@ -46,22 +46,23 @@ fn is_any_above(most: u32, amounts: &[u32]) -> bool
 }
 
 fn is_any_long(modes: &[Mode]) -> bool
-    ensures { result ≡ list_any (λ m. nat_lt 1000 m.duration) modes.now }
+    ensures { result ≡ list_any (λ m. nat_lt MOST_DURATION m.duration) modes.now }
 {
-    modes.iter().any(|mode| 1_000 < mode.duration)
+    modes.iter().any(|mode| MOST_DURATION < mode.duration)
 }
 
 fn is_any_large(modes: &[Mode]) -> bool
-    ensures { result ≡ list_any (λ m. any_above 1000000 m.renewable || any_above 1000000 m.nonrenewable) modes.now }
+    ensures { result ≡ list_any (λ m.
+        any_above MOST_AMOUNT m.renewable || any_above MOST_AMOUNT m.nonrenewable) modes.now }
 {
     modes.iter().any(|mode| {
-        is_any_above(1_000_000, mode.renewable.as_slice())
-            || is_any_above(1_000_000, mode.nonrenewable.as_slice())
+        is_any_above(MOST_AMOUNT, mode.renewable.as_slice())
+            || is_any_above(MOST_AMOUNT, mode.nonrenewable.as_slice())
     })
 }
 
 fn is_any_activity_long(activities: &[Activity]) -> bool
-    ensures { result ≡ list_any (λ a. list_any (λ m. nat_lt 1000 m.duration) a.modes) activities.now }
+    ensures { result ≡ list_any (λ a. list_any (λ m. nat_lt MOST_DURATION m.duration) a.modes) activities.now }
 {
     activities
         .iter()
@@ -69,8 +70,8 @@ fn is_any_activity_long(activities: &[Activity]) -> bool
 }
 
 fn is_any_activity_large(activities: &[Activity]) -> bool
-    ensures { result ≡ list_any (λ a.
-        list_any (λ m. any_above 1000000 m.renewable || any_above 1000000 m.nonrenewable) a.modes) activities.now }
+    ensures { result ≡ list_any (λ a. list_any (λ m.
+        any_above MOST_AMOUNT m.renewable || any_above MOST_AMOUNT m.nonrenewable) a.modes) activities.now }
 {
     activities
         .iter()
@@ -114,9 +115,9 @@ pub fn broken_size(
         Some(LimitName::Duration)
     } else if is_any_activity_large(activities) {
         Some(LimitName::Request)
-    } else if is_any_above(1_000_000, renewable) || is_any_above(1_000_000, nonrenewable) {
+    } else if is_any_above(MOST_AMOUNT, renewable) || is_any_above(MOST_AMOUNT, nonrenewable) {
         Some(LimitName::Capacity)
-    } else if horizon_of(activities) > 20_000 {
+    } else if horizon_of(activities) > MOST_HORIZON {
         Some(LimitName::Horizon)
     } else {
         None

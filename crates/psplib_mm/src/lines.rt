@@ -5,6 +5,7 @@ ghost use Rattle.std.specs.Str.Lines.{strip_carriage_return};
 ghost use Rattle.psplib_mm.specs.Text.{is_line_feed, is_text_end, lines_of};
 ghost use Rattle.psplib_mm.specs.Scan.{Takes};
 
+use crate::reading::MOST_BYTES;
 use std::marker::Model;
 
 /// A line or a word, with the number of the line, from 1.
@@ -61,7 +62,7 @@ impl<'a> Model for Lines<'a> {
 impl<'a> Lines<'a> {
     /// The lines of a text.
     pub fn of(text: &'a [u8]) -> Lines<'a>
-        requires { length text.now ≤ 1048576 }
+        requires { length text.now ≤ MOST_BYTES }
         ensures { result ≡ lines_of text.now }
     {
         Lines {
