@@ -8,6 +8,7 @@ use Rattle.serde_json.specs.Find.{get, as_number, as_u64, as_str, as_array}
 use Rattle.farm_core.specs.Name.{is_name}
 use Rattle.farm_core.specs.Config.{ConfigData, is_within, has_name, are_purses, is_config}
 use Rattle.farm_core.specs.declared.config.TenantLine.{TenantLine}
+use Rattle.farm_core.specs.declared.config.TheConstants.{MOST_QUANTA, MOST_TENANTS, MOST_JOBS, MOST_ENTRIES, MOST_WORKERS, MOST_SLICE}
 use Rattle.farm_config.specs.declared.fault.Key.{Key}
 use Rattle.farm_config.specs.declared.fault.Key.TheVariants.{Quanta, Jobs, Entries, Workers, Slice, Purse}
 use Rattle.farm_config.specs.declared.fault.ConfigFault.{ConfigFault}
@@ -89,12 +90,12 @@ first_misnamed lines = option_map (λ tenant. tenant.0) (find (is_misnamed lines
 
 -- the numbers that a key may have, and a purse's members' quanta together
 abbrev pub allows : Key → ℕ → Bool
-allows Quanta n = nat_le n 1000000000000
-allows Jobs n = is_within 1 1000 n
-allows Entries n = is_within 1 1000000 n
-allows Workers n = is_within 1 16 n
-allows Slice n = is_within 1 1000000 n
-allows Purse n = nat_le n 1000000000000
+allows Quanta n = nat_le n MOST_QUANTA
+allows Jobs n = is_within 1 MOST_JOBS n
+allows Entries n = is_within 1 MOST_ENTRIES n
+allows Workers n = is_within 1 MOST_WORKERS n
+allows Slice n = is_within 1 MOST_SLICE n
+allows Purse n = nat_le n MOST_QUANTA
 
 -- each key with its number, in the order in which they are judged
 abbrev pub terms_of : TenantLine → List (Key × ℕ)
@@ -110,7 +111,7 @@ abbrev pub first_out : List (Key × ℕ) → Option Key
 first_out terms = option_map (λ term. term.0) (find is_out terms)
 
 abbrev pub count_fault : List TenantLine → Option ConfigFault
-count_fault lines = if is_within 1 64 (length lines) then None else Some Tenants
+count_fault lines = if is_within 1 MOST_TENANTS (length lines) then None else Some Tenants
 
 abbrev pub fault_before_purses : ConfigData → Option ConfigFault
 fault_before_purses config =

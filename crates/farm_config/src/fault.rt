@@ -3,6 +3,7 @@ ghost use Rattle.std.specs.Prelude.{◌≡◌, Some};
 ghost use Rattle.farm_config.specs.Config.{allows};
 ghost use Rattle.farm_config.specs.ConfigText.{key_text};
 
+use farm_core::{MOST_ENTRIES, MOST_JOBS, MOST_QUANTA, MOST_SLICE, MOST_WORKERS};
 use std::fmt;
 use thiserror::Error;
 
@@ -29,12 +30,12 @@ impl Key {
         ensures { result ≡ allows self number }
     {
         match self {
-            Key::Quanta => number <= 1_000_000_000_000,
-            Key::Jobs => (1..=1_000).contains(&number),
-            Key::Entries => (1..=1_000_000).contains(&number),
-            Key::Workers => (1..=16).contains(&number),
-            Key::Slice => (1..=1_000_000).contains(&number),
-            Key::Purse => number <= 1_000_000_000_000,
+            Key::Quanta => number <= MOST_QUANTA,
+            Key::Jobs => (1..=MOST_JOBS).contains(&number),
+            Key::Entries => (1..=MOST_ENTRIES).contains(&number),
+            Key::Workers => (1..=MOST_WORKERS).contains(&number),
+            Key::Slice => (1..=MOST_SLICE).contains(&number),
+            Key::Purse => number <= MOST_QUANTA,
         }
     }
 }

@@ -6,7 +6,7 @@ ghost use Rattle.farm_config.specs.Config.{first_misnamed, terms_of, all_terms, 
 
 use crate::draft::{Draft, LineDraft};
 use crate::fault::{ConfigFault, Key};
-use farm_core::{Config, Name, TenantLine};
+use farm_core::{Config, MOST_TENANTS, Name, TenantLine};
 use mrcpsp::Sequence;
 use std::alloc::Global;
 
@@ -105,7 +105,7 @@ fn first_out(draft: &Draft<'_>) -> Option<Key>
 fn judged_lines(alloc: Global, draft: &Draft<'_>) -> Result<Vec<TenantLine>, ConfigFault>
     ensures { Gives (λ lines. lines.items) result (unless (fault_before_purses draft.now) draft.now.tenants) }
 {
-    if !(1..=64).contains(&draft.tenants.len()) {
+    if !(1..=MOST_TENANTS).contains(&draft.tenants.len()) {
         return Err(ConfigFault::Tenants);
     }
     let lines = named(alloc, &draft.tenants)?;

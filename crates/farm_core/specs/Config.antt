@@ -4,6 +4,7 @@ use Rattle.std.specs.List.{list_all, sum_by, range_with_len}
 use Rattle.farm_core.specs.Name.{same_bytes}
 use Rattle.farm_core.specs.Purses.{purses, members_of}
 use Rattle.farm_core.specs.declared.config.TenantLine.{TenantLine}
+use Rattle.farm_core.specs.declared.config.TheConstants.{MOST_QUANTA, MOST_TENANTS, MOST_JOBS, MOST_ENTRIES, MOST_WORKERS, MOST_SLICE}
 
 -- the tenants in the order of their numbers, how many workers there are, and how many nodes their turns have
 pub record ConfigData : Type 0 where
@@ -16,7 +17,7 @@ is_within least most n = nat_le least n && nat_le n most
 
 -- a tenant has at most 10^12 quanta, 1 to 1,000 jobs, and 1 to 1,000,000 entries of the journal
 unfoldable pub are_terms : TenantLine → Bool
-are_terms line = nat_le line.quanta 1000000000000 && is_within 1 1000 line.jobs && is_within 1 1000000 line.entries
+are_terms line = nat_le line.quanta MOST_QUANTA && is_within 1 MOST_JOBS line.jobs && is_within 1 MOST_ENTRIES line.entries
 
 -- one of these has the name
 abbrev pub has_name : List ℕ → List TenantLine → Bool
@@ -46,10 +47,10 @@ granted_by lines = sum_by (λ (line : TenantLine). line.quanta) lines
 
 -- no purse was granted more than 10^12 quanta
 abbrev pub are_purses : List TenantLine → Bool
-are_purses lines = list_all (λ p. nat_le (granted_by (lines_of lines p)) 1000000000000) (range_with_len 0 (purses (purse_names lines)))
+are_purses lines = list_all (λ p. nat_le (granted_by (lines_of lines p)) MOST_QUANTA) (range_with_len 0 (purses (purse_names lines)))
 
 -- 1 to 64 tenants of different names, purses of at most 10^12 quanta, 1 to 16 workers, and turns of 1 to 1,000,000 nodes
 unfoldable pub is_config : ConfigData → Bool
 is_config c =
-    is_within 1 64 (length c.tenants) && list_all are_terms c.tenants && are_distinct c.tenants && are_purses c.tenants
-    && is_within 1 16 c.workers && is_within 1 1000000 c.slice
+    is_within 1 MOST_TENANTS (length c.tenants) && list_all are_terms c.tenants && are_distinct c.tenants && are_purses c.tenants
+    && is_within 1 MOST_WORKERS c.workers && is_within 1 MOST_SLICE c.slice

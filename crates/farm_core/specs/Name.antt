@@ -1,6 +1,7 @@
 -- The names of tenants.
 use Rattle.std.specs.Prelude.{ℕ, Bool, true, false, ◌&&◌, ◌||◌, nat_le, ◌==◌, List, [], ◌∷◌, length}
 use Rattle.std.specs.List.{list_all}
+use Rattle.farm_core.specs.declared.name.TheConstants.{MOST_NAME}
 
 -- a lowercase letter, and a byte that may follow one: a lowercase letter, a digit, _ or -
 abbrev pub is_letter : ℕ → Bool
@@ -15,7 +16,7 @@ begins_well (b ∷ bytes) = is_letter b
 
 -- 1 to 32 bytes, the first a letter
 unfoldable pub is_name : List ℕ → Bool
-is_name bytes = nat_le (length bytes) 32 && (begins_well bytes && list_all is_mark bytes)
+is_name bytes = nat_le (length bytes) MOST_NAME && (begins_well bytes && list_all is_mark bytes)
 
 abbrev pub same_bytes : List ℕ → List ℕ → Bool
 same_bytes [] [] = true

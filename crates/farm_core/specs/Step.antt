@@ -7,6 +7,7 @@ use Rattle.job_table.specs.Table.{JobData, is_waiting, is_out, is_ended}
 use Rattle.job_table.specs.Job.{given_up, back}
 use Rattle.job_table.specs.declared.phase.Phase.{Phase}
 use Rattle.job_table.specs.declared.phase.Phase.TheVariants.{Waiting, Out}
+use Rattle.farm_core.specs.declared.config.TheConstants.{MOST_QUANTA, MOST_SLICE}
 use Rattle.farm_core.specs.declared.entry.Event.{Event}
 use Rattle.farm_core.specs.declared.entry.Event.TheVariants.{Submit, Fund, Status, Fetch, Cancel, Forget, Ledger, Take, Give}
 use Rattle.farm_core.specs.declared.reply.Line.{Line}
@@ -59,11 +60,11 @@ has_room n t = nat_le (t.used + kept t + n) t.terms.entries
 
 -- 1 to 10^12 quanta
 abbrev pub is_amount : ℕ → Bool
-is_amount quanta = nat_lt 0 quanta && nat_le quanta 1000000000000
+is_amount quanta = nat_lt 0 quanta && nat_le quanta MOST_QUANTA
 
 -- 1 to 1,000,000 nodes
 abbrev pub is_slice : ℕ → Bool
-is_slice slice = nat_lt 0 slice && nat_le slice 1000000
+is_slice slice = nat_lt 0 slice && nat_le slice MOST_SLICE
 
 -- ---- what each call comes to, where it is about a job that there is
 

@@ -11,7 +11,7 @@ ghost use Rattle.farm_core.specs.World.{World, view, IsOnlyNoted, KeepsTurns};
 ghost use Rattle.farm_core.specs.Farm.{IsReply, IsFundRefusal, IsGivenUpTo};
 
 use crate::farm::{keep_room, write_down};
-use crate::{Account, Event, Farm, Line, Reply};
+use crate::{Account, Event, Farm, Line, MOST_QUANTA, Reply};
 use job_table::{Job, Phase};
 use mrcpsp::Schedule;
 use std::alloc::{AllocError, Global};
@@ -21,7 +21,7 @@ use strategy::{Plan, Strategy};
 fn is_amount(quanta: u64) -> bool
     ensures { result ≡ is_amount quanta }
 {
-    0 < quanta && quanta <= 1_000_000_000_000
+    0 < quanta && quanta <= MOST_QUANTA
 }
 
 /// The same schedule once more, where there is one, or an error where there is no memory for it.

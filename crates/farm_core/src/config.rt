@@ -10,6 +10,24 @@ use mrcpsp::Sequence;
 use std::alloc::{AllocError, Global};
 use std::marker::Model;
 
+/// The most quanta that a purse may be granted.
+pub const MOST_QUANTA: u64 = tenant_book::MOST_QUANTA;
+
+/// The most tenants of a farm.
+pub const MOST_TENANTS: usize = 64;
+
+/// The most jobs that may be kept for a tenant.
+pub const MOST_JOBS: u64 = 1_000;
+
+/// The most entries of the journal that a tenant may use.
+pub const MOST_ENTRIES: u64 = 1_000_000;
+
+/// The most workers of a farm.
+pub const MOST_WORKERS: u64 = 16;
+
+/// The most nodes that a turn may have.
+pub const MOST_SLICE: u64 = 1_000_000;
+
 /// A tenant's line of the configuration.
 #[derive(Debug, Drop)]
 pub struct TenantLine {
@@ -81,9 +99,9 @@ fn clone_lines(alloc: Global, lines: &[TenantLine]) -> Result<Vec<TenantLine>, A
 fn are_terms(line: &TenantLine) -> bool
     ensures { result ≡ are_terms line.now }
 {
-    line.quanta <= 1_000_000_000_000
-        && (1..=1_000).contains(&line.jobs)
-        && (1..=1_000_000).contains(&line.entries)
+    line.quanta <= MOST_QUANTA
+        && (1..=MOST_JOBS).contains(&line.jobs)
+        && (1..=MOST_ENTRIES).contains(&line.entries)
 }
 
 /// Whether each of these keeps its limits.
@@ -131,12 +149,12 @@ impl Config {
             result ≡ (if is_config given then Some given else None) }
     {
         let lines = tenants.as_slice();
-        let holds = (1..=64).contains(&lines.len())
+        let holds = (1..=MOST_TENANTS).contains(&lines.len())
             && are_all_terms(lines)
             && are_distinct(lines)
             && are_purses(lines)
-            && (1..=16).contains(&workers)
-            && (1..=1_000_000).contains(&slice);
+            && (1..=MOST_WORKERS).contains(&workers)
+            && (1..=MOST_SLICE).contains(&slice);
         if holds {
             Some(Config {
                 tenants,
@@ -166,7 +184,7 @@ impl Config {
         ensures config { IsTrue (is_config self.now) }
         ensures terms { IsTrue (list_all are_terms result.now) }
         ensures some { 0 < length result.now }
-        ensures few { length result.now ≤ 64 }
+        ensures few { length result.now ≤ MOST_TENANTS }
     {
         self.tenants.as_slice()
     }
@@ -177,7 +195,7 @@ impl Config {
         ensures exact { result ≡ purses (purse_names self.now.tenants) }
         ensures some { 0 < result }
         ensures most { result ≤ length self.now.tenants }
-        ensures few { result ≤ 64 }
+        ensures few { result ≤ MOST_TENANTS }
     {
         purses(self.tenants())
     }

@@ -9,7 +9,9 @@ ghost use Rattle.farm_core.specs.Farm.{IsAccount, IsReached, IsReply, ArePassed,
 ghost use Rattle.farm_core.specs.Truth.{IsPlanned};
 
 use crate::purses::granted_to;
-use crate::{Account, Config, Entry, Event, Line, Numbers, Reply};
+use crate::{
+    Account, Config, Entry, Event, Line, MOST_ENTRIES, MOST_QUANTA, MOST_TENANTS, Numbers, Reply,
+};
 use job_table::{Job, JobTable};
 use std::alloc::{AllocError, Global};
 use std::marker::Model;
@@ -192,7 +194,7 @@ impl<J> Farm<J> {
     /// How many tenants there are.
     pub fn tenants(&self) -> u32
         ensures exact { result ≡ length self.now.config.tenants }
-        ensures few { result ≤ 64 }
+        ensures few { result ≤ MOST_TENANTS }
     {
         self.config.tenants().len() as u32
     }
@@ -200,7 +202,7 @@ impl<J> Farm<J> {
     /// How many purses there are. Leaves no entry.
     pub fn purses(&self) -> u32
         ensures exact { result ≡ purses_in self.now.config }
-        ensures few { result ≤ 64 }
+        ensures few { result ≤ MOST_TENANTS }
     {
         self.ledgers.books.len() as u32
     }
@@ -270,8 +272,8 @@ impl<J> Farm<J> {
         requires known { tenant < length self.now.config.tenants }
         requires few { entries ≤ 2 }
         ensures exact { result ≡ has_room entries (view tenant self.now) }
-        ensures few { (view tenant self.now).used ≤ 1000000 }
-        ensures limited { (view tenant self.now).granted ≤ 1000000000000 }
+        ensures few { (view tenant self.now).used ≤ MOST_ENTRIES }
+        ensures limited { (view tenant self.now).granted ≤ MOST_QUANTA }
     {
         let limit = self.config.tenants()[tenant as usize].entries;
         let used = self.account(tenant).used;

@@ -32,9 +32,12 @@ mod turn;
 
 pub use account::{Account, Numbers};
 pub use command::Command;
-pub use config::{Config, TenantLine};
+pub use config::{
+    Config, MOST_ENTRIES, MOST_JOBS, MOST_QUANTA, MOST_SLICE, MOST_TENANTS, MOST_WORKERS,
+    TenantLine,
+};
 pub use entry::{Entry, Event};
 pub use farm::Farm;
-pub use name::Name;
+pub use name::{MOST_NAME, Name};
 pub use reply::{Line, NoTurn, Reply};
 pub use turn::{Stranger, Turn};

@@ -5,22 +5,26 @@ ghost use Rattle.farm_core.specs.Name.{is_mark, is_letter, is_name, begins_well,
 
 use std::marker::Model;
 
+/// The most bytes of a name.
+pub const MOST_NAME: usize = 32;
+
 /// A tenant's name: 1 to 32 bytes of `a` to `z`, `0` to `9`, `_` and `-`, the first a letter. Contracts see its bytes.
 #[derive(Debug, Drop)]
 pub struct Name {
-    bytes: [u8; 32],
+    bytes: [u8; MOST_NAME],
     len: usize,
 }
 
 impl Model for Name {
     ghost use Rattle.std.specs.Prelude.{List, ℕ, take, ◌≤◌, IsTrue};
+    ghost use Rattle.farm_core.specs.declared.name.TheConstants.{MOST_NAME};
     ghost use Rattle.farm_core.specs.Name.{is_name};
 
     ghost Value = { List ℕ };
 
     ghost view = { λ n. take n.len n.bytes };
 
-    ghost invariant = { λ n. (n.len ≤ 32) × IsTrue (is_name (take n.len n.bytes)) };
+    ghost invariant = { λ n. (n.len ≤ MOST_NAME) × IsTrue (is_name (take n.len n.bytes)) };
 }
 
 /// Whether a byte may stand in a name.
@@ -68,10 +72,10 @@ impl Name {
         ensures { result ≡ (if is_name given.now then Some given.now else None) }
     {
         let len = given.len();
-        if 32 < len || !begins_well(given) || !are_marks(given) {
+        if MOST_NAME < len || !begins_well(given) || !are_marks(given) {
             return None;
         }
-        let mut bytes = [0; 32];
+        let mut bytes = [0; MOST_NAME];
         bytes[..len].copy_from_slice(given);
         Some(Name { bytes, len })
     }

@@ -4,7 +4,7 @@ ghost use Rattle.std.specs.List.{list_all};
 ghost use Rattle.farm_core.specs.Config.{are_terms, purse_names, lines_of, granted_by, are_purses};
 ghost use Rattle.farm_core.specs.Purses.{is_shared, is_first, passing, first_member, purse_of, purses};
 
-use crate::{Name, TenantLine};
+use crate::{MOST_QUANTA, MOST_TENANTS, Name, TenantLine};
 
 /// Whether both name a purse, and the same one.
 fn is_shared(one: &Option<Name>, other: &Option<Name>) -> bool
@@ -34,7 +34,7 @@ fn first_member(lines: &[TenantLine], tenant: usize) -> usize
 /// How many of the first so many tenants are the first members of their purses.
 fn first_members(lines: &[TenantLine], count: usize) -> u32
     requires within { count ≤ length lines.now }
-    requires few { length lines.now ≤ 64 }
+    requires few { length lines.now ≤ MOST_TENANTS }
     ensures exact { result ≡ length (passing (is_first (purse_names lines.now)) count) }
     ensures most { result ≤ count }
 {
@@ -51,7 +51,7 @@ fn first_members(lines: &[TenantLine], count: usize) -> u32
 #[tactic(auto, unfolding(crate::specs::Purses::purse_of))]
 pub(crate) fn purse_of(lines: &[TenantLine], tenant: usize) -> u32
     requires known { tenant < length lines.now }
-    requires few { length lines.now ≤ 64 }
+    requires few { length lines.now ≤ MOST_TENANTS }
     ensures exact { result ≡ purse_of (purse_names lines.now) tenant }
     ensures known { result < purses (purse_names lines.now) }
 {
@@ -61,16 +61,16 @@ pub(crate) fn purse_of(lines: &[TenantLine], tenant: usize) -> u32
 /// How many purses there are.
 #[tactic(auto, unfolding(crate::specs::Purses::purses))]
 pub(crate) fn purses(lines: &[TenantLine]) -> u32
-    requires small { length lines.now ≤ 64 }
+    requires small { length lines.now ≤ MOST_TENANTS }
     ensures exact { result ≡ purses (purse_names lines.now) }
-    ensures few { result ≤ 64 }
+    ensures few { result ≤ MOST_TENANTS }
 {
     first_members(lines, lines.len())
 }
 
 /// What a purse's members' lines grant together.
 pub(crate) fn granted_to(lines: &[TenantLine], purse: u32) -> u64
-    requires few { length lines.now ≤ 64 }
+    requires few { length lines.now ≤ MOST_TENANTS }
     requires terms { IsTrue (list_all are_terms lines.now) }
     ensures exact { result ≡ granted_by (lines_of lines.now purse) }
 {
@@ -85,12 +85,12 @@ pub(crate) fn granted_to(lines: &[TenantLine], purse: u32) -> u64
 
 /// Whether no purse was granted more than 10^12 quanta.
 pub(crate) fn are_purses(lines: &[TenantLine]) -> bool
-    requires few { length lines.now ≤ 64 }
+    requires few { length lines.now ≤ MOST_TENANTS }
     requires terms { IsTrue (list_all are_terms lines.now) }
     ensures { result ≡ are_purses lines.now }
 {
     for purse in 0..purses(lines) {
-        if granted_to(lines, purse) > 1_000_000_000_000 {
+        if granted_to(lines, purse) > MOST_QUANTA {
             return false;
         }
     }

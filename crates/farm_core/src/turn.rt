@@ -10,7 +10,7 @@ ghost use Rattle.farm_core.specs.Farm.{ArePassed, IsNext};
 ghost use Rattle.farm_core.specs.Turn.{IsTurn, IsTaken, IsNotTaken, IsGiven, IsIdle, IsReady, IsFirstReady};
 
 use crate::farm::{keep_room, line_of, write_down};
-use crate::{Event, Farm, Line, NoTurn, Reply};
+use crate::{Event, Farm, Line, MOST_ENTRIES, MOST_SLICE, NoTurn, Reply};
 use job_table::JobTable;
 use strategy::Strategy;
 
@@ -37,7 +37,7 @@ pub struct Stranger<J>(pub Turn<J>);
 fn is_slice(slice: u64) -> bool
     ensures { result ≡ is_slice slice }
 {
-    0 < slice && slice <= 1_000_000
+    0 < slice && slice <= MOST_SLICE
 }
 
 /// What is told of a tenant's job of that number now, or what was told of it where there is none.
@@ -103,7 +103,7 @@ impl<J: Strategy> Farm<J> {
     fn may_take(&self, tenant: u32, line: Line, slice: u64) -> bool
         requires { tenant < length self.now.config.tenants }
         ensures exact { result ≡ (is_waiting line.phase && is_slice slice && has_room 2 (view tenant self.now)) }
-        ensures few { IsTrue result → (view tenant self.now).used ≤ 1000000 }
+        ensures few { IsTrue result → (view tenant self.now).used ≤ MOST_ENTRIES }
     {
         line.phase.is_waiting() && is_slice(slice) && self.has_room(tenant, 2)
     }

@@ -12,6 +12,7 @@ ghost use Rattle.job_table.specs.Job.{meaning_of, given_up, back, is_turn, is_he
 use crate::Phase;
 use crate::best::Best;
 use mrcpsp::{Schedule, makespan};
+use quanta_till::LEASE_LIMIT;
 use std::alloc::Global;
 use std::marker::Model;
 use strategy::{Plan, Strategy, Verdict, same_plan};
@@ -65,7 +66,7 @@ fn fund_own<S: Strategy>(
     left: u64,
     quanta: u64,
 ) -> bool
-    requires { nodes + left + quanta ≤ 1000000000000 }
+    requires { nodes + left + quanta ≤ LEASE_LIMIT }
     ensures own { IsTrue result → S.meaning search.old
         ≡ record { tenant = tenant; plan = plan.now; nodes = nodes; left = left; taken = false } }
     ensures going { IsTrue result → is_closed plan.now nodes ≡ false }
@@ -127,7 +128,7 @@ impl<J: Strategy> Job<J> {
         quanta: u64,
         mut search: J,
     ) -> Option<Job<J>>
-        requires { quanta ≤ 1000000000000 }
+        requires { quanta ≤ LEASE_LIMIT }
         ensures made { IfSome result
             (λ job. job ≡ record { seq = seq; plan = plan; phase = Phase.Waiting; nodes = 0; left = quanta }) }
         ensures own { OnSome result
@@ -270,7 +271,7 @@ impl<J: Strategy> Job<J> {
     /// changed.
     pub fn fund(&mut self, tenant: u32, quanta: u64) -> bool
         requires phase { IsTrue (is_here self.old.phase) }
-        requires limited { self.old.nodes + self.old.left + quanta ≤ 1000000000000 }
+        requires limited { self.old.nodes + self.old.left + quanta ≤ LEASE_LIMIT }
         ensures funded { IsTrue result
             → self.new ≡ record self.old { phase = Phase.Waiting; left = self.old.left + quanta } }
         ensures kept { IsFalse result → self.new ≡ self.old }

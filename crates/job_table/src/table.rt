@@ -10,6 +10,7 @@ use crate::job::is_here;
 use crate::queue::{Linked, NO_LINKS, Queue, requeue, unlink};
 use crate::{Job, Phase};
 use indexmap::IndexMap;
+use quanta_till::LEASE_LIMIT;
 use std::alloc::Global;
 use std::marker::Model;
 use strategy::Strategy;
@@ -52,7 +53,7 @@ fn send_waiting<J: Strategy>(job: &mut Job<J>, tenant: u32, slice: u64) -> Optio
 
 /// Draws more quanta for a tenant's job's search, where it is here and its own.
 fn fund_here<J: Strategy>(job: &mut Job<J>, tenant: u32, quanta: u64) -> bool
-    requires { job.old.nodes + job.old.left + quanta ≤ 1000000000000 }
+    requires { job.old.nodes + job.old.left + quanta ≤ LEASE_LIMIT }
     ensures here { IsTrue result → is_here job.old.phase ≡ true }
     ensures funded { IsTrue result → job.new ≡ record job.old { phase = Phase.Waiting; left = job.old.left + quanta } }
     ensures kept { IsFalse result → job.new ≡ job.old }
@@ -256,7 +257,7 @@ impl<J: Strategy> JobTable<J> {
     /// Draws more quanta for a job that waits or is dry. False where the job is unknown or elsewhere, or where its search
     /// is another one; then nothing has changed. Takes no memory.
     pub fn fund(&mut self, tenant: u32, seq: u64, quanta: u64) -> bool
-        requires { IfSome (find_row tenant seq self.old.rows) (λ job. job.nodes + job.left + quanta ≤ 1000000000000) }
+        requires { IfSome (find_row tenant seq self.old.rows) (λ job. job.nodes + job.left + quanta ≤ LEASE_LIMIT) }
         ensures funded { IsTrue result → IsFunded self.old tenant seq quanta self.new }
         ensures kept { IsFalse result → self.new ≡ self.old }
     {

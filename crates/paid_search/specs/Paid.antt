@@ -2,6 +2,7 @@
 use Rattle.std.specs.Prelude.{◌≡◌, ℕ, ◌+◌, ◌<◌, ◌≤◌, Bool, true, false}
 use Rattle.mrcpsp.specs.Values.{bound}
 use Rattle.quanta_till.specs.Lease.{LeaseValue}
+use Rattle.quanta_till.specs.declared.purse.TheConstants.{LEASE_LIMIT}
 use Rattle.strategy.specs.Outcome.{all_run, verdict_after}
 use Rattle.strategy.specs.Search.{Meaning}
 use Rattle.strategy.specs.declared.plan.Plan.{Plan}
@@ -18,12 +19,12 @@ pub record GoesOn {N : Type 0} (stands : N → Plan → ℕ → Type 0) (n : N) 
   pub nodes : ℕ
   pub here : stands n plan nodes
   pub going : all_run plan.project plan.kind nodes ≡ false
-  pub few : nodes < 1000000000000
+  pub few : nodes < LEASE_LIMIT
 
 -- each node was paid, the verdict is the one after them, and until the best was taken the nodes stand after them
 pub record IsPaid {N : Type 0} (stands : N → Plan → ℕ → Type 0) (plan : Plan) (lease : LeaseValue) (nodes bound_is : ℕ) (taken : Bool) (verdict : Verdict) (n : N) : Type 0 where
   pub paid : nodes ≡ lease.used
-  pub limited : nodes + lease.left ≤ 1000000000000
+  pub limited : nodes + lease.left ≤ LEASE_LIMIT
   pub bounded : bound_is ≡ bound plan.project
   pub shown : verdict ≡ verdict_after plan nodes
   pub here : taken ≡ false → stands n plan nodes

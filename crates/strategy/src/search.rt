@@ -6,6 +6,7 @@ ghost use Rattle.strategy.specs.Search.{Meaning, shown_best, shown_closed, shown
 
 use crate::{Plan, Verdict};
 use mrcpsp::Schedule;
+use quanta_till::LEASE_LIMIT;
 
 /// A search for one plan of one tenant, which runs a node at a time and pays a quantum for each. None of its calls takes
 /// memory.
@@ -47,7 +48,7 @@ pub trait Strategy: Send + Drop {
     /// Draws so many quanta from the till of its lease.
     fn fund(&mut self, quanta: u64)
         requires going { IsFalse (shown_closed (meaning self.old)) }
-        requires limited { (meaning self.old).nodes + (meaning self.old).left + quanta ≤ 1000000000000 }
+        requires limited { (meaning self.old).nodes + (meaning self.old).left + quanta ≤ LEASE_LIMIT }
         ensures shown { meaning self.new ≡ funded quanta (meaning self.old) }
         ensures drawn { lease self.new ≡ after_draw (lease self.old) quanta };
 

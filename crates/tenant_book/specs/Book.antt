@@ -1,5 +1,6 @@
 -- The ledger of one purse's prepaid quanta.
 use Rattle.std.specs.Prelude.{◌≡◌, ℕ, ◌+◌, ◌-◌, ◌≤◌}
+use Rattle.tenant_book.specs.declared.book.TheConstants.{MOST_QUANTA}
 
 -- how many were granted; of these, how many are free, held by jobs, and spent on nodes
 pub record BookData : Type 0 where
@@ -8,10 +9,10 @@ pub record BookData : Type 0 where
   pub held : ℕ
   pub spent : ℕ
 
--- every quantum is in one place, and no purse has more than 10^12
+-- every quantum is in one place, and no purse has more than it may be granted
 pub record IsBook (b : BookData) : Type 0 where
   pub whole : b.granted ≡ b.free + b.held + b.spent
-  pub limited : b.granted ≤ 1000000000000
+  pub limited : b.granted ≤ MOST_QUANTA
 
 -- of a purse that has spent nothing yet
 abbrev pub opened : ℕ → BookData

@@ -4,6 +4,9 @@ ghost use Rattle.tenant_book.specs.Book.{IsBook, opened, after_hold, after_spend
 
 use std::marker::Model;
 
+/// The most quanta that a purse may be granted.
+pub const MOST_QUANTA: u64 = 1_000_000_000_000;
+
 /// A purse's ledger, in quanta: granted are always free, held and spent together.
 #[derive(Clone, Copy, Debug)]
 pub struct Book {
@@ -33,9 +36,9 @@ pub struct Short {
 }
 
 impl Book {
-    /// A book of so many quanta, at most 10^12, that are all free.
+    /// A book of so many quanta, at most `MOST_QUANTA`, that are all free.
     pub fn new(granted: u64) -> Book
-        requires { granted ≤ 1000000000000 }
+        requires { granted ≤ MOST_QUANTA }
         ensures { result ≡ opened granted }
     {
         Book {

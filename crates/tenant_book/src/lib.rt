@@ -6,4 +6,4 @@
 
 mod book;
 
-pub use book::{Book, Short};
+pub use book::{Book, MOST_QUANTA, Short};
