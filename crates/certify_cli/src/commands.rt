@@ -1,5 +1,5 @@
 //! The checks of proofs over any readers and writer, with a status.
-ghost use Rattle.std.specs.Prelude.{◌≡◌};
+ghost use Rattle.std.specs.Prelude.{◌≡◌, ◌<◌};
 ghost use Rattle.std.specs.Process.{exit_status};
 ghost use Rattle.certify_cli.specs.Commands.{Ends, IsCertifyOf, IsInfeasibleOf};
 
@@ -7,13 +7,14 @@ use crate::certifying::{certify_infeasible_watched, certify_watched};
 use crate::ending::{MOST_PROOF, MOST_TEXT, Paths, end_command};
 use crate::fault::CommandFault;
 use crate::watches::Watches;
+use schedule_text::MOST_BYTES;
 use std::alloc::Global;
 use std::io::{Eprint, Read, Write};
 use std::process::ExitCode;
 
 /// Writes `optimal M` and a line feed, where the proof that the third reader gives makes the schedule that the second one tells
 /// optimal for the project whose file the first one gives, and M is its makespan. But for a fault of the writer nothing was written
-/// at an error.
+/// at an error. Of the text more bytes are read than a schedule's may have, so that one that is too long is seen to be.
 pub fn certify_read<S: Read + Drop, T: Read + Drop, P: Read + Drop, W: Write>(
     alloc: Global,
     file: S,
@@ -22,7 +23,8 @@ pub fn certify_read<S: Read + Drop, T: Read + Drop, P: Read + Drop, W: Write>(
     writer: &mut W,
     watches: &mut Watches,
 ) -> Result<(), CommandFault>
-    ensures { IsCertifyOf result watches.new (S.remaining file) (T.remaining text)
+    ensures longer { MOST_BYTES < MOST_TEXT }
+    ensures ended { IsCertifyOf result watches.new (S.remaining file) (T.remaining text)
         (W.contents writer.old)
         (W.contents writer.new) }
 {

@@ -5,11 +5,12 @@ ghost use Rattle.certify_cli.specs.Commands.{command_status};
 
 use crate::fault::CommandFault;
 use file_words::{reason, tell_unread};
+use schedule_text::MOST_BYTES;
 use std::io::Eprint;
 use std::process::ExitCode;
 
 /// The most bytes that are read of a project's file or of a schedule's text: one more than a file may have.
-pub const MOST_TEXT: u64 = 1_048_577;
+pub const MOST_TEXT: u64 = MOST_BYTES as u64 + 1;
 
 /// The most bytes that are read of a proof.
 pub const MOST_PROOF: u64 = 4_000_000_000;

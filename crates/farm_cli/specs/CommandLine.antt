@@ -3,6 +3,7 @@ use Rattle.std.specs.Prelude.{◌≡◌, ℕ, Bool, true, false, List, Option, S
 use Rattle.clap.specs.Words.{App, Row, Rule, Text, new_app, new_rule, with_rule, with_subcommand, first_of, one_of}
 use Rattle.clap.specs.declared.builder.value_parser.ValueParser.TheVariants as value_parser
 use Rattle.clap.specs.declared.builder.action.ArgAction.TheVariants.{SetTrue}
+use Rattle.farm_cli.specs.declared.arguments.TheConstants.{MOST_SESSIONS}
 use Rattle.farm_cli.specs.declared.arguments.Task.{Task}
 use Rattle.farm_cli.specs.declared.arguments.Task.TheVariants as task
 
@@ -36,7 +37,7 @@ replay_app = with_rule (with_rule (with_rule (new_app (codes "replay")) config_r
 -- serve --config F --port P --sessions K
 abbrev pub serve_app : App
 serve_app =
-    with_rule (with_rule (with_rule (new_app (codes "serve")) config_rule) (number_rule (codes "port") 0 65535)) (number_rule (codes "sessions") 1 64)
+    with_rule (with_rule (with_rule (new_app (codes "serve")) config_rule) (number_rule (codes "port") 0 65535)) (number_rule (codes "sessions") 1 MOST_SESSIONS)
 
 -- one of the subcommands has to be named
 abbrev pub asking : App → App

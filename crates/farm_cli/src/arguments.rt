@@ -8,6 +8,9 @@ use clap::builder::ValueParser;
 use clap::{Arg, ArgAction, ArgMatches, Command, Error};
 use std::alloc::{AllocError, Global};
 
+/// The most connections that are answered.
+const MOST_SESSIONS: u64 = 64;
+
 /// What the words of a command line ask for.
 #[derive(Clone, Copy, Debug, PartialEq, Eq)]
 pub enum Task<'a> {
@@ -94,7 +97,7 @@ fn with_serve<'a>(alloc: Global, command: Command<'a>) -> Result<Command<'a>, Al
         "K",
         "How many connections are answered",
         1,
-        64,
+        MOST_SESSIONS,
     );
     let serve = Command::new(alloc, "serve")
         .about("Answers the requests of so many connections and settles the farm")

@@ -16,6 +16,7 @@ use Rattle.session_lines.specs.declared.request.What.{What}
 use Rattle.session_lines.specs.declared.request.What.TheVariants.{Submit, Fund, Status, Fetch, Cancel, Forget, Ledger, Take, Give, Turn}
 use Rattle.session_lines.specs.declared.request.LineFault.{LineFault}
 use Rattle.session_lines.specs.declared.request.LineFault.TheVariants.{TooLong, Syntax, File, NoMemory}
+use Rattle.session_lines.specs.declared.reading.TheConstants.{MOST_BYTES}
 use Rattle.session_lines.specs.declared.said.Said.{Said}
 use Rattle.session_lines.specs.declared.said.Said.TheVariants as said
 use Rattle.session_lines.specs.ReplyText.{reply_line}
@@ -24,6 +25,7 @@ use Rattle.session_lines.specs.Script.{Item, lines_of, first, requests_of}
 use Rattle.farm_session.specs.declared.heard.Heard.{Heard}
 use Rattle.farm_session.specs.declared.heard.Heard.TheVariants as heard
 use Rattle.farm_session.specs.Heard.{heard_of}
+use Rattle.farm_replay.specs.declared.script.TheConstants.{MOST_REQUESTS}
 use Rattle.farm_replay.specs.declared.script.ReplayFault.{ReplayFault}
 use Rattle.farm_replay.specs.declared.script.ReplayFault.TheVariants as fault
 use Rattle.farm_replay.specs.declared.watches.Watches.{Watches}
@@ -168,7 +170,7 @@ items_of ms = map (λ (m : Marked). m.item) ms
 pub record IsWritten (config : ConfigData) (script : List ℕ) (old new : Option (List ℕ)) : Type 0 where
   pub requests : List Marked
   pub all : items_of requests ≡ requests_of script
-  pub few : length requests ≤ 1000000
+  pub few : length requests ≤ MOST_REQUESTS
   pub written : Appends old new (output_of config requests)
 
 -- a part of the line of the first of these requests, from its front
@@ -187,13 +189,13 @@ lines_past (suc n) lines = lines_after (first None (lines_past n lines))
 
 -- the request after these has more than 100,000,000 bytes
 abbrev pub IsLongNext : List ℕ → List Marked → Type 0
-IsLongNext script requests = IsPast 100000000 None (lines_past (length requests) (lines_of script))
+IsLongNext script requests = IsPast MOST_BYTES None (lines_past (length requests) (lines_of script))
 
 -- why a replay ends after these requests, by its fault and by whether a read or a write has failed, and what was written after their lines
 abbrev pub IsCutBy : ReplayFault → Watches → ConfigData → List ℕ → List Marked → List Item → List ℕ → Type 0
 IsCutBy fault.Read seen config script requests rest part = (part ≡ []) × ((seen.reads.failed ≡ true) ⊎ IsLongNext script requests)
 IsCutBy fault.Write seen config script requests rest part = (seen.writes.failed ≡ true) × IsPartOfNext config requests rest part
-IsCutBy fault.Requests seen config script requests rest part = (part ≡ []) × (length requests ≡ 1000000) × (rest ≢ [])
+IsCutBy fault.Requests seen config script requests rest part = (part ≡ []) × (length requests ≡ MOST_REQUESTS) × (rest ≢ [])
 IsCutBy fault.NoMemory seen config script requests rest part = (part ≡ []) × (requests ≡ [])
 
 -- the output of a script's first requests was written, and after a failed write a part of the next line

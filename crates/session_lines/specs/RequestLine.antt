@@ -6,12 +6,14 @@ use Rattle.strategy.specs.declared.kind.Kind.TheVariants.{Tree, RuleLft, RuleMts
 use Rattle.farm_core.specs.Name.{is_name}
 use Rattle.session_lines.specs.declared.request.What.{What}
 use Rattle.session_lines.specs.declared.request.What.TheVariants.{Fund, Status, Fetch, Cancel, Forget, Ledger, Take, Give, Turn}
+use Rattle.session_lines.specs.declared.words.TheConstants.{MOST_DIGITS}
+use Rattle.session_lines.specs.declared.line.TheConstants.{MOST_LINES}
 use Rattle.session_lines.specs.declared.line.Meaning.{Meaning}
 use Rattle.session_lines.specs.declared.line.Meaning.TheVariants.{Blank, Whole, Opens, Bad}
 
 -- a number is 1 to 18 decimal digits
 abbrev pub number_in : List ℕ → Option ℕ
-number_in word = if nat_le (length word) 18 then number_of word else None
+number_in word = if nat_le (length word) MOST_DIGITS then number_of word else None
 
 abbrev pub name_in : List ℕ → Option (List ℕ)
 name_in word = if is_name word then Some word else None
@@ -72,7 +74,7 @@ abbrev pub submit_of : Option Kind → Option ℕ → Option ℕ → Option (Kin
 submit_of None quanta lines = None
 submit_of (Some kind) None lines = None
 submit_of (Some kind) (Some quanta) None = None
-submit_of (Some kind) (Some quanta) (Some lines) = if nat_le 1 lines && nat_le lines 20000 then Some (kind, quanta, lines) else None
+submit_of (Some kind) (Some quanta) (Some lines) = if nat_le 1 lines && nat_le lines MOST_LINES then Some (kind, quanta, lines) else None
 
 abbrev pub submit_in : List (List ℕ) → Option (Kind × ℕ × ℕ)
 submit_in [] = None

@@ -14,6 +14,7 @@ use Rattle.session_lines.specs.declared.request.LineFault.TheVariants.{Eof, Read
 use Rattle.session_lines.specs.declared.line.Head.{Head}
 use Rattle.session_lines.specs.declared.line.Meaning.{Meaning}
 use Rattle.session_lines.specs.declared.line.Meaning.TheVariants.{Blank, Whole, Opens, Long, Bad}
+use Rattle.session_lines.specs.declared.text.TheConstants.{LONGEST}
 use Rattle.session_lines.specs.Known.{Goes}
 use Rattle.session_lines.specs.RequestLine.{meaning_of}
 
@@ -35,7 +36,7 @@ shown line = strip_last 13 (strip_last 10 line)
 
 -- it has more than 4,096 bytes
 abbrev pub is_long : List ℕ → Bool
-is_long line = nat_lt 4096 (length (shown line))
+is_long line = nat_lt LONGEST (length (shown line))
 
 -- it has no byte but blanks
 abbrev pub is_wordless : List ℕ → Bool

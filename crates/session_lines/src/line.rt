@@ -7,6 +7,9 @@ use crate::words::{Words, is, number};
 use farm_core::Name;
 use strategy::Kind;
 
+/// The most lines that the text of a submit may have.
+const MOST_LINES: u64 = 20_000;
+
 /// The line that begins a submit. Its text follows.
 #[derive(Debug, Drop)]
 pub struct Head {
@@ -113,7 +116,7 @@ fn submit_of(words: Words<'_>) -> Option<(Kind, u64, u64)>
     let kind = kind_of(kind)?;
     let quanta = number(quanta)?;
     let lines = number(lines)?;
-    if lines < 1 || 20_000 < lines {
+    if lines < 1 || MOST_LINES < lines {
         return None;
     }
     Some((kind, quanta, lines))

@@ -13,7 +13,7 @@ use std::alloc::Global;
 use std::io::Read;
 
 /// The most bytes that a request may have, with the blank lines before it.
-const MOST_BYTES: u64 = 100_000_000;
+pub const MOST_BYTES: u64 = 100_000_000;
 
 // What a line means.
 fn judge(line: &Line) -> Meaning
@@ -97,15 +97,15 @@ pub fn read_watched<R: Read>(
     reader: &mut R,
     watch: &mut Watch,
 ) -> Result<Request, LineFault>
-    ensures takes { Takes 100000000 None (R.remaining reader.old) (R.remaining reader.new) result }
-    ensures cause { IsGivenUp 100000000 None watch.new.failed (R.remaining reader.old) result }
+    ensures takes { Takes MOST_BYTES None (R.remaining reader.old) (R.remaining reader.new) result }
+    ensures cause { IsGivenUp MOST_BYTES None watch.new.failed (R.remaining reader.old) result }
 {
     read_within(alloc, reader, watch, MOST_BYTES)
 }
 
 /// The same, where nobody asks whether a read failed.
 pub fn read_request<R: Read>(alloc: Global, reader: &mut R) -> Result<Request, LineFault>
-    ensures { Takes 100000000 None (R.remaining reader.old) (R.remaining reader.new) result }
+    ensures { Takes MOST_BYTES None (R.remaining reader.old) (R.remaining reader.new) result }
 {
     read_watched(alloc, reader, &mut Watch::new())
 }

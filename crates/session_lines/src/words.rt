@@ -8,6 +8,9 @@ ghost use Rattle.session_lines.specs.RequestLine.{number_in, one_number, two_num
 
 use std::marker::Model;
 
+/// The most digits of a number.
+const MOST_DIGITS: usize = 18;
+
 /// The words of a line that are still to come.
 #[derive(Debug, Drop)]
 pub struct Words<'a> {
@@ -62,7 +65,7 @@ fn word_end(bytes: &[u8]) -> usize
 pub fn number(word: &[u8]) -> Option<u64>
     ensures { result ≡ number_in word.now }
 {
-    if word.is_empty() || 18 < word.len() {
+    if word.is_empty() || MOST_DIGITS < word.len() {
         return None;
     }
     let mut value: u64 = 0;

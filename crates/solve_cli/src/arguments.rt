@@ -1,5 +1,6 @@
 //! The words of a command line.
 use crate::ending::Paths;
+use crate::searching::MOST_NODES;
 use clap::builder::ValueParser;
 use clap::{Arg, ArgAction, ArgMatches, Command};
 use std::alloc::{AllocError, Global};
@@ -84,7 +85,7 @@ fn solve_command<'a>(alloc: Global) -> Result<Command<'a>, AllocError> {
         .long("nodes")
         .value_name("N")
         .help("The most nodes that each search runs, 1 to 1000000000000")
-        .value_parser(ValueParser::unsigned(1, 1_000_000_000_000))
+        .value_parser(ValueParser::unsigned(1, MOST_NODES))
         .default_value("10000000");
     Command::new(alloc, "solve")
         .about("Searches for a short schedule of one project")

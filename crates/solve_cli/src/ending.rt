@@ -5,11 +5,12 @@ ghost use Rattle.solve_cli.specs.Commands.{command_status};
 
 use crate::fault::{CommandFault, InputFault};
 use file_words::{reason, tell_unread};
+use schedule_text::MOST_BYTES;
 use std::io::Eprint;
 use std::process::ExitCode;
 
 /// The most bytes that are read of a project's file or of a schedule's text: one more than a file may have.
-pub const MOST_TEXT: u64 = 1_048_577;
+pub const MOST_TEXT: u64 = MOST_BYTES as u64 + 1;
 
 /// The paths of a project's file and of a schedule's text, as its faults are told.
 #[derive(Clone, Copy, Debug, PartialEq, Eq)]

@@ -1,5 +1,5 @@
 //! A schedule verified, and a feasible one drawn, over any readers and writer.
-ghost use Rattle.std.specs.Prelude.{◌≡◌, IfOk, IfErr};
+ghost use Rattle.std.specs.Prelude.{◌≡◌, ◌<◌, IfOk, IfErr};
 ghost use Rattle.std.specs.Process.{exit_status};
 ghost use Rattle.mrcpsp.specs.Schedule.{IsFeasible};
 ghost use Rattle.solve_cli.specs.Verified.{IsVerified};
@@ -9,11 +9,13 @@ use crate::ending::{MOST_TEXT, Paths, end_command};
 use crate::fault::{CommandFault, InputFault};
 use crate::verifying::{Verified, verify};
 use crate::watches::Watches;
+use schedule_text::MOST_BYTES;
 use std::alloc::{AllocError, Global};
 use std::io::{Eprint, Read, Write};
 use std::process::ExitCode;
 
-/// The project of a file's reader and the schedule that a text's reader tells, where that is feasible.
+/// The project of a file's reader and the schedule that a text's reader tells, where that is feasible. Of the text more bytes are read
+/// than a schedule's may have, so that one that is too long is seen to be.
 fn read_verified<S: Read + Drop, T: Read + Drop>(
     alloc: Global,
     file: S,
@@ -22,6 +24,7 @@ fn read_verified<S: Read + Drop, T: Read + Drop>(
 ) -> Result<Verified, InputFault>
     ensures verified { IfOk result (λ verified.
         OfBoth (S.remaining file) (T.remaining text) (λ bytes words. IsVerified bytes words verified)) }
+    ensures longer { MOST_BYTES < MOST_TEXT }
     ensures feasible { IfOk result (λ verified. IsFeasible verified.project verified.schedule) }
     ensures fault { IfErr result (λ fault. IsUnverified fault watches.new (S.remaining file) (T.remaining text)) }
 {

@@ -1,4 +1,4 @@
 use Rattle.certify_cli.proofs.commands.certify_to.Goals as goal
 
 pub returns : goal.returns
-returns g c = record { ended = c.certify_read-ended.result; is = c.certify_read-ended.ensures; ends = c.end_command.ensures }
+returns g c = record { ended = c.certify_read-ended.result; is = c.certify_read-ended.ensures.ended; ends = c.end_command.ensures }
