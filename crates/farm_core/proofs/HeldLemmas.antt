@@ -20,7 +20,7 @@ use Rattle.farm_core.specs.Tenant.{Tenant, Purse, seat, find_job, put_job, drop_
 use Rattle.farm_core.specs.Step as effect
 use Rattle.farm_core.specs.Step.{Replied, Sent, NoTurn, Step, Effect, Nothing, done, step, has_room, is_slice, fresh_job, to_take, may_have_run, to_give, about}
 use Rattle.farm_core.specs.Config.{lines_of}
-use Rattle.farm_core.specs.World.{World, purse_in, place_in, opened_purse, view, events_of, after_alone, IsReplayed}
+use Rattle.farm_core.specs.World.{World, purse_in, place_in, opened_purse, view, events_of, after_alone, IsOfJournal}
 use Rattle.farm_core.specs.Held.{is_out_of, takes, gives, nodes_out, TakenTurnsAreHeld, TakenJobsWereNotOut, TurnsStayHeld, HeldTurnsAreNoStrangers, HeldTurnsRunTheirNodes, OnlyTakenJobsAreOut, GivenJobsAreNotOut}
 use Rattle.farm_core.specs.Turn.{IsTaken}
 use Rattle.farm_core.proofs.DecisionLemmas.{Cases, each_decision}
@@ -335,7 +335,7 @@ pub held_turns_run_their_nodes : HeldTurnsRunTheirNodes
 held_turns_run_their_nodes w t s slice m it =
     own_nodes slice m it.job it.own.plan (omega (arith, it.own.nodes)) (omega (arith, it.own.left)) ∙ out_nodes slice it.job it.job.phase it.own.turn ∙ ap nodes_out (sym it.found)
 
-distinct_in : (w : World) → IsReplayed w → (t : ℕ) → t < length w.config.tenants → AreDistinct (view t w).jobs
+distinct_in : (w : World) → IsOfJournal w → (t : ℕ) → t < length w.config.tenants → AreDistinct (view t w).jobs
 distinct_in w replayed t known =
     let place = place_in w.config t in
     let seen : view t w ≡ seat (after_alone (opened_purse w.config (purse_in w.config t)) (events_of w.config (purse_in w.config t) w.journal)) place =

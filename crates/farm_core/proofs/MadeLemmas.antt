@@ -16,7 +16,7 @@ use Rattle.tenant_book.specs.Book.{BookData}
 use Rattle.farm_core.specs.declared.account.Numbers.{Numbers}
 use Rattle.farm_core.specs.Config.{ConfigData, purse_names, lines_of, granted_by}
 use Rattle.farm_core.specs.World.{World, Call, new_numbers, no_book, purse_in, purses_in, opened, member, view, entries_of, is_noted, entry_of, Steps, Leads}
-use Rattle.farm_core.specs.Runs.{HasAccounts, EachCallCanBeMade, asked, EachSequenceIsARun, JournalsAreTheCalls}
+use Rattle.farm_core.specs.Runs.{HasAccounts, EachCallCanBeMade, wish_of, EachSequenceIsARun, JournalsAreTheCalls}
 use Rattle.farm_core.proofs.ViewLemmas.{IsKnown, moved, moved_own, member_other, set_other}
 use Rattle.farm_core.proofs.SharingLemmas.{counted}
 use Rattle.farm_core.proofs.SeatLemmas.{named, range_length}
@@ -113,7 +113,7 @@ pub each_call_can_be_made : EachCallCanBeMade
 each_call_can_be_made w has t known e = (made w t e, each_step_can_be_made w t e (known_in w t has known), made_accounts w t e has)
 
 runs_from : (w : World) → HasAccounts w → (wanted : List (ℕ × Event)) → All (λ (a : ℕ × Event). a.0 < length w.config.tenants) wanted
-    → (calls : List Call) × (new : World) × Leads w calls new × (map asked calls ≡ wanted)
+    → (calls : List Call) × (new : World) × Leads w calls new × (map wish_of calls ≡ wanted)
 unfolding made
 runs_from w has [] known = ([], w, refl, refl)
 runs_from w has ((t, e) ∷ wanted) known =

@@ -6,7 +6,7 @@ use Rattle.farm_core.specs.declared.entry.Event.{Event}
 use Rattle.farm_core.specs.Config.{ConfigData}
 use Rattle.farm_core.specs.Tenant.{Tenant, Member, Purse, no_member, seat, with_seat}
 use Rattle.farm_core.specs.Step.{Answer, Effect, Nothing, Notes, Adds, Changes, Drops, done, decided, step}
-use Rattle.farm_core.specs.World.{World, Asked, opened, purse_in, place_in, opened_purse, purse, events_of, after_alone, is_noted, entry_of, Follows, IsReplayed}
+use Rattle.farm_core.specs.World.{World, Asked, opened, purse_in, place_in, opened_purse, purse, events_of, after_alone, is_noted, entry_of, Follows, IsOfJournal}
 use Rattle.farm_core.specs.Held.{FarmsAreReplayed}
 use Rattle.farm_core.proofs.DecisionLemmas.{leaves_entry, entry_told}
 use Rattle.farm_core.proofs.AloneLemmas.{purse_opened}
@@ -90,7 +90,7 @@ other_more config q t event journal true differ =
     sym (snoc_miss (λ (e : Entry). eqb (purse_in config e.tenant) q) (asked_in config) journal (record { tenant = t; event = event }) (is_ne (purse_in config t) q (λ e. differ (sym e))))
 other_more config q t event journal false differ = ap (events_of config q) (no_more journal)
 
-purse_on : (old new : World) (t : ℕ) (event : Event) (answer : Answer) → IsReplayed old → Follows old t event answer new → (q : ℕ)
+purse_on : (old new : World) (t : ℕ) (event : Event) (answer : Answer) → IsOfJournal old → Follows old t event answer new → (q : ℕ)
     → purse q new ≡ after_alone (opened_purse old.config q) (events_of old.config q (old.journal ++ entry_of t event answer))
 purse_on old new t event answer before h q =
     let config : ConfigData = old.config in
@@ -107,13 +107,13 @@ purse_on old new t event answer before h q =
     (λ (differ : q ≡ p → ⊥). purse_stays old new t event answer steps q differ ∙ before q ∙ ap (after_alone (opened_purse config q)) (other_more config q t event old.journal (is_noted answer) differ))
     (cases_eq q p)
 
-pub replayed_on : (old new : World) (t : ℕ) (event : Event) (answer : Answer) → IsReplayed old → Follows old t event answer new → IsReplayed new
+pub replayed_on : (old new : World) (t : ℕ) (event : Event) (answer : Answer) → IsOfJournal old → Follows old t event answer new → IsOfJournal new
 replayed_on old new t event answer before h q =
     purse_on old new t event answer before h q
     ∙ ap (λ (es : List Entry). after_alone (opened_purse old.config q) (events_of old.config q es)) (sym h.journal)
     ∙ ap (λ (c : ConfigData). after_alone (opened_purse c q) (events_of c q new.journal)) (sym h.config)
 
-pub opened_replayed : (config : ConfigData) → IsReplayed (opened config)
+pub opened_replayed : (config : ConfigData) → IsOfJournal (opened config)
 unfolding opened
 opened_replayed config p = purse_opened p config
 

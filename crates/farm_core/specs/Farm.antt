@@ -13,7 +13,7 @@ use Rattle.farm_core.specs.declared.reply.Reply.TheVariants as reply
 use Rattle.farm_core.specs.Config.{ConfigData, is_config}
 use Rattle.farm_core.specs.Tenant.{Tenant, book, find_job, line_of}
 use Rattle.farm_core.specs.Step.{Replied, Notes, has_room, to_fund}
-use Rattle.farm_core.specs.World.{World, Call, Run, purse_in, purses_in, account_of, view, is_noted, Follows, IsReplayed}
+use Rattle.farm_core.specs.World.{World, Call, Run, purse_in, purses_in, account_of, view, is_noted, Follows, IsOfJournal}
 use Rattle.farm_core.specs.Truth.{ArePlanned}
 
 -- how many entries may still come of a job without asking for memory: one for its cancel, one for its give
@@ -62,7 +62,7 @@ pub record IsFarm (w : World) (capacity : ℕ) : Type 0 where
   pub ledgers : length w.books ≡ purses_in w.config
   pub each : (t : ℕ) → t < length w.numbers → IsAccount (view t w) (account_of w t)
   pub room : length w.journal + owed w.rows ≤ capacity
-  pub replayed : IsReplayed w
+  pub replayed : IsOfJournal w
   pub reached : IsReached w
   pub whose : AreOf (length w.numbers) w.rows
   pub order : AreFrom 0 w.rows

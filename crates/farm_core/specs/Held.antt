@@ -11,7 +11,7 @@ use Rattle.farm_core.specs.Config.{ConfigData}
 use Rattle.farm_core.specs.Tenant.{find_job, nodes_out_in}
 use Rattle.farm_core.specs.Step.{Answer, Replied}
 use Rattle.farm_core.specs.Turn.{IsTaken}
-use Rattle.farm_core.specs.World.{World, opened, view, Follows, IsReplayed}
+use Rattle.farm_core.specs.World.{World, opened, view, Follows, IsOfJournal}
 
 -- a job is out, where there is one
 abbrev pub is_out_of : Option JobData → Bool
@@ -66,8 +66,8 @@ HeldTurnsRunTheirNodes = (w : World) (t s slice : ℕ) (m : Meaning) → IsHeld 
 
 -- a farm is where its journal leads, when it is made and after each call
 pub record FarmsAreReplayed : Type 0 where
-  pub made : (config : ConfigData) → IsReplayed (opened config)
-  pub kept : (old new : World) (t : ℕ) (e : Event) (answer : Answer) → IsReplayed old → Follows old t e answer new → IsReplayed new
+  pub made : (config : ConfigData) → IsOfJournal (opened config)
+  pub kept : (old new : World) (t : ℕ) (e : Event) (answer : Answer) → IsOfJournal old → Follows old t e answer new → IsOfJournal new
 
 -- a turn is taken of a job that was not out
 abbrev pub TakenJobsWereNotOut : Type 0
@@ -75,7 +75,7 @@ TakenJobsWereNotOut = (old new : World) (t s slice : ℕ) (m : Meaning) → IsTa
 
 -- in such a farm a job goes out by a take alone
 abbrev pub OnlyTakenJobsAreOut : Type 0
-OnlyTakenJobsAreOut = (old new : World) (t : ℕ) (e : Event) (answer : Answer) → IsReplayed old → Follows old t e answer new →
+OnlyTakenJobsAreOut = (old new : World) (t : ℕ) (e : Event) (answer : Answer) → IsOfJournal old → Follows old t e answer new →
     (u s : ℕ) → is_out_of (find_job s (view u new).jobs) ≡ true →
     (is_out_of (find_job s (view u old).jobs) ≡ true) ⊎ ((t ≡ u) × (takes s e ≡ true))
 

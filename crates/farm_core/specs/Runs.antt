@@ -15,13 +15,13 @@ EachCallCanBeMade = (w : World) → HasAccounts w → (t : ℕ) → t < length w
     (new : World) × Steps w t event (step (view t w) event).answer new × HasAccounts new
 
 -- whose a call is, and what it asks for
-abbrev pub asked : Call → ℕ × Event
-asked c = (c.tenant, c.event)
+abbrev pub wish_of : Call → ℕ × Event
+wish_of c = (c.tenant, c.event)
 
 -- whatever the tenants of a configuration ask for, one call after another, there is a run of just these calls
 abbrev pub EachSequenceIsARun : Type 0
 EachSequenceIsARun = (config : ConfigData) (wanted : List (ℕ × Event)) → All (λ (a : ℕ × Event). a.0 < length config.tenants) wanted →
-    (calls : List Call) × (w : World) × Run config calls w × (map asked calls ≡ wanted)
+    (calls : List Call) × (w : World) × Run config calls w × (map wish_of calls ≡ wanted)
 
 -- the journal at the end of a run has the entries of its calls, in their order, and nothing else
 abbrev pub JournalsAreTheCalls : Type 0

@@ -203,5 +203,5 @@ abbrev pub opened_purse : ConfigData → ℕ → Purse
 opened_purse config p = newcomers (lines_of config.tenants p)
 
 -- each purse's part of the world is where its own entries of the journal lead, from the farm in which nothing has happened
-abbrev pub IsReplayed : World → Type 0
-IsReplayed w = (p : ℕ) → purse p w ≡ after_alone (opened_purse w.config p) (events_of w.config p w.journal)
+abbrev pub IsOfJournal : World → Type 0
+IsOfJournal w = (p : ℕ) → purse p w ≡ after_alone (opened_purse w.config p) (events_of w.config p w.journal)

@@ -14,7 +14,7 @@ use Rattle.farm_core.specs.declared.reply.Reply.TheVariants as reply
 use Rattle.farm_core.specs.Config.{ConfigData, lines_of, granted_by}
 use Rattle.farm_core.specs.Tenant.{Tenant, Purse, seat, with_seat}
 use Rattle.farm_core.specs.Step.{Answer, Replied, step}
-use Rattle.farm_core.specs.World.{World, Call, opened, new_numbers, purses_in, purse_in, place_in, purse, view, is_noted, entry_of, Steps, Leads, Run, IsReplayed}
+use Rattle.farm_core.specs.World.{World, Call, opened, new_numbers, purses_in, purse_in, place_in, purse, view, is_noted, entry_of, Steps, Leads, Run, IsOfJournal}
 use Rattle.farm_core.specs.Runs.{HasAccounts}
 use Rattle.farm_core.specs.Truth.{IsPlanned, ArePlanned}
 use Rattle.farm_core.proofs.MadeLemmas.{each_call_can_be_made}
@@ -78,16 +78,16 @@ planned_more calls c all one d among = planned_at calls c d all one among.0 amon
 record IsOn (w : World) (e : Entry) (new : World) : Type 0 where
   steps : Steps w e.tenant e.event (step (view e.tenant w) e.event).answer new
   journal : new.journal ≡ w.journal ++ e ∷ []
-  replayed : IsReplayed new
+  replayed : IsOfJournal new
   accounts : HasAccounts new
 
 entry_left : (t : ℕ) (event : Event) (answer : Answer) → is_noted answer ≡ true → entry_of t event answer ≡ record { tenant = t; event = event } ∷ []
 entry_left t event answer noted = let e : Entry = record { tenant = t; event = event } in ap (λ b. cond {A = List Entry} b (e ∷ []) []) noted
 
-seen_at : (w : World) (t : ℕ) → IsReplayed w → t < length w.config.tenants → view t w ≡ tenant_at w.config w.journal t
+seen_at : (w : World) (t : ℕ) → IsOfJournal w → t < length w.config.tenants → view t w ≡ tenant_at w.config w.journal t
 seen_at w t at known = each_view_is_a_seat w t known ∙ ap (λ (p : Purse). seat p (place_in w.config t)) (at (purse_in w.config t))
 
-purses_on : (w new : World) (e : Entry) → IsReplayed w → Steps w e.tenant e.event (step (view e.tenant w) e.event).answer new → (p : ℕ)
+purses_on : (w new : World) (e : Entry) → IsOfJournal w → Steps w e.tenant e.event (step (view e.tenant w) e.event).answer new → (p : ℕ)
     → purse p new ≡ purse_at w.config (w.journal ++ e ∷ []) p
 purses_on w new e at steps p =
     let t = e.tenant in
@@ -105,7 +105,7 @@ purses_on w new e at steps p =
     (λ (differ : p ≡ here → ⊥). purse_stays w new t e.event answer steps p differ ∙ at p ∙ sym (purse_off config w.journal e p differ))
     (cases_eq p here)
 
-goes_on : (w : World) (e : Entry) → IsReplayed w → HasAccounts w → IsLeft w.config w.journal e → (new : World) × IsOn w e new
+goes_on : (w : World) (e : Entry) → IsOfJournal w → HasAccounts w → IsLeft w.config w.journal e → (new : World) × IsOn w e new
 goes_on w e at accounts left =
     let t = e.tenant in
     let it = each_call_can_be_made w accounts t left.sound.known e.event in
@@ -125,7 +125,7 @@ goes_on w e at accounts left =
       },
     )
 
-runs_on : (config : ConfigData) (w : World) (calls : List Call) → w.config ≡ config → Run config calls w → ArePlanned calls → IsReplayed w → HasAccounts w
+runs_on : (config : ConfigData) (w : World) (calls : List Call) → w.config ≡ config → Run config calls w → ArePlanned calls → IsOfJournal w → HasAccounts w
     → (es : List Entry) → AreLeft config w.journal es → AreOfRun config (w.journal ++ es)
 runs_on config w calls same run planned at accounts [] left =
     record { calls = calls; world = w; run = run; planned = planned; journal = sym (append-nil w.journal) }

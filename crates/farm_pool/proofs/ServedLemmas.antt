@@ -14,7 +14,7 @@ use Rattle.farm_core.specs.Step.{Answer, Replied, Sent, step, is_slice, has_room
 use Rattle.farm_core.specs.Config.{ConfigData}
 use Rattle.job_table.specs.declared.phase.Phase.TheVariants.{Out}
 use Rattle.farm_core.specs.Turn.{IsTaken, IsIdle, IsReady, IsGiven}
-use Rattle.farm_core.specs.World.{World, purse_in, place_in, view, is_noted, Follows, IsReplayed, Run}
+use Rattle.farm_core.specs.World.{World, purse_in, place_in, view, is_noted, Follows, IsOfJournal, Run}
 use Rattle.farm_core.proofs.SeatLemmas.{each_view_is_a_seat}
 use Rattle.farm_core.specs.Farm.{IsReply, IsReached}
 use Rattle.farm_core.proofs.ChangeLemmas.{own_job}
@@ -38,14 +38,14 @@ one_or_none true x = refl
 one_or_none false x = refl
 
 -- where a tenant of a farm stands is where its purse's entries lead
-pub stands_at : (w : World) (t : ℕ) → IsReplayed w → t < length w.config.tenants → view t w ≡ tenant_at w.config w.journal t
+pub stands_at : (w : World) (t : ℕ) → IsOfJournal w → t < length w.config.tenants → view t w ≡ tenant_at w.config w.journal t
 stands_at w t at known = each_view_is_a_seat w t known ∙ ap (λ (p : Purse). seat p (place_in w.config t)) (at (purse_in w.config t))
 
 pub record StepsOn (old new : World) (t : ℕ) (e : Event) (answer : Answer) : Type 0 where
   pub journal : new.journal ≡ old.journal ++ listed (entry_if t e answer)
   pub steps : IsStep old.config old.journal t e (entry_if t e answer) answer
 
-pub steps_on : (old new : World) (t : ℕ) (e : Event) (answer : Answer) → IsReplayed old → Follows old t e answer new → StepsOn old new t e answer
+pub steps_on : (old new : World) (t : ℕ) (e : Event) (answer : Answer) → IsOfJournal old → Follows old t e answer new → StepsOn old new t e answer
 steps_on old new t e answer at f = record {
   journal = f.journal ∙ ap (λ es. old.journal ++ es) (one_or_none (is_noted answer) (record { tenant = t; event = e }));
   steps = record { answer_is = f.answer_is ∙ ap (λ (v : Tenant). (step v e).answer) (stands_at old t at f.known); entry_is = refl };
@@ -57,7 +57,7 @@ pub record IsAnsweredOn (old new : World) (t : ℕ) (e : Event) (r : Reply) : Ty
   pub journal : new.journal ≡ old.journal ++ listed entry
   pub stands : IsAnswered old.config old.journal t e entry r
 
-pub replies : (old new : World) (t : ℕ) (e : Event) (r : Reply) → t < length old.config.tenants → IsReplayed old → IsReply old t e r new
+pub replies : (old new : World) (t : ℕ) (e : Event) (r : Reply) → t < length old.config.tenants → IsOfJournal old → IsReply old t e r new
     → (r ≡ reply.NoMemory → may_need (view t old) e ≡ true) → IsAnsweredOn old new t e r
 replies old new t e reply.NoMemory known at f needs = record {
   entry = None;
@@ -86,7 +86,7 @@ asked_known {J} meaning config call t command is may = subst (λ (c : FarmCall J
 
 -- an answer to a tenant
 pub asked_replied : {J : Type 0} (meaning : J → Meaning) (old new : World) (call : FarmCall J) (t : ℕ) (e : Event) (r : Reply) → call_image meaning call ≡ said.Asked t e
-    → t < length old.config.tenants → IsReplayed old → IsReply old t e r new → (r ≡ reply.NoMemory → may_need (view t old) e ≡ true)
+    → t < length old.config.tenants → IsOfJournal old → IsReply old t e r new → (r ≡ reply.NoMemory → may_need (view t old) e ≡ true)
     → AnswersOn meaning old call (given.Replied r) new
 asked_replied meaning old new call t e r is known at f needs =
     let it = replies old new t e r known at f needs in
@@ -98,7 +98,7 @@ asked_replied meaning old new call t e r is known at f needs =
     }
 
 -- a turn was taken
-pub sent_out : {J : Type 0} (meaning : J → Meaning) (old new : World) (slice : ℕ) (turn : Turn J) → IsReplayed old → IsTaken old turn.tenant turn.seq slice (meaning turn.search) new
+pub sent_out : {J : Type 0} (meaning : J → Meaning) (old new : World) (slice : ℕ) (turn : Turn J) → IsOfJournal old → IsTaken old turn.tenant turn.seq slice (meaning turn.search) new
     → turn.slice ≡ slice → turn.ran ≡ 0 → AnswersOn meaning old (asked.Next slice) (given.Sent turn) new
 sent_out meaning old new slice turn at taken slice_is ran =
     let t = turn.tenant in
@@ -120,7 +120,7 @@ sent_out meaning old new slice turn at taken slice_is ran =
     }
 
 -- there was none to take
-pub idled : {J : Type 0} (meaning : J → Meaning) (old new : World) (slice : ℕ) → IsReplayed old → IsIdle old slice → new ≡ old → AnswersOn meaning old (asked.Next slice) given.Idle new
+pub idled : {J : Type 0} (meaning : J → Meaning) (old new : World) (slice : ℕ) → IsOfJournal old → IsIdle old slice → new ≡ old → AnswersOn meaning old (asked.Next slice) given.Idle new
 idled meaning old new slice at idle kept = record {
   entry = None;
   config = ap (λ (w : World). w.config) kept;
@@ -137,7 +137,7 @@ idled meaning old new slice at idle kept = record {
 }
 
 -- there was no memory for one that could be taken
-pub unsent : {J : Type 0} (meaning : J → Meaning) (old new : World) (slice t s : ℕ) → IsReplayed old → IsReady old t s slice → new ≡ old
+pub unsent : {J : Type 0} (meaning : J → Meaning) (old new : World) (slice t s : ℕ) → IsOfJournal old → IsReady old t s slice → new ≡ old
     → AnswersOn meaning old (asked.Next slice) given.NoMemory new
 unsent meaning old new slice t s at ready kept =
     let here = stands_at old t at ready.known in
@@ -159,7 +159,7 @@ unsent meaning old new slice t s at ready kept =
     }
 
 -- a turn came back
-pub gave_back : {J : Type 0} (meaning : J → Meaning) (old new : World) (turn : Turn J) (r : Reply) → IsReplayed old
+pub gave_back : {J : Type 0} (meaning : J → Meaning) (old new : World) (turn : Turn J) (r : Reply) → IsOfJournal old
     → IsGiven old turn.tenant turn.seq turn.slice turn.ran (meaning turn.search) r new → AnswersOn meaning old (asked.Back turn) (given.Gave r) new
 gave_back meaning old new turn r at given =
     let it = steps_on old new turn.tenant (Give turn.seq turn.ran) (Replied r) at given.follows in
@@ -177,7 +177,7 @@ gave_back meaning old new turn r at given =
     }
 
 -- it is of no job
-pub strayed : {J : Type 0} (meaning : J → Meaning) (old new : World) (turn back : Turn J) → turn.tenant < length old.config.tenants → IsReplayed old
+pub strayed : {J : Type 0} (meaning : J → Meaning) (old new : World) (turn back : Turn J) → turn.tenant < length old.config.tenants → IsOfJournal old
     → IsStrange old.rows turn.tenant turn.seq turn.slice turn.ran (meaning turn.search) → new ≡ old → AnswersOn meaning old (asked.Back turn) (given.Stray back) new
 strayed meaning old new turn back known at strange kept = record {
   entry = None;

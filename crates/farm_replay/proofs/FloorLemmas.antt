@@ -29,7 +29,7 @@ use Rattle.farm_core.specs.Farm.{IsReply}
 use Rattle.farm_core.specs.Turn.{IsTurn, IsTaken, IsNotTaken}
 use Rattle.farm_core.specs.Config.{ConfigData}
 use Rattle.farm_core.specs.Command as command
-use Rattle.farm_core.specs.World.{World, opened, purse_in, place_in, spent_in, member, purse, view, Follows, IsReplayed}
+use Rattle.farm_core.specs.World.{World, opened, purse_in, place_in, spent_in, member, purse, view, Follows, IsOfJournal}
 use Rattle.farm_core.proofs.SeatLemmas.{each_view_is_a_seat, steps_of, purse_after, purse_stays}
 use Rattle.farm_core.specs.Held.{is_out_of, nodes_out, takes, gives, IsHeld, AreHeld}
 use Rattle.farm_core.proofs.HeldLemmas.{taken_out, taken_turns_are_held, taken_jobs_were_not_out, turns_stay_held, held_turns_are_no_strangers, held_turns_run_their_nodes, only_taken_jobs_are_out, given_jobs_are_not_out}
@@ -526,7 +526,7 @@ lacks_turn t s turns h = none_passes (is_turn_of t s) turns (no_place (position_
 
 pub floor_opened : {J : Type 0} (meaning : J → Meaning) (config : ConfigData) (w : World) → w ≡ opened config → IsFloor meaning w []
 unfolding opened view member
-floor_opened meaning config w is = record { held = tt; apart = tt; all = λ t s out. absurd (cc (ap (λ v. is_out_of (find_job s (view t v).jobs)) is)); replayed = subst IsReplayed (sym is) (farms_are_replayed.made config) }
+floor_opened meaning config w is = record { held = tt; apart = tt; all = λ t s out. absurd (cc (ap (λ v. is_out_of (find_job s (view t v).jobs)) is)); replayed = subst IsOfJournal (sym is) (farms_are_replayed.made config) }
 
 -- the last turn of those that are held
 pub found_last : {J : Type 0} (meaning : J → Meaning) (w : World) (turns xs : List (Turn J)) (x : Turn J) → turns ≡ xs ++ x ∷ [] → IsFloor meaning w turns

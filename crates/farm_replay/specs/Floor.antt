@@ -7,7 +7,7 @@ use Rattle.farm_core.specs.declared.reply.Reply.TheVariants as reply
 use Rattle.farm_core.specs.declared.reply.NoTurn.{NoTurn}
 use Rattle.farm_core.specs.declared.reply.NoTurn.TheVariants as no_turn
 use Rattle.farm_core.specs.Tenant.{find_job, with_seat}
-use Rattle.farm_core.specs.World.{World, view, purse_in, place_in, purse, IsReplayed}
+use Rattle.farm_core.specs.World.{World, view, purse_in, place_in, purse, IsOfJournal}
 use Rattle.farm_core.specs.Held.{AreHeld, is_out_of}
 use Rattle.session_lines.specs.declared.request.What.{What}
 use Rattle.session_lines.specs.declared.said.Said.{Said}
@@ -31,7 +31,7 @@ pub record IsFloor {J : Type 0} (meaning : J → Meaning) (w : World) (turns : L
   pub held : AreHeld meaning w turns
   pub apart : AreApart turns
   pub all : (t s : ℕ) → is_out_of (find_job s (view t w).jobs) ≡ true → has_turn t s turns ≡ true
-  pub replayed : IsReplayed w
+  pub replayed : IsOfJournal w
 
 -- a tenant's request was answered, whether or not memory was refused: its purse stands as after that, and nothing changed for the other purses
 pub record IsTold (old : World) (t : ℕ) (what : What) (answer : Said) (new : World) : Type 0 where

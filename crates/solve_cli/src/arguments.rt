@@ -145,7 +145,8 @@ const VERIFY_HELP: &str = "\
 It prints 'feasible makespan M', with status 0. Otherwise what is broken first goes to standard
 error, with status 1:
 
-  breach Shape               not one mode and one start for each activity
+  breach Shape               not one mode and one start for each activity, or a start
+                             above 1000000000
   breach Mode(J)             activity J has no such mode
   breach Precedence(I, J)    activity J starts before activity I ends
   breach Renewable(R, T)     renewable resource R is used above its capacity in period T
