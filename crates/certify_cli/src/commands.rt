@@ -90,8 +90,8 @@ pub fn certify_to<
 ) -> ExitCode
     ensures { Ends
         (λ ended. IsCertifyOf ended watches.new (S.remaining file) (T.remaining text)
-            (W.contents writer.old)
-            (W.contents writer.new))
+        (W.contents writer.old)
+        (W.contents writer.new))
         (exit_status result) }
 {
     let ended = certify_read(rt.alloc(), file, text, proof, writer, watches);

@@ -47,7 +47,7 @@ impl Project {
         nonrenewable: Sequence<u32>,
     ) -> Option<Project>
         ensures { let given : ProjectData =
-                record { activities = activities; renewable = renewable; nonrenewable = nonrenewable } in
+            record { activities = activities; renewable = renewable; nonrenewable = nonrenewable } in
             result ≡ (if is_project given then Some given else None) }
     {
         let all = activities.as_slice();

@@ -82,7 +82,7 @@ fn visit_one(
     ensures board { OnOk result (board.new ≡ board.old) }
     ensures nodes { OnOk result (nodes.new.items ≡ nodes.old.items
         ++ nodes_of (nodes_below board.old.project below) board.old.project board.old.placed candidate
-            (after None nodes.old.items)) }
+        (after None nodes.old.items)) }
     ensures known { OnOk result (IsKnown board.old.project (after None nodes.new.items)) }
 {
     let place = place_of(board, candidate);

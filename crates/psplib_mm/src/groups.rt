@@ -42,7 +42,7 @@ impl<'a> Model for ModeLine<'a> {
       mode = m.mode;
       duration = m.duration;
       renewable = m.renewable.now;
-      nonrenewable = m.nonrenewable.now
+      nonrenewable = m.nonrenewable.now;
     } };
 }
 

@@ -108,7 +108,7 @@ pub fn broken_size(
 ) -> Option<LimitName>
     requires { length activities.now ≤ 202 }
     ensures { let given : ProjectData =
-            record { activities = activities.now; renewable = renewable.now; nonrenewable = nonrenewable.now } in
+        record { activities = activities.now; renewable = renewable.now; nonrenewable = nonrenewable.now } in
         result ≡ broken_amount given }
 {
     if is_any_activity_long(activities) {

@@ -78,7 +78,7 @@ pub(crate) fn better(best: Best, pass: &Pass) -> Best
     ensures taken { is_taken result ≡ is_taken best }
     ensures best { is_taken best ≡ false
         → best_in result ≡ better pass.now.project (best_in best)
-            (option_map (schedule_of (size pass.now.project)) pass.now.placed) }
+        (option_map (schedule_of (size pass.now.project)) pass.now.placed) }
 {
     let Some(makespan) = pass.makespan() else {
         return best;

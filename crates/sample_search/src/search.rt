@@ -87,7 +87,7 @@ fn end_pass(pass: &mut Pass, best: &mut Best)
     ensures taken { is_taken best.new ≡ is_taken best.old }
     ensures best { is_taken best.old ≡ false
         → best_in best.new ≡ better pass.old.project (best_in best.old)
-            (option_map (schedule_of (size pass.old.project)) pass.old.placed) }
+        (option_map (schedule_of (size pass.old.project)) pass.old.placed) }
 {
     let last = mem::replace(best, Best::Taken);
     *best = better(last, pass);

@@ -63,7 +63,9 @@ impl Waiting {
     fn note(&mut self, activity: usize, is_placed: bool, missing: u32)
         requires { activity < length self.old.flags }
         ensures exact { self.new ≡ record {
-            flags = set self.old.flags activity is_placed; missing = set self.old.missing activity missing } }
+          flags = set self.old.flags activity is_placed;
+          missing = set self.old.missing activity missing;
+        } }
         ensures same { length self.new.missing ≡ length self.new.flags }
     {
         self.placed[activity] = is_placed;

@@ -111,8 +111,8 @@ pub fn verify_to<R: AllocGlobal + Eprint, S: Read + Drop, T: Read + Drop, W: Wri
 ) -> ExitCode
     ensures { Ends
         (λ ended. IsShowOf TellsMakespan ended watches.new (S.remaining file) (T.remaining text)
-            (W.contents writer.old)
-            (W.contents writer.new))
+        (W.contents writer.old)
+        (W.contents writer.new))
         (exit_status result) }
 {
     let ended = verify_read(rt.alloc(), file, text, writer, watches);
@@ -138,8 +138,8 @@ pub fn draw_to<
     requires { (verified : Verified) → IsFeasible verified.project verified.schedule → D.pre draw verified }
     ensures { Ends
         (λ ended. IsShowOf (GivesText (D.post draw)) ended watches.new (S.remaining file) (T.remaining text)
-            (W.contents writer.old)
-            (W.contents writer.new))
+        (W.contents writer.old)
+        (W.contents writer.new))
         (exit_status result) }
 {
     let ended = draw_read(rt.alloc(), file, text, writer, watches, draw);

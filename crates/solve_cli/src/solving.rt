@@ -109,9 +109,9 @@ pub fn solve_to<R: AllocGlobal + Eprint, S: Read + Drop, W: Write, L: Watch>(
     requires short { length asked.kinds.now ≤ MOST_SEARCHES }
     ensures { Ends
         (λ ended. IsSolveOf asked.entry.is_json asked.entry.kinds.now asked.entry.most ended watches.new
-            (S.remaining file)
-            (W.contents writer.old)
-            (W.contents writer.new))
+        (S.remaining file)
+        (W.contents writer.old)
+        (W.contents writer.new))
         (exit_status result) }
 {
     let ended = solve_read(rt.alloc(), file, asked, looks, writer, watches);

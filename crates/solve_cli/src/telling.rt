@@ -155,7 +155,7 @@ fn put_object(
 ) -> Result<(), AllocError>
     ensures { IfOk result (λ _.
         string_bytes text.new
-            ≡ string_bytes text.old ++ object_json nodes makespan word.now (option_copied best.entry)) }
+        ≡ string_bytes text.old ++ object_json nodes makespan word.now (option_copied best.entry)) }
 {
     write!(text, "{{\"nodes\":{nodes},\"makespan\":")?;
     put_makespan_json(text, makespan)?;
