@@ -5,8 +5,8 @@ use std::alloc::Global;
 use std::io;
 use std::io::Read;
 
-/// The most bytes that are read of an input: one more than a text may have.
-pub const MOST_BYTES: u64 = 1_048_577;
+/// The most bytes that are read of an input: one more than a text may have, so that one that is too long is seen to be.
+pub const MOST_BYTES: u64 = psplib_mm::MOST_BYTES as u64 + 1;
 
 /// The first bytes of a reader, at most `MOST_BYTES` of them. An error is the reader's, or want of memory.
 pub fn read_front<R: Read + Drop>(alloc: Global, reader: R) -> io::Result<Vec<u8>>

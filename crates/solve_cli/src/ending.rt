@@ -12,6 +12,9 @@ use std::process::ExitCode;
 /// The most bytes that are read of a project's file or of a schedule's text: one more than a file may have.
 pub const MOST_TEXT: u64 = MOST_BYTES as u64 + 1;
 
+// So a file that is too long is seen to be.
+const _: () = prove!((psplib_mm::MOST_BYTES as u64) < MOST_TEXT);
+
 /// The paths of a project's file and of a schedule's text, as its faults are told.
 #[derive(Clone, Copy, Debug, PartialEq, Eq)]
 pub struct Paths<'a> {
