@@ -23,7 +23,6 @@ pub fn reason(kind: ErrorKind) -> &'static str
         ErrorKind::NotADirectory => "a part of its path is no folder",
         ErrorKind::InvalidFilename => "its name is too long",
         ErrorKind::FilesystemLoop => "its links lead in a circle",
-        ErrorKind::InvalidInput => "its name has a zero byte",
         ErrorKind::OutOfMemory => "there is no memory for it",
         _ => "opening or reading it failed",
     }
