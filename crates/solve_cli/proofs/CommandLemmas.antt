@@ -4,7 +4,7 @@ use Rattle.std.specs.Io.KnownBytes.{Appends}
 use Rattle.mrcpsp.specs.Project.{ProjectData}
 use Rattle.psplib_mm.specs.Reading.{reading}
 use Rattle.strategy.specs.declared.kind.Kind.{Kind}
-use Rattle.solve_cli.specs.Commands.{OfBoth, IsShown, IsSolved, told_text}
+use Rattle.solve_cli.specs.Commands.{OfBoth, IsReported, IsSolved, told_text}
 use Rattle.solve_cli.specs.Several.{IsFoundByEach}
 use Rattle.solve_cli.specs.Verified.{IsVerified}
 use Rattle.solve_cli.specs.declared.ending.TheConstants.{MOST_TEXT}
@@ -28,7 +28,7 @@ both file text bytes words b w P f t e d p = fronts MOST_TEXT file text bytes wo
 
 -- what is told of the schedule that was verified was written
 pub shown : (file text : Option (List ℕ)) (Tells : Verified → List ℕ → Type 0) (v : Verified) (line : List ℕ) (before after : Option (List ℕ))
-    → OfBoth file text (λ bytes words. IsVerified bytes words v) → Tells v line → Appends before after line → OfBoth file text (λ bytes words. IsShown Tells bytes words before after)
+    → OfBoth file text (λ bytes words. IsVerified bytes words v) → Tells v line → Appends before after line → OfBoth file text (λ bytes words. IsReported Tells bytes words before after)
 shown None text Tells v line before after is tells wrote = tt
 shown (Some x) None Tells v line before after is tells wrote = tt
 shown (Some x) (Some y) Tells v line before after is tells wrote = record { verified = v; is = is; shown = line; tells = tells; wrote = wrote }

@@ -52,7 +52,7 @@ IsUnverified (Text kind) seen file text = seen.text.failed ≡ true
 IsUnverified (Verify fault) seen file text = OfBoth file text (λ bytes words. IsAtFault bytes words fault)
 
 -- what is told of a feasible schedule was written
-pub record IsShown (Tells : Verified → List ℕ → Type 0) (file text : List ℕ) (before after : Option (List ℕ)) : Type 0 where
+pub record IsReported (Tells : Verified → List ℕ → Type 0) (file text : List ℕ) (before after : Option (List ℕ)) : Type 0 where
   pub verified : Verified
   pub is : IsVerified file text verified
   pub shown : List ℕ
@@ -61,7 +61,7 @@ pub record IsShown (Tells : Verified → List ℕ → Type 0) (file text : List 
 
 abbrev pub IsShowOf : (Verified → List ℕ → Type 0) → Result ⊤ CommandFault → Watches → Option (List ℕ) → Option (List ℕ) → Option (List ℕ) → Option (List ℕ) → Type 0
 IsShowOf Tells ended seen file text before after =
-    IsEndOf (OfBoth file text (λ bytes words. IsShown Tells bytes words before after)) (λ fault. IsUnverified fault seen file text) ended seen before after
+    IsEndOf (OfBoth file text (λ bytes words. IsReported Tells bytes words before after)) (λ fault. IsUnverified fault seen file text) ended seen before after
 
 -- its makespan,
 abbrev pub TellsMakespan : Verified → List ℕ → Type 0
