@@ -34,7 +34,7 @@ result_line f = codes "makespan " ++ shown_text f ++ places_of f.best ++ 10 ∷ 
 abbrev pub found_text : Found → List ℕ
 found_text f = nodes_line f ++ result_line f
 
--- the line of a schedule that is the best so far of a search that goes on
+-- the line of this makespan and this schedule, as the best so far of a search that goes on
 abbrev pub better_line : ℕ → ScheduleData → List ℕ
 better_line makespan best = codes "makespan " ++ decimal makespan ++ codes " open" ++ schedule_text best ++ 10 ∷ []
 

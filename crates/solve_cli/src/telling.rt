@@ -68,7 +68,7 @@ pub fn tell(alloc: Global, found: &Found) -> Result<String, AllocError>
     Ok(text)
 }
 
-/// A line of a schedule that is the best so far of a search that goes on. An error is want of memory.
+/// A line of this makespan, whatever it is, and of this schedule, as the best so far of a search that goes on. An error is want of memory.
 pub fn tell_better(alloc: Global, makespan: u32, best: &Schedule) -> Result<String, AllocError>
     ensures { IfOk result (λ text. string_bytes text ≡ better_line makespan best.now) }
 {
@@ -180,7 +180,7 @@ pub fn tell_json(alloc: Global, found: &Found) -> Result<String, AllocError>
     Ok(text)
 }
 
-/// What `tell_better` says after so many nodes, as such an object.
+/// The same of this makespan and this schedule after so many nodes, as such an object.
 pub fn tell_better_json(
     alloc: Global,
     nodes: u64,
