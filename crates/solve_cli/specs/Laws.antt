@@ -1,7 +1,10 @@
--- Why what several searches tell is true, and that of one search it is what that search finds.
-use Rattle.std.specs.Prelude.{ℕ, List, [], ◌∷◌, IsTrue}
+-- Why what several searches tell is true, that of one search it is what that search finds, and how long the texts may be, in figures.
+use Rattle.std.specs.Prelude.{◌≡◌, ℕ, List, [], ◌∷◌, IsTrue}
 use Rattle.mrcpsp.specs.Project.{ProjectData, is_project}
 use Rattle.strategy.specs.declared.kind.Kind.{Kind}
+use Rattle.psplib_mm.specs.declared.reading.TheConstants as file
+use Rattle.schedule_text.specs.declared.reading.TheConstants as schedule
+use Rattle.solve_cli.specs.declared.ending.TheConstants.{MOST_TEXT}
 use Rattle.solve_cli.specs.Found.{IsFound}
 use Rattle.solve_cli.specs.Several.{IsFoundByEach, IsTrueOf}
 use Rattle.solve_cli.specs.declared.searching.Found.{Found}
@@ -11,3 +14,15 @@ SeveralAreTrue = (p : ProjectData) → IsTrue (is_project p) → (kinds : List K
 
 abbrev pub OneIsItself : Type 0
 OneIsItself = (p : ProjectData) (kind : Kind) (most : ℕ) (found : Found) → IsFoundByEach p (kind ∷ []) most found → IsFound (record { project = p; kind = kind }) most found
+
+-- A project's file has at most 1,048,576 bytes.
+abbrev pub FilesAreLimited : Type 0
+FilesAreLimited = file.MOST_BYTES ≡ 1048576
+
+-- The text of a schedule has at most 1,048,576 bytes.
+abbrev pub SchedulesAreLimited : Type 0
+SchedulesAreLimited = schedule.MOST_BYTES ≡ 1048576
+
+-- At most 1,048,577 bytes are read of either, one more than it may have.
+abbrev pub ReadsAreLimited : Type 0
+ReadsAreLimited = MOST_TEXT ≡ 1048577

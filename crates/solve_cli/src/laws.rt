@@ -1,5 +1,5 @@
-//! Laws of several searches: each is the proved contract of a function that does nothing.
-ghost use Rattle.solve_cli.specs.Laws.{SeveralAreTrue, OneIsItself};
+//! Laws of several searches, and of the limits of texts: each is the proved contract of a function that does nothing.
+ghost use Rattle.solve_cli.specs.Laws.{SeveralAreTrue, OneIsItself, FilesAreLimited, SchedulesAreLimited, ReadsAreLimited};
 
 /// Whatever the searches, the best schedule is feasible and has the makespan that is told. 'Optimal' is told only where no feasible
 /// schedule is shorter than it, and 'infeasible' only where there is none.
@@ -10,4 +10,12 @@ pub fn what_several_tell_is_true()
 /// What one search tells among several that are but one is what it finds by itself.
 pub fn one_search_tells_itself()
     ensures { OneIsItself }
+{}
+
+/// How long the texts may be, in figures. The definitions name these limits, so that another number in the code would change with it what
+/// the other contracts say; here it would be refused.
+pub fn texts_are_limited()
+    ensures file { FilesAreLimited }
+    ensures schedule { SchedulesAreLimited }
+    ensures read { ReadsAreLimited }
 {}

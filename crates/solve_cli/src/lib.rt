@@ -9,7 +9,8 @@
 //! - `fault`: why a schedule is not feasible, and why a command writes nothing.
 //! - `verifying`: `verify`.
 //! - `searching`: `solve`, and who watches a search.
-//! - `several`: `solve_each`, several searches one after another, and `laws`, why what they tell is true.
+//! - `several`: `solve_each`, several searches one after another.
+//! - `laws`: why what they tell is true, and how long the texts may be, in figures.
 //! - `drawing`: `draw`, a feasible schedule as a picture.
 //! - `showing`: `verify_to` and `draw_to`, the commands on a schedule over any readers and writer.
 //! - `solving`: `solve_to`, the same of a search.
