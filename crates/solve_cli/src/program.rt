@@ -1,12 +1,12 @@
 //! The commands on files, with an exit status.
-ghost use Rattle.std.specs.Prelude.{◌≤◌, IfSome, vec_len};
+ghost use Rattle.std.specs.Prelude.{◌≤◌, IfOk, IfErr, vec_len};
 ghost use Rattle.std.specs.Process.{exit_status};
 
 use crate::arguments::{Solving, Task, solve_commands, task_of};
 use crate::drawing::draw;
 use crate::ending::Paths;
 use crate::improvements::{Improvements, Style};
-use crate::kinds::kinds_of;
+use crate::kinds::{SearchFault, kinds_of};
 use crate::progress::Progress;
 use crate::searching::MOST_NODES;
 use crate::several::MOST_SEARCHES;
@@ -139,15 +139,17 @@ fn run_draw<R: Runtime + AllocGlobal>(rt: &R, paths: Paths<'_>) -> ExitCode
     )
 }
 
-/// The kinds of search that are asked for. `None` is told on standard error.
-fn kinds_asked<R: Eprint + AllocGlobal>(rt: &R, search: &str) -> Option<Vec<Kind>>
-    ensures { IfSome result (λ kinds. vec_len kinds ≤ MOST_SEARCHES) }
+/// The kinds of search that are asked for. An error is the status: 1 for want of memory, and 2 for words that are refused.
+fn kinds_asked<R: Eprint + AllocGlobal>(rt: &R, search: &str) -> Result<Vec<Kind>, ExitCode>
+    ensures kinds { IfOk result (λ kinds. vec_len kinds ≤ MOST_SEARCHES) }
+    ensures status { IfErr result (λ status. exit_status status ≤ 2) }
 {
     match kinds_of(rt.alloc(), search) {
-        Ok(kinds) => Some(kinds),
+        Ok(kinds) => Ok(kinds),
+        Err(SearchFault::NoMemory) => Err(failure(rt, "no memory")),
         Err(fault) => {
             let _ = eprintln!(rt; "farm: {fault}");
-            None
+            Err(ExitCode::from(2))
         }
     }
 }
@@ -156,8 +158,9 @@ fn kinds_asked<R: Eprint + AllocGlobal>(rt: &R, search: &str) -> Option<Vec<Kind
 fn run_solve<R: Runtime + AllocGlobal>(rt: &R, solving: Solving<'_>) -> ExitCode
     ensures { exit_status result ≤ 2 }
 {
-    let Some(kinds) = kinds_asked(rt, solving.search) else {
-        return ExitCode::from(2);
+    let kinds = match kinds_asked(rt, solving.search) {
+        Ok(kinds) => kinds,
+        Err(status) => return status,
     };
     let Ok(most) = solving.nodes.parse::<u64>() else {
         return ExitCode::from(2);
