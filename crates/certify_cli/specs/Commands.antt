@@ -1,5 +1,5 @@
 -- What the commands of certificates write of the bytes that are read, and with which status they end.
-use Rattle.std.specs.Prelude.{◌≡◌, ℕ, ◌<◌, ◌≤◌, true, List, length, ⊤, Option, Result, Ok, Err, IfSome, take}
+use Rattle.std.specs.Prelude.{◌≡◌, ℕ, ◌<◌, ◌≤◌, true, List, length, ⊤, ⊥, Option, Result, Ok, Err, IfSome, take}
 use Rattle.mrcpsp.specs.Project.{ProjectData}
 use Rattle.mrcpsp.specs.Schedule.{ScheduleData}
 use Rattle.psplib_mm.specs.Gives.{Fails}
@@ -88,8 +88,17 @@ abbrev pub IsCertifyOf : Result ⊤ CommandFault → Watches → Option (List �
 IsCertifyOf ended seen file text before after =
     IsEndOf (IfSome file (λ bytes. IfSome text (λ words. CertifiesOptimal (take MOST_TEXT bytes) (take MOST_TEXT words) before after))) ended seen file before after × IsJudged ended file text
 
+-- where no schedule is asked for, its text is never what could not be read
+abbrev pub IsJudgedAlone : Result ⊤ CommandFault → Type 0
+IsJudgedAlone (Ok done) = ⊤
+IsJudgedAlone (Err (File kind)) = ⊤
+IsJudgedAlone (Err (Text kind)) = ⊥
+IsJudgedAlone (Err (Proof kind)) = ⊤
+IsJudgedAlone (Err (Certify fault)) = IsOfProof fault
+
 abbrev pub IsInfeasibleOf : Result ⊤ CommandFault → Watches → Option (List ℕ) → Option (List ℕ) → Option (List ℕ) → Type 0
-IsInfeasibleOf ended seen file before after = IsEndOf (IfSome file (λ bytes. CertifiesInfeasible (take MOST_TEXT bytes) before after)) ended seen file before after
+IsInfeasibleOf ended seen file before after =
+    IsEndOf (IfSome file (λ bytes. CertifiesInfeasible (take MOST_TEXT bytes) before after)) ended seen file before after × IsJudgedAlone ended
 
 abbrev pub command_status : Result ⊤ CommandFault → ℕ
 command_status (Ok done) = 0
