@@ -3,6 +3,8 @@ use Rattle.std.specs.Prelude.{◌≡◌, ⊤, ℕ, ◌-◌, ◌<◌}
 use Rattle.mrcpsp.specs.Project.{ProjectData, horizon}
 use Rattle.mrcpsp.specs.Schedule.{ScheduleData, IsFeasible, makespan}
 use Rattle.mrcpsp.specs.Breach.{IsFirstBreach}
+use Rattle.clause_proof.specs.declared.fault.ProofFault.{ProofFault}
+use Rattle.clause_proof.specs.declared.fault.ProofFault.TheVariants as of_proof
 use Rattle.schedule_clauses.specs.declared.certificate.CertificateFault.{CertificateFault}
 use Rattle.schedule_clauses.specs.declared.certificate.CertificateFault.TheVariants.{NoMemory, Horizon, Schedule, Proof}
 
@@ -17,23 +19,30 @@ IsOfClauses p bound (Horizon h) = IsBeyond p bound h
 IsOfClauses p bound (Schedule b) = ⊥
 IsOfClauses p bound (Proof f) = ⊥
 
--- or the bytes are no proof
+-- a proof's own fault is never that there is no memory; which of the others it has is not said
+abbrev pub IsOfProof : ProofFault → Type 0
+IsOfProof of_proof.NoMemory = ⊥
+IsOfProof (of_proof.Word line) = ⊤
+IsOfProof (of_proof.Unproved line) = ⊤
+IsOfProof of_proof.Unfinished = ⊤
+
+-- or the proof was refused: nothing is said of its bytes
 abbrev pub IsOfBound : ProjectData → ℕ → CertificateFault → Type 0
 IsOfBound p bound NoMemory = ⊤
 IsOfBound p bound (Horizon h) = IsBeyond p bound h
 IsOfBound p bound (Schedule b) = ⊥
-IsOfBound p bound (Proof f) = ⊤
+IsOfBound p bound (Proof f) = IsOfProof f
 
--- without a bound
+-- the same without a bound
 abbrev pub IsOfStocks : CertificateFault → Type 0
 IsOfStocks NoMemory = ⊤
 IsOfStocks (Horizon h) = ⊥
 IsOfStocks (Schedule b) = ⊥
-IsOfStocks (Proof f) = ⊤
+IsOfStocks (Proof f) = IsOfProof f
 
--- the schedule breaks this first; or it is feasible, and the bytes are no proof, or it is too long for the clauses
+-- the schedule breaks this first; or it is feasible, and the proof was refused, or it is too long for the clauses
 abbrev pub IsOfSchedule : ProjectData → ScheduleData → CertificateFault → Type 0
 IsOfSchedule p s NoMemory = ⊤
 IsOfSchedule p s (Horizon h) = IsFeasible p s × IsBeyond p (makespan p s - 1) h
 IsOfSchedule p s (Schedule b) = IsFirstBreach p s b
-IsOfSchedule p s (Proof f) = IsFeasible p s
+IsOfSchedule p s (Proof f) = IsFeasible p s × IsOfProof f

@@ -15,7 +15,7 @@ use thiserror::Error;
 /// Why something is not certified. Each is printed by what is wrong and its own fault, as `no proof Word(17)`.
 #[derive(Clone, Copy, Debug, PartialEq, Eq, Error)]
 pub enum CertificateFault {
-    /// There is no memory for the clauses.
+    /// There is no memory for the clauses or for the check of the proof.
     #[error("no memory")]
     NoMemory,
     /// The bound is above the horizon, the sum of the longest durations, which is this.
@@ -24,7 +24,7 @@ pub enum CertificateFault {
     /// The schedule is not feasible.
     #[error("no schedule {0}")]
     Schedule(Breach),
-    /// The bytes are no proof.
+    /// The proof was refused.
     #[error("no proof {0}")]
     Proof(ProofFault),
 }
@@ -100,6 +100,7 @@ pub fn certify_bound(
     let formula = clauses(alloc, project, bound)?;
     match refute(alloc, formula.clauses, proof) {
         Ok(()) => Ok(()),
+        Err(ProofFault::NoMemory) => Err(CertificateFault::NoMemory),
         Err(fault) => Err(CertificateFault::Proof(fault)),
     }
 }
@@ -117,6 +118,7 @@ pub fn certify_infeasible(
     let formula = stock_clauses(alloc, project)?;
     match refute(alloc, formula.clauses, proof) {
         Ok(()) => Ok(()),
+        Err(ProofFault::NoMemory) => Err(CertificateFault::NoMemory),
         Err(fault) => Err(CertificateFault::Proof(fault)),
     }
 }
