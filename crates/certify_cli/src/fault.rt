@@ -11,7 +11,7 @@ pub enum CertifyFault {
     /// The file is of no project.
     #[error("no file {0}")]
     File(MmFault),
-    /// The text does not end with a word `J:MODE:START` for each activity 1, 2, and so on.
+    /// The text does not end with a word `J:MODE:START` for each activity 1, 2, and so on, nor with JSON that has each once.
     #[error("no schedule Words")]
     Words,
     /// The text has more than 1,048,576 bytes.
