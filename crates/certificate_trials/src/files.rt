@@ -2,7 +2,7 @@
 //! or 4 periods and one.
 use certify_cli::CertifyFault::{self, Certificate, Words};
 use certify_cli::{certify, certify_infeasible, write_clauses};
-use clause_proof::ProofFault::Unfinished;
+use clause_proof::ProofFault::{self, Unfinished, Unproved, Word};
 use mrcpsp::Breach;
 use schedule_clauses::CertificateFault::{Horizon, Proof, Schedule};
 use std::alloc::AllocError;
@@ -28,6 +28,9 @@ h
 3 1
 ";
 
+/// A schedule of 5 periods. The clauses of 4 periods can all be true.
+const LATE: &[u8] = b"1:1:0 2:1:0 3:2:0 4:1:5";
+
 /// Texts of schedules, and what is said of each with an empty proof. The clauses of 3 periods are refuted without one.
 const TEXTS: [(&[u8], Result<(), CertifyFault>); 8] = [
     (b"1:1:0 2:1:0 3:2:0 4:1:4", Ok(())),
@@ -35,10 +38,7 @@ const TEXTS: [(&[u8], Result<(), CertifyFault>); 8] = [
         b"@a job 1 makespan 4 ended 1:1:0 2:1:0 3:2:0 4:1:4\n",
         Ok(()),
     ),
-    (
-        b"1:1:0 2:1:0 3:2:0 4:1:5",
-        Err(Certificate(Proof(Unfinished))),
-    ),
+    (LATE, Err(Certificate(Proof(Unfinished)))),
     (
         b"1:1:0 2:1:0 3:1:0 4:1:3",
         Err(Certificate(Schedule(Breach::Renewable(1, 0)))),
@@ -71,5 +71,32 @@ fn refuses_what_is_feasible_and_too_long(rt: HostRuntime) -> Result<(), AllocErr
     let said = write_clauses(rt.alloc(), FILE, Some(8), &mut written);
     assert!(rt; said == Err(Certificate(Horizon(7))));
     assert!(rt; written.is_empty());
+    Ok(())
+}
+
+/// Bytes that prove nothing of clauses which can all be true and do not speak of the variable 100,000, and the fault of each: its
+/// first bad step, by the line in which that ends, or in the binary form by its number.
+const REFUSED: [(&[u8], ProofFault); 9] = [
+    (b"", Unfinished),
+    (b"d 7 0\n", Unfinished),
+    (b"100000 0\n", Unproved(1)),
+    (b"d 7 0\n\n-100000\n0\n0\n", Unproved(4)),
+    (b"x", Word(1)),
+    (b"d 7 0\n100000 x 0", Word(2)),
+    (b"d 7 0\nd 8", Word(2)),
+    (b"d\x0e\x00a\xc0\x9a\x0c\x00", Unproved(2)),
+    (b"d\x0e\x00d\x10\x00x", Word(3)),
+];
+
+#[test]
+fn tells_the_fault_of_a_proof(rt: HostRuntime) -> Result<(), AllocError> {
+    for (proof, fault) in REFUSED {
+        let mut written = Vec::new(rt.alloc());
+        let said = certify(rt.alloc(), FILE, LATE, proof, &mut written);
+        assert!(rt; said == Err(Certificate(Proof(fault))));
+        let said = certify_infeasible(rt.alloc(), FILE, proof, &mut written);
+        assert!(rt; said == Err(Certificate(Proof(fault))));
+        assert!(rt; written.is_empty());
+    }
     Ok(())
 }
