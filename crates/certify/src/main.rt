@@ -1,4 +1,4 @@
-//! The program `certify`: `certify clauses FILE BOUND`, `certify check FILE SCHEDULE PROOF` and `certify infeasible FILE PROOF`.
+//! The program `certify`: `certify clauses FILE BOUND`, `certify check FILE SCHEDULE [PROOF]` and `certify infeasible FILE PROOF`.
 //! A path `-` is standard input.
 #![tactic(auto)]
 
@@ -27,7 +27,7 @@ fn command<'a>(alloc: Global) -> Result<Command<'a>, AllocError> {
         .arg(needed(
             alloc,
             "SCHEDULE",
-            "A result line, or its words J:MODE:START",
+            "What solve prints, as lines or as JSON, or words J:MODE:START",
         ))?
         .arg(Arg::new(alloc, "PROOF").help(
             "A DRAT proof of the clauses of one period less; none where the longest chain alone decides",
