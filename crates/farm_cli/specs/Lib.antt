@@ -3,3 +3,4 @@ pub mod CommandLine
 pub mod Strict
 pub mod Checked
 pub mod Replayed
+pub mod Limits

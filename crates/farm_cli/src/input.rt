@@ -8,6 +8,9 @@ use std::io::Read;
 /// The most bytes that are read of an input: one more than a text may have, so that one that is too long is seen to be.
 pub const MOST_BYTES: u64 = psplib_mm::MOST_BYTES as u64 + 1;
 
+// So an input that is too long is seen to be.
+const _: () = prove!((psplib_mm::MOST_BYTES as u64) < MOST_BYTES);
+
 /// The first bytes of a reader, at most `MOST_BYTES` of them. An error is the reader's, or want of memory.
 pub fn read_front<R: Read + Drop>(alloc: Global, reader: R) -> io::Result<Vec<u8>>
     ensures { IfOk result (λ bytes. IfSome (R.remaining reader) (λ all. bytes.items ≡ take MOST_BYTES all)) }

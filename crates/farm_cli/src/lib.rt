@@ -1,8 +1,9 @@
 //! The command line of `farm`: what its words ask for, and the programs that answer.
 //!
 //! [`check_to`] and [`replay_to`] are the commands over any reader and writer: what they write is what the definitions say of the bytes that are
-//! read, and the status goes with it (`specs/Checked`, `specs/Replayed`). [`run`] is the program, with its words, files and exit status: it is proved
-//! to be safe and to return a status of at most 2, and tested; that it hands these the files that are named, and standard output, is its code's shape.
+//! read, and the status goes with it (`specs/Checked`, `specs/Replayed`). [`run_words`] is the program on the words of a command line, with its files
+//! and exit status: it is proved to be safe and to return a status of at most 2, and tested; that it hands these the files that are named, and
+//! standard output, is its code's shape.
 //!
 //! - `arguments`: the words of a command line.
 //! - `help`: what the help of each command says at its end.
@@ -11,12 +12,14 @@
 //! - `checking`: `check` and `check_to`, what is told of a file's project, over any reader and writer.
 //! - `replaying`: `replay_text` and `replay_to`, a replay under the text of a configuration, over any reader and writer.
 //! - `program`: what each task does with files and standard output.
+//! - `laws`: the limits of a project and of a farm, in figures.
 #![tactic(auto)]
 
 mod arguments;
 mod checking;
 mod help;
 mod input;
+pub mod laws;
 mod program;
 mod replaying;
 mod summary;
@@ -27,6 +30,6 @@ pub use farm_config::{ConfigFault, Key, read_config};
 pub use farm_replay::{Notes, ReplayFault, Watches, replay, replay_noting};
 pub use farm_service::{ServeFault, serve};
 pub use input::{MOST_BYTES, read_front, read_whole};
-pub use program::{run, run_words};
+pub use program::run_words;
 pub use replaying::{ReplayStop, replay_text, replay_to};
 pub use summary::{Summary, summarize};
