@@ -18,34 +18,11 @@ use std::process::ExitCode;
 use std::rt::{Files, Runtime};
 use std::sync::Wait;
 use std::thread::Threads;
-use std::{env, fs, io};
+use std::{fs, io};
 use watched_files::FileWatch;
 
-/// Runs the program on the words of the process. The status is 0, 1 for a fault, and 2 for a command line that is refused
+/// Runs the program on these words, the first of which is its name. The status is 0, 1 for a fault, and 2 for a command line that is refused
 /// and for a request for help; where the text that tells so cannot be printed, it is 1.
-pub fn run<
-    R: Runtime
-        + AllocGlobal
-        + Threads
-        + Wait
-        + Net<Listener = TcpListener, Stream = TcpStream>
-        + Sync,
->(rt: &R) -> ExitCode
-    ensures { exit_status result ≤ 2 }
-{
-    let Ok(words) = words_of(rt) else {
-        let _ = eprintln!(rt; "farm: cannot read the command line");
-        return ExitCode::FAILURE;
-    };
-    run_words(rt, words.as_slice())
-}
-
-/// The words of the process, or an error where one is not UTF-8 or there is no memory for them.
-fn words_of<R: Runtime + AllocGlobal>(rt: &R) -> io::Result<Vec<String>> {
-    Ok(env::args(rt)?.collect::<Vec<String>>(rt.alloc())?)
-}
-
-/// Runs the program on these words, the first of which is its name.
 pub fn run_words<
     R: Runtime
         + AllocGlobal
