@@ -71,7 +71,7 @@ Serves config port sessions (task.Check path) = ⊥
 Serves config port sessions (task.Replay f path is_strict) = ⊥
 Serves config port sessions (task.Serve f p k) = (f.now ≡ config) × (p.now ≡ port) × (k.now ≡ sessions)
 
--- the text at an argument
+-- the text at an argument: a path, and also a port or a number of connections; `-` where there is none
 abbrev pub path_at : Text → List Row → Text
 path_at id rows = unwrap_or (first_of id rows) (codes "-")
 
