@@ -1,6 +1,9 @@
 //! The program `farm`. Its subcommands are those of `solve_cli`, for one project, and those of `farm_cli`, for several tenants.
 #![tactic(auto)]
 
+ghost use Rattle.std.specs.Prelude.{◌≤◌};
+ghost use Rattle.std.specs.Process.{exit_status};
+
 use std::process::ExitCode;
 use std::rt::Runtime;
 use std::{env, io};
@@ -22,7 +25,9 @@ fn asks_for_version(words: &[String]) -> bool {
 }
 
 /// Prints the version.
-fn print_version<R: Runtime>(rt: &R) -> ExitCode {
+fn print_version<R: Runtime>(rt: &R) -> ExitCode
+    ensures { exit_status result ≤ 1 }
+{
     match println!(rt; "{VERSION}") {
         Ok(()) => ExitCode::SUCCESS,
         Err(_) => ExitCode::FAILURE,
@@ -35,7 +40,9 @@ fn words_of<R: Runtime + AllocGlobal>(rt: &R) -> io::Result<Vec<String>> {
 }
 
 /// Prints the help that the words ask for, on all commands or on one of several tenants.
-fn print_help<R: Runtime + AllocGlobal>(rt: &R, words: &[String]) -> ExitCode {
+fn print_help<R: Runtime + AllocGlobal>(rt: &R, words: &[String]) -> ExitCode
+    ensures { exit_status result ≤ 2 }
+{
     let Ok(command) = farm_cli::farm_command(rt.alloc()) else {
         return ExitCode::FAILURE;
     };
