@@ -83,6 +83,7 @@ fn main(rt: HostRuntime) -> ExitCode {
         return ExitCode::FAILURE;
     };
     let Ok(command) = command(rt.alloc()) else {
+        let _ = eprintln!(rt; "farm: no memory");
         return ExitCode::FAILURE;
     };
     match command.try_get_matches_from(words.as_slice()) {

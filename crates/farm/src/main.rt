@@ -44,6 +44,7 @@ fn print_help<R: Runtime + AllocGlobal>(rt: &R, words: &[String]) -> ExitCode
     ensures { exit_status result ≤ 2 }
 {
     let Ok(command) = farm_cli::farm_command(rt.alloc()) else {
+        let _ = eprintln!(rt; "farm: no memory");
         return ExitCode::FAILURE;
     };
     match command
