@@ -4,7 +4,7 @@ use Rattle.mrcpsp.specs.declared.limits.TheConstants.{MOST_DURATION, MOST_AMOUNT
 use Rattle.mrcpsp.specs.declared.feasibility.TheConstants.{MOST_START}
 use Rattle.psplib_mm.specs.Text.{number_of}
 use Rattle.psplib_mm.specs.declared.reading.TheConstants as file
-use Rattle.quanta_till.specs.declared.purse.TheConstants.{LEASE_LIMIT}
+use Rattle.quanta_till.specs.declared.holding.TheConstants.{LEASE_LIMIT}
 use Rattle.strategy.specs.declared.kind.Kind.{Kind}
 use Rattle.tenant_book.specs.declared.book.TheConstants as book
 use Rattle.farm_core.specs.Config.{ConfigData}

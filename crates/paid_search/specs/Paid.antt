@@ -2,7 +2,7 @@
 use Rattle.std.specs.Prelude.{◌≡◌, ℕ, ◌+◌, ◌<◌, ◌≤◌, Bool, true, false}
 use Rattle.mrcpsp.specs.Values.{bound}
 use Rattle.quanta_till.specs.Lease.{LeaseValue}
-use Rattle.quanta_till.specs.declared.purse.TheConstants.{LEASE_LIMIT}
+use Rattle.quanta_till.specs.declared.holding.TheConstants.{LEASE_LIMIT}
 use Rattle.strategy.specs.Outcome.{all_run, verdict_after}
 use Rattle.strategy.specs.Search.{Meaning}
 use Rattle.strategy.specs.declared.plan.Plan.{Plan}

@@ -56,7 +56,7 @@ impl<N: Nodes> Drop for Paid<N> {
             shown: _,
             taken: _,
         } = self;
-        lease.end();
+        let _ended = lease.end();
     }
 }
 

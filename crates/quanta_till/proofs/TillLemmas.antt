@@ -1,5 +1,5 @@
 -- Each step of a till leaves it balanced.
-use Rattle.std.proofs.Common.{◌≡◌, ℕ, zero, suc, ◌+◌, ◌-◌, ◌%◌, ◌^◌, ◌<◌, ◌≤◌, List, [], ◌∷◌, ◌++◌, get_or, set, sum_by, sym, refl, ap, ◌∙◌, subst, ⊎_elim, arith, length-set, get_or-set_same, get_or-set_other}
+use Rattle.std.proofs.Common.{◌≡◌, ℕ, zero, suc, ◌+◌, ◌-◌, ◌%◌, ◌^◌, ◌≤◌, List, [], ◌∷◌, ◌++◌, get_or, set, sum_by, sym, refl, ap, ◌∙◌, subst, ⊎_elim, arith, length-set, get_or-set_same, get_or-set_other}
 use Rattle.std.proofs.lemmas.List.{set-get_or}
 use Rattle.std.proofs.lemmas.List.Sums.{sum_by-cons, sum_by-append}
 use mathlib.Core.Option.{some, some-injective, some-ne-none}
@@ -8,7 +8,7 @@ use Rattle.atomic_table.specs.Table.{State, Me, keeps, stepped, Allows, Splits}
 use Rattle.atomic_table.proofs.Lists.{at_set, at_snoc}
 use Rattle.quanta_till.specs.declared.rule.SeatView.{SeatView}
 use Rattle.quanta_till.specs.declared.rule.TheConstants.{POOL, SPENT, GRANTED}
-use Rattle.quanta_till.specs.Till.{IsBalanced, IsCovered, new_view, after_split, after_draw, after_use, after_hand_back, after_pool_load, after_spent_load, after_granted_load}
+use Rattle.quanta_till.specs.Till.{IsBalanced, IsCovered, new_view, view_after_split, view_after_draw, view_after_use, view_after_hand_back, view_after_pool_load, view_after_spent_load, view_after_granted_load}
 
 module _ {A : Type 0} (f : A → ℕ) where
   -- the sum after a change of one member
@@ -51,10 +51,10 @@ module _ (granted slots id : ℕ) (me : Me (Unit {0}) SeatView) where
     covered = Covered-set granted s.views id w k.covered covered;
   }
 
-  pub draws : (n : ℕ) → n ≤ 2 ^ 64 → Allows Rule slots id me POOL (λ x. (x + (2 ^ 64 - n)) % 2 ^ 64) (λ _ m. m.0 ≡ after_draw me.0 n)
+  pub draws : (n : ℕ) → n ≤ 2 ^ 64 → Allows Rule slots id me POOL (λ x. (x + (2 ^ 64 - n)) % 2 ^ 64) (λ _ m. m.0 ≡ view_after_draw me.0 n)
   draws n small s k _ at _ =
       let y : ℕ = (get_or s.words POOL 0 + (2 ^ 64 - n)) % 2 ^ 64 in
-      let w = after_draw me.0 n in
+      let w = view_after_draw me.0 n in
       let h = k.covered id me.0 at in
       let p = k.pool in
       let q = k.spent in
@@ -64,10 +64,10 @@ module _ (granted slots id : ℕ) (me : Me (Unit {0}) SeatView) where
       let grant = get_or-set_other s.words POOL GRANTED y 0 (omega arith) in
       (w, keeps, tt, stays s k at POOL y w (λ t d b. omega arith) (λ t u. omega arith) (grant ∙ k.grant) (omega (arith, h.0), h.1), refl)
 
-  pub hands_back : (n : ℕ) → (me.0.used + me.0.back) + n ≤ me.0.drawn → Allows Rule slots id me POOL (λ x. (x + n) % 2 ^ 64) (λ _ m. m.0 ≡ after_hand_back me.0 n)
+  pub hands_back : (n : ℕ) → (me.0.used + me.0.back) + n ≤ me.0.drawn → Allows Rule slots id me POOL (λ x. (x + n) % 2 ^ 64) (λ _ m. m.0 ≡ view_after_hand_back me.0 n)
   hands_back n most s k _ at _ =
       let y : ℕ = (get_or s.words POOL 0 + n) % 2 ^ 64 in
-      let w = after_hand_back me.0 n in
+      let w = view_after_hand_back me.0 n in
       let h = k.covered id me.0 at in
       let p = k.pool in
       let q = k.spent in
@@ -77,10 +77,10 @@ module _ (granted slots id : ℕ) (me : Me (Unit {0}) SeatView) where
       let grant = get_or-set_other s.words POOL GRANTED y 0 (omega arith) in
       (w, keeps, tt, stays s k at POOL y w (λ t d b. omega arith) (λ t u. omega arith) (grant ∙ k.grant) (omega (arith, most), h.1), refl)
 
-  pub uses : (n : ℕ) → (me.0.used + me.0.back) + n ≤ me.0.drawn → Allows Rule slots id me SPENT (λ x. (x + n) % 2 ^ 64) (λ _ m. m.0 ≡ after_use me.0 n)
+  pub uses : (n : ℕ) → (me.0.used + me.0.back) + n ≤ me.0.drawn → Allows Rule slots id me SPENT (λ x. (x + n) % 2 ^ 64) (λ _ m. m.0 ≡ view_after_use me.0 n)
   uses n most s k _ at _ =
       let y : ℕ = (get_or s.words SPENT 0 + n) % 2 ^ 64 in
-      let w = after_use me.0 n in
+      let w = view_after_use me.0 n in
       let h = k.covered id me.0 at in
       let p = k.pool in
       let q = k.spent in
@@ -103,19 +103,19 @@ module _ (granted slots id : ℕ) (me : Me (Unit {0}) SeatView) where
       let granted_word = ap (λ ws. get_or ws GRANTED 0) same in
       stays s k at i (get_or s.words i 0) w (λ t d b. omega arith) (λ t u. omega arith) (granted_word ∙ k.grant) (omega (arith, h.0), grant ∙ h.1)
 
-  pub loads_pool : Allows Rule slots id me POOL (λ x. x) (λ found m. (POOL ≡ POOL) × (m.0 ≡ after_pool_load me.0 found))
-  loads_pool s k _ at _ = (after_pool_load me.0 (get_or s.words POOL 0), keeps, tt, looks s k at POOL _ refl refl refl refl, (refl, refl))
+  pub loads_pool : Allows Rule slots id me POOL (λ x. x) (λ found m. (POOL ≡ POOL) × (m.0 ≡ view_after_pool_load me.0 found))
+  loads_pool s k _ at _ = (view_after_pool_load me.0 (get_or s.words POOL 0), keeps, tt, looks s k at POOL _ refl refl refl refl, (refl, refl))
 
-  pub loads_spent : Allows Rule slots id me SPENT (λ x. x) (λ found m. (SPENT ≡ SPENT) × (m.0 ≡ after_spent_load me.0 found))
-  loads_spent s k _ at _ = (after_spent_load me.0 (get_or s.words SPENT 0), keeps, tt, looks s k at SPENT _ refl refl refl refl, (refl, refl))
+  pub loads_spent : Allows Rule slots id me SPENT (λ x. x) (λ found m. (SPENT ≡ SPENT) × (m.0 ≡ view_after_spent_load me.0 found))
+  loads_spent s k _ at _ = (view_after_spent_load me.0 (get_or s.words SPENT 0), keeps, tt, looks s k at SPENT _ refl refl refl refl, (refl, refl))
 
-  pub loads_granted : Allows Rule slots id me GRANTED (λ x. x) (λ found m. (GRANTED ≡ GRANTED) × (found ≡ me.0.granted) × (m.0 ≡ after_granted_load me.0))
-  loads_granted s k _ at _ = (after_granted_load me.0, keeps, tt, looks s k at GRANTED _ refl refl refl refl, (refl, k.grant ∙ sym (k.covered id me.0 at).1, refl))
+  pub loads_granted : Allows Rule slots id me GRANTED (λ x. x) (λ found m. (GRANTED ≡ GRANTED) × (found ≡ me.0.granted) × (m.0 ≡ view_after_granted_load me.0))
+  loads_granted s k _ at _ = (view_after_granted_load me.0, keeps, tt, looks s k at GRANTED _ refl refl refl refl, (refl, k.grant ∙ sym (k.covered id me.0 at).1, refl))
 
 -- a seat that did nothing joins
-pub splits : (granted id : ℕ) (v : SeatView) → Splits (IsBalanced granted) id v (after_split v) (new_view v.granted)
+pub splits : (granted id : ℕ) (v : SeatView) → Splits (IsBalanced granted) id v (view_after_split v) (new_view v.granted)
 splits granted id v s k at =
-    let a = after_split v in
+    let a = view_after_split v in
     let w = new_view v.granted in
     let views = set s.views id a in
     let h = k.covered id v at in

@@ -34,8 +34,8 @@ after_use l n = record l { used = l.used + n; left = l.left - n }
 abbrev pub after_settle : LeaseValue → LeaseValue
 after_settle l = record l { back = l.back + l.left; left = 0 }
 
--- what a lease knows of itself but for its tenant
-pub record PurseValue : Type 0 where
+-- what a lease holds, whoever the tenant is
+pub record HoldingValue : Type 0 where
   pub id : TableId
   pub drawn : ℕ
   pub used : ℕ

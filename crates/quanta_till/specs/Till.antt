@@ -26,30 +26,30 @@ new_view granted = record { drawn = 0; used = 0; back = 0; granted = granted; se
 -- The steps. Each changes one view:
 
 -- one more seat is made from it
-abbrev pub after_split : SeatView → SeatView
-after_split v = record v { seats = v.seats + 1 }
+abbrev pub view_after_split : SeatView → SeatView
+view_after_split v = record v { seats = v.seats + 1 }
 
 -- n are drawn from POOL
-abbrev pub after_draw : SeatView → ℕ → SeatView
-after_draw v n = record v { drawn = v.drawn + n }
+abbrev pub view_after_draw : SeatView → ℕ → SeatView
+view_after_draw v n = record v { drawn = v.drawn + n }
 
 -- n are used: SPENT gains them
-abbrev pub after_use : SeatView → ℕ → SeatView
-after_use v n = record v { used = v.used + n }
+abbrev pub view_after_use : SeatView → ℕ → SeatView
+view_after_use v n = record v { used = v.used + n }
 
 -- n go back to POOL
-abbrev pub after_hand_back : SeatView → ℕ → SeatView
-after_hand_back v n = record v { back = v.back + n }
+abbrev pub view_after_hand_back : SeatView → ℕ → SeatView
+view_after_hand_back v n = record v { back = v.back + n }
 
 -- a word is loaded, and found to be n
-abbrev pub after_pool_load : SeatView → ℕ → SeatView
-after_pool_load v n = record v { loads = v.loads + 1; pool = n }
+abbrev pub view_after_pool_load : SeatView → ℕ → SeatView
+view_after_pool_load v n = record v { loads = v.loads + 1; pool = n }
 
-abbrev pub after_spent_load : SeatView → ℕ → SeatView
-after_spent_load v n = record v { loads = v.loads + 1; spent = n }
+abbrev pub view_after_spent_load : SeatView → ℕ → SeatView
+view_after_spent_load v n = record v { loads = v.loads + 1; spent = n }
 
-abbrev pub after_granted_load : SeatView → SeatView
-after_granted_load v = record v { loads = v.loads + 1 }
+abbrev pub view_after_granted_load : SeatView → SeatView
+view_after_granted_load v = record v { loads = v.loads + 1 }
 
 -- what contracts see of a till
 pub record TillValue : Type 0 where

@@ -1,67 +1,44 @@
 //! A lease: quanta that its holder draws from a till, uses one by one, and hands back.
 ghost use Rattle.std.specs.Prelude.{◌≡◌, ◌+◌, ◌<◌, ◌≤◌};
-ghost use Rattle.std.specs.Arc.{arc_value};
 ghost use Rattle.quanta_till.specs.Lease.{after_draw, after_use, after_settle};
 
-use crate::account::Account;
-use crate::purse::{LEASE_LIMIT, Purse};
-use std::alloc::Global;
+use crate::holding::LEASE_LIMIT;
+use crate::owned::Owned;
 use std::marker::Model;
-use std::sync::Arc;
 
-/// Quanta of a till in one holder's hands. It shares the till, so what owns a lease borrows nothing, and may move to
-/// another thread. When it is dropped it hands back what is left. Its calls and its drop take no memory and no lock,
-/// and cannot fail.
+/// Quanta of a till in one holder's hands. When it is dropped it hands back what is left. It is an [`Owned`] lease that may be
+/// let go.
 pub struct Lease {
-    account: Arc<Account, Global>,
-    tenant: u32,
-    purse: Purse,
+    owned: Owned,
 }
 
 impl Model for Lease {
-    ghost use Rattle.std.specs.Prelude.{◌≡◌};
-    ghost use Rattle.std.specs.Arc.{arc_value};
     ghost use Rattle.quanta_till.specs.Lease.{LeaseValue};
 
     ghost Value = { LeaseValue };
 
-    ghost view = { λ l. record {
-      id = (arc_value l.account).table.shared.table_id;
-      tenant = l.tenant;
-      drawn = l.purse.drawn;
-      used = l.purse.used;
-      back = l.purse.back;
-      left = l.purse.left;
-    } };
-
-    // The purse is of the lease's own till.
-    ghost invariant = { λ l. l.purse.id ≡ (arc_value l.account).table.shared.table_id };
+    ghost view = { λ l. l.owned };
 }
 
 impl Lease {
-    pub(crate) fn new(account: Arc<Account, Global>, tenant: u32, purse: Purse) -> Lease
-        requires { purse.id ≡ (arc_value account).table.shared.table_id }
-        ensures { result ≡ record {
-          id = purse.id;
-          tenant = tenant;
-          drawn = purse.drawn;
-          used = purse.used;
-          back = purse.back;
-          left = purse.left;
-        } }
+    pub(crate) fn new(owned: Owned) -> Lease
+        ensures { result ≡ owned }
     {
-        Lease {
-            account,
-            tenant,
-            purse,
-        }
+        Lease { owned }
+    }
+
+    pub(crate) fn into_owned(self) -> Owned
+        ensures { result ≡ self }
+    {
+        let Lease { owned } = self;
+        owned
     }
 
     /// For which tenant of its purse they are drawn.
     pub fn tenant(&self) -> u32
         ensures { result ≡ self.now.tenant }
     {
-        self.tenant
+        self.owned.tenant()
     }
 
     /// How many quanta were drawn, and neither used nor handed back.
@@ -70,7 +47,7 @@ impl Lease {
         ensures counted { (self.now.used + self.now.back) + result ≡ self.now.drawn }
         ensures limited { result ≤ LEASE_LIMIT }
     {
-        self.purse.left()
+        self.owned.left()
     }
 
     /// Draws `n` quanta: POOL loses them, modulo 2^64. A lease holds at most `LEASE_LIMIT`.
@@ -78,7 +55,7 @@ impl Lease {
         requires { self.old.left + n ≤ LEASE_LIMIT }
         ensures { self.new ≡ after_draw self.old n }
     {
-        self.purse.draw(&self.account.table, n);
+        self.owned.draw(n);
     }
 
     /// Uses one quantum of those that are left: SPENT gains it, modulo 2^64.
@@ -86,7 +63,7 @@ impl Lease {
         requires { 0 < self.old.left }
         ensures { self.new ≡ after_use self.old 1 }
     {
-        self.purse.use_up(&self.account.table, 1);
+        self.owned.use_one();
     }
 
     /// Uses `n` quanta of those that are left, in one step: SPENT gains them, modulo 2^64.
@@ -94,25 +71,20 @@ impl Lease {
         requires { n ≤ self.old.left }
         ensures { self.new ≡ after_use self.old n }
     {
-        self.purse.use_up(&self.account.table, n);
+        self.owned.use_up(n);
     }
 
     /// Hands back what is left to POOL, and holds nothing. The lease may draw again.
     pub fn settle(&mut self)
         ensures { self.new ≡ after_settle self.old }
     {
-        self.purse.settle(&self.account.table);
+        self.owned.settle();
     }
 }
 
 impl Drop for Lease {
     fn drop(self) {
-        let Lease {
-            account,
-            tenant: _,
-            mut purse,
-        } = self;
-        purse.settle(&account.table);
-        purse.end(&account.table);
+        let Lease { owned } = self;
+        let _ended = owned.end();
     }
 }

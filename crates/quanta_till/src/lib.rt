@@ -7,20 +7,20 @@
 //!
 //! - `rule`: the words, what each seat at them knows, and what every atomic step keeps.
 //! - `account`: what a till shares with its leases.
-//! - `purse`: the inner part of a lease, linear: it ends only where it holds nothing.
-//! - `lease`: `Lease`, and its drop.
-//! - `owned`: `Owned`, a lease that its holder has to end.
+//! - `holding`: what a lease holds, linear: it ends only where it holds nothing.
+//! - `owned`: `Owned`, a lease that its holder has to end, and `Ended`, what it then is.
+//! - `lease`: `Lease`, one that may be let go, and its drop.
 //! - `till`: `Till`, `Desk`, and the words that a desk reads.
 #![tactic(auto)]
 
 mod account;
+mod holding;
 mod lease;
 mod owned;
-mod purse;
 mod rule;
 mod till;
 
+pub use holding::LEASE_LIMIT;
 pub use lease::Lease;
-pub use owned::Owned;
-pub use purse::LEASE_LIMIT;
+pub use owned::{Ended, Owned};
 pub use till::{Desk, Till, TillWords};

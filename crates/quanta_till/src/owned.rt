@@ -1,38 +1,100 @@
-//! A lease in the hands of what has to end it.
+//! A lease that its holder has to end: the seat of a till with what was drawn there.
 ghost use Rattle.std.specs.Prelude.{◌≡◌, ◌+◌, ◌<◌, ◌≤◌};
+ghost use Rattle.std.specs.Arc.{arc_value};
 ghost use Rattle.quanta_till.specs.Lease.{after_draw, after_use, after_settle};
 
+use crate::account::Account;
+use crate::holding::{Holding, LEASE_LIMIT};
 use crate::lease::Lease;
-use crate::purse::LEASE_LIMIT;
+use crate::rule::SeatView;
+use atomic_table::Seat;
+use std::alloc::Global;
 use std::marker::Model;
+use std::sync::Arc;
 
-/// A lease that cannot be let go. It is not `Drop`: it ends by `end`, which drops the lease, so that what is left of it
-/// goes back to its till. A type that owns one is dropped only by a drop of its own that ends it.
+/// A lease that cannot be let go. It is not `Drop`: it ends by `end`, which hands back what is left of it to its till. A type
+/// that owns one is dropped only by a drop of its own that ends it. It shares the till, so what owns it borrows nothing, and
+/// may move to another thread. Its calls take no memory and no lock, and cannot fail.
 pub struct Owned {
-    lease: Lease,
+    account: Arc<Account, Global>,
+    tenant: u32,
+    holding: Holding,
 }
 
-impl Model for Owned {
+/// A lease that has ended: contracts see by it what was drawn, used and handed back in all. Nothing is left, and it makes no
+/// step any more.
+#[derive(Drop)]
+pub struct Ended {
+    tenant: u32,
+    seat: Seat<(), SeatView>,
+}
+
+impl Model for Ended {
     ghost use Rattle.quanta_till.specs.Lease.{LeaseValue};
 
     ghost Value = { LeaseValue };
 
-    ghost view = { λ o. o.lease };
+    ghost view = { λ e. record {
+      id = e.seat.table_id;
+      tenant = e.tenant;
+      drawn = e.seat.me.0.drawn;
+      used = e.seat.me.0.used;
+      back = e.seat.me.0.back;
+      left = 0;
+    } };
+}
+
+impl Model for Owned {
+    ghost use Rattle.std.specs.Prelude.{◌≡◌};
+    ghost use Rattle.std.specs.Arc.{arc_value};
+    ghost use Rattle.quanta_till.specs.Lease.{LeaseValue};
+
+    ghost Value = { LeaseValue };
+
+    ghost view = { λ o. record {
+      id = (arc_value o.account).table.shared.table_id;
+      tenant = o.tenant;
+      drawn = o.holding.drawn;
+      used = o.holding.used;
+      back = o.holding.back;
+      left = o.holding.left;
+    } };
+
+    // The holding is of the lease's own till.
+    ghost invariant = { λ o. o.holding.id ≡ (arc_value o.account).table.shared.table_id };
 }
 
 impl Owned {
+    pub(crate) fn new(account: Arc<Account, Global>, tenant: u32, holding: Holding) -> Owned
+        requires { holding.id ≡ (arc_value account).table.shared.table_id }
+        ensures { result ≡ record {
+          id = holding.id;
+          tenant = tenant;
+          drawn = holding.drawn;
+          used = holding.used;
+          back = holding.back;
+          left = holding.left;
+        } }
+    {
+        Owned {
+            account,
+            tenant,
+            holding,
+        }
+    }
+
     /// The lease, which from now on has to be ended.
     pub fn of(lease: Lease) -> Owned
         ensures { result ≡ lease }
     {
-        Owned { lease }
+        lease.into_owned()
     }
 
-    /// Whose quanta they are.
+    /// For which tenant of its purse they are drawn.
     pub fn tenant(&self) -> u32
         ensures { result ≡ self.now.tenant }
     {
-        self.lease.tenant()
+        self.tenant
     }
 
     /// How many quanta were drawn, and neither used nor handed back.
@@ -41,43 +103,53 @@ impl Owned {
         ensures counted { (self.now.used + self.now.back) + result ≡ self.now.drawn }
         ensures limited { result ≤ LEASE_LIMIT }
     {
-        self.lease.left()
+        self.holding.left()
     }
 
-    /// Draws `n` quanta. A lease holds at most `LEASE_LIMIT`.
+    /// Draws `n` quanta: POOL loses them, modulo 2^64. A lease holds at most `LEASE_LIMIT`.
     pub fn draw(&mut self, n: u64)
         requires { self.old.left + n ≤ LEASE_LIMIT }
         ensures { self.new ≡ after_draw self.old n }
     {
-        self.lease.draw(n);
+        self.holding.draw(&self.account.table, n);
     }
 
-    /// Uses one quantum of those that are left.
+    /// Uses one quantum of those that are left: SPENT gains it, modulo 2^64.
     pub fn use_one(&mut self)
         requires { 0 < self.old.left }
         ensures { self.new ≡ after_use self.old 1 }
     {
-        self.lease.use_one();
+        self.holding.use_up(&self.account.table, 1);
     }
 
-    /// Uses `n` quanta of those that are left, in one step.
+    /// Uses `n` quanta of those that are left, in one step: SPENT gains them, modulo 2^64.
     pub fn use_up(&mut self, n: u64)
         requires { n ≤ self.old.left }
         ensures { self.new ≡ after_use self.old n }
     {
-        self.lease.use_up(n);
+        self.holding.use_up(&self.account.table, n);
     }
 
-    /// Hands back what is left, and holds nothing. The lease may draw again.
+    /// Hands back what is left to POOL, and holds nothing. The lease may draw again.
     pub fn settle(&mut self)
         ensures { self.new ≡ after_settle self.old }
     {
-        self.lease.settle();
+        self.holding.settle(&self.account.table);
     }
 
-    /// Ends the lease: it is dropped, and hands back what is left.
-    pub fn end(self) {
-        let Owned { lease } = self;
-        drop(lease);
+    /// Ends the lease: hands back what is left, and uses nothing more.
+    pub fn end(self) -> Ended
+        ensures { result ≡ after_settle self }
+    {
+        let Owned {
+            account,
+            tenant,
+            mut holding,
+        } = self;
+        holding.settle(&account.table);
+        Ended {
+            tenant,
+            seat: holding.end(&account.table),
+        }
     }
 }

@@ -53,9 +53,9 @@ pub(crate) type Words = Table<(), SeatView, u64, Balance, Global>;
 pub(crate) struct NewSeat;
 
 impl Split<SeatView> for NewSeat {
-    ghost use Rattle.quanta_till.specs.Till.{after_split, new_view};
+    ghost use Rattle.quanta_till.specs.Till.{view_after_split, new_view};
 
-    ghost left = { after_split };
+    ghost left = { view_after_split };
 
     ghost right = { λ v. new_view v.granted };
 }
@@ -65,9 +65,9 @@ pub(crate) struct Draw;
 
 impl Play<(), SeatView> for Draw {
     ghost use Rattle.std.specs.Prelude.{◌≡◌};
-    ghost use Rattle.quanta_till.specs.Till.{after_draw};
+    ghost use Rattle.quanta_till.specs.Till.{view_after_draw};
 
-    ghost then = { λ step before _ after. after.0 ≡ after_draw before.0 step.first };
+    ghost then = { λ step before _ after. after.0 ≡ view_after_draw before.0 step.first };
 }
 
 /// Quanta are used: SPENT gains them.
@@ -75,9 +75,9 @@ pub(crate) struct Use;
 
 impl Play<(), SeatView> for Use {
     ghost use Rattle.std.specs.Prelude.{◌≡◌};
-    ghost use Rattle.quanta_till.specs.Till.{after_use};
+    ghost use Rattle.quanta_till.specs.Till.{view_after_use};
 
-    ghost then = { λ step before _ after. after.0 ≡ after_use before.0 step.first };
+    ghost then = { λ step before _ after. after.0 ≡ view_after_use before.0 step.first };
 }
 
 /// Quanta go back to POOL.
@@ -85,9 +85,9 @@ pub(crate) struct HandBack;
 
 impl Play<(), SeatView> for HandBack {
     ghost use Rattle.std.specs.Prelude.{◌≡◌};
-    ghost use Rattle.quanta_till.specs.Till.{after_hand_back};
+    ghost use Rattle.quanta_till.specs.Till.{view_after_hand_back};
 
-    ghost then = { λ step before _ after. after.0 ≡ after_hand_back before.0 step.first };
+    ghost then = { λ step before _ after. after.0 ≡ view_after_hand_back before.0 step.first };
 }
 
 /// POOL is loaded.
@@ -95,10 +95,10 @@ pub(crate) struct LoadPool;
 
 impl Play<(), SeatView> for LoadPool {
     ghost use Rattle.std.specs.Prelude.{◌≡◌};
-    ghost use Rattle.quanta_till.specs.Till.{after_pool_load};
+    ghost use Rattle.quanta_till.specs.Till.{view_after_pool_load};
     ghost use Rattle.quanta_till.specs.declared.rule.TheConstants.{POOL};
 
-    ghost then = { λ step before found after. (step.word ≡ POOL) × (after.0 ≡ after_pool_load before.0 found) };
+    ghost then = { λ step before found after. (step.word ≡ POOL) × (after.0 ≡ view_after_pool_load before.0 found) };
 }
 
 /// SPENT is loaded.
@@ -106,10 +106,10 @@ pub(crate) struct LoadSpent;
 
 impl Play<(), SeatView> for LoadSpent {
     ghost use Rattle.std.specs.Prelude.{◌≡◌};
-    ghost use Rattle.quanta_till.specs.Till.{after_spent_load};
+    ghost use Rattle.quanta_till.specs.Till.{view_after_spent_load};
     ghost use Rattle.quanta_till.specs.declared.rule.TheConstants.{SPENT};
 
-    ghost then = { λ step before found after. (step.word ≡ SPENT) × (after.0 ≡ after_spent_load before.0 found) };
+    ghost then = { λ step before found after. (step.word ≡ SPENT) × (after.0 ≡ view_after_spent_load before.0 found) };
 }
 
 /// GRANTED is loaded, which is what the seat knows.
@@ -117,9 +117,9 @@ pub(crate) struct LoadGranted;
 
 impl Play<(), SeatView> for LoadGranted {
     ghost use Rattle.std.specs.Prelude.{◌≡◌};
-    ghost use Rattle.quanta_till.specs.Till.{after_granted_load};
+    ghost use Rattle.quanta_till.specs.Till.{view_after_granted_load};
     ghost use Rattle.quanta_till.specs.declared.rule.TheConstants.{GRANTED};
 
     ghost then = { λ step before found after.
-        (step.word ≡ GRANTED) × (found ≡ before.0.granted) × (after.0 ≡ after_granted_load before.0) };
+        (step.word ≡ GRANTED) × (found ≡ before.0.granted) × (after.0 ≡ view_after_granted_load before.0) };
 }

@@ -4,8 +4,9 @@ ghost use Rattle.quanta_till.specs.Desk.{new_desk, after_seat, after_words};
 ghost use Rattle.quanta_till.specs.Lease.{empty_lease};
 
 use crate::account::Account;
+use crate::holding::Holding;
 use crate::lease::Lease;
-use crate::purse::Purse;
+use crate::owned::Owned;
 use crate::rule::{
     GRANTED, LoadGranted, LoadPool, LoadSpent, NewSeat, POOL, SPENT, SeatView, WORDS, Words,
 };
@@ -117,7 +118,7 @@ impl Till {
     {
         let account = Arc::try_clone(&self.account)?;
         let seat = account.table.shared.split_seat::<NewSeat>(&mut desk.seat);
-        Ok(Lease::new(account, tenant, Purse::new(seat)))
+        Ok(Lease::new(Owned::new(account, tenant, Holding::new(seat))))
     }
 
     /// Loads the three words, one after the other: other threads may step in between. It takes no memory.

@@ -1,4 +1,4 @@
-//! The inner part of a lease: a seat with what it holds. It cannot be let go, so it ends only where it holds nothing.
+//! What a lease holds: a seat with what was drawn there. It cannot be let go, so it ends only where it holds nothing.
 ghost use Rattle.std.specs.Prelude.{◌≡◌, ◌+◌, ◌-◌, ◌<◌, ◌≤◌};
 ghost use Rattle.quanta_till.specs.declared.rule.TheConstants.{WORDS};
 ghost use Rattle.quanta_till.specs.Till.{new_view};
@@ -11,40 +11,40 @@ use std::marker::Model;
 pub const LEASE_LIMIT: u64 = 1_000_000_000_000;
 
 /// Quanta that were drawn from a till, and neither used nor handed back. It is not `Drop`: it ends by `end`.
-pub(crate) struct Purse {
+pub(crate) struct Holding {
     seat: Seat<(), SeatView>,
     left: u64,
 }
 
-impl Model for Purse {
+impl Model for Holding {
     ghost use Rattle.std.specs.Prelude.{◌≡◌, ◌+◌, ◌≤◌};
-    ghost use Rattle.quanta_till.specs.declared.purse.TheConstants.{LEASE_LIMIT};
-    ghost use Rattle.quanta_till.specs.Lease.{PurseValue};
+    ghost use Rattle.quanta_till.specs.declared.holding.TheConstants.{LEASE_LIMIT};
+    ghost use Rattle.quanta_till.specs.Lease.{HoldingValue};
 
-    ghost Value = { PurseValue };
+    ghost Value = { HoldingValue };
 
-    ghost view = { λ p. record {
-      id = p.seat.table_id;
-      drawn = p.seat.me.0.drawn;
-      used = p.seat.me.0.used;
-      back = p.seat.me.0.back;
-      left = p.left;
+    ghost view = { λ h. record {
+      id = h.seat.table_id;
+      drawn = h.seat.me.0.drawn;
+      used = h.seat.me.0.used;
+      back = h.seat.me.0.back;
+      left = h.left;
     } };
 
-    // What was drawn was used, was handed back or is left. No seat is made from that of a purse.
-    ghost invariant = { λ p.
-        ((p.seat.me.0.used + p.seat.me.0.back) + p.left ≡ p.seat.me.0.drawn)
-        × (p.left ≤ LEASE_LIMIT)
-        × (p.seat.me.0.seats ≡ 0) };
+    // What was drawn was used, was handed back or is left. No seat is made from that of a holding.
+    ghost invariant = { λ h.
+        ((h.seat.me.0.used + h.seat.me.0.back) + h.left ≡ h.seat.me.0.drawn)
+        × (h.left ≤ LEASE_LIMIT)
+        × (h.seat.me.0.seats ≡ 0) };
 }
 
-impl Purse {
-    /// An empty purse, of a seat that has done nothing yet.
-    pub(crate) fn new(seat: Seat<(), SeatView>) -> Purse
+impl Holding {
+    /// An empty holding, of a seat that has done nothing yet.
+    pub(crate) fn new(seat: Seat<(), SeatView>) -> Holding
         requires { seat.me.0 ≡ new_view seat.me.0.granted }
         ensures { result ≡ record { id = seat.table_id; drawn = 0; used = 0; back = 0; left = 0 } }
     {
-        Purse { seat, left: 0 }
+        Holding { seat, left: 0 }
     }
 
     /// How many quanta are left.
@@ -91,12 +91,17 @@ impl Purse {
         self.left = 0;
     }
 
-    /// The end of a purse, at its own till: what was drawn was used or handed back.
-    pub(crate) fn end(self, words: &Words)
+    /// The end of a holding, at its own till: what was drawn was used or handed back. Its seat tells how much.
+    pub(crate) fn end(self, words: &Words) -> Seat<(), SeatView>
         requires till { self.id ≡ words.now.shared.table_id }
         requires empty { self.left ≡ 0 }
         requires counted { self.drawn ≡ self.used + self.back }
+        ensures till { result.table_id ≡ self.id }
+        ensures drawn { result.me.0.drawn ≡ self.drawn }
+        ensures used { result.me.0.used ≡ self.used }
+        ensures back { result.me.0.back ≡ self.back }
     {
-        let Purse { seat: _, left: _ } = self;
+        let Holding { seat, left: _ } = self;
+        seat
     }
 }
