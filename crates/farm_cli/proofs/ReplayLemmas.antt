@@ -7,7 +7,7 @@ use Rattle.farm_config.specs.Config.{Means}
 use Rattle.farm_replay.specs.Output.{IsWritten, IsCutOff}
 use Rattle.farm_replay.specs.declared.script.ReplayFault.{ReplayFault}
 use Rattle.farm_replay.specs.declared.watches.Watches.{Watches}
-use Rattle.farm_cli.specs.Replayed.{Plays, IsPlayed, IsUnsent}
+use Rattle.farm_cli.specs.Replayed.{Plays, IsPlayed, IsPartlyWritten}
 
 -- ---- bytes that are written out stay as they were
 
@@ -65,6 +65,6 @@ sent ended text seen script before after buffer empty played =
 
 -- or it is not
 pub unsent : (ended : Result ⊤ ReplayFault) (text : List ℕ) (seen : Watches) (script before after : Option (List ℕ)) (buffer : List ℕ) →
-    IsPlayed ended text seen script before (append_known after buffer) → IsUnsent text seen script before after
+    IsPlayed ended text seen script before (append_known after buffer) → IsPartlyWritten text seen script before after
 unsent ended text seen script before after buffer played =
     record { ended = ended; gathered = append_known after buffer; played = played; rest = buffer; front = refl }

@@ -8,7 +8,7 @@ use Rattle.farm_cli.specs.Summary.{summary_of, summary_text}
 use Rattle.farm_cli.specs.declared.checking.CheckFault.{CheckFault}
 use Rattle.farm_cli.specs.declared.checking.CheckWatches.{CheckWatches}
 use Rattle.farm_cli.specs.declared.checking.CheckFault.TheVariants as fault
-use Rattle.farm_cli.specs.declared.input.TheConstants.{MOST_BYTES}
+use Rattle.farm_cli.specs.declared.input.TheConstants.{MOST_READ}
 
 -- the line of a project
 abbrev pub project_line : ProjectData → List ℕ
@@ -23,9 +23,9 @@ pub record IsSummed (file : List ℕ) (before after : Option (List ℕ)) : Type 
 -- how a check of a reader's bytes ends, of which no more than so many are read: with its project's line, or with a fault and, but for one of the
 -- writer, nothing written. A fault of the reader and of the writer come only where a read and a write have failed
 abbrev pub IsCheckOf : Result ⊤ CheckFault → CheckWatches → Option (List ℕ) → Option (List ℕ) → Option (List ℕ) → Type 0
-IsCheckOf (Ok done) seen bytes before after = IfSome bytes (λ all. IsSummed (take MOST_BYTES all) before after)
+IsCheckOf (Ok done) seen bytes before after = IfSome bytes (λ all. IsSummed (take MOST_READ all) before after)
 IsCheckOf (Err (fault.Read kind)) seen bytes before after = (after ≡ before) × (seen.reads.failed ≡ true)
-IsCheckOf (Err (fault.File f)) seen bytes before after = (after ≡ before) × IfSome bytes (λ all. Fails f (reading (take MOST_BYTES all)))
+IsCheckOf (Err (fault.File f)) seen bytes before after = (after ≡ before) × IfSome bytes (λ all. Fails f (reading (take MOST_READ all)))
 IsCheckOf (Err fault.Write) seen bytes before after = seen.writes.failed ≡ true
 
 abbrev pub check_status : Result ⊤ CheckFault → ℕ

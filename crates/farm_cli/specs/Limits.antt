@@ -1,6 +1,6 @@
 -- The limits of a project and of a farm, in figures. Elsewhere definitions and clauses name each by the constant of the code.
 use Rattle.std.specs.Prelude.{◌≡◌, ◌≤◌, ℕ, List, length, Option, Some, None, nat_le, nat_lt, ◌&&◌, if◌then◌else◌}
-use Rattle.mrcpsp.specs.declared.limits.TheConstants.{MOST_DURATION, MOST_AMOUNT, MOST_HORIZON}
+use Rattle.mrcpsp.specs.declared.limits.TheConstants.{MOST_ACTIVITIES, MOST_MODES, MOST_RESOURCES, MOST_DURATION, MOST_AMOUNT, MOST_HORIZON}
 use Rattle.mrcpsp.specs.declared.feasibility.TheConstants.{MOST_START}
 use Rattle.psplib_mm.specs.Text.{number_of}
 use Rattle.psplib_mm.specs.declared.reading.TheConstants as file
@@ -12,15 +12,21 @@ use Rattle.farm_core.specs.declared.config.TheConstants as farm
 use Rattle.farm_core.specs.declared.name.TheConstants.{MOST_NAME}
 use Rattle.session_lines.specs.RequestLine.{number_in, submit_of}
 use Rattle.session_lines.specs.Script.{Item, is_long, shown}
-use Rattle.session_lines.specs.declared.reading.TheConstants as request
+use Rattle.session_lines.specs.declared.reading.TheConstants.{MOST_REQUEST_BYTES}
 use Rattle.farm_replay.specs.Output.{IsWritten, IsCutBy, Marked}
 use Rattle.farm_replay.specs.declared.script.ReplayFault.TheVariants as fault
 use Rattle.farm_replay.specs.declared.watches.Watches.{Watches}
 use Rattle.farm_cli.specs.declared.arguments.TheConstants.{MOST_SESSIONS}
-use Rattle.farm_cli.specs.declared.input.TheConstants.{MOST_BYTES}
+use Rattle.farm_cli.specs.declared.input.TheConstants.{MOST_READ}
 
 -- what a project, its schedules and its file may have
 pub record ProblemLimits : Type 0 where
+  -- there are at most 202 activities
+  pub activities : MOST_ACTIVITIES ≡ 202
+  -- an activity has at most 10 modes
+  pub modes : MOST_MODES ≡ 10
+  -- there are at most 8 resources of either kind
+  pub resources : MOST_RESOURCES ≡ 8
   -- a mode takes at most 1,000 periods
   pub duration : MOST_DURATION ≡ 1000
   -- a request, a consumption or a capacity is at most 1,000,000
@@ -66,7 +72,7 @@ pub record LineLimits : Type 0 where
   pub lines : (kind : Kind) (quanta lines : ℕ)
       → submit_of (Some kind) (Some quanta) (Some lines) ≡ (if nat_le 1 lines && nat_le lines 20000 then Some (kind, quanta, lines) else None)
   -- a request has at most 100,000,000 bytes
-  pub request : request.MOST_BYTES ≡ 100000000
+  pub request : MOST_REQUEST_BYTES ≡ 100000000
 
 -- how many requests a script may have
 pub record ScriptLimits : Type 0 where
@@ -79,6 +85,6 @@ pub record ScriptLimits : Type 0 where
 -- what a command reads or answers
 pub record CommandLimits : Type 0 where
   -- of an input 1,048,577 bytes are read, one more than a file may have
-  pub bytes : MOST_BYTES ≡ 1048577
+  pub bytes : MOST_READ ≡ 1048577
   -- at most 64 connections are answered
   pub sessions : MOST_SESSIONS ≡ 64

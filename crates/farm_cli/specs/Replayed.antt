@@ -23,7 +23,7 @@ pub record IsPlayed (ended : Result ⊤ ReplayFault) (text : List ℕ) (seen : W
   pub plays : IfSome script (λ bytes. Plays ended config seen bytes before after)
 
 -- what was gathered did not all go out: what did is its front part
-pub record IsUnsent (text : List ℕ) (seen : Watches) (script before after : Option (List ℕ)) : Type 0 where
+pub record IsPartlyWritten (text : List ℕ) (seen : Watches) (script before after : Option (List ℕ)) : Type 0 where
   pub ended : Result ⊤ ReplayFault
   pub gathered : Option (List ℕ)
   pub played : IsPlayed ended text seen script before gathered
@@ -36,7 +36,7 @@ abbrev pub IsReplayOf : Result ⊤ ReplayStop → List ℕ → Watches → FileW
 IsReplayOf (Ok done) text seen sends script before after = IsPlayed (Ok tt) text seen script before after
 IsReplayOf (Err (stop.Config fault)) text seen sends script before after = HasFault text fault × (after ≡ before)
 IsReplayOf (Err (stop.Fault fault)) text seen sends script before after = IsPlayed (Err fault) text seen script before after
-IsReplayOf (Err stop.Unsent) text seen sends script before after = (sends.failed ≡ true) × IsUnsent text seen script before after
+IsReplayOf (Err stop.Unsent) text seen sends script before after = (sends.failed ≡ true) × IsPartlyWritten text seen script before after
 
 abbrev pub stop_status : Result ⊤ ReplayStop → Bool → Option ℕ → ℕ
 stop_status (Ok done) is_strict refused = replay_status is_strict refused

@@ -3,7 +3,7 @@ ghost use Rattle.std.specs.Prelude.{◌≡◌, false};
 ghost use Rattle.std.specs.Process.{exit_status};
 ghost use Rattle.farm_cli.specs.Checked.{IsCheckOf, IsChecked, check_status};
 
-use crate::input::MOST_BYTES;
+use crate::input::MOST_READ;
 use crate::summary::summarize;
 use file_words::{reason, tell_unread};
 use psplib_mm::{MmFault, read};
@@ -46,7 +46,7 @@ impl CheckWatches {
     }
 }
 
-/// Writes the line of the project whose file a reader gives. At most `MOST_BYTES` bytes are read; a longer input is a fault of the
+/// Writes the line of the project whose file a reader gives. At most `MOST_READ` bytes are read; a longer input is a fault of the
 /// file. `Read` comes only where the file could not be read, `Write` only where the line could not be written. But for a fault of
 /// the writer nothing was written at an error.
 pub fn check<S: Read + Drop, W: Write>(
@@ -57,7 +57,7 @@ pub fn check<S: Read + Drop, W: Write>(
 ) -> Result<(), CheckFault>
     ensures { IsCheckOf result watches.new (S.remaining reader) (W.contents writer.old) (W.contents writer.new) }
 {
-    let text = match watches.reads.read_front(alloc, reader, MOST_BYTES) {
+    let text = match watches.reads.read_front(alloc, reader, MOST_READ) {
         Ok(text) => text,
         Err(error) => return Err(CheckFault::Read(error.kind())),
     };

@@ -29,7 +29,7 @@ pub use checking::{CheckFault, CheckWatches, check, check_to};
 pub use farm_config::{ConfigFault, Key, read_config};
 pub use farm_replay::{Notes, ReplayFault, Watches, replay, replay_noting};
 pub use farm_service::{ServeFault, serve};
-pub use input::{MOST_BYTES, read_front, read_whole};
+pub use input::{MOST_READ, read_front, read_whole};
 pub use program::run_words;
 pub use replaying::{ReplayStop, replay_text, replay_to};
 pub use summary::{Summary, summarize};

@@ -12,7 +12,7 @@ use Rattle.farm_config.specs.declared.fault.Key.{Key}
 use Rattle.farm_config.specs.declared.fault.Key.TheVariants.{Quanta, Jobs, Entries, Workers, Slice, Purse}
 use Rattle.farm_config.specs.declared.fault.ConfigFault.{ConfigFault}
 use Rattle.farm_config.specs.declared.fault.ConfigFault.TheVariants.{Tenants, Name, Range}
-use Rattle.farm_config.specs.Config.{is_misnamed, first_misnamed, is_out, terms_of, all_terms, first_out, count_fault, fault_before_purses, purse_fault, first_fault, is_well_named, unless, judged}
+use Rattle.farm_config.specs.Config.{is_misnamed, first_misnamed, is_beyond, keyed_terms, all_terms, first_out, count_fault, fault_before_purses, purse_fault, first_fault, is_well_named, unless, judged}
 
 -- ---- an option with no value
 
@@ -123,14 +123,14 @@ line_step true true false x y z o = refl
 line_step true true true x y z o = refl
 
 out_none : (lines : List TenantLine) (rest : List (Key × ℕ)) →
-    is_none (find is_out (flat_map terms_of lines ++ rest)) ≡ (list_all are_terms lines && is_none (find is_out rest))
+    is_none (find is_beyond (flat_map keyed_terms lines ++ rest)) ≡ (list_all are_terms lines && is_none (find is_beyond rest))
 unfolding are_terms
 out_none [] rest = refl
 out_none (line ∷ lines) rest =
     line_step (nat_le line.quanta 1000000000000) (is_within 1 1000 line.jobs) (is_within 1 1000000 line.entries)
-    (Quanta, line.quanta) (Jobs, line.jobs) (Entries, line.entries) (find is_out (flat_map terms_of lines ++ rest))
+    (Quanta, line.quanta) (Jobs, line.jobs) (Entries, line.entries) (find is_beyond (flat_map keyed_terms lines ++ rest))
     ∙ ap (λ b. are_terms line && b) (out_none lines rest)
-    ∙ push_step (are_terms line) (list_all are_terms lines) (is_none (find is_out rest))
+    ∙ push_step (are_terms line) (list_all are_terms lines) (is_none (find is_beyond rest))
 
 -- ---- the whole
 
@@ -165,7 +165,7 @@ before_none config =
     let named = first_misnamed lines in
     let last : List (Key × ℕ) = (Workers, config.workers) ∷ (Slice, config.slice) ∷ [] in
     let count = is_within 1 64 (length lines) in
-    let out = none_map (λ term. term.0) (find is_out (all_terms config)) ∙ out_none lines last in
+    let out = none_map (λ term. term.0) (find is_beyond (all_terms config)) ∙ out_none lines last in
     let ends = pair_none (is_within 1 16 config.workers) (is_within 1 1000000 config.slice) (Workers, config.workers) (Slice, config.slice) in
     rw (
       none_or (count_fault lines) (option_or (option_map Name named) (option_map Range (first_out (all_terms config)))),

@@ -42,8 +42,8 @@ text_if_any None = Some None
 text_if_any (Some value) = option_map Some (as_str value)
 
 -- a tenant's line as it is written
-abbrev pub line_of : Data → Option TenantLine
-line_of value = do
+abbrev pub tenant_line : Data → Option TenantLine
+tenant_line value = do
   name ← text_at (codes "name") value
   quanta ← natural_at (codes "quanta") value
   jobs ← natural_at (codes "jobs") value
@@ -51,17 +51,17 @@ line_of value = do
   purse ← text_if_any (get (codes "purse") value)
   Some (record { name = name; quanta = quanta; jobs = jobs; entries = entries; purse = purse })
 
-abbrev pub lines_of : Items → Option (List TenantLine)
-lines_of no_items = Some []
-lines_of (item value values) = do
-  line ← line_of value
-  lines ← lines_of values
+abbrev pub tenant_lines : Items → Option (List TenantLine)
+tenant_lines no_items = Some []
+tenant_lines (item value values) = do
+  line ← tenant_line value
+  lines ← tenant_lines values
   Some (line ∷ lines)
 
 abbrev pub tenants_of : Data → Option (List TenantLine)
 tenants_of value = do
   tenants ← option_and_then as_array (get (codes "tenants") value)
-  lines_of tenants
+  tenant_lines tenants
 
 -- a configuration as it is written: names may be ill formed, and numbers out of range
 abbrev pub written : Data → Option ConfigData
@@ -98,17 +98,17 @@ allows Slice n = is_within 1 MOST_SLICE n
 allows Purse n = nat_le n MOST_QUANTA
 
 -- each key with its number, in the order in which they are judged
-abbrev pub terms_of : TenantLine → List (Key × ℕ)
-terms_of line = (Quanta, line.quanta) ∷ (Jobs, line.jobs) ∷ (Entries, line.entries) ∷ []
+abbrev pub keyed_terms : TenantLine → List (Key × ℕ)
+keyed_terms line = (Quanta, line.quanta) ∷ (Jobs, line.jobs) ∷ (Entries, line.entries) ∷ []
 
 abbrev pub all_terms : ConfigData → List (Key × ℕ)
-all_terms config = flat_map terms_of config.tenants ++ ((Workers, config.workers) ∷ (Slice, config.slice) ∷ [])
+all_terms config = flat_map keyed_terms config.tenants ++ ((Workers, config.workers) ∷ (Slice, config.slice) ∷ [])
 
-abbrev pub is_out : Key × ℕ → Bool
-is_out term = not (allows term.0 term.1)
+abbrev pub is_beyond : Key × ℕ → Bool
+is_beyond term = not (allows term.0 term.1)
 
 abbrev pub first_out : List (Key × ℕ) → Option Key
-first_out terms = option_map (λ term. term.0) (find is_out terms)
+first_out terms = option_map (λ term. term.0) (find is_beyond terms)
 
 abbrev pub count_fault : List TenantLine → Option ConfigFault
 count_fault lines = if is_within 1 MOST_TENANTS (length lines) then None else Some Tenants

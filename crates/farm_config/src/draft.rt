@@ -2,7 +2,7 @@
 ghost use Rattle.std.specs.Prelude.{◌≡◌, map, option_map};
 ghost use Rattle.serde_json.specs.View.{view, items_of};
 ghost use Rattle.serde_json.specs.Find.{get};
-ghost use Rattle.farm_config.specs.Config.{natural_at, natural_or, text_if_any, line_of, lines_of, written, shaped, Gives};
+ghost use Rattle.farm_config.specs.Config.{natural_at, natural_or, text_if_any, tenant_line, tenant_lines, written, shaped, Gives};
 
 use crate::fault::ConfigFault;
 use serde_json::Value;
@@ -87,8 +87,8 @@ fn text_if_any<'a>(value: &'a Value, key: &str) -> Option<Option<&'a [u8]>>
 }
 
 /// The line of a tenant, or `None` where a key is missing or a value is not of its kind.
-fn line_of(value: &Value) -> Option<LineDraft<'_>>
-    ensures { result ≡ line_of (view value.now) }
+fn tenant_line(value: &Value) -> Option<LineDraft<'_>>
+    ensures { result ≡ tenant_line (view value.now) }
 {
     let name = value.get("name").and_then(Value::as_str)?;
     let quanta = natural_at(value, "quanta")?;
@@ -105,12 +105,12 @@ fn line_of(value: &Value) -> Option<LineDraft<'_>>
 }
 
 /// The lines of all tenants.
-fn lines_of(alloc: Global, values: &[Value]) -> Result<Vec<LineDraft<'_>>, ConfigFault>
-    ensures { Gives (λ lines. lines.items) result (shaped (lines_of (items_of (map view values.now)))) }
+fn tenant_lines(alloc: Global, values: &[Value]) -> Result<Vec<LineDraft<'_>>, ConfigFault>
+    ensures { Gives (λ lines. lines.items) result (shaped (tenant_lines (items_of (map view values.now)))) }
 {
     let mut lines = Vec::new(alloc);
     for value in values {
-        let Some(line) = line_of(value) else {
+        let Some(line) = tenant_line(value) else {
             return Err(ConfigFault::Shape);
         };
         if lines.push(line).is_err() {
@@ -127,7 +127,7 @@ pub fn draft_of(alloc: Global, value: &Value) -> Result<Draft<'_>, ConfigFault>
     let Some(list) = value.get("tenants").and_then(Value::as_array) else {
         return Err(ConfigFault::Shape);
     };
-    let tenants = lines_of(alloc, list)?;
+    let tenants = tenant_lines(alloc, list)?;
     let Some(workers) = natural_or(value, "workers", 2) else {
         return Err(ConfigFault::Shape);
     };

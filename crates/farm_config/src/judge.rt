@@ -2,7 +2,7 @@
 ghost use Rattle.std.specs.Prelude.{◌≡◌, ◌&&◌, not, option_map, if◌then◌else◌, Some, None};
 ghost use Rattle.farm_core.specs.Config.{has_name};
 ghost use Rattle.farm_config.specs.declared.fault.ConfigFault.TheVariants.{Name as misnamed};
-ghost use Rattle.farm_config.specs.Config.{first_misnamed, terms_of, all_terms, first_out, is_name_if_any, is_well_named, fault_before_purses, judged, unless, Gives};
+ghost use Rattle.farm_config.specs.Config.{first_misnamed, keyed_terms, all_terms, first_out, is_name_if_any, is_well_named, fault_before_purses, judged, unless, Gives};
 
 use crate::draft::{Draft, LineDraft};
 use crate::fault::{ConfigFault, Key};
@@ -70,7 +70,7 @@ fn named(alloc: Global, drafts: &[LineDraft<'_>]) -> Result<Vec<TenantLine>, Con
 
 /// The first number of a tenant's line that is out of range.
 pub(crate) fn first_out_of_line(line: &LineDraft<'_>) -> Option<Key>
-    ensures { result ≡ first_out (terms_of line.now) }
+    ensures { result ≡ first_out (keyed_terms line.now) }
 {
     if !Key::Quanta.allows(line.quanta) {
         Some(Key::Quanta)

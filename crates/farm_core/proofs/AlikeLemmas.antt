@@ -19,11 +19,11 @@ use Rattle.farm_core.specs.declared.entry.Event.{Event}
 use Rattle.farm_core.specs.declared.entry.Event.TheVariants.{Submit, Fund, Status, Fetch, Cancel, Forget, Ledger, Take, Give}
 use Rattle.farm_core.specs.declared.reply.Reply.TheVariants as reply
 use Rattle.farm_core.specs.Purses.{purse_of, members_of}
-use Rattle.farm_core.specs.Config.{ConfigData, purse_names, lines_of, granted_by}
+use Rattle.farm_core.specs.Config.{ConfigData, purse_names, member_lines, granted_by}
 use Rattle.farm_core.specs.Tenant.{Tenant, Member, Purse, new_member, newcomers, held_by, no_member, seat, own_of, with_seat, held, find_job, put_job, line_of}
 use Rattle.farm_core.specs.Step.{Answer, Replied, Sent, NoTurn, Step, Changes, done, step, fresh_job, may_have_run}
 use Rattle.farm_core.specs.World.{World, Call, Steps, Leads, Run, opened, opened_purse, member, purse, view, purse_in, place_in}
-use Rattle.farm_core.specs.Need.{nodes_for, asked, asked_by, are_gifts, AreAtRest, members_in, AllMembers, HasRested, AreAlike, EachEndsAlike}
+use Rattle.farm_core.specs.Need.{nodes_for, accepted, asked_by, are_gifts, AreAtRest, members_in, AllMembers, HasRested, AreAlike, EachEndsAlike}
 use Rattle.farm_core.proofs.DecisionLemmas.{Cases, each_decision, unasked}
 use Rattle.farm_core.proofs.PlaceLemmas.{same_below}
 use Rattle.farm_core.proofs.SeatLemmas.{named, place_known, held_whole, own_seen, each_view_is_a_seat, same_book, purse_after, purse_stays}
@@ -126,7 +126,7 @@ given_more s quanta job new (g ∷ gs) (other ∷ jobs) found one all =
 
 -- what a call does to what stands, where it is accepted as a gift or not at all
 abbrev GoesOn : Gifts → ℕ → Event → Step → Type 0
-GoesOn x k e s = are_gifts (asked e s.answer) ≡ true → Stood (give_on x (asked e s.answer)) k s.after
+GoesOn x k e s = are_gifts (accepted e s.answer) ≡ true → Stood (give_on x (accepted e s.answer)) k s.after
 
 used_more : (x : Gifts) (k : ℕ) (t : Tenant) (used : ℕ) → Stood x k t → Stood x k (record t { used = used })
 used_more x k t used it = record { next = it.next; jobs = it.jobs; spent = it.spent }
@@ -192,9 +192,9 @@ stays_on x k t events none it = rw none it
 
 goes_on : (x : Gifts) (k : ℕ) (t : Tenant) → Stood x k t → Cases t (λ e f. GoesOn x k e (done t f))
 goes_on x k t it = record {
-  full = λ e _. stays_on x k t (asked e (Replied reply.NoRoom)) (unasked e).0 it;
-  idle = λ e _. stays_on x k t (asked e NoTurn) (unasked e).1 it;
-  notes = λ e answer room note _. stays_on x k (record t { used = t.used + 1 }) (asked e (Replied answer)) note.asked (used_more x k t (t.used + 1) it);
+  full = λ e _. stays_on x k t (accepted e (Replied reply.NoRoom)) (unasked e).0 it;
+  idle = λ e _. stays_on x k t (accepted e NoTurn) (unasked e).1 it;
+  notes = λ e answer room note _. stays_on x k (record t { used = t.used + 1 }) (accepted e (Replied answer)) note.accepted (used_more x k t (t.used + 1) it);
   adds = λ plan quanta room some _.
       let job : JobData = fresh_job t plan quanta in
       let gift : Gift = record { seq = x.next; plan = plan; given = quanta } in
@@ -261,7 +261,7 @@ record IsGiven (x : Gifts) (m : Member) : Type 0 where
 
 -- a call of the member at a place: the other members have run what the purse has spent beside it
 seat_on : (x : Gifts) (p : Purse) (place : ℕ) (e : Event) → place < length p.members → IsGiven x (own_of (seat p place)) → HasSpent p
-    → let it = step (seat p place) e in are_gifts (asked e it.answer) ≡ true → IsGiven (give_on x (asked e it.answer)) (own_of it.after) × HasSpent (with_seat p place it.after)
+    → let it = step (seat p place) e in are_gifts (accepted e it.answer) ≡ true → IsGiven (give_on x (accepted e it.answer)) (own_of it.after) × HasSpent (with_seat p place it.after)
 seat_on x p place e l given spent all =
     let after : Tenant = (step (seat p place) e).after in
     let k : ℕ = p.spent - nodes_in (seat p place).jobs in
@@ -289,11 +289,11 @@ record AllStood (config : ConfigData) (p : ℕ) (x : ℕ → Gifts) (w : World) 
 
 -- what a call asked for, if it was tenant t's
 abbrev asked_in : ℕ → Call → List Event
-asked_in t c = cond (c.tenant == t) (asked c.event c.answer) []
+asked_in t c = cond (c.tenant == t) (accepted c.event c.answer) []
 
 -- a call, for the caller and its purse,
 own_on : (x : Gifts) (old mid : World) (c : Call) → Steps old c.tenant c.event c.answer mid → IsGiven x (member c.tenant old) → HasSpent (purse (purse_in old.config c.tenant) old)
-    → are_gifts (asked c.event c.answer) ≡ true → IsGiven (give_on x (asked c.event c.answer)) (member c.tenant mid) × HasSpent (purse (purse_in old.config c.tenant) mid)
+    → are_gifts (accepted c.event c.answer) ≡ true → IsGiven (give_on x (accepted c.event c.answer)) (member c.tenant mid) × HasSpent (purse (purse_in old.config c.tenant) mid)
 own_on x old mid c h given spent all =
     let t = c.tenant in
     let p : Purse = purse (purse_in old.config t) old in
@@ -305,17 +305,17 @@ own_on x old mid c h given spent all =
     let has : member t mid ≡ own_of it.after = sym (own_seen t mid) ∙ ap own_of h.own ∙ ap (λ (v : Tenant). own_of (step v c.event).after) seen in
     let purse_is : purse (purse_in old.config t) mid ≡ with_seat p place it.after =
     purse_after old mid t c.event c.answer h ∙ ap (λ (v : Tenant). with_seat p place (step v c.event).after) seen in
-    let gifts : are_gifts (asked c.event it.answer) ≡ true = ap (λ (a : Answer). are_gifts (asked c.event a)) (sym answer) ∙ all in
+    let gifts : are_gifts (accepted c.event it.answer) ≡ true = ap (λ (a : Answer). are_gifts (accepted c.event a)) (sym answer) ∙ all in
     let went = seat_on x p place c.event (seated t old h.known) (subst (IsGiven x) had given) spent gifts in
-    let own : IsGiven (give_on x (asked c.event it.answer)) (member t mid) = subst (IsGiven (give_on x (asked c.event it.answer))) (sym has) went.0 in
-    (subst (λ (a : Answer). IsGiven (give_on x (asked c.event a)) (member t mid)) (sym answer) own, subst HasSpent (sym purse_is) went.1)
+    let own : IsGiven (give_on x (accepted c.event it.answer)) (member t mid) = subst (IsGiven (give_on x (accepted c.event it.answer))) (sym has) went.0 in
+    (subst (λ (a : Answer). IsGiven (give_on x (accepted c.event a)) (member t mid)) (sym answer) own, subst HasSpent (sym purse_is) went.1)
 
 -- and for the members of a purse, whether it is the caller's or another
 call_on : (p : ℕ) (x : ℕ → Gifts) (old mid : World) (c : Call) → Steps old c.tenant c.event c.answer mid → AllMembers old.config p (λ t. are_gifts (asked_in t c) ≡ true)
     → AllStood old.config p x old → AllStood old.config p (λ t. give_on (x t) (asked_in t c)) mid
 call_on p x old mid c h all it =
     let t = c.tenant in
-    let gifts = asked c.event c.answer in
+    let gifts = accepted c.event c.answer in
     let own : purse_in old.config t ≡ p → IsGiven (give_on (x t) gifts) (member t mid) × HasSpent (purse p mid) = λ of.
     let asks : are_gifts gifts ≡ true = ap are_gifts (sym (cond-true (t == t) gifts [] (eq-eqb t t refl))) ∙ all t h.known of in
     let went = own_on (x t) old mid c h (it.each t h.known of) (subst (λ (q : ℕ). HasSpent (purse q old)) (sym of) it.spent) asks in
@@ -366,7 +366,7 @@ newcomers_spent lines = sym (none_ran lines)
 opened_stood : (config : ConfigData) (p : ℕ) → AllStood config p (λ t. no_gifts) (opened config)
 opened_stood config p = record {
   each = λ t l of. subst (IsGiven no_gifts) (sym (member_opened t config)) (record { next = refl; jobs = tt });
-  spent = subst HasSpent (sym (purse_opened p config)) (newcomers_spent (lines_of config.tenants p));
+  spent = subst HasSpent (sym (purse_opened p config)) (newcomers_spent (member_lines config.tenants p));
 }
 
 run_stood : (config : ConfigData) (calls : List Call) (w : World) (p : ℕ) → Run config calls w → AllMembers config p (HasRested calls w)
@@ -438,7 +438,7 @@ members_are config p w is = ap (λ (c : ConfigData). map (λ t. member t w) (mem
 
 granted_is : (config : ConfigData) (p : ℕ) (w : World) → w.config ≡ config → (purse p w).granted ≡ (opened_purse config p).granted
 unfolding purse newcomers
-granted_is config p w is = ap (λ (c : ConfigData). granted_by (lines_of c.tenants p)) is
+granted_is config p w is = ap (λ (c : ConfigData). granted_by (member_lines c.tenants p)) is
 
 -- what is the same of each tenant of a purse that there is, is the same of its members
 among_members : {X : Type 0} (config : ConfigData) (p : ℕ) (g h : ℕ → X) → AllMembers config p (λ t. h t ≡ g t) → map h (members_in config p) ≡ map g (members_in config p)

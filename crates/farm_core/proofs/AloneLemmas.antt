@@ -1,20 +1,17 @@
 -- A run, as one purse sees it, and as a tenant does that has its purse for itself.
 use Rattle.std.proofs.Common.{◌≡◌, ◌≢◌, ℕ, List, [], ◌∷◌, length, map, filter, get_or, Bool, true, false, cond, eqb, refl, sym, ap, ◌∙◌, subst, arith, zero, suc, ◌+◌, ◌<◌, ⊎_elim}
-use Rattle.std.specs.List.{range_with_len, sum_by}
 use Rattle.std.proofs.lemmas.Bool.Decides.{nat_tests}
 use Rattle.std.proofs.lemmas.List.Sums.{sum_by-cons}
 use Rattle.tenant_book.specs.Book as ledger
-use Rattle.farm_core.specs.declared.account.Numbers.{Numbers}
 use Rattle.farm_core.specs.declared.config.TenantLine.{TenantLine}
-use Rattle.farm_core.specs.declared.entry.Event.{Event}
-use Rattle.farm_core.specs.Purses.{is_shared, purse_name, purse_of, members_of, place_of}
-use Rattle.farm_core.specs.Config.{ConfigData, purse_names, no_terms, lines_of, granted_by}
-use Rattle.farm_core.specs.Tenant.{Tenant, Member, Purse, new_member, newcomers, newcomer, held_beside, seated_at, seat, with_seat, no_member}
+use Rattle.farm_core.specs.Purses.{is_shared, purse_name, members_of, place_of}
+use Rattle.farm_core.specs.Config.{ConfigData, purse_names, member_lines, granted_by}
+use Rattle.farm_core.specs.Tenant.{Tenant, Member, Purse, new_member, newcomers, newcomer, seated_at, seat, with_seat}
 use Rattle.farm_core.specs.Step.{Answer, step}
 use Rattle.farm_core.specs.World.{World, Call, Asked, new_numbers, no_book, terms_in, purse_in, place_in, opened, spent_in, member, purse, view, Steps, Leads, own_calls, own_events, own_answers, answers_alone, after_alone, opened_purse}
 use Rattle.farm_core.specs.Laws.{EachPurseIsAlone, EachPurseIsIsolated, IsLone, lone_events, lone_answers, answers_by, after_by, EachLoneTenantIsAlone}
 use Rattle.farm_core.proofs.PlaceLemmas.{none_pass, one_passes}
-use Rattle.farm_core.proofs.SharingLemmas.{shared_back, apart, is_own, is_ne}
+use Rattle.farm_core.proofs.SharingLemmas.{apart, is_own, is_ne}
 use Rattle.farm_core.proofs.SeatLemmas.{named, each_view_is_a_seat, purse_after, purse_stays, view_stays}
 
 -- ---- the farm in which nothing has happened
@@ -45,10 +42,10 @@ config_opened config = refl
 
 spent_opened : (config : ConfigData) (p : ℕ) → spent_in p (opened config) ≡ 0
 unfolding opened
-spent_opened config p = unspent (λ q. granted_by (lines_of config.tenants q)) _ p
+spent_opened config p = unspent (λ q. granted_by (member_lines config.tenants q)) _ p
 
 abbrev made : ConfigData → ℕ → ℕ → List Member → Purse
-made config p spent ms = record { granted = granted_by (lines_of config.tenants p); spent = spent; members = ms }
+made config p spent ms = record { granted = granted_by (member_lines config.tenants p); spent = spent; members = ms }
 
 unfolded : (config : ConfigData) (p : ℕ) → purse p (opened config) ≡ made config p (spent_in p (opened config)) (map (λ t. member t (opened config)) (members_of (purse_names config.tenants) p))
 unfolding purse opened

@@ -15,7 +15,7 @@ use Rattle.farm_core.specs.declared.reply.Reply.TheVariants as reply
 use Rattle.farm_core.specs.Tenant.{Tenant, book, free, find_job, line_of}
 use Rattle.farm_core.specs.Step.{Replied, Sent, NoTurn, Effect, Nothing, Notes, Adds, Changes, Drops, done, has_room, is_amount, is_slice, fresh_job, to_submit, to_fund, to_fetch, to_stand, to_cancel, to_forget, to_take, may_have_run, to_give, about, command, decided, step}
 use Rattle.farm_core.specs.World.{is_noted}
-use Rattle.farm_core.specs.Need.{asked}
+use Rattle.farm_core.specs.Need.{accepted}
 
 -- a job that the tenant has, and of which this is so
 pub record IsOfJob (t : Tenant) (P : JobData → Type 0) : Type 0 where
@@ -37,7 +37,7 @@ Tells t answer = ⊤
 -- a call that changes nothing but the journal
 pub record IsNote (t : Tenant) (e : Event) (answer : Reply) : Type 0 where
   pub noted : is_noted (Replied answer) ≡ true
-  pub asked : asked e (Replied answer) ≡ []
+  pub accepted : accepted e (Replied answer) ≡ []
   pub tells : Tells t answer
 
 -- a job that so many quanta can be given
@@ -78,14 +78,14 @@ on_found t s none f Q nothing each = by (find_job s t.jobs) refl
 
 -- ---- calls
 
-note : (t : Tenant) (P : Event → Effect → Type 0) → Cases t P → (e : Event) (answer : Reply) → has_room 1 t ≡ true → is_noted (Replied answer) ≡ true → asked e (Replied answer) ≡ []
+note : (t : Tenant) (P : Event → Effect → Type 0) → Cases t P → (e : Event) (answer : Reply) → has_room 1 t ≡ true → is_noted (Replied answer) ≡ true → accepted e (Replied answer) ≡ []
     → Tells t answer → P e (Notes answer)
-note t P c e answer room noted none tells = c.notes e answer room (record { noted = noted; asked = none; tells = tells })
+note t P c e answer room noted none tells = c.notes e answer room (record { noted = noted; accepted = none; tells = tells })
 
 on_room : (t : Tenant) (P : Event → Effect → Type 0) → Cases t P → (e : Event) (f : Effect) → (has_room 1 t ≡ true → P e f) → P e (command t f)
 on_room t P c e f each = cond_both (has_room 1 t) f (Nothing (Replied reply.NoRoom)) (P e) each (λ _. c.full e)
 
-on_job : (t : Tenant) (P : Event → Effect → Type 0) → Cases t P → (e : Event) (s : ℕ) (f : JobData → Effect) → asked e (Replied reply.NoUnknown) ≡ []
+on_job : (t : Tenant) (P : Event → Effect → Type 0) → Cases t P → (e : Event) (s : ℕ) (f : JobData → Effect) → accepted e (Replied reply.NoUnknown) ≡ []
     → (has_room 1 t ≡ true → (job : JobData) → find_job s t.jobs ≡ Some job → P e (f job)) → P e (command t (about (Notes reply.NoUnknown) f (find_job s t.jobs)))
 on_job t P c e s f none each =
     on_room t P c e (about (Notes reply.NoUnknown) f (find_job s t.jobs))
@@ -95,7 +95,7 @@ on_submit : (t : Tenant) (P : Event → Effect → Type 0) → Cases t P → (pl
 unfolding to_submit
 on_submit t P c plan quanta room =
     let e : Event = Submit plan quanta in
-    let n : (answer : Reply) → is_noted (Replied answer) ≡ true → asked e (Replied answer) ≡ [] → Tells t answer → P e (Notes answer) = λ answer. note t P c e answer room in
+    let n : (answer : Reply) → is_noted (Replied answer) ≡ true → accepted e (Replied answer) ≡ [] → Tells t answer → P e (Notes answer) = λ answer. note t P c e answer room in
     cond_both (not (is_amount quanta)) (Notes reply.NoAmount) _ (P e) (λ _. n reply.NoAmount refl refl tt)
     (λ _. cond_both (not (nat_lt (length t.jobs) t.terms.jobs)) (Notes reply.NoJobs) _ (P e) (λ _. n reply.NoJobs refl refl tt)
     (λ _. cond_both (not (nat_le quanta (free t))) (Notes (reply.NoShort (free t))) (Adds (fresh_job t plan quanta)) (P e) (λ _. n (reply.NoShort (free t)) refl refl tt)
@@ -105,7 +105,7 @@ on_fund : (t : Tenant) (P : Event → Effect → Type 0) → Cases t P → (s qu
 unfolding to_fund
 on_fund t P c s quanta job room found =
     let e : Event = Fund s quanta in
-    let n : (answer : Reply) → is_noted (Replied answer) ≡ true → asked e (Replied answer) ≡ [] → Tells t answer → P e (Notes answer) = λ answer. note t P c e answer room in
+    let n : (answer : Reply) → is_noted (Replied answer) ≡ true → accepted e (Replied answer) ≡ [] → Tells t answer → P e (Notes answer) = λ answer. note t P c e answer room in
     cond_both (is_out job.phase) (Notes reply.NoBusy) _ (P e) (λ _. n reply.NoBusy refl refl tt)
     (λ here. cond_both (is_ended job.phase) (Notes reply.NoOver) _ (P e) (λ _. n reply.NoOver refl refl tt)
     (λ going. cond_both (not (is_amount quanta)) (Notes reply.NoAmount) _ (P e) (λ _. n reply.NoAmount refl refl tt)
@@ -181,6 +181,6 @@ entry_told t =
     })
 
 -- a refusal for want of entries, or of a turn, asks for nothing
-pub unasked : (e : Event) → (asked e (Replied reply.NoRoom) ≡ []) × (asked e NoTurn ≡ [])
+pub unasked : (e : Event) → (accepted e (Replied reply.NoRoom) ≡ []) × (accepted e NoTurn ≡ [])
 unasked (Submit plan quanta) = (refl, refl)
 unasked e = (refl, refl)

@@ -137,7 +137,7 @@ searched_to_the_end : answers_by (newcomer (terms 10 1 20)) finishing ≡
     ∷ Replied (reply.Forgotten 1)
     ∷ Replied (reply.Job 2)
     ∷ []
-unfolding newcomer to_submit to_fund to_fetch to_cancel to_forget held free book kept line_of nodes_of_turn best_after is_closed verdict_after tree.best_after tree.is_closed tree.all_visits tree.candidates tree.is_pruned tree.updated tree.visit_one pass chosen_at eligible_ones allowed_modes is_allowed_mode placed_from lft duration size modes renewables nonrenewables mode_count successors request consumption capacity stock precedes load shortest least placed_use placed_consumption last_start are_ready fits is_allowed earliest is_eligible is_executable reserve is_affordable tail schedule_of makespan finish start_of mode_of bound
+unfolding newcomer to_submit to_fund to_fetch to_cancel to_forget held free book kept line_of nodes_of_turn best_after is_closed verdict_after tree.tree_best_after tree.is_tree_over tree.all_visits tree.candidates tree.is_pruned tree.updated tree.visit_one pass chosen_at eligible_ones allowed_modes is_allowed_mode placed_from lft duration size modes renewables nonrenewables mode_count successors request consumption capacity stock precedes load shortest least placed_use placed_consumption last_start are_ready fits is_allowed earliest is_eligible is_executable reserve is_affordable tail schedule_of makespan finish start_of mode_of bound
 searched_to_the_end = refl
 
 -- ---- a job that runs dry and is funded, and the entry that is kept for a give: 3 quanta, 2 jobs, 8 entries
@@ -201,7 +201,7 @@ shared_purse : answers_alone (newcomers (terms 6 2 100 ∷ terms 4 2 100 ∷ [])
     ∷ Replied (reply.Job 1)
     ∷ ledger 10 0 8 2
     ∷ []
-unfolding newcomers to_submit to_fund to_fetch to_cancel to_forget held free book kept line_of nodes_of_turn best_after is_closed verdict_after tree.best_after tree.is_closed tree.all_visits tree.candidates tree.is_pruned tree.updated tree.visit_one pass chosen_at eligible_ones allowed_modes is_allowed_mode placed_from lft duration size modes renewables nonrenewables mode_count successors request consumption capacity stock precedes load shortest least placed_use placed_consumption last_start are_ready fits is_allowed earliest is_eligible is_executable reserve is_affordable tail schedule_of makespan finish start_of mode_of bound
+unfolding newcomers to_submit to_fund to_fetch to_cancel to_forget held free book kept line_of nodes_of_turn best_after is_closed verdict_after tree.tree_best_after tree.is_tree_over tree.all_visits tree.candidates tree.is_pruned tree.updated tree.visit_one pass chosen_at eligible_ones allowed_modes is_allowed_mode placed_from lft duration size modes renewables nonrenewables mode_count successors request consumption capacity stock precedes load shortest least placed_use placed_consumption last_start are_ready fits is_allowed earliest is_eligible is_executable reserve is_affordable tail schedule_of makespan finish start_of mode_of bound
 shared_purse = refl
 
 -- the purse that tenants share is found by its name, which may be a tenant's; purses are numbered by their first members

@@ -12,7 +12,7 @@ use Rattle.job_table.specs.declared.phase.Phase.TheVariants.{Waiting, Out, Leavi
 use Rattle.farm_core.specs.declared.account.Account.{Account}
 use Rattle.farm_core.specs.declared.config.TenantLine.{TenantLine}
 use Rattle.farm_core.specs.Purses.{is_first, purses}
-use Rattle.farm_core.specs.Config.{ConfigData, purse_names, no_terms, lines_of, granted_by, are_terms, are_distinct, are_purses, is_within, is_config}
+use Rattle.farm_core.specs.Config.{ConfigData, purse_names, no_terms, member_lines, granted_by, are_terms, are_distinct, are_purses, is_within, is_config}
 use Rattle.farm_core.specs.Tenant.{new_member, newcomers, seated_at, held, free, book, ledger_of, kept}
 use Rattle.farm_core.specs.World.{World, new_numbers, no_book, terms_in, purse_in, place_in, purses_in, account_of, member, purse, view, opened}
 use Rattle.farm_core.specs.Farm.{IsAccount, IsFarm, purse_numbers, owed_in, owed}
@@ -93,16 +93,16 @@ unfolding opened
 account_opened config t l =
     let p = purse_in config t in
     let there = counted (purse_names config.tenants) t (named config.tenants t l) in
-    let book_is = books_at (λ q. granted_by (lines_of config.tenants q)) 0 (purses_in config) p no_book there in
+    let book_is = books_at (λ q. granted_by (member_lines config.tenants q)) 0 (purses_in config) p no_book there in
     let numbers_are = numbers_at config.tenants t in
     let at : 0 + p ≡ p = omega arith in
-    rw (seen_opened t config, book_is, numbers_are, at) (account_newcomer (place_in config t) (lines_of config.tenants p) (terms_in config t))
+    rw (seen_opened t config, book_is, numbers_are, at) (account_newcomer (place_in config t) (member_lines config.tenants p) (terms_in config t))
 
 pub farm_opened : (config : ConfigData) (capacity : ℕ) → is_config config ≡ true → IsFarm (opened config) capacity
 unfolding opened
 farm_opened config capacity is = record {
   count = length-map config.tenants (λ (line : TenantLine). new_numbers);
-  ledgers = length-map (range_with_len 0 (purses_in config)) (λ p. ledger.opened (granted_by (lines_of config.tenants p))) ∙ range_length 0 (purses_in config);
+  ledgers = length-map (range_with_len 0 (purses_in config)) (λ p. ledger.opened (granted_by (member_lines config.tenants p))) ∙ range_length 0 (purses_in config);
   each = λ t l. let numbers = length-map config.tenants (λ (line : TenantLine). new_numbers) in account_opened config t (omega arith);
   room = omega arith;
   replayed = opened_replayed config;
@@ -148,11 +148,11 @@ all_at test a (suc n) (suc k) all l =
     ap test (sym at) ∙ all_at test (a + 1) n k (and_parts (test a) (list_all test (range_with_len (a + 1) n)) all).1 (omega arith)
 
 -- no purse was granted more than 10^12
-pub granted_within : (config : ConfigData) (p : ℕ) → is_config config ≡ true → p < purses_in config → granted_by (lines_of config.tenants p) ≤ 1000000000000
+pub granted_within : (config : ConfigData) (p : ℕ) → is_config config ≡ true → p < purses_in config → granted_by (member_lines config.tenants p) ≤ 1000000000000
 granted_within config p is l =
     let at : 0 + p ≡ p = omega arith in
-    let held = all_at (λ q. nat_le (granted_by (lines_of config.tenants q)) 1000000000000) 0 (purses_in config) p (terms_held config is).1 l in
-    leb-true (granted_by (lines_of config.tenants p)) 1000000000000 (ap (λ q. nat_le (granted_by (lines_of config.tenants q)) 1000000000000) (sym at) ∙ held)
+    let held = all_at (λ q. nat_le (granted_by (member_lines config.tenants q)) 1000000000000) 0 (purses_in config) p (terms_held config is).1 l in
+    leb-true (granted_by (member_lines config.tenants p)) 1000000000000 (ap (λ q. nat_le (granted_by (member_lines config.tenants q)) 1000000000000) (sym at) ∙ held)
 
 filter_most : (test : ℕ → Bool) (a n : ℕ) → length (filter test (range_with_len a n)) ≤ n
 filter_most test a zero = omega arith

@@ -19,7 +19,7 @@ use Rattle.farm_core.specs.declared.reply.Reply.TheVariants as reply
 use Rattle.farm_core.specs.Tenant.{Tenant, Purse, seat, find_job, put_job, drop_job, line_of, nodes_of_turn, nodes_out_in}
 use Rattle.farm_core.specs.Step as effect
 use Rattle.farm_core.specs.Step.{Replied, Sent, NoTurn, Step, Effect, Nothing, done, step, has_room, is_slice, fresh_job, to_take, may_have_run, to_give, about}
-use Rattle.farm_core.specs.Config.{lines_of}
+use Rattle.farm_core.specs.Config.{member_lines}
 use Rattle.farm_core.specs.World.{World, purse_in, place_in, opened_purse, view, events_of, after_alone, IsOfJournal}
 use Rattle.farm_core.specs.Held.{is_out_of, takes, gives, nodes_out, TakenTurnsAreHeld, TakenJobsWereNotOut, TurnsStayHeld, HeldTurnsAreNoStrangers, HeldTurnsRunTheirNodes, OnlyTakenJobsAreOut, GivenJobsAreNotOut}
 use Rattle.farm_core.specs.Turn.{IsTaken}
@@ -340,7 +340,7 @@ distinct_in w replayed t known =
     let place = place_in w.config t in
     let seen : view t w ≡ seat (after_alone (opened_purse w.config (purse_in w.config t)) (events_of w.config (purse_in w.config t) w.journal)) place =
     each_view_is_a_seat w t known ∙ ap (λ (p : Purse). seat p place) (replayed (purse_in w.config t)) in
-    subst (λ (v : Tenant). AreDistinct v.jobs) (sym seen) (alone_distinct (lines_of w.config.tenants (purse_in w.config t)) (events_of w.config (purse_in w.config t) w.journal) place)
+    subst (λ (v : Tenant). AreDistinct v.jobs) (sym seen) (alone_distinct (member_lines w.config.tenants (purse_in w.config t)) (events_of w.config (purse_in w.config t) w.journal) place)
 
 pub only_taken_jobs_are_out : OnlyTakenJobsAreOut
 only_taken_jobs_are_out old new t e answer replayed h u s out =

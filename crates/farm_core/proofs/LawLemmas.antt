@@ -5,7 +5,7 @@ use Rattle.std.proofs.lemmas.Bool.{cases_lt}
 use Rattle.std.proofs.lemmas.List.{length-map}
 use Rattle.std.proofs.lemmas.List.Sums.{sum_by-cons}
 use Rattle.farm_core.specs.declared.config.TenantLine.{TenantLine}
-use Rattle.farm_core.specs.Config.{ConfigData, purse_names, lines_of}
+use Rattle.farm_core.specs.Config.{ConfigData, purse_names, member_lines}
 use Rattle.farm_core.specs.Tenant.{Tenant, Member, Purse, held_by, new_member, newcomers, newcomer, free, book, ledger_of}
 use Rattle.farm_core.specs.World.{World, Call, Leads, Run, terms_in, purse_in, purses_in, purse, view, opened, opened_purse}
 use Rattle.farm_core.specs.Laws.{IsWhole, EachLedgerIsWhole, lone_events, answers_by, after_by, EachLoneTenantIsIsolated}
@@ -79,7 +79,7 @@ each_ledger_is_whole config calls w run p =
     let start = config_opened config in
     let here : p < purses_in (opened config).config → ⊥ = λ l. none (subst (λ (c : ConfigData). p < purses_in c) start l) in
     let still : purse p w ≡ opened_purse config p = nobody_calls (opened config) w calls p here run ∙ purse_opened p config in
-    subst (λ (s : Purse). IsWhole (ledger_of s)) (sym still) (new_whole (lines_of config.tenants p)))
+    subst (λ (s : Purse). IsWhole (ledger_of s)) (sym still) (new_whole (member_lines config.tenants p)))
     (cases_lt p (purses_in config))
 
 -- ---- a tenant that has its purse for itself

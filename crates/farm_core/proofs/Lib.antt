@@ -30,3 +30,4 @@ pub mod GiveLemmas
 pub mod NextLemmas
 pub mod HeldLemmas
 pub mod Examples
+pub mod TillLemmas

@@ -14,7 +14,7 @@ use Rattle.farm_core.specs.Step.{Answer, Step, step}
 use Rattle.std.specs.List.{range_with_len}
 use Rattle.tenant_book.specs.Book.{BookData}
 use Rattle.farm_core.specs.declared.account.Numbers.{Numbers}
-use Rattle.farm_core.specs.Config.{ConfigData, purse_names, lines_of, granted_by}
+use Rattle.farm_core.specs.Config.{ConfigData, purse_names, member_lines, granted_by}
 use Rattle.farm_core.specs.World.{World, Call, new_numbers, no_book, purse_in, purses_in, opened, member, view, entries_of, is_noted, entry_of, Steps, Leads}
 use Rattle.farm_core.specs.Runs.{HasAccounts, EachCallCanBeMade, wish_of, EachSequenceIsARun, JournalsAreTheCalls}
 use Rattle.farm_core.proofs.ViewLemmas.{IsKnown, moved, moved_own, member_other, set_other}
@@ -126,7 +126,7 @@ opened_accounts : (config : ConfigData) → HasAccounts (opened config)
 unfolding opened
 opened_accounts config = (
   length-map config.tenants (λ (line : TenantLine). new_numbers),
-  length-map (range_with_len 0 (purses_in config)) (λ p. book_of.opened (granted_by (lines_of config.tenants p))) ∙ range_length 0 (purses_in config),
+  length-map (range_with_len 0 (purses_in config)) (λ p. book_of.opened (granted_by (member_lines config.tenants p))) ∙ range_length 0 (purses_in config),
 )
 
 pub each_sequence_is_a_run : EachSequenceIsARun

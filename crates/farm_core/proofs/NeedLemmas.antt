@@ -19,7 +19,7 @@ use Rattle.farm_core.specs.Step.{Answer, Replied, Sent, NoTurn, Step, Changes, d
 use Rattle.farm_core.specs.declared.config.TenantLine.{TenantLine}
 use Rattle.farm_core.specs.Config.{ConfigData}
 use Rattle.farm_core.specs.World.{World, Call, Asked, opened, view, Steps, Leads, Run, after_alone}
-use Rattle.farm_core.specs.Need.{given_by, given_to, asked, nodes_for, HasRunItsNodes, NodesAreTheLesser}
+use Rattle.farm_core.specs.Need.{given_by, given_to, accepted, nodes_for, HasRunItsNodes, NodesAreTheLesser}
 use Rattle.farm_core.proofs.DecisionLemmas.{Cases, each_decision, unasked}
 use Rattle.farm_core.proofs.PlaceLemmas.{first_from-most}
 use Rattle.farm_core.proofs.AloneLemmas.{member_opened}
@@ -149,7 +149,7 @@ changes g e t answer ran new none below one kept = record {
 }
 
 -- a call that asks for nothing gives nothing
-gives_none : (s : ℕ) (e : Event) (answer : Answer) → asked e answer ≡ [] → given_by s e answer ≡ 0
+gives_none : (s : ℕ) (e : Event) (answer : Answer) → accepted e answer ≡ [] → given_by s e answer ≡ 0
 gives_none s (Submit plan quanta) (Replied (reply.Job n)) none = absurd (cc)
 gives_none s (Fund n quanta) (Replied (reply.Line line)) none = absurd (cc)
 gives_none s e answer none = refl
@@ -257,7 +257,7 @@ keeps : (g : ℕ → ℕ) (t : Tenant) → IsKept g t → Cases t (λ e f. Keeps
 keeps g t kept = record {
   full = λ e. stays g e t (Replied reply.NoRoom) t.used (λ s. gives_none s e (Replied reply.NoRoom) (unasked e).0) kept;
   idle = λ e. stays g e t NoTurn t.used (λ s. gives_none s e NoTurn (unasked e).1) kept;
-  notes = λ e answer room note. stays g e t (Replied answer) (t.used + 1) (λ s. gives_none s e (Replied answer) note.asked) kept;
+  notes = λ e answer room note. stays g e t (Replied answer) (t.used + 1) (λ s. gives_none s e (Replied answer) note.accepted) kept;
   adds = λ plan quanta room some.
       let made : Answer = Replied (reply.Job t.next) in
       let e : Event = Submit plan quanta in
@@ -432,9 +432,9 @@ step_all p place e all j =
     (had.0, kept_as had.0 (seat p j) (seat new j) (ap (λ (m : Member). m.jobs) is) (ap (λ (m : Member). m.next) is) had.1))
     (set_get p.members place j (own_of after))
 
-after_all : (p : Purse) (asked : List Asked) → AllKept p → AllKept (after_alone p asked)
+after_all : (p : Purse) (accepted : List Asked) → AllKept p → AllKept (after_alone p accepted)
 after_all p [] all = all
-after_all p (a ∷ asked) all = after_all (with_seat p a.place (step (seat p a.place) a.event).after) asked (step_all p a.place a.event all)
+after_all p (a ∷ accepted) all = after_all (with_seat p a.place (step (seat p a.place) a.event).after) accepted (step_all p a.place a.event all)
 
 no_jobs : (lines : List TenantLine) (place : ℕ) → (get_or (map new_member lines) place no_member).jobs ≡ []
 no_jobs [] place = refl
@@ -445,8 +445,8 @@ newcomers_kept : (lines : List TenantLine) → AllKept (newcomers lines)
 unfolding newcomers
 newcomers_kept lines place = (λ s. 0, record { jobs = rw (no_jobs lines place) tt; later = λ s l. refl })
 
-pub alone_distinct : (lines : List TenantLine) (asked : List Asked) (place : ℕ) → AreDistinct (seat (after_alone (newcomers lines) asked) place).jobs
-alone_distinct lines asked place =
-    let p : Purse = after_alone (newcomers lines) asked in
-    let had = after_all (newcomers lines) asked (newcomers_kept lines) place in
+pub alone_distinct : (lines : List TenantLine) (accepted : List Asked) (place : ℕ) → AreDistinct (seat (after_alone (newcomers lines) accepted) place).jobs
+alone_distinct lines accepted place =
+    let p : Purse = after_alone (newcomers lines) accepted in
+    let had = after_all (newcomers lines) accepted (newcomers_kept lines) place in
     distinct_of had.0 (seat p place).next (seat p place).jobs had.1.jobs

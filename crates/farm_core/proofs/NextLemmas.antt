@@ -1,9 +1,9 @@
 -- Which job's turn is next.
-use Rattle.std.proofs.Common.{◌≡◌, ℕ, zero, suc, ◌+◌, ◌<◌, ◌≤◌, ◌==◌, true, false, Option, Some, None, List, [], ◌∷◌, length, refl, sym, ap, ◌∙◌, subst, arith, inr}
+use Rattle.std.proofs.Common.{◌≡◌, ℕ, zero, suc, ◌+◌, ◌<◌, ◌≤◌, ◌==◌, true, false, Option, Some, None, List, [], ◌∷◌, length, sym, ap, ◌∙◌, subst, arith, inr}
 use Rattle.std.specs.Prelude.{slice_get}
 use Rattle.std.proofs.lemmas.Bool.{cond_both, eqb-true, and_parts}
 use borrow.Author.Count.{below_more}
-use Rattle.job_table.specs.Table.{Row, JobData, is_row, is_waiting, find_row, behind, first_of, AreWaiting}
+use Rattle.job_table.specs.Table.{Row, JobData, is_row, is_waiting, find_row, behind, AreWaiting}
 use Rattle.job_table.proofs.WaitingLemmas.{waiting_found, waiting_at}
 use Rattle.job_table.proofs.WholeLemmas.{next_at, once_waiting}
 use Rattle.farm_core.specs.Step.{is_slice, has_room}

@@ -7,7 +7,7 @@ use Rattle.job_table.specs.Table.{TableData, is_waiting, is_out, waiting_then}
 use Rattle.job_table.specs.Job.{IsFunded}
 use Rattle.farm_core.specs.declared.account.Account.{Account}
 use Rattle.farm_core.specs.declared.entry.Event.{Event}
-use Rattle.farm_core.specs.Tenant.{Tenant, Member, kept}
+use Rattle.farm_core.specs.Tenant.{Member, kept}
 use Rattle.farm_core.specs.Step.{Answer, has_room}
 use Rattle.farm_core.specs.World.{World, table_of, member, view, entries_of, IsWithout, KeepsOrder, Follows}
 use Rattle.farm_core.specs.Farm.{IsFarm, IsPassed, ArePassed, owed}

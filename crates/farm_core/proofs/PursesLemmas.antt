@@ -7,7 +7,7 @@ use Rattle.std.proofs.lemmas.List.Sums.{sum_by_push}
 use Rattle.std.specs.List.{range_with_len, list_all}
 use Rattle.mrcpsp.specs.Numbers.{first_from}
 use Rattle.farm_core.specs.Purses.{purse_name, is_shared, passing, purse_of, members_of}
-use Rattle.farm_core.specs.Config.{is_within, are_terms, purse_names, no_terms, lines_of, granted_by}
+use Rattle.farm_core.specs.Config.{is_within, are_terms, purse_names, no_terms, member_lines, granted_by}
 use Rattle.farm_core.specs.declared.config.TenantLine.{TenantLine}
 use Rattle.farm_core.proofs.SharingLemmas.{is_eq, is_ne}
 
@@ -88,7 +88,7 @@ pub granted_as_before : (lines : List TenantLine) (p n : ℕ) → purse_of (purs
 granted_as_before lines p n other =
     ap (λ (ts : List ℕ). granted_by (map (λ t. get_or lines t no_terms) ts)) (fails (λ t. purse_of (purse_names lines) t == p) n (is_ne (purse_of (purse_names lines) n) p other))
 
-pub granted_in_all : (lines : List TenantLine) (p : ℕ) → granted_by (lines_of lines p) ≡ granted_below lines p (length lines)
+pub granted_in_all : (lines : List TenantLine) (p : ℕ) → granted_by (member_lines lines p) ≡ granted_below lines p (length lines)
 unfolding members_of
 granted_in_all lines p = ap (granted_below lines p) (length-map lines (λ (line : TenantLine). line.purse))
 

@@ -15,7 +15,7 @@ use Rattle.farm_core.specs.declared.reply.Reply.TheVariants as reply
 use Rattle.farm_core.specs.Tenant.{Tenant, Member, new_member, newcomers, seated_at, held_beside, held, held_by, book, free, kept, find_job, put_job, drop_job, line_of}
 use Rattle.farm_core.specs.Step.{Answer, Replied, Sent, Effect, Changes, done, step, has_room, fresh_job}
 use Rattle.farm_core.specs.declared.config.TenantLine.{TenantLine}
-use Rattle.farm_core.specs.Config.{ConfigData, lines_of}
+use Rattle.farm_core.specs.Config.{ConfigData, member_lines}
 use Rattle.farm_core.specs.World.{World, Call, terms_in, purse_in, place_in, opened, spent_in, member, purse, view, Steps, Leads, Run}
 use Rattle.farm_core.proofs.DecisionLemmas.{Cases, each_decision}
 use Rattle.farm_core.proofs.AloneLemmas.{seen_opened}
@@ -279,7 +279,7 @@ seat_runs place lines line = record { within = omega arith; few = omega arith; j
 
 opened_runs : (config : ConfigData) → AllRun (opened config)
 opened_runs config u known =
-    subst IsRunning (sym (seen_opened u config)) (seat_runs (place_in config u) (lines_of config.tenants (purse_in config u)) (terms_in config u))
+    subst IsRunning (sym (seen_opened u config)) (seat_runs (place_in config u) (member_lines config.tenants (purse_in config u)) (terms_in config u))
 
 leads_run : (old new : World) (calls : List Call) → Leads old calls new → AllRun old → AllRun new
 leads_run old new [] run all = subst AllRun (sym run) all

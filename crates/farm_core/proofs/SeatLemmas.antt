@@ -1,5 +1,5 @@
 -- What a tenant sees at its place of its purse, and what a call changes there.
-use Rattle.std.proofs.Common.{◌≡◌, ◌≢◌, ℕ, zero, suc, ◌+◌, ◌-◌, ◌<◌, eqb, Bool, true, List, [], ◌∷◌, length, map, filter, get_or, set, Option, refl, sym, ap, ◌∙◌, subst, arith}
+use Rattle.std.proofs.Common.{◌≡◌, ◌≢◌, ℕ, zero, suc, ◌+◌, ◌-◌, ◌<◌, eqb, Bool, true, List, [], ◌∷◌, length, map, filter, get_or, set, Option, refl, sym, ap, ◌∙◌, arith}
 use Rattle.std.specs.List.{range_with_len, sum_by}
 use Rattle.std.proofs.lemmas.Bool.Decides.{nat_tests}
 use Rattle.std.proofs.lemmas.List.{length-map}
@@ -8,8 +8,8 @@ use Rattle.tenant_book.specs.Book.{BookData}
 use Rattle.farm_core.specs.declared.config.TenantLine.{TenantLine}
 use Rattle.farm_core.specs.declared.entry.Event.{Event}
 use Rattle.farm_core.specs.Purses.{purse_of, members_of, place_of}
-use Rattle.farm_core.specs.Config.{ConfigData, purse_names, lines_of, granted_by}
-use Rattle.farm_core.specs.Tenant.{Tenant, Member, Purse, held_by, held_beside, seated_at, no_member, seat, own_of, with_seat, held, free, book, ledger_of}
+use Rattle.farm_core.specs.Config.{ConfigData, purse_names, member_lines, granted_by}
+use Rattle.farm_core.specs.Tenant.{Tenant, Member, Purse, held_by, held_beside, seated_at, no_member, own_of, with_seat, held, free, book, ledger_of}
 use Rattle.farm_core.specs.Step.{Answer, step}
 use Rattle.farm_core.specs.World.{World, purse_in, place_in, spent_in, member, purse, view, Steps, Follows}
 use Rattle.farm_core.specs.Laws.{EachViewIsASeat}
@@ -144,7 +144,7 @@ steps_of old new t event answer h =
     record { known = h.known; answer_is = h.answer_is; own = h.own; others = h.others; purses = h.purses; journal = h.journal; config = h.config }
 
 abbrev made : ConfigData → ℕ → ℕ → List Member → Purse
-made config p spent ms = record { granted = granted_by (lines_of config.tenants p); spent = spent; members = ms }
+made config p spent ms = record { granted = granted_by (member_lines config.tenants p); spent = spent; members = ms }
 
 purse_is : (config : ConfigData) (p : ℕ) (w : World) → w.config ≡ config → purse p w ≡ made config p (spent_in p w) (map (λ u. member u w) (members_of (purse_names config.tenants) p))
 unfolding purse

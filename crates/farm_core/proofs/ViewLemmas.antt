@@ -9,7 +9,7 @@ use Rattle.farm_core.specs.declared.entry.Event.{Event}
 use Rattle.tenant_book.specs.Book.{BookData}
 use Rattle.farm_core.specs.declared.account.Numbers.{Numbers}
 use Rattle.farm_core.specs.Purses.{members_of}
-use Rattle.farm_core.specs.Config.{purse_names, lines_of, granted_by}
+use Rattle.farm_core.specs.Config.{purse_names, member_lines, granted_by}
 use Rattle.farm_core.specs.Tenant.{Tenant, Member, terms_of, held_beside, find_job, put_job, drop_job}
 use Rattle.farm_core.specs.Step.{Answer, step}
 use Rattle.farm_core.specs.declared.account.Account.{Account}
@@ -107,7 +107,7 @@ moved_own w t all account event answer it others =
     let new : World = moved w t all account (entry_of t event answer) in
     let ms : List Member = map (λ u. member u w) (members_of names p) in
     let own : Member = record { terms = terms_of (terms_in w.config t); next = account.next; used = length (entries_of t w.journal) + length (entry_of t event answer); jobs = jobs_of t all.rows } in
-    let seen : ℕ → ℕ → Member → Tenant = λ spent beside m. record { terms = m.terms; granted = granted_by (lines_of w.config.tenants p); spent = spent; beside = beside; next = m.next; used = m.used; jobs = m.jobs } in
+    let seen : ℕ → ℕ → Member → Tenant = λ spent beside m. record { terms = m.terms; granted = granted_by (member_lines w.config.tenants p); spent = spent; beside = beside; next = m.next; used = m.used; jobs = m.jobs } in
     let spent_is : spent_in p new ≡ account.book.spent = ap (λ (b : BookData). b.spent) (set_own w.books p account.book no_book it.booked) in
     let members : map (λ u. member u new) (members_of names p) ≡ set ms place (member t new) =
     members_put names (λ u. member u w) (λ u. member u new) t (named w.config.tenants t it.known) (λ u ne. member_other w u t all account event answer ne (others u ne)) in

@@ -15,7 +15,7 @@ pub record ConfigData : Type 0 where
 abbrev pub is_within : ℕ → ℕ → ℕ → Bool
 is_within least most n = nat_le least n && nat_le n most
 
--- a tenant has at most 10^12 quanta, 1 to 1,000 jobs, and 1 to 1,000,000 entries of the journal
+-- a tenant has no more quanta than a purse may have, one job or more, and one entry of the journal or more
 unfoldable pub are_terms : TenantLine → Bool
 are_terms line = nat_le line.quanta MOST_QUANTA && is_within 1 MOST_JOBS line.jobs && is_within 1 MOST_ENTRIES line.entries
 
@@ -38,18 +38,18 @@ abbrev pub no_terms : TenantLine
 no_terms = record { name = []; quanta = 0; jobs = 0; entries = 0; purse = None }
 
 -- the lines of a purse's members, in their order
-abbrev pub lines_of : List TenantLine → ℕ → List TenantLine
-lines_of lines p = map (λ t. get_or lines t no_terms) (members_of (purse_names lines) p)
+abbrev pub member_lines : List TenantLine → ℕ → List TenantLine
+member_lines lines p = map (λ t. get_or lines t no_terms) (members_of (purse_names lines) p)
 
 -- a purse was granted what its members' lines grant
 abbrev pub granted_by : List TenantLine → ℕ
 granted_by lines = sum_by (λ (line : TenantLine). line.quanta) lines
 
--- no purse was granted more than 10^12 quanta
+-- no purse was granted more quanta than it may have
 abbrev pub are_purses : List TenantLine → Bool
-are_purses lines = list_all (λ p. nat_le (granted_by (lines_of lines p)) MOST_QUANTA) (range_with_len 0 (purses (purse_names lines)))
+are_purses lines = list_all (λ p. nat_le (granted_by (member_lines lines p)) MOST_QUANTA) (range_with_len 0 (purses (purse_names lines)))
 
--- 1 to 64 tenants of different names, purses of at most 10^12 quanta, 1 to 16 workers, and turns of 1 to 1,000,000 nodes
+-- tenants of different names, purses, workers and the nodes of a turn within their limits, one of each or more
 unfoldable pub is_config : ConfigData → Bool
 is_config c =
     is_within 1 MOST_TENANTS (length c.tenants) && list_all are_terms c.tenants && are_distinct c.tenants && are_purses c.tenants

@@ -28,7 +28,7 @@ gives s (Give n ran) = n == s
 gives s event = false
 
 -- a turn that was taken and has not run: its job is out for it
-pub record IsHeld (w : World) (t s slice : ℕ) (m : Meaning) : Type 0 where
+pub record IsOutFor (w : World) (t s slice : ℕ) (m : Meaning) : Type 0 where
   pub job : JobData
   pub found : find_job s (view t w).jobs ≡ Some job
   pub own : IsOwn t slice 0 m job
@@ -43,26 +43,26 @@ nodes_out (Some job) = nodes_out_in job job.phase
 abbrev pub AreHeld : {J : Type 0} → (J → Meaning) → World → List (Turn J) → Type 0
 AreHeld meaning w [] = ⊤
 AreHeld meaning w (turn ∷ turns) =
-    (turn.ran ≡ 0) × (turn.tenant < length w.config.tenants) × IsHeld w turn.tenant turn.seq turn.slice (meaning turn.search) × AreHeld meaning w turns
+    (turn.ran ≡ 0) × (turn.tenant < length w.config.tenants) × IsOutFor w turn.tenant turn.seq turn.slice (meaning turn.search) × AreHeld meaning w turns
 
 -- a turn that is taken is held,
 abbrev pub TakenTurnsAreHeld : Type 0
-TakenTurnsAreHeld = (old new : World) (t s slice : ℕ) (m : Meaning) → IsTaken old t s slice m new → IsHeld new t s slice m
+TakenTurnsAreHeld = (old new : World) (t s slice : ℕ) (m : Meaning) → IsTaken old t s slice m new → IsOutFor new t s slice m
 
 -- and stays so over each call but its own give
 abbrev pub TurnsStayHeld : Type 0
 TurnsStayHeld = (old new : World) (t : ℕ) (e : Event) (answer : Answer) → Follows old t e answer new →
-    (u s slice : ℕ) (m : Meaning) → IsHeld old u s slice m → (t ≡ u → gives s e ≡ false) → IsHeld new u s slice m
+    (u s slice : ℕ) (m : Meaning) → IsOutFor old u s slice m → (t ≡ u → gives s e ≡ false) → IsOutFor new u s slice m
 
 -- the farm knows the search of a turn that is held, run or unrun
 abbrev pub HeldTurnsAreNoStrangers : Type 0
-HeldTurnsAreNoStrangers = (w : World) (t s slice : ℕ) (m after : Meaning) → IsHeld w t s slice m →
+HeldTurnsAreNoStrangers = (w : World) (t s slice : ℕ) (m after : Meaning) → IsOutFor w t s slice m →
     (after ≡ ran_on (nodes_within slice m) m → IsStrange w.rows t s slice (nodes_within slice m) after → ⊥)
     × (IsStrange w.rows t s slice 0 m → ⊥)
 
 -- a turn that is held runs the nodes of its job that is out
 abbrev pub HeldTurnsRunTheirNodes : Type 0
-HeldTurnsRunTheirNodes = (w : World) (t s slice : ℕ) (m : Meaning) → IsHeld w t s slice m → nodes_within slice m ≡ nodes_out (find_job s (view t w).jobs)
+HeldTurnsRunTheirNodes = (w : World) (t s slice : ℕ) (m : Meaning) → IsOutFor w t s slice m → nodes_within slice m ≡ nodes_out (find_job s (view t w).jobs)
 
 -- a farm is where its journal leads, when it is made and after each call
 pub record FarmsAreReplayed : Type 0 where

@@ -4,6 +4,7 @@ pub mod Config
 pub mod Tenant
 pub mod Step
 pub mod World
+pub mod Tills
 pub mod Runs
 pub mod Laws
 pub mod Truth

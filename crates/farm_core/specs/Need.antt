@@ -44,17 +44,17 @@ NodesAreTheLesser = (config : ConfigData) (calls : List Call) (w : World) → Ru
     HasRunItsNodes (given_to t calls) job
 
 -- what an accepted submit, fund, cancel or forget asked for; status, result, ledger, takes, gives, and what was refused, ask for nothing
-abbrev pub asked : Event → Answer → List Event
-asked (Submit plan quanta) (Replied (reply.Job n)) = Submit plan quanta ∷ []
-asked (Fund s quanta) (Replied (reply.Line line)) = Fund s quanta ∷ []
-asked (Cancel s) (Replied (reply.Line line)) = Cancel s ∷ []
-asked (Forget s) (Replied (reply.Forgotten n)) = Forget s ∷ []
-asked e answer = []
+abbrev pub accepted : Event → Answer → List Event
+accepted (Submit plan quanta) (Replied (reply.Job n)) = Submit plan quanta ∷ []
+accepted (Fund s quanta) (Replied (reply.Line line)) = Fund s quanta ∷ []
+accepted (Cancel s) (Replied (reply.Line line)) = Cancel s ∷ []
+accepted (Forget s) (Replied (reply.Forgotten n)) = Forget s ∷ []
+accepted e answer = []
 
 -- all that these calls of tenant t asked for so
 abbrev pub asked_by : ℕ → List Call → List Event
 asked_by t [] = []
-asked_by t (c ∷ calls) = cond (c.tenant == t) (asked c.event c.answer) [] ++ asked_by t calls
+asked_by t (c ∷ calls) = cond (c.tenant == t) (accepted c.event c.answer) [] ++ asked_by t calls
 
 -- submits and funds alone
 abbrev pub are_gifts : List Event → Bool

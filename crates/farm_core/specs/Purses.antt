@@ -1,5 +1,5 @@
 -- Which tenants share a purse, and how purses are numbered.
-use Rattle.std.specs.Prelude.{ℕ, Bool, false, ◌==◌, List, length, map, filter, get_or, Option, Some, None}
+use Rattle.std.specs.Prelude.{ℕ, Bool, false, ◌==◌, List, length, filter, get_or, Option, Some, None}
 use Rattle.std.specs.List.{range_with_len}
 use Rattle.mrcpsp.specs.Numbers.{first_from}
 use Rattle.farm_core.specs.Name.{same_bytes}

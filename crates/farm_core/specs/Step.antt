@@ -58,11 +58,11 @@ unless (cause ∷ causes) effect = if cause.0 then Notes cause.1 else unless cau
 abbrev pub has_room : ℕ → Tenant → Bool
 has_room n t = nat_le (t.used + kept t + n) t.terms.entries
 
--- 1 to 10^12 quanta
+-- at least one quantum, and no more than a purse may have
 abbrev pub is_amount : ℕ → Bool
 is_amount quanta = nat_lt 0 quanta && nat_le quanta MOST_QUANTA
 
--- 1 to 1,000,000 nodes
+-- at least one node, and no more than a turn may have
 abbrev pub is_slice : ℕ → Bool
 is_slice slice = nat_lt 0 slice && nat_le slice MOST_SLICE
 

@@ -12,7 +12,7 @@ use Rattle.farm_core.specs.declared.entry.Event.{Event}
 use Rattle.farm_core.specs.declared.reply.Reply.{Reply}
 use Rattle.farm_core.specs.declared.reply.Reply.TheVariants as reply
 use Rattle.farm_core.specs.Purses.{purse_of, purses, members_of, place_of}
-use Rattle.farm_core.specs.Config.{ConfigData, purse_names, no_terms, lines_of, granted_by}
+use Rattle.farm_core.specs.Config.{ConfigData, purse_names, no_terms, member_lines, granted_by}
 use Rattle.farm_core.specs.Tenant.{Tenant, Member, Purse, terms_of, newcomers, seated_at, seat, with_seat}
 use Rattle.farm_core.specs.Step.{Answer, Replied, Sent, NoTurn, Notes, command, decided, step}
 
@@ -51,7 +51,7 @@ purses_in config = purses (purse_names config.tenants)
 
 -- a ledger for each purse that has spent nothing
 abbrev pub opened_books : ConfigData → List BookData
-opened_books config = map (λ p. ledger.opened (granted_by (lines_of config.tenants p))) (range_with_len 0 (purses_in config))
+opened_books config = map (λ p. ledger.opened (granted_by (member_lines config.tenants p))) (range_with_len 0 (purses_in config))
 
 -- the farm in which nothing has happened
 unfoldable pub opened : ConfigData → World
@@ -90,7 +90,7 @@ spent_in p w = (get_or w.books p no_book).spent
 -- one purse's part of the world,
 unfoldable pub purse : ℕ → World → Purse
 purse p w = record {
-  granted = granted_by (lines_of w.config.tenants p);
+  granted = granted_by (member_lines w.config.tenants p);
   spent = spent_in p w;
   members = map (λ t. member t w) (members_of (purse_names w.config.tenants) p);
 }
@@ -200,7 +200,7 @@ after_alone p [] = p
 after_alone p (a ∷ asked) = after_alone (with_seat p a.place (step (seat p a.place) a.event).after) asked
 
 abbrev pub opened_purse : ConfigData → ℕ → Purse
-opened_purse config p = newcomers (lines_of config.tenants p)
+opened_purse config p = newcomers (member_lines config.tenants p)
 
 -- each purse's part of the world is where its own entries of the journal lead, from the farm in which nothing has happened
 abbrev pub IsOfJournal : World → Type 0

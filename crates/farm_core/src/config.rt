@@ -1,7 +1,7 @@
 //! What a farm is made for.
 ghost use Rattle.std.specs.Prelude.{◌≡◌, ◌↔◌, IsTrue, Some, None, if◌then◌else◌, drop, length, ◌<◌, ◌≤◌, IfOk};
 ghost use Rattle.std.specs.List.{list_all};
-ghost use Rattle.farm_core.specs.Config.{ConfigData, are_terms, has_name, are_distinct, is_config, purse_names, lines_of, granted_by};
+ghost use Rattle.farm_core.specs.Config.{ConfigData, are_terms, has_name, are_distinct, is_config, purse_names, member_lines, granted_by};
 ghost use Rattle.farm_core.specs.Purses.{purse_of, purses};
 
 use crate::Name;
@@ -211,7 +211,7 @@ impl Config {
 
     /// How many quanta a purse was granted: what its members' lines grant together.
     pub fn granted(&self, purse: u32) -> u64
-        ensures { result ≡ granted_by (lines_of self.now.tenants purse) }
+        ensures { result ≡ granted_by (member_lines self.now.tenants purse) }
     {
         granted_to(self.tenants(), purse)
     }

@@ -1,7 +1,7 @@
 //! Which tenants share a purse, and how purses are numbered.
 ghost use Rattle.std.specs.Prelude.{◌≡◌, ◌<◌, ◌≤◌, ◌*◌, IsTrue, length, Option};
 ghost use Rattle.std.specs.List.{list_all};
-ghost use Rattle.farm_core.specs.Config.{are_terms, purse_names, lines_of, granted_by, are_purses};
+ghost use Rattle.farm_core.specs.Config.{are_terms, purse_names, member_lines, granted_by, are_purses};
 ghost use Rattle.farm_core.specs.Purses.{is_shared, is_first, passing, first_member, purse_of, purses};
 
 use crate::{MOST_QUANTA, MOST_TENANTS, Name, TenantLine};
@@ -72,7 +72,7 @@ pub(crate) fn purses(lines: &[TenantLine]) -> u32
 pub(crate) fn granted_to(lines: &[TenantLine], purse: u32) -> u64
     requires few { length lines.now ≤ MOST_TENANTS }
     requires terms { IsTrue (list_all are_terms lines.now) }
-    ensures exact { result ≡ granted_by (lines_of lines.now purse) }
+    ensures exact { result ≡ granted_by (member_lines lines.now purse) }
 {
     let mut granted = 0;
     for (tenant, line) in lines.iter().enumerate() {

@@ -11,7 +11,7 @@ use Rattle.farm_core.specs.declared.entry.Event.{Event}
 use Rattle.farm_core.specs.declared.entry.Event.TheVariants.{Take, Give}
 use Rattle.farm_core.specs.declared.reply.Reply.{Reply}
 use Rattle.farm_core.specs.declared.reply.Reply.TheVariants as reply
-use Rattle.farm_core.specs.Config.{ConfigData, lines_of, granted_by}
+use Rattle.farm_core.specs.Config.{ConfigData, member_lines, granted_by}
 use Rattle.farm_core.specs.Tenant.{Tenant, Purse, seat, with_seat}
 use Rattle.farm_core.specs.Step.{Answer, Replied, step}
 use Rattle.farm_core.specs.World.{World, Call, opened, new_numbers, purses_in, purse_in, place_in, purse, view, is_noted, entry_of, Steps, Leads, Run, IsOfJournal}
@@ -54,7 +54,7 @@ opened_accounts : (config : ConfigData) → HasAccounts (opened config)
 unfolding opened
 opened_accounts config = (
   length-map config.tenants (λ (line : TenantLine). new_numbers),
-  length-map (range_with_len 0 (purses_in config)) (λ p. ledger.opened (granted_by (lines_of config.tenants p))) ∙ range_length 0 (purses_in config),
+  length-map (range_with_len 0 (purses_in config)) (λ p. ledger.opened (granted_by (member_lines config.tenants p))) ∙ range_length 0 (purses_in config),
 )
 
 leads_more : (old mid new : World) (calls : List Call) (c : Call) → Leads old calls mid

@@ -9,7 +9,7 @@ use Rattle.farm_core.specs.declared.entry.Event.{Event}
 use Rattle.farm_core.specs.declared.entry.Event.TheVariants.{Submit, Give}
 use Rattle.farm_core.specs.declared.reply.Reply.{Reply}
 use Rattle.farm_core.specs.declared.reply.Reply.TheVariants as reply
-use Rattle.farm_core.specs.Config.{ConfigData, lines_of}
+use Rattle.farm_core.specs.Config.{ConfigData, member_lines}
 use Rattle.farm_core.specs.Tenant.{Tenant, Member, Purse, new_member, newcomers, no_member, seat, own_of}
 use Rattle.farm_core.specs.Step.{Replied, step}
 use Rattle.farm_core.specs.World.{purse_in, place_in}
@@ -39,7 +39,7 @@ no_jobs made (line ∷ lines) (suc place) = no_jobs made lines place
 
 knows_none : (config : ConfigData) (all : List Entry) (t : ℕ) → KnowsAt config all [] t
 unfolding newcomers
-knows_none config all t = no_jobs (WasSubmitted config all t) (lines_of config.tenants (purse_in config t)) (place_in config t)
+knows_none config all t = no_jobs (WasSubmitted config all t) (member_lines config.tenants (purse_in config t)) (place_in config t)
 
 -- where an entry stands, and what is before it
 record IsAt (all before : List Entry) (e : Entry) : Type 0 where

@@ -21,7 +21,7 @@ use Rattle.session_lines.specs.declared.request.LineFault.TheVariants.{TooLong, 
 use Rattle.session_lines.specs.declared.said.Said.{Said}
 use Rattle.session_lines.specs.ReplyText.{who_text, said_text}
 use Rattle.session_lines.specs.RequestLine.{name_in, tenant_in, what_in, turn_in, submit_in, opens, asks, own_line, turn_for, turn_line, line_for, meaning_in, meaning_of}
-use Rattle.session_lines.specs.Script.{shown, is_long, is_wordless, judged, TextData, opened, with_line, Item, submitted, whole_text, cut_text, outside_text, before, requests, lines_of, requests_of}
+use Rattle.session_lines.specs.Script.{shown, is_long, is_wordless, judged, TextData, opened_text, with_line, Item, submitted, whole_text, cut_text, outside_text, before, requests, lines_of, requests_of}
 use Rattle.session_lines.proofs.ReadLemmas.{grown}
 use Rattle.farm_replay.specs.Output.{Parts, Saying, who_in, Marked, next, items_of, opening, lines_for, line_text}
 use Rattle.farm_replay.specs.Isolation.{is_of}
@@ -159,9 +159,9 @@ lines_named : (text : Option TextData) (lines : List (List ℕ)) → IsNamedText
 lines_named None [] h = tt
 lines_named (Some text) [] h = (cut_named text h, tt)
 lines_named None (line ∷ lines) h =
-    go (judged line) (judged_named line) (lines_named None lines tt) (λ head named. lines_named (Some (opened head)) lines named)
+    go (judged line) (judged_named line) (lines_named None lines tt) (λ head named. lines_named (Some (opened_text head)) lines named)
   where
-    go : (meaning : Meaning) → IsNamedMeaning meaning → AreNamed (requests None lines) → ((head : Head) → is_name head.who ≡ true → AreNamed (requests (Some (opened head)) lines))
+    go : (meaning : Meaning) → IsNamedMeaning meaning → AreNamed (requests None lines) → ((head : Head) → is_name head.who ≡ true → AreNamed (requests (Some (opened_text head)) lines))
         → AreNamed (before (outside_text meaning).whole (requests (outside_text meaning).text lines))
     go Blank h later inside = later
     go (Whole request) h later inside = ((h, tt), later)

@@ -31,7 +31,7 @@ use Rattle.farm_core.specs.Config.{ConfigData}
 use Rattle.farm_core.specs.Command as command
 use Rattle.farm_core.specs.World.{World, opened, purse_in, place_in, spent_in, member, purse, view, Follows, IsOfJournal}
 use Rattle.farm_core.proofs.SeatLemmas.{each_view_is_a_seat, steps_of, purse_after, purse_stays}
-use Rattle.farm_core.specs.Held.{is_out_of, nodes_out, takes, gives, IsHeld, AreHeld}
+use Rattle.farm_core.specs.Held.{is_out_of, nodes_out, takes, gives, IsOutFor, AreHeld}
 use Rattle.farm_core.proofs.HeldLemmas.{taken_out, taken_turns_are_held, taken_jobs_were_not_out, turns_stay_held, held_turns_are_no_strangers, held_turns_run_their_nodes, only_taken_jobs_are_out, given_jobs_are_not_out}
 use Rattle.farm_core.proofs.ReplayLemmas.{farms_are_replayed}
 use Rattle.farm_core.proofs.ReplyLemmas.{by_reply, command_needs}
@@ -40,7 +40,7 @@ use Rattle.session_lines.specs.declared.request.What.TheVariants as what
 use Rattle.session_lines.specs.declared.said.Said.{Said}
 use Rattle.session_lines.specs.declared.said.Said.TheVariants as said
 use Rattle.farm_session.specs.Command.{event_in}
-use Rattle.farm_replay.specs.Output.{Told, said_for, told_by, told_to, told_under, given_back, turned, may_need}
+use Rattle.farm_replay.specs.Output.{Told, said_for, told_by, told_to, told_under, given_back, turned, request_may_need}
 use Rattle.farm_replay.specs.Floor.{is_turn_of, has_turn, AreApart, IsFloor, IsTold, untaken}
 
 -- ---- lists of turns
@@ -118,7 +118,7 @@ out_of_turn slice Dry h = absurd (cc)
 out_of_turn slice Closed h = absurd (cc)
 out_of_turn slice Cancelled h = absurd (cc)
 
-held_is_out : (w : World) (t s slice : ℕ) (m : Meaning) → IsHeld w t s slice m → is_out_of (find_job s (view t w).jobs) ≡ true
+held_is_out : (w : World) (t s slice : ℕ) (m : Meaning) → IsOutFor w t s slice m → is_out_of (find_job s (view t w).jobs) ≡ true
 held_is_out w t s slice m it = ap is_out_of it.found ∙ out_of_turn slice it.job.phase it.own.turn
 
 all_out : {J : Type 0} (meaning : J → Meaning) (w : World) (turns : List (Turn J)) (t s : ℕ) → AreHeld meaning w turns → has_turn t s turns ≡ true
@@ -178,7 +178,7 @@ floor_taken meaning old new t s slice x it tenant seq most ran known turns floor
       | true ↦ λ has. absurd (both_ways (is_out_of (find_job s (view t old).jobs)) (taken_jobs_were_not_out old new t s slice (meaning x.search) it) (all_out meaning old turns t s floor.held has))
       | false ↦ λ _. refl
     ] refl in
-    let here : IsHeld new x.tenant x.seq x.slice (meaning x.search) =
+    let here : IsOutFor new x.tenant x.seq x.slice (meaning x.search) =
     rw (tenant, seq, most) (taken_turns_are_held old new t s slice (meaning x.search) it) in
     record {
       held = held_append meaning new turns (x ∷ []) (held_over meaning old new t (Take s slice) answer f turns (λ n given. absurd (cc)) floor.held)
@@ -259,7 +259,7 @@ purse_at w t = purse (purse_in w.config t) w
 stands : (w : World) (t : ℕ) → t < length w.config.tenants → purse_at w t ≡ with_seat (purse_at w t) (place_in w.config t) (view t w)
 stands w t known = sym (seated_same (purse_at w t) (place_in w.config t)) ∙ ap (with_seat (purse_at w t) (place_in w.config t)) (sym (each_view_is_a_seat w t known))
 
-pub unanswered : (old : World) (t : ℕ) (what : What) → t < length old.config.tenants → may_need (view t old) what ≡ true → IsTold old t what (said.Reply reply.NoMemory) old
+pub unanswered : (old : World) (t : ℕ) (what : What) → t < length old.config.tenants → request_may_need (view t old) what ≡ true → IsTold old t what (said.Reply reply.NoMemory) old
 unanswered old t what known may = record {
   refused = true;
   said = ap (λ b. (cond b (record { said = said.Reply reply.NoMemory; after = view t old }) (told_to (view t old) what)).said) (sym may);
@@ -289,7 +289,7 @@ stepped old new t what e answer same f = record {
 
 -- a command's reply is what is said
 pub replied : (old new : World) (t : ℕ) (what : What) (e : Event) (answer : Reply) → t < length old.config.tenants → told_to (view t old) what ≡ told_by (step (view t old) e)
-    → (answer ≡ reply.NoMemory → has_room 1 (view t old) ≡ true → may_need (view t old) what ≡ true) → IsReply old t e answer new → IsTold old t what (said.Reply answer) new
+    → (answer ≡ reply.NoMemory → has_room 1 (view t old) ≡ true → request_may_need (view t old) what ≡ true) → IsReply old t e answer new → IsTold old t what (said.Reply answer) new
 replied old new t what e answer known same may h =
     ⊎_elim
     (λ (none : (answer ≡ reply.NoMemory) × (new ≡ old) × (has_room 1 (view t old) ≡ true)).
@@ -309,7 +309,7 @@ floor_replied meaning old new t e answer nor_gives nor_takes turns h floor =
 -- a request for this event is told what its step answers, may need memory where the step may, and neither takes nor gives a turn
 record AsksFor (t : Tenant) (request : What) (e : Event) : Type 0 where
   pub told : told_to t request ≡ told_by (step t e)
-  pub needs : command.may_need t e ≡ true → may_need t request ≡ true
+  pub needs : command.may_need t e ≡ true → request_may_need t request ≡ true
   pub nor_gives : (s : ℕ) → gives s e ≡ false
   pub nor_takes : (s : ℕ) → takes s e ≡ false
 
@@ -426,7 +426,7 @@ pub record IsFound {J : Type 0} (meaning : J → Meaning) (w : World) (t s : ℕ
   pub seq : x.seq ≡ s
   pub ran : x.ran ≡ 0
   pub known : x.tenant < length w.config.tenants
-  pub held : IsHeld w x.tenant x.seq x.slice (meaning x.search)
+  pub held : IsOutFor w x.tenant x.seq x.slice (meaning x.search)
 
 split_at : {A : Type 0} (xs : List A) (i : ℕ) (x : A) → i < length xs → x ≡ get_or xs i x → xs ≡ take i xs ++ x ∷ drop (i + 1) xs
 split_at xs i x h is = sym (take-append-drop i xs) ∙ ap (λ ys. take i xs ++ ys) (drop_at xs i x h is)
@@ -466,7 +466,7 @@ ran_none m =
     ap (λ n. let it : Meaning = record m { nodes = n } in it) nodes ∙ ap (λ n. let it : Meaning = record m { nodes = m.nodes + 0; left = n } in it) left
 
 -- a turn that is held can be run, and given unrun
-pub held_turn : (w : World) (t s slice ran : ℕ) (m : Meaning) → IsHeld w t s slice m → ran ≡ 0 → IsTurn slice ran m
+pub held_turn : (w : World) (t s slice ran : ℕ) (m : Meaning) → IsOutFor w t s slice m → ran ≡ 0 → IsTurn slice ran m
 held_turn w t s slice ran m it none = record { best = it.best; start = m; after = ran_none m ∙ ap (λ n. ran_on n m) (sym none); all = inl none }
 
 -- it was run and given

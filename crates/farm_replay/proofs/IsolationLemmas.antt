@@ -18,7 +18,7 @@ use Rattle.session_lines.specs.declared.request.LineFault.{LineFault}
 use Rattle.session_lines.specs.declared.request.LineFault.TheVariants.{Eof, Read, TooLong, Syntax, File, NoMemory}
 use Rattle.session_lines.specs.declared.said.Said.{Said}
 use Rattle.session_lines.specs.declared.said.Said.TheVariants as said
-use Rattle.farm_session.specs.Heard.{is_named, number_of, heard_for, heard_of}
+use Rattle.farm_session.specs.Heard.{is_line_of, tenant_number, heard_for, heard_of}
 use Rattle.farm_replay.specs.Output.{Told, told_under, Parts, opening, part_of, Saying, Next, says, answered, who_in, Marked, is_unread, next, lines_for}
 use Rattle.farm_replay.specs.Isolation.{whose, is_of, place_if, seat_of, is_members, own_lines, own_requests, EachReplaysAlone, ReplaysAreIsolated, EachLoneReplaysAlone}
 
@@ -28,10 +28,10 @@ bytes_are : (one other : List ℕ) → same_bytes one other ≡ true → one ≡
 bytes_are one other h = (same_bytes_is one other).0 h
 
 -- a place has one name
-one_name : (config : ConfigData) (one other : List ℕ) (t : ℕ) → number_of one config ≡ Some t → number_of other config ≡ Some t → one ≡ other
+one_name : (config : ConfigData) (one other : List ℕ) (t : ℕ) → tenant_number one config ≡ Some t → tenant_number other config ≡ Some t → one ≡ other
 one_name config one other t h k =
-    let a = position-Some (is_named one) config.tenants t no_terms h in
-    let b = position-Some (is_named other) config.tenants t no_terms k in
+    let a = position-Some (is_line_of one) config.tenants t no_terms h in
+    let b = position-Some (is_line_of other) config.tenants t no_terms k in
     sym (bytes_are (terms_in config t).name one a.1) ∙ bytes_are (terms_in config t).name other b.1
 
 -- ---- parts that agree for one purse, which may have different numbers
@@ -100,7 +100,7 @@ SameSeats config elsewhere p q = (who : List ℕ) → seat_of config p who ≡ s
 same_answered : (config elsewhere : ConfigData) (refused : Bool) (one other : Parts) (p q : ℕ) → SameSeats config elsewhere p q → (answer : Result Request LineFault)
     → is_members config p (who_in answer) ≡ true → one p ≡ other q → IsSame p q (answered config refused one (heard_of config answer)) (answered elsewhere refused other (heard_of elsewhere answer))
 same_answered config elsewhere refused one other p q seats (Ok request) own h =
-    same_asked config elsewhere refused one other request.who request.what p q (number_of request.who config) (number_of request.who elsewhere) (seat_of config p request.who) refl (sym (seats request.who)) own h
+    same_asked config elsewhere refused one other request.who request.what p q (tenant_number request.who config) (tenant_number request.who elsewhere) (seat_of config p request.who) refl (sym (seats request.who)) own h
 same_answered config elsewhere refused one other p q seats (Err fault) own h =
     let here = (settled fault).1 config refused one in
     let there = (settled fault).1 elsewhere refused other in
@@ -136,7 +136,7 @@ apart_asked config refused parts who what p (Some t) other =
 
 apart_answered : (config : ConfigData) (refused : Bool) (parts : Parts) (p : ℕ) (answer : Result Request LineFault) → is_members config p (who_in answer) ≡ false
     → (answered config refused parts (heard_of config answer)).parts p ≡ parts p
-apart_answered config refused parts p (Ok request) other = apart_asked config refused parts request.who request.what p (number_of request.who config) other
+apart_answered config refused parts p (Ok request) other = apart_asked config refused parts request.who request.what p (tenant_number request.who config) other
 apart_answered config refused parts p (Err fault) other = ap (λ (n : Next). n.parts p) ((settled fault).1 config refused parts)
 
 apart_next : (config : ConfigData) (parts : Parts) (p : ℕ) (m : Marked) → is_members config p (whose m) ≡ false → (next config parts m).parts p ≡ parts p
@@ -150,7 +150,7 @@ asked_who config refused p who what None = refl
 asked_who config refused p who what (Some t) = refl
 
 answered_who : (config : ConfigData) (refused : Bool) (p : Parts) (answer : Result Request LineFault) → (answered config refused p (heard_of config answer)).line.who ≡ who_in answer
-answered_who config refused p (Ok request) = asked_who config refused p request.who request.what (number_of request.who config)
+answered_who config refused p (Ok request) = asked_who config refused p request.who request.what (tenant_number request.who config)
 answered_who config refused p (Err fault) = ap (λ (n : Next). n.line.who) ((settled fault).1 config refused p)
 
 pub next_who : (config : ConfigData) (p : Parts) (m : Marked) → (next config p m).line.who ≡ whose m
@@ -184,15 +184,15 @@ replays_are_isolated config elsewhere requests others p q begins seats own =
 -- ---- a tenant that has its purse for itself
 
 -- its purse's only name is its own
-lone_name : (config : ConfigData) (name who : List ℕ) (t : ℕ) → number_of name config ≡ Some t → IsLone config t → is_members config (purse_in config t) (Some who) ≡ same_bytes who name
-lone_name config name who t at lone = by (number_of who config) refl (same_bytes who name) refl
+lone_name : (config : ConfigData) (name who : List ℕ) (t : ℕ) → tenant_number name config ≡ Some t → IsLone config t → is_members config (purse_in config t) (Some who) ≡ same_bytes who name
+lone_name config name who t at lone = by (tenant_number who config) refl (same_bytes who name) refl
   where
-    by : (found : Option ℕ) → number_of who config ≡ found → (same : Bool) → same_bytes who name ≡ same → is_some (place_if config (purse_in config t) found) ≡ same
+    by : (found : Option ℕ) → tenant_number who config ≡ found → (same : Bool) → same_bytes who name ≡ same → is_some (place_if config (purse_in config t) found) ≡ same
     by None is true same =
-        let none : None ≡ Some t = sym is ∙ ap (λ n. number_of n config) (bytes_are who name same) ∙ at in absurd (cc)
+        let none : None ≡ Some t = sym is ∙ ap (λ n. tenant_number n config) (bytes_are who name same) ∙ at in absurd (cc)
     by None is false same = refl
     by (Some u) is true same =
-        let here : Some u ≡ Some t = sym is ∙ ap (λ n. number_of n config) (bytes_are who name same) ∙ at in
+        let here : Some u ≡ Some t = sym is ∙ ap (λ n. tenant_number n config) (bytes_are who name same) ∙ at in
         let tenant : u ≡ t = some_is u t here in
         ap (λ b. is_some (cond b (Some (place_in config u)) None)) (eq-eqb (purse_in config u) (purse_in config t) (ap (purse_in config) tenant))
     by (Some u) is false same =
@@ -206,7 +206,7 @@ lone_name config name who t at lone = by (number_of who config) refl (same_bytes
           | false ↦ λ _. refl
         ] refl)
 
-lone_is : (config : ConfigData) (name : List ℕ) (t : ℕ) → number_of name config ≡ Some t → IsLone config t → (who : Option (List ℕ)) → is_of name who ≡ is_members config (purse_in config t) who
+lone_is : (config : ConfigData) (name : List ℕ) (t : ℕ) → tenant_number name config ≡ Some t → IsLone config t → (who : Option (List ℕ)) → is_of name who ≡ is_members config (purse_in config t) who
 lone_is config name t at lone None = refl
 lone_is config name t at lone (Some who) = sym (lone_name config name who t at lone)
 

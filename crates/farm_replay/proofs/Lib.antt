@@ -6,4 +6,4 @@ pub mod PlannedLemmas
 pub mod Examples
 pub mod BeginLemmas
 pub mod ByteLemmas
-pub mod CounterLemmas
+pub mod NumberLemmas

@@ -16,7 +16,7 @@ use Rattle.session_lines.specs.declared.request.What.TheVariants.{Submit, Fund, 
 use Rattle.session_lines.specs.declared.request.LineFault.{LineFault}
 use Rattle.session_lines.specs.declared.request.LineFault.TheVariants.{TooLong, Syntax}
 use Rattle.session_lines.specs.RequestLine.{name_in, tenant_in, one_number, two_numbers, what_in, turn_in, submit_in, opens, asks, own_line, turn_for, turn_line, line_for, meaning_in, meaning_of}
-use Rattle.session_lines.specs.Script.{shown, is_long, is_wordless, judged, TextData, opened, with_line, Item, submitted, whole_text, cut_text, outside_text, before, requests, requests_of, lines_of}
+use Rattle.session_lines.specs.Script.{shown, is_long, is_wordless, judged, TextData, opened_text, with_line, Item, submitted, whole_text, cut_text, outside_text, before, requests, requests_of, lines_of}
 use Rattle.session_lines.proofs.ReadLemmas.{grown}
 use Rattle.farm_replay.specs.Output.{Marked, items_of}
 
@@ -132,9 +132,9 @@ lines_planned : ReadingGivesProjects → (text : Option TextData) (lines : List 
 lines_planned projects None [] = tt
 lines_planned projects (Some text) [] = (cut_planned text, tt)
 lines_planned projects None (line ∷ lines) =
-    go (judged line) (judged_planned line) (lines_planned projects None lines) (λ head. lines_planned projects (Some (opened head)) lines)
+    go (judged line) (judged_planned line) (lines_planned projects None lines) (λ head. lines_planned projects (Some (opened_text head)) lines)
   where
-    go : (meaning : Meaning) → IsPlannedMeaning meaning → AreItemsPlanned (requests None lines) → ((head : Head) → AreItemsPlanned (requests (Some (opened head)) lines))
+    go : (meaning : Meaning) → IsPlannedMeaning meaning → AreItemsPlanned (requests None lines) → ((head : Head) → AreItemsPlanned (requests (Some (opened_text head)) lines))
         → AreItemsPlanned (before (outside_text meaning).whole (requests (outside_text meaning).text lines))
     go Blank h later inside = later
     go (Whole request) h later inside = (h, later)

@@ -12,7 +12,7 @@ use Rattle.farm_core.specs.Config.{ConfigData}
 use Rattle.farm_core.specs.Tenant.{Tenant, Purse, seat, with_seat}
 use Rattle.farm_core.specs.World.{World, opened, purse_in, place_in, purse, view}
 use Rattle.farm_core.proofs.SeatLemmas.{each_view_is_a_seat}
-use Rattle.farm_replay.proofs.CounterLemmas.{known_number}
+use Rattle.farm_replay.proofs.NumberLemmas.{known_number}
 use Rattle.farm_core.specs.Held.{FarmsAreReplayed}
 use Rattle.session_lines.specs.declared.request.Request.{Request}
 use Rattle.session_lines.specs.declared.request.What.{What}
@@ -20,16 +20,16 @@ use Rattle.session_lines.specs.declared.request.LineFault.{LineFault}
 use Rattle.session_lines.specs.declared.request.LineFault.TheVariants.{Eof, Read, TooLong, Syntax, File, NoMemory}
 use Rattle.session_lines.specs.declared.said.Said.{Said}
 use Rattle.session_lines.specs.declared.said.Said.TheVariants as said
-use Rattle.session_lines.specs.Cause.{HasCause, lines_after, IsPast, IsGivenUp}
+use Rattle.session_lines.specs.Cause.{HasCause, lines_after, IsPast, IsReadGivenUp}
 use Rattle.session_lines.specs.Known.{Goes, AppendsPart}
 use Rattle.session_lines.specs.Laws.{EachInTurn, from_first}
 use Rattle.session_lines.specs.ReplyText.{reply_line}
-use Rattle.session_lines.specs.Script.{Item, lines_of, first, first_of, requests_of, Answers, Cuts, Ends, Takes}
+use Rattle.session_lines.specs.Script.{Item, lines_of, first, first_request, requests_of, IsAnswerFor, Cuts, Ends, Takes}
 use Rattle.farm_replay.specs.declared.script.ReplayFault.{ReplayFault}
 use Rattle.farm_replay.specs.declared.script.ReplayFault.TheVariants as fault
 use Rattle.farm_session.specs.declared.heard.Heard.TheVariants as heard
-use Rattle.farm_replay.specs.Output.{Told, may_need, told_to, told_under, Parts, opening, part_of, with_tenant, Saying, Next, says, answered, who_in, Marked, next, lines_for, parts_after, line_text, output_of, items_of, IsWritten, lines_past, IsLongNext, IsCutBy, IsCutOff, unwatched}
-use Rattle.farm_session.specs.Heard.{number_of, heard_for, heard_of}
+use Rattle.farm_replay.specs.Output.{Told, request_may_need, told_to, told_under, Parts, opening, part_of, with_tenant, Saying, Next, says, answered, who_in, Marked, next, lines_for, parts_after, line_text, output_of, items_of, IsWritten, lines_past, IsLongNext, IsCutBy, IsCutOff, unwatched}
+use Rattle.farm_session.specs.Heard.{tenant_number, heard_for, heard_of}
 use Rattle.farm_replay.specs.Replay.{GoesOn, end_of}
 use Rattle.farm_replay.specs.declared.watches.Watches.{Watches}
 use Rattle.farm_replay.specs.Floor.{IsTold}
@@ -111,7 +111,7 @@ pub record IsPlayed (config : ConfigData) (xs ys : List ℕ) (old new : Option (
 
 -- the next request is cut from the bytes
 pub record IsNext (m : Marked) (ys zs : List ℕ) : Type 0 where
-  pub cut : first_of ys ≡ Some (record { item = m.item; rest = lines_of zs })
+  pub cut : first_request ys ≡ Some (record { item = m.item; rest = lines_of zs })
 
 reads_next : EachInTurn → (m : Marked) (ys zs : List ℕ) → IsNext m ys zs → requests_of ys ≡ m.item ∷ requests_of zs
 reads_next turns m ys zs it = turns ys ∙ ap from_first it.cut
@@ -190,7 +190,7 @@ played_whole config xs ys old new count w most none it = record {
 
 -- ---- what was read
 
-file_answers : (item : Item) (who : List ℕ) (why : MmFault) → Answers item (Err (File who why)) → item.answer ≡ Err (File who why)
+file_answers : (item : Item) (who : List ℕ) (why : MmFault) → IsAnswerFor item (Err (File who why)) → item.answer ≡ Err (File who why)
 file_answers item who file.TooLong h = h
 file_answers item who file.Header h = h
 file_answers item who file.Projects h = h
@@ -212,9 +212,9 @@ pub record IsSettled (config : ConfigData) (line : Saying) (ys zs : List ℕ) : 
 -- one that it is asked for
 pub record IsAsked (config : ConfigData) (t : ℕ) (who : List ℕ) (what : What) (ys zs : List ℕ) : Type 0 where
   pub item : Item
-  pub cut : first_of ys ≡ Some (record { item = item; rest = lines_of zs })
+  pub cut : first_request ys ≡ Some (record { item = item; rest = lines_of zs })
   pub answer_is : item.answer ≡ Ok (record { who = who; what = what })
-  pub number : number_of who config ≡ Some t
+  pub number : tenant_number who config ≡ Some t
 
 -- what is heard of it is its line
 settled_by : (config : ConfigData) (most : ℕ) (answer : Result Request LineFault) (who : Option (List ℕ)) (words : Said) → heard.Told who words ≡ heard_of config answer
@@ -226,7 +226,7 @@ settled_by config most answer who words is ys zs it same = record {
 }
 
 -- a submit's text is that of the tenant whose request it is
-own_text : EachInTurn → (ys : List ℕ) (item : Item) (rest : List (List ℕ)) (who : List ℕ) → first_of ys ≡ Some (record { item = item; rest = rest }) → item.submits ≡ Some who → who_in item.answer ≡ Some who
+own_text : EachInTurn → (ys : List ℕ) (item : Item) (rest : List (List ℕ)) (who : List ℕ) → first_request ys ≡ Some (record { item = item; rest = rest }) → item.submits ≡ Some who → who_in item.answer ≡ Some who
 own_text turns ys item rest who cut text =
     subst (λ submits. IfSome submits (λ w. who_in item.answer ≡ Some w)) text (subst AreNamed (turns ys ∙ ap from_first cut) (script_named ys)).0.1
 
@@ -266,7 +266,7 @@ told_takes turns config most old new (Err (NoMemory w)) who words is h =
     goes_to old new (λ ys zs. Cuts most (first None (lines_of ys)) (Err (NoMemory w)) ys zs) (IsSettled config (record { who = who; said = words })) h
     (unread_settled turns config most w who words is)
 
-asked_request : (config : ConfigData) (most : ℕ) (request : Request) (t : ℕ) (who : List ℕ) (what : What) (n : Option ℕ) → number_of request.who config ≡ n
+asked_request : (config : ConfigData) (most : ℕ) (request : Request) (t : ℕ) (who : List ℕ) (what : What) (n : Option ℕ) → tenant_number request.who config ≡ n
     → heard.Asked t who what ≡ heard_for request.who request.what n → (ys zs : List ℕ) → Cuts most (first None (lines_of ys)) (Ok request) ys zs → IsAsked config t who what ys zs
 asked_request config most request t who what None at is ys zs it = absurd (cc)
 asked_request config most request t who what (Some n) at is ys zs it =
@@ -277,13 +277,13 @@ asked_request config most request t who what (Some n) at is ys zs it =
       item = it.item;
       cut = it.cut;
       answer_is = it.answers ∙ ap (λ w. Ok (let r : Request = record { who = w; what = request.what } in r)) a ∙ ap (λ w. Ok (let r : Request = record { who = who; what = w } in r)) b;
-      number = ap (λ w. number_of w config) (sym a) ∙ at ∙ ap (λ k. Some k) d;
+      number = ap (λ w. tenant_number w config) (sym a) ∙ at ∙ ap (λ k. Some k) d;
     }
 
 asked_takes : (config : ConfigData) (most : ℕ) (old new : Option (List ℕ)) (answer : Result Request LineFault) (t : ℕ) (who : List ℕ) (what : What) → heard.Asked t who what ≡ heard_of config answer
     → Takes most None old new answer → Goes old new (IsAsked config t who what)
 asked_takes config most old new (Ok request) t who what is h =
-    goes_to old new (λ ys zs. Cuts most (first None (lines_of ys)) (Ok request) ys zs) (IsAsked config t who what) h (asked_request config most request t who what (number_of request.who config) refl is)
+    goes_to old new (λ ys zs. Cuts most (first None (lines_of ys)) (Ok request) ys zs) (IsAsked config t who what) h (asked_request config most request t who what (tenant_number request.who config) refl is)
 asked_takes config most old new (Err Eof) t who what is h = absurd (cc)
 asked_takes config most old new (Err Read) t who what is h = absurd (cc)
 asked_takes config most old new (Err (TooLong w)) t who what is h = absurd (cc)
@@ -291,12 +291,12 @@ asked_takes config most old new (Err (Syntax w)) t who what is h = absurd (cc)
 asked_takes config most old new (Err (File w why)) t who what is h = absurd (cc)
 asked_takes config most old new (Err (NoMemory w)) t who what is h = absurd (cc)
 
-pub asked_known : (config : ConfigData) (answer : Result Request LineFault) (t : ℕ) (who : List ℕ) (what : What) → heard.Asked t who what ≡ heard_of config answer → number_of who config ≡ Some t
-asked_known config (Ok request) t who what is = known (number_of request.who config) refl is
+pub asked_known : (config : ConfigData) (answer : Result Request LineFault) (t : ℕ) (who : List ℕ) (what : What) → heard.Asked t who what ≡ heard_of config answer → tenant_number who config ≡ Some t
+asked_known config (Ok request) t who what is = known (tenant_number request.who config) refl is
   where
-    known : (n : Option ℕ) → number_of request.who config ≡ n → heard.Asked t who what ≡ heard_for request.who request.what n → number_of who config ≡ Some t
+    known : (n : Option ℕ) → tenant_number request.who config ≡ n → heard.Asked t who what ≡ heard_for request.who request.what n → tenant_number who config ≡ Some t
     known None at h = absurd (cc)
-    known (Some n) at h = let a : request.who ≡ who = cc in let d : n ≡ t = cc in ap (λ w. number_of w config) (sym a) ∙ at ∙ ap (λ k. Some k) d
+    known (Some n) at h = let a : request.who ≡ who = cc in let d : n ≡ t = cc in ap (λ w. tenant_number w config) (sym a) ∙ at ∙ ap (λ k. Some k) d
 asked_known config (Err Eof) t who what is = absurd (cc)
 asked_known config (Err Read) t who what is = absurd (cc)
 asked_known config (Err (TooLong w)) t who what is = absurd (cc)
@@ -306,7 +306,7 @@ asked_known config (Err (NoMemory w)) t who what is = absurd (cc)
 
 over_takes : EachInTurn → (config : ConfigData) (most : ℕ) (old new : Option (List ℕ)) (answer : Result Request LineFault) → heard.Over ≡ heard_of config answer → Takes most None old new answer
     → Goes old new (λ ys zs. requests_of ys ≡ [])
-over_takes turns config most old new (Ok request) is h = absurd (nowhere (number_of request.who config) is)
+over_takes turns config most old new (Ok request) is h = absurd (nowhere (tenant_number request.who config) is)
   where
     nowhere : (n : Option ℕ) → heard.Over ≡ heard_for request.who request.what n → ⊥
     nowhere None e = cc
@@ -363,7 +363,7 @@ record IsLed (config : ConfigData) (parts : Parts) (item : Item) (t : ℕ) (who 
   line : (next config parts (record { item = item; refused = refused })).line ≡ record { who = Some who; said = told.said }
   leads : (q : ℕ) → (next config parts (record { item = item; refused = refused })).parts q ≡ with_tenant config parts t told.after q
 
-led_asked : (config : ConfigData) (parts : Parts) (item : Item) (t : ℕ) (who : List ℕ) (what : What) (refused : Bool) → item.answer ≡ Ok (record { who = who; what = what }) → number_of who config ≡ Some t
+led_asked : (config : ConfigData) (parts : Parts) (item : Item) (t : ℕ) (who : List ℕ) (what : What) (refused : Bool) → item.answer ≡ Ok (record { who = who; what = what }) → tenant_number who config ≡ Some t
     → (refused && is_some item.submits) ≡ false → IsLed config parts item t who (told_under refused (part_of config parts t) what) refused
 led_asked config parts item t who what refused is at text =
     let same : next config parts (record { item = item; refused = refused }) ≡ answered config refused parts (heard.Asked t who what) =
@@ -384,13 +384,13 @@ abbrev told_if : Bool → Tenant → What → Told
 told_if silent t what = cond silent (record { said = said.Reply reply.NoMemory; after = t }) (told_to t what)
 
 -- whatever is told to it, there is a mark that leads there: memory that is refused for a submit refuses its text
-marked : (config : ConfigData) (parts : Parts) (item : Item) (t : ℕ) (who : List ℕ) (what : What) (refused : Bool) → item.answer ≡ Ok (record { who = who; what = what }) → number_of who config ≡ Some t
+marked : (config : ConfigData) (parts : Parts) (item : Item) (t : ℕ) (who : List ℕ) (what : What) (refused : Bool) → item.answer ≡ Ok (record { who = who; what = what }) → tenant_number who config ≡ Some t
     → (mark : Bool) × IsLed config parts item t who (told_under refused (part_of config parts t) what) mark
 marked config parts item t who what false is at = (false, led_asked config parts item t who what false is at refl)
-marked config parts item t who what true is at = by (is_some item.submits) refl (may_need (part_of config parts t) what) refl
+marked config parts item t who what true is at = by (is_some item.submits) refl (request_may_need (part_of config parts t) what) refl
   where
-    by : (text : Bool) → is_some item.submits ≡ text → (need : Bool) → may_need (part_of config parts t) what ≡ need
-        → (mark : Bool) × IsLed config parts item t who (told_if (may_need (part_of config parts t) what) (part_of config parts t) what) mark
+    by : (text : Bool) → is_some item.submits ≡ text → (need : Bool) → request_may_need (part_of config parts t) what ≡ need
+        → (mark : Bool) × IsLed config parts item t who (told_if (request_may_need (part_of config parts t) what) (part_of config parts t) what) mark
     by false text need is_needed = (true, led_asked config parts item t who what true is at text)
     by true text true is_needed =
         let silent = next_unread config parts item (Some who) text (ap who_in is) in (
@@ -493,9 +493,9 @@ broken_by config xs ys old new count w failed it (inl h) = inl h
 broken_by config xs ys old new count w failed it (inr h) = inr (long_next config xs ys old new count w it h)
 
 -- what was heard tells that the read was given up
-given_up : (config : ConfigData) (failed : Bool) (old : Option (List ℕ)) (answer : Result Request LineFault) → heard.Broken ≡ heard_of config answer → IsGivenUp 100000000 None failed old answer
+given_up : (config : ConfigData) (failed : Bool) (old : Option (List ℕ)) (answer : Result Request LineFault) → heard.Broken ≡ heard_of config answer → IsReadGivenUp 100000000 None failed old answer
     → HasCause failed old (λ bytes. IsPast 100000000 None (lines_of bytes))
-given_up config failed old (Ok request) is h = absurd (nowhere (number_of request.who config) is)
+given_up config failed old (Ok request) is h = absurd (nowhere (tenant_number request.who config) is)
   where
     nowhere : (n : Option ℕ) → heard.Broken ≡ heard_for request.who request.what n → ⊥
     nowhere None e = cc
@@ -512,7 +512,7 @@ cause_at failed b ys P known (inl h) = inl h
 cause_at failed b ys P known (inr h) = inr (subst (λ o. IfSome o P) known h)
 
 pub play_broken : (config : ConfigData) (a b old new : Option (List ℕ)) (count : ℕ) (w : World) (answer : Result Request LineFault) (seen : Watches) → heard.Broken ≡ heard_of config answer
-    → IsGivenUp 100000000 None seen.reads.failed b answer → Played config a b old new count w → IfSome a (λ xs. IsCutOff config fault.Read seen xs old new)
+    → IsReadGivenUp 100000000 None seen.reads.failed b answer → Played config a b old new count w → IfSome a (λ xs. IsCutOff config fault.Read seen xs old new)
 play_broken config a b old new count w answer seen is cause played =
     known_first a b (λ xs ys. IsPlayed config xs ys old new count w) (λ xs. IsCutOff config fault.Read seen xs old new) played
     (λ xs ys known it. cut_between config xs ys old new count w fault.Read seen it
@@ -542,7 +542,7 @@ play_stops config a b old new w why seen played stops =
     cause fault.NoMemory xs ys it h = absurd h
 
 -- what is read after the last request that may be
-pub end_stops : EachInTurn → (old new : Option (List ℕ)) (failed : Bool) (answer : Result Request LineFault) → Takes 100000000 None old new answer → IsGivenUp 100000000 None failed old answer
+pub end_stops : EachInTurn → (old new : Option (List ℕ)) (failed : Bool) (answer : Result Request LineFault) → Takes 100000000 None old new answer → IsReadGivenUp 100000000 None failed old answer
     → IfErr (end_of answer) (λ why. IfSome old (λ bytes. GoesOn why failed bytes))
 end_stops turns old new failed (Err Eof) takes cause = tt
 end_stops turns old new failed (Err Read) takes cause = known old cause

@@ -8,7 +8,7 @@ use Rattle.strategy.specs.declared.plan.Plan.{Plan}
 use Rattle.farm_core.specs.declared.entry.Event.{Event}
 use Rattle.farm_core.specs.declared.entry.Event.TheVariants as event
 use Rattle.farm_core.specs.declared.reply.Reply.TheVariants as reply
-use Rattle.farm_core.specs.Config.{ConfigData, no_terms, purse_names, lines_of}
+use Rattle.farm_core.specs.Config.{ConfigData, no_terms, purse_names, member_lines}
 use Rattle.farm_core.specs.Tenant.{Tenant, find_job, Member, Purse, no_member, new_member, newcomers, own_of, with_seat}
 use Rattle.farm_core.specs.declared.config.TenantLine.{TenantLine}
 use Rattle.farm_core.specs.Purses.{members_of}
@@ -16,7 +16,7 @@ use Rattle.farm_core.specs.World.{purse_in, place_in}
 use Rattle.farm_core.proofs.NumberLemmas.{step_numbered}
 use Rattle.farm_core.proofs.SeatLemmas.{named, found_at, place_known}
 use Rattle.farm_core.proofs.ViewLemmas.{set_own, set_other}
-use Rattle.farm_replay.proofs.CounterLemmas.{known_number}
+use Rattle.farm_replay.proofs.NumberLemmas.{known_number}
 use Rattle.farm_core.specs.Step as calls
 use Rattle.farm_core.specs.Step.{Answer, Replied, Sent, step}
 use Rattle.farm_core.specs.Held.{nodes_out}
@@ -28,12 +28,12 @@ use Rattle.session_lines.specs.declared.request.What.TheVariants.{Submit, Fund, 
 use Rattle.session_lines.specs.declared.request.LineFault.{LineFault}
 use Rattle.session_lines.specs.declared.said.Said.{Said}
 use Rattle.session_lines.specs.declared.said.Said.TheVariants as said
-use Rattle.farm_session.specs.Heard.{number_of, heard_for, heard_of}
-use Rattle.farm_replay.specs.Output.{Told, said_for, told_by, turned, told_to, may_need, told_under, Parts, opening, Next, says, answered, who_in, Marked, is_unread, next, parts_after, part_of, with_tenant}
+use Rattle.farm_session.specs.Heard.{tenant_number, heard_for, heard_of}
+use Rattle.farm_replay.specs.Output.{Told, said_for, told_by, turned, told_to, request_may_need, told_under, Parts, opening, Next, says, answered, who_in, Marked, is_unread, next, parts_after, part_of, with_tenant}
 use Rattle.farm_replay.proofs.IsolationLemmas.{settled}
 use Rattle.farm_replay.proofs.PlayLemmas.{parts_more}
 use Rattle.farm_replay.proofs.PlannedLemmas.{IsPlannedWhat, IsPlannedRequest, ArePlanned, script_planned}
-use Rattle.farm_replay.specs.Truth.{IsTrueSaid, IsAnswered, WasSubmitted, EachLineIsTrue}
+use Rattle.farm_replay.specs.Truth.{IsTrueSaid, WasTold, WasSubmitted, EachLineIsTrue}
 
 -- ---- one tenant
 
@@ -58,7 +58,7 @@ record Cases (t : Tenant) (P : Event → Told → Type 0) : Type 0 where
 
 each_told : (t : Tenant) (P : Event → Told → Type 0) → Cases t P → (refused : Bool) (what : What) → P (call_for t what) (told_under refused t what)
 each_told t P c refused what =
-    cond_both (refused && may_need t what) _ (told_to t what) (P (call_for t what)) (λ _. c.refuses (call_for t what)) (λ _. by what)
+    cond_both (refused && request_may_need t what) _ (told_to t what) (P (call_for t what)) (λ _. c.refuses (call_for t what)) (λ _. by what)
   where
     by : (what : What) → P (call_for t what) (told_to t what)
     by (Turn s slice) = c.turns s slice
@@ -180,7 +180,7 @@ seated_on config P Q parts t new known all others good u also =
 
 -- the tenant whose request it is
 abbrev owner_of : ConfigData → Result Request LineFault → Option ℕ
-owner_of config (Ok request) = number_of request.who config
+owner_of config (Ok request) = tenant_number request.who config
 owner_of config (Err fault) = None
 
 -- a tenant of the farm asks for this
@@ -189,7 +189,7 @@ record IsAsked (config : ConfigData) (m : Marked) : Type 0 where
   what : What
   tenant : ℕ
   asks : m.item.answer ≡ Ok (record { who = who; what = what })
-  number : number_of who config ≡ Some tenant
+  number : tenant_number who config ≡ Some tenant
 
 -- the tenant that asks is the owner
 own_asked : (config : ConfigData) (m : Marked) (a : IsAsked config m) (t : ℕ) → owner_of config m.item.answer ≡ Some t → a.tenant ≡ t
@@ -206,13 +206,13 @@ next_so config parts m P quiet asked =
     silent : (a : Result Request LineFault) (words : Said) → m.item.answer ≡ a → owner_of config a ≡ None → (t : ℕ) → owner_of config m.item.answer ≡ Some t → words ≡ said.Reply reply.NoMemory
     silent a words is none t own = let nobody : None ≡ Some t = sym none ∙ sym (ap (owner_of config) is) ∙ own in absurd (cc)
 
-    owned : (request : Request) (owner : Option ℕ) → m.item.answer ≡ Ok request → number_of request.who config ≡ owner
+    owned : (request : Request) (owner : Option ℕ) → m.item.answer ≡ Ok request → tenant_number request.who config ≡ owner
         → P (answered config m.refused parts (heard_for request.who request.what owner))
     owned request None is at = quiet (Some request.who) said.NoTenant (silent (Ok request) said.NoTenant is at)
     owned request (Some t) is at = asked (record { who = request.who; what = request.what; tenant = t; asks = is; number = at })
 
     by : (a : Result Request LineFault) → m.item.answer ≡ a → P (answered config m.refused parts (heard_of config a))
-    by (Ok request) is = owned request (number_of request.who config) is refl
+    by (Ok request) is = owned request (tenant_number request.who config) is refl
     by (Err why) is = subst P (sym ((settled why).1 config m.refused parts)) (quiet (who_in (Err why)) (settled why).0 (silent (Err why) (settled why).0 is refl))
 
 -- ---- truth
@@ -234,7 +234,7 @@ submits t what plan quanta is = absurd (cc)
 -- what is said to its tenant is true, and all jobs stay known where a submit that is told of a job makes it known
 record IsGoodNext (config : ConfigData) (made : ℕ → Made) (m : Marked) (n : Next) : Type 0 where
   jobs : IsPlannedRequest m.item.answer
-      → ((who : List ℕ) (t s quanta : ℕ) (plan : Plan) → m.item.answer ≡ Ok (record { who = who; what = Submit plan.kind quanta plan.project }) → number_of who config ≡ Some t
+      → ((who : List ℕ) (t s quanta : ℕ) (plan : Plan) → m.item.answer ≡ Ok (record { who = who; what = Submit plan.kind quanta plan.project }) → tenant_number who config ≡ Some t
       → n.line.said ≡ said.Reply (reply.Job s) → made t s plan)
       → AreSeated config (Knows made) n.parts
   said : (t : ℕ) → owner_of config m.item.answer ≡ Some t → IsTrueSaid (made t) n.line.said
@@ -321,7 +321,7 @@ one_request config t s b parts (m ∷ ms) (suc i) (suc j) from here there =
 seated_opening : (config : ConfigData) (P : ℕ → Member → Type 0) → ((u : ℕ) (line : TenantLine) → P u (new_member line)) → AreSeated config P (opening config)
 unfolding newcomers
 seated_opening config P each u known =
-    let lines = lines_of config.tenants (purse_in config u) in
+    let lines = member_lines config.tenants (purse_in config u) in
     let count = length-map (members_of (purse_names config.tenants) (purse_in config u)) (λ t. get_or config.tenants t no_terms) in
     record {
       here = omega (arith, place_known (purse_names config.tenants) u (named config.tenants u known), length-map lines new_member, count);
@@ -348,7 +348,7 @@ planned_front : (xs ys : List Marked) → ArePlanned (xs ++ ys) → ArePlanned x
 planned_front [] ys h = tt
 planned_front (x ∷ xs) ys h = (h.0, planned_front xs ys h.1)
 
-told_at : (config : ConfigData) (requests : List Marked) (t s : ℕ) (what : What) → (it : IsAnswered config requests t what (said.Reply (reply.Job s)))
+told_at : (config : ConfigData) (requests : List Marked) (t s : ℕ) (what : What) → (it : WasTold config requests t what (said.Reply (reply.Job s)))
     → IsToldAt config (opening config) requests t s (length it.before)
 told_at config requests t s what it =
     subst (λ ms. IsToldAt config (opening config) ms t s (length it.before)) (sym it.whole) (by (opening config) it.before (ap (owner_of config) it.asks ∙ it.number, sym it.says))

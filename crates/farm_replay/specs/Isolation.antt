@@ -4,7 +4,7 @@ use Rattle.farm_core.specs.Config.{ConfigData}
 use Rattle.farm_core.specs.Name.{same_bytes}
 use Rattle.farm_core.specs.World.{purse_in, place_in, opened_purse}
 use Rattle.farm_core.specs.Laws.{IsLone}
-use Rattle.farm_session.specs.Heard.{number_of}
+use Rattle.farm_session.specs.Heard.{tenant_number}
 use Rattle.farm_replay.specs.Output.{Saying, Marked, who_in, opening, lines_for}
 
 -- whose a request is, where that is known, whatever memory was refused
@@ -21,7 +21,7 @@ place_if config p None = None
 place_if config p (Some t) = cond (purse_in config t == p) (Some (place_in config t)) None
 
 abbrev pub seat_of : ConfigData → ℕ → List ℕ → Option ℕ
-seat_of config p who = place_if config p (number_of who config)
+seat_of config p who = place_if config p (tenant_number who config)
 
 -- the name is that of a member of the purse
 abbrev pub is_members : ConfigData → ℕ → Option (List ℕ) → Bool
@@ -58,5 +58,5 @@ lone_requests name requests = filter (λ (m : Marked). is_of name (whose m)) req
 
 -- the lines that it reads are those of its own requests alone
 abbrev pub EachLoneReplaysAlone : Type 0
-EachLoneReplaysAlone = (config : ConfigData) (requests : List Marked) (name : List ℕ) (t : ℕ) → number_of name config ≡ Some t → IsLone config t →
+EachLoneReplaysAlone = (config : ConfigData) (requests : List Marked) (name : List ℕ) (t : ℕ) → tenant_number name config ≡ Some t → IsLone config t →
     lone_lines name (lines_for config (opening config) requests) ≡ lines_for config (opening config) (lone_requests name requests)

@@ -5,6 +5,5 @@ pub mod Isolation
 pub mod Truth
 pub mod Begins
 pub mod Bytes
-pub mod Counter
 pub mod Reader
 pub mod Refusal

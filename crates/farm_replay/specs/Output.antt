@@ -16,7 +16,7 @@ use Rattle.session_lines.specs.declared.request.What.{What}
 use Rattle.session_lines.specs.declared.request.What.TheVariants.{Submit, Fund, Status, Fetch, Cancel, Forget, Ledger, Take, Give, Turn}
 use Rattle.session_lines.specs.declared.request.LineFault.{LineFault}
 use Rattle.session_lines.specs.declared.request.LineFault.TheVariants.{TooLong, Syntax, File, NoMemory}
-use Rattle.session_lines.specs.declared.reading.TheConstants.{MOST_BYTES}
+use Rattle.session_lines.specs.declared.reading.TheConstants.{MOST_REQUEST_BYTES}
 use Rattle.session_lines.specs.declared.said.Said.{Said}
 use Rattle.session_lines.specs.declared.said.Said.TheVariants as said
 use Rattle.session_lines.specs.ReplyText.{reply_line}
@@ -70,17 +70,17 @@ told_to t (Turn s slice) = turned (step t (event.Take s slice)).answer (step t (
 
 -- whether a request may need memory: a submit and a request for a turn do, also where there is none to take; a give does not; and a command does only where the journal has room
 -- for its entry, but for a cancel that is accepted
-abbrev pub may_need : Tenant → What → Bool
-may_need t (Submit kind quanta project) = true
-may_need t (Take s slice) = true
-may_need t (Turn s slice) = true
-may_need t (Give s) = false
-may_need t (Cancel s) = has_room 1 t && not (is_line (step t (event.Cancel s)).answer)
-may_need t what = has_room 1 t
+abbrev pub request_may_need : Tenant → What → Bool
+request_may_need t (Submit kind quanta project) = true
+request_may_need t (Take s slice) = true
+request_may_need t (Turn s slice) = true
+request_may_need t (Give s) = false
+request_may_need t (Cancel s) = has_room 1 t && not (is_line (step t (event.Cancel s)).answer)
+request_may_need t what = has_room 1 t
 
 -- what is said to a request where memory that it needs is refused, or where it is not: a refusal changes nothing
 abbrev pub told_under : Bool → Tenant → What → Told
-told_under refused t what = cond (refused && may_need t what) (record { said = said.Reply reply.NoMemory; after = t }) (told_to t what)
+told_under refused t what = cond (refused && request_may_need t what) (record { said = said.Reply reply.NoMemory; after = t }) (told_to t what)
 
 -- ---- all purses
 
@@ -189,7 +189,7 @@ lines_past (suc n) lines = lines_after (first None (lines_past n lines))
 
 -- the request after these has more than 100,000,000 bytes
 abbrev pub IsLongNext : List ℕ → List Marked → Type 0
-IsLongNext script requests = IsPast MOST_BYTES None (lines_past (length requests) (lines_of script))
+IsLongNext script requests = IsPast MOST_REQUEST_BYTES None (lines_past (length requests) (lines_of script))
 
 -- why a replay ends after these requests, by its fault and by whether a read or a write has failed, and what was written after their lines
 abbrev pub IsCutBy : ReplayFault → Watches → ConfigData → List ℕ → List Marked → List Item → List ℕ → Type 0

@@ -3,7 +3,7 @@ use Rattle.std.specs.Prelude.{◌≡◌, ◌≢◌, ◌⊎◌, ⊤, ℕ, Bool, t
 use Rattle.session_lines.specs.declared.request.Request.{Request}
 use Rattle.session_lines.specs.declared.request.LineFault.{LineFault}
 use Rattle.session_lines.specs.declared.request.LineFault.TheVariants.{Eof, Read}
-use Rattle.session_lines.specs.declared.reading.TheConstants.{MOST_BYTES}
+use Rattle.session_lines.specs.declared.reading.TheConstants.{MOST_REQUEST_BYTES}
 use Rattle.session_lines.specs.Cause.{IsPast}
 use Rattle.session_lines.specs.Script.{lines_of, requests_of}
 use Rattle.farm_replay.specs.declared.script.ReplayFault.{ReplayFault}
@@ -11,7 +11,7 @@ use Rattle.farm_replay.specs.declared.script.ReplayFault.TheVariants as fault
 
 -- the reader failed or the next request is too long, or there is one request more
 abbrev pub GoesOn : ReplayFault → Bool → List ℕ → Type 0
-GoesOn fault.Read failed bytes = (failed ≡ true) ⊎ IsPast MOST_BYTES None (lines_of bytes)
+GoesOn fault.Read failed bytes = (failed ≡ true) ⊎ IsPast MOST_REQUEST_BYTES None (lines_of bytes)
 GoesOn fault.Write failed bytes = ⊥
 GoesOn fault.Requests failed bytes = requests_of bytes ≢ []
 GoesOn fault.NoMemory failed bytes = ⊥

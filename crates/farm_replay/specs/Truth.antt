@@ -9,7 +9,7 @@ use Rattle.session_lines.specs.declared.request.What.TheVariants.{Submit}
 use Rattle.session_lines.specs.declared.said.Said.{Said}
 use Rattle.session_lines.specs.declared.said.Said.TheVariants as said
 use Rattle.session_lines.specs.Script.{requests_of}
-use Rattle.farm_session.specs.Heard.{number_of}
+use Rattle.farm_session.specs.Heard.{tenant_number}
 use Rattle.farm_replay.specs.Output.{Marked, items_of, opening, next, parts_after}
 
 -- what is said of a job is true of a plan that was made under its number
@@ -22,19 +22,19 @@ IsTrueSaid made said.LongLine = ⊤
 IsTrueSaid made (said.File fault) = ⊤
 
 -- one of these requests is tenant t's, and this is said to it
-pub record IsAnswered (config : ConfigData) (requests : List Marked) (t : ℕ) (what : What) (words : Said) : Type 0 where
+pub record WasTold (config : ConfigData) (requests : List Marked) (t : ℕ) (what : What) (words : Said) : Type 0 where
   pub before : List Marked
   pub request : Marked
   pub behind : List Marked
   pub whole : requests ≡ before ++ request ∷ behind
   pub who : List ℕ
   pub asks : request.item.answer ≡ Ok (record { who = who; what = what })
-  pub number : number_of who config ≡ Some t
+  pub number : tenant_number who config ≡ Some t
   pub says : words ≡ (next config (parts_after config (opening config) before) request).line.said
 
 -- one of them is tenant t's submit of the plan, to which this number is said
 abbrev pub WasSubmitted : ConfigData → List Marked → ℕ → ℕ → Plan → Type 0
-WasSubmitted config requests t s plan = (quanta : ℕ) × IsAnswered config requests t (Submit plan.kind quanta plan.project) (said.Reply (reply.Job s))
+WasSubmitted config requests t s plan = (quanta : ℕ) × WasTold config requests t (Submit plan.kind quanta plan.project) (said.Reply (reply.Job s))
 
 -- in the output of a script, whatever memory was refused, each line about a job is true of a plan that its tenant has
 -- submitted under that number before it: a schedule is feasible and has the makespan that is named, with 'optimal' no
@@ -42,8 +42,8 @@ WasSubmitted config requests t s plan = (quanta : ℕ) × IsAnswered config requ
 -- the job of a number, so no two plans of a tenant were submitted under one
 pub record EachLineIsTrue : Type 0 where
   pub told : (config : ConfigData) (script : List ℕ) (requests : List Marked) → items_of requests ≡ requests_of script →
-      (t : ℕ) (what : What) (words : Said) → (it : IsAnswered config requests t what words) →
+      (t : ℕ) (what : What) (words : Said) → (it : WasTold config requests t what words) →
       IsTrueSaid (WasSubmitted config it.before t) words
   pub one : (config : ConfigData) (requests : List Marked) (t s : ℕ) (what other : What) →
-      (here : IsAnswered config requests t what (said.Reply (reply.Job s))) →
-      (there : IsAnswered config requests t other (said.Reply (reply.Job s))) → length here.before ≡ length there.before
+      (here : WasTold config requests t what (said.Reply (reply.Job s))) →
+      (there : WasTold config requests t other (said.Reply (reply.Job s))) → length here.before ≡ length there.before

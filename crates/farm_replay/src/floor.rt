@@ -2,17 +2,16 @@
 ghost use Rattle.std.specs.Prelude.{◌≡◌, ◌≢◌, ℕ, ◌<◌, ◌-◌, [], length, position, false, IfOk, IfErr, IfSome};
 ghost use Rattle.quanta_till.specs.Lease.{empty_lease};
 ghost use Rattle.farm_core.specs.Tenant.{find_job};
-ghost use Rattle.farm_core.specs.World.{opened, purse_in, view, Follows};
+ghost use Rattle.farm_core.specs.World.{opened, view, Follows};
 ghost use Rattle.farm_core.specs.Step.{Sent};
 ghost use Rattle.farm_core.specs.Turn.{IsNotTaken};
 ghost use Rattle.farm_core.specs.Held.{is_out_of};
 ghost use Rattle.session_lines.specs.declared.request.What.TheVariants as what;
-ghost use Rattle.farm_replay.specs.Counter.{counter_of, counter_for};
+ghost use Rattle.farm_core.specs.Tills.{IsTillOf};
 ghost use Rattle.farm_replay.specs.Floor.{IsFloor, IsTold, is_turn_of, untaken};
 
-use crate::counter::Counter;
 use farm_core::{Config, Event, Farm, Line, NoTurn, Reply, Stranger, Turn};
-use farm_session::{Ready, command_of};
+use farm_session::{Branch, Ready, command_of};
 use session_lines::{Said, What};
 use std::alloc::{AllocError, Global};
 use strategy::{Plan, Strategy};
@@ -43,11 +42,11 @@ fn untaken(why: NoTurn) -> Said
 }
 
 /// A plan with a tenant's lease of its purse's till, of which nothing was drawn. There is nothing where there is no memory for it.
-fn ready_for(alloc: Global, counter: &mut Counter, tenant: u32, plan: &Plan) -> Option<Ready>
-    ensures counter { counter.new ≡ counter.old }
-    ensures made { IfSome result (λ ready. ready ≡ record { plan = plan.now; lease = empty_lease counter.old tenant }) }
+fn ready_for(alloc: Global, branch: &mut Branch<'_>, tenant: u32, plan: &Plan) -> Option<Ready>
+    ensures kept { branch.new ≡ branch.old }
+    ensures made { IfSome result (λ ready. ready ≡ record { plan = plan.now; lease = empty_lease branch.old tenant }) }
 {
-    let lease = counter.lease(tenant).ok()?;
+    let lease = branch.lease(tenant).ok()?;
     Ready::of(alloc, lease, plan)
 }
 
@@ -68,22 +67,21 @@ impl<J: Strategy> Floor<J> {
     fn submit<M: Fn(Ready) -> Option<J>>(
         &mut self,
         alloc: Global,
-        counter: &mut Counter,
+        branch: &mut Branch<'_>,
         tenant: u32,
         plan: Plan,
         quanta: u64,
         make: &M,
     ) -> Said
         requires known { tenant < length self.old.farm.config.tenants }
-        requires counter { counter_of counter.old
-            ≡ counter_for self.old.farm.config (purse_in self.old.farm.config tenant) }
+        requires till { IsTillOf self.old.farm.config tenant branch.old }
         requires make { M.IsAlwaysCallable make.now }
         requires floor { IsFloor J.meaning self.old.farm self.old.held.items }
-        ensures counter { counter.new ≡ counter.old }
+        ensures kept { branch.new ≡ branch.old }
         ensures told { IsTold self.old.farm tenant (what.Submit plan.kind quanta plan.project) result self.new.farm }
         ensures floor { IsFloor J.meaning self.new.farm self.new.held.items }
     {
-        let Some(ready) = ready_for(alloc, counter, tenant, &plan) else {
+        let Some(ready) = ready_for(alloc, branch, tenant, &plan) else {
             return Said::Reply(Reply::NoMemory);
         };
         let Some(search) = make(ready) else {
@@ -163,17 +161,16 @@ impl<J: Strategy> Floor<J> {
     pub(crate) fn answer<M: Fn(Ready) -> Option<J>>(
         &mut self,
         alloc: Global,
-        counter: &mut Counter,
+        branch: &mut Branch<'_>,
         tenant: u32,
         asked: What,
         make: &M,
     ) -> Said
         requires known { tenant < length self.old.farm.config.tenants }
-        requires counter { counter_of counter.old
-            ≡ counter_for self.old.farm.config (purse_in self.old.farm.config tenant) }
+        requires till { IsTillOf self.old.farm.config tenant branch.old }
         requires make { M.IsAlwaysCallable make.now }
         requires floor { IsFloor J.meaning self.old.farm self.old.held.items }
-        ensures counter { counter.new ≡ counter.old }
+        ensures kept { branch.new ≡ branch.old }
         ensures told { IsTold self.old.farm tenant asked result self.new.farm }
         ensures floor { IsFloor J.meaning self.new.farm self.new.held.items }
     {
@@ -187,7 +184,7 @@ impl<J: Strategy> Floor<J> {
                 project,
             } => {
                 let plan = Plan { project, kind };
-                self.submit(alloc, counter, tenant, plan, quanta, make)
+                self.submit(alloc, branch, tenant, plan, quanta, make)
             }
             What::Take { seq, slice } => self.take(tenant, seq, slice),
             What::Give(seq) => self.give(tenant, seq),

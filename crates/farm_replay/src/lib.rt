@@ -10,11 +10,9 @@
 //! - `watches`: whether a read or a write has failed.
 //! - `notes`: what is noted beside the replies.
 //! - `floor`: the farm with the turns that the script holds.
-//! - `counter`: the purses' tills.
 //! - `laws`: laws of outputs.
 #![tactic(auto)]
 
-mod counter;
 mod floor;
 pub mod laws;
 mod notes;

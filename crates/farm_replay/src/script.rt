@@ -4,13 +4,12 @@ ghost use Rattle.farm_core.specs.World.{opened};
 ghost use Rattle.session_lines.specs.Known.{Writes};
 ghost use Rattle.session_lines.specs.ReplyText.{reply_line};
 ghost use Rattle.session_lines.specs.Script.{requests_of};
-ghost use Rattle.farm_replay.specs.Counter.{counter_of, counters_of};
+ghost use Rattle.farm_core.specs.Tills.{AreTillsOf};
 ghost use Rattle.farm_replay.specs.Floor.{IsFloor};
 ghost use Rattle.farm_replay.specs.Output.{IsWritten, IsCutOff, unwatched};
 ghost use Rattle.farm_replay.specs.Reader.{script_rest};
 ghost use Rattle.farm_replay.specs.Replay.{end_of, GoesOn};
 
-use crate::counter::{Counter, open_counters};
 use crate::floor::Floor;
 use crate::notes::Notes;
 use crate::reader::Script;
@@ -18,7 +17,7 @@ use crate::sending::{send_before_nodes, send_before_wait};
 use crate::watches::Watches;
 use farm_core::laws::farms_are_replayed;
 use farm_core::{Config, Name};
-use farm_session::{Heard, Ready, hear};
+use farm_session::{Branch, Heard, Ready, branches, hear, open_tills};
 use io_watch::Watch;
 use session_lines::laws::requests_come_in_turn;
 use session_lines::{LineFault, Request, Said, read_watched, write_watched};
@@ -89,7 +88,7 @@ fn play<J: Strategy, R: Read, W: Write, M: Fn(Ready) -> Option<J>>(
     alloc: Global,
     config: &Config,
     floor: &mut Floor<J>,
-    counters: &mut [Counter],
+    branches: &mut [Branch<'_>],
     script: &mut Script<R>,
     writer: &mut W,
     watches: &mut Watches,
@@ -97,7 +96,7 @@ fn play<J: Strategy, R: Read, W: Write, M: Fn(Ready) -> Option<J>>(
     make: &M,
 ) -> Result<(), ReplayFault>
     requires farm { floor.old.farm ≡ opened config.now }
-    requires counters { map counter_of counters.old ≡ counters_of config.now }
+    requires tills { AreTillsOf config.now branches.old }
     requires make { M.IsAlwaysCallable make.now }
     requires floor { IsFloor J.meaning floor.old.farm floor.old.held.items }
     ensures written { OnOk result (IfSome (script_rest R.remaining script.old) (λ bytes.
@@ -125,8 +124,8 @@ fn play<J: Strategy, R: Read, W: Write, M: Fn(Ready) -> Option<J>>(
                     return Err(fault);
                 }
                 let purse = config.purse_of(tenant);
-                let counter = &mut counters[purse as usize];
-                let said = floor.answer(alloc, counter, tenant, asked, make);
+                let branch = &mut branches[purse as usize];
+                let said = floor.answer(alloc, branch, tenant, asked, make);
                 notes.add(script.line(), script.is_doubtful(), &said);
                 if let Err(fault) = tell(writer, &mut watches.writes, Some(who), said) {
                     return Err(fault);
@@ -158,7 +157,10 @@ pub fn replay_noting<R: Read + Drop, W: Write>(
     let Ok(mut script) = Script::new(alloc, reader) else {
         return Err(ReplayFault::NoMemory);
     };
-    let Ok(mut counters) = open_counters(alloc, config) else {
+    let Ok((tills, mut desks)) = open_tills(alloc, config) else {
+        return Err(ReplayFault::NoMemory);
+    };
+    let Ok(mut branches) = branches(alloc, &tills, &mut desks) else {
         return Err(ReplayFault::NoMemory);
     };
     let Ok(mut floor) = Floor::<Box<dyn Strategy>>::new(alloc, config) else {
@@ -184,7 +186,7 @@ pub fn replay_noting<R: Read + Drop, W: Write>(
         alloc,
         config,
         &mut floor,
-        &mut counters,
+        &mut branches,
         &mut script,
         writer,
         watches,

@@ -1,3 +1,1 @@
 pub mod KnownLemmas
-pub mod SeatLemmas
-pub mod TillLemmas

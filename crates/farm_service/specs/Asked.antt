@@ -32,12 +32,12 @@ abbrev pub IsSubmitted : {T : Type 0} → (Event → Reply → T → Type 0) →
 IsSubmitted tells old e answer new = tells e answer new ⊎ ((answer ≡ reply.NoMemory) × (new ≡ old))
 
 -- a call was answered so
-abbrev pub IsAnswered : {T : Type 0} → (Event → Reply → T → Type 0) → T → Event → Said → T → Type 0
-IsAnswered tells old (event.Submit plan quanta) (said.Reply answer) new = IsSubmitted tells old (event.Submit plan quanta) answer new
-IsAnswered tells old e (said.Reply answer) new = tells e answer new
-IsAnswered tells old e words new = ⊥
+abbrev pub IsCallAnswered : {T : Type 0} → (Event → Reply → T → Type 0) → T → Event → Said → T → Type 0
+IsCallAnswered tells old (event.Submit plan quanta) (said.Reply answer) new = IsSubmitted tells old (event.Submit plan quanta) answer new
+IsCallAnswered tells old e (said.Reply answer) new = tells e answer new
+IsCallAnswered tells old e words new = ⊥
 
 -- what is said to a tenant's request: the reply to the call of that event; or that it is no request, and no call was made
 abbrev pub IsSaidTo : {T : Type 0} → (Event → Reply → T → Type 0) → T → Option Event → Said → T → Type 0
-IsSaidTo tells old (Some e) words new = IsAnswered tells old e words new
+IsSaidTo tells old (Some e) words new = IsCallAnswered tells old e words new
 IsSaidTo tells old None words new = (words ≡ said.Syntax) × (new ≡ old)

@@ -3,7 +3,7 @@ use Rattle.std.specs.Prelude.{⊤}
 use Rattle.farm_core.specs.Config.{ConfigData}
 use Rattle.farm_service.specs.declared.service.Part.{Part}
 use Rattle.farm_service.specs.declared.service.Part.TheVariants.{Worker, Client}
-use Rattle.farm_pool.specs.Settle.{AreTillsOf}
+use Rattle.farm_core.specs.Tills.{AreTillsOf}
 
 -- a client is answered at desks of the tills of the configuration's purses
 abbrev pub IsAtTills : ConfigData → Part → Type 0

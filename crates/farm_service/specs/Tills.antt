@@ -4,12 +4,9 @@ use Rattle.quanta_till.specs.Desk.{DeskValue}
 use Rattle.quanta_till.specs.Till.{TillValue}
 use Rattle.farm_core.specs.Config.{ConfigData}
 use Rattle.farm_core.specs.World.{World, purse_in}
-use Rattle.farm_pool.specs.Settle.{opening_of, opening_for, books_of, words_at, AreTillsOf, AreSeated, AreLoaded, first_unsettled}
+use Rattle.farm_core.specs.Tills.{opening_of, opening_for, AreTillsOf, AreSeated}
+use Rattle.farm_pool.specs.Settle.{books_of, words_at, AreLoaded, first_unsettled}
 use Rattle.farm_pool.specs.Worked.{PoolView, IsClosed}
-
--- the till of a tenant's purse
-abbrev pub IsTillOf : ConfigData → ℕ → TillValue → Type 0
-IsTillOf config t till = opening_of till ≡ opening_for config (purse_in config t)
 
 -- a farm of the configuration, whose journal is that of a legal history, is settled with its purses' tills, whose words were loaded once
 pub record IsSettled (config : ConfigData) : Type 0 where

@@ -6,14 +6,12 @@ ghost use Rattle.farm_session.specs.Command.{event_in};
 ghost use Rattle.farm_service.specs.Asked.{IsAskedBy, IsSaidTo, IsSubmitted};
 ghost use Rattle.farm_service.specs.Known.{IsKnown};
 ghost use Rattle.farm_service.specs.Told.{heard_in, IsToldOf};
-ghost use Rattle.farm_pool.specs.Settle.{AreTillsOf};
-ghost use Rattle.farm_service.specs.Tills.{IsTillOf};
+ghost use Rattle.farm_core.specs.Tills.{AreTillsOf, IsTillOf};
 
 use crate::lobby::Lobby;
 use crate::shared::{Asked, Shared};
-use crate::tills::Branch;
 use farm_core::{Config, Reply};
-use farm_session::{Heard, Ready, hear};
+use farm_session::{Branch, Heard, Ready, hear};
 use session_lines::{LineFault, Request, Said, What, WriteFault, read_request, write_reply};
 use std::alloc::Global;
 use std::io::{Read, Write};

@@ -5,7 +5,7 @@
 //!
 //! - `service`: `serve`, its threads and its end.
 //! - `connection`: the requests of one connection.
-//! - `tills`: the purses' tills, and a connection's desks at them.
+//! - `places`: the desks of the connections.
 //! - `lobby`: when workers rest, and when they go home.
 //! - `shared`: the pool, as the threads see it.
 //! - `wire`: a connection whose replies leave before it waits.
@@ -13,9 +13,9 @@
 
 mod connection;
 mod lobby;
+mod places;
 mod service;
 mod shared;
-mod tills;
 mod wire;
 
 pub use service::{ServeFault, serve};

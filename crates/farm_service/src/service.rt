@@ -1,18 +1,19 @@
 //! A farm that answers requests over connections.
 ghost use Rattle.std.specs.Prelude.{◌≡◌, All, map, None, IfOk, OnOk};
 ghost use Rattle.farm_core.specs.Config.{ConfigData};
-ghost use Rattle.farm_pool.specs.Settle.{books_of, words_at, AreLoaded, AreSeated, AreTillsOf, first_unsettled};
+ghost use Rattle.farm_core.specs.Tills.{AreSeated, AreTillsOf};
+ghost use Rattle.farm_pool.specs.Settle.{books_of, words_at, AreLoaded, first_unsettled};
 ghost use Rattle.farm_service.specs.Part.{IsAtTills};
 ghost use Rattle.farm_service.specs.Tills.{IsSettled};
 
 use crate::connection::session;
 use crate::lobby::{Lobby, Nobody, Seat};
+use crate::places::places;
 use crate::shared::{Shared, keep, promise_of, take_in};
-use crate::tills::{Branch, open_tills, places};
 use crate::wire::Wire;
 use farm_core::{Config, Farm};
 use farm_pool::{Pool, Settled, finish};
-use farm_session::Ready;
+use farm_session::{Branch, Ready, open_tills};
 use quanta_till::{Desk, Till};
 use std::alloc::Global;
 use std::io::{BufReader, BufWriter};

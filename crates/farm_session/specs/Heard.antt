@@ -13,11 +13,11 @@ use Rattle.farm_session.specs.declared.heard.Heard.{Heard}
 use Rattle.farm_session.specs.declared.heard.Heard.TheVariants.{Over, Broken, Told, Asked}
 
 -- the number of the tenant of that name
-abbrev pub is_named : List ℕ → TenantLine → Bool
-is_named name line = same_bytes line.name name
+abbrev pub is_line_of : List ℕ → TenantLine → Bool
+is_line_of name line = same_bytes line.name name
 
-abbrev pub number_of : List ℕ → ConfigData → Option ℕ
-number_of name config = position (is_named name) config.tenants
+abbrev pub tenant_number : List ℕ → ConfigData → Option ℕ
+tenant_number name config = position (is_line_of name) config.tenants
 
 -- a request of a tenant of that number, if there is one
 abbrev pub heard_for : List ℕ → What → Option ℕ → Heard
@@ -25,7 +25,7 @@ heard_for who what None = Told (Some who) said.NoTenant
 heard_for who what (Some t) = Asked t who what
 
 abbrev pub heard_of : ConfigData → Result Request LineFault → Heard
-heard_of config (Ok request) = heard_for request.who request.what (number_of request.who config)
+heard_of config (Ok request) = heard_for request.who request.what (tenant_number request.who config)
 heard_of config (Err Eof) = Over
 heard_of config (Err Read) = Broken
 heard_of config (Err (TooLong who)) = Told who said.LongLine

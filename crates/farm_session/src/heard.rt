@@ -1,6 +1,6 @@
 //! What a request comes to before the farm is asked.
 ghost use Rattle.std.specs.Prelude.{◌≡◌, ◌<◌, length, position, IfSome};
-ghost use Rattle.farm_session.specs.Heard.{is_named, number_of, heard_of};
+ghost use Rattle.farm_session.specs.Heard.{is_line_of, tenant_number, heard_of};
 
 use farm_core::{Config, Name, Reply, TenantLine};
 use session_lines::{LineFault, Request, Said, What};
@@ -19,22 +19,22 @@ pub enum Heard {
 }
 
 /// Whether a line of the configuration is the tenant's of that name.
-fn is_named(line: &TenantLine, name: &Name) -> bool
-    ensures { result ≡ is_named name.now line.now }
+fn is_line_of(line: &TenantLine, name: &Name) -> bool
+    ensures { result ≡ is_line_of name.now line.now }
 {
     line.name.is_same(name)
 }
 
 /// Where the line of the tenant of that name stands.
 fn place_of(lines: &[TenantLine], name: &Name) -> Option<usize>
-    ensures { result ≡ position (is_named name.now) lines.now }
+    ensures { result ≡ position (is_line_of name.now) lines.now }
 {
-    lines.iter().position(|line| is_named(line, name))
+    lines.iter().position(|line| is_line_of(line, name))
 }
 
 /// The number of the tenant of that name.
-fn number_of(config: &Config, name: &Name) -> Option<u32>
-    ensures exact { result ≡ number_of name.now config.now }
+fn tenant_number(config: &Config, name: &Name) -> Option<u32>
+    ensures exact { result ≡ tenant_number name.now config.now }
     ensures known { IfSome result (λ tenant. tenant < length config.now.tenants) }
 {
     match place_of(config.tenants(), name) {
@@ -49,7 +49,7 @@ pub fn hear(config: &Config, read: Result<Request, LineFault>) -> Heard
 {
     let fault = match read {
         Ok(Request { who, what }) => {
-            return match number_of(config, &who) {
+            return match tenant_number(config, &who) {
                 Some(tenant) => Heard::Asked(tenant, who, what),
                 None => Heard::Told(Some(who), Said::NoTenant),
             };

@@ -28,7 +28,7 @@ pub best_moded : (plan : Plan) (k : ℕ) (s : ScheduleData) → IsTrue (is_proje
 best_moded plan k s ok e = (best_is (IsFeasible plan.project) s e (each_best plan ok k)).modes_exist
 
 none_at_start : (p : ProjectData) (kind : Kind) → 0 < size p → best_of p kind 0 ≡ None
-unfolding tree.best_after best_pass
+unfolding tree.tree_best_after best_pass
 none_at_start p Tree some = refl
 none_at_start p RuleLft some = cond-true (nat_lt 0 (size p)) None (pass p RuleLft 0) (lt-ltb 0 (size p) some)
 none_at_start p RuleMts some = cond-true (nat_lt 0 (size p)) None (pass p RuleMts 0) (lt-ltb 0 (size p) some)

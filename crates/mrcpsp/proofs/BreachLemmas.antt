@@ -5,7 +5,7 @@ use Rattle.std.proofs.lemmas.Bool.Decides.{nat_tests}
 use Rattle.mrcpsp.specs.Numbers.{sum_below}
 use Rattle.mrcpsp.specs.Project.{ProjectData, size, renewables, nonrenewables, capacity, stock, precedes}
 use Rattle.mrcpsp.specs.Schedule.{ScheduleData, IsFeasible, HasMode, mode_of, start_of, finish, load, use_of, consumed}
-use Rattle.mrcpsp.specs.Breach.{HasShape, HasModes, IsBroken, IsBefore, IsBelow, IsFirstBreach, IsFirstOf, HasNone, IsEarly, IsFirstOveruse, IsFirstStartOverused, kind_of, numbers_of}
+use Rattle.mrcpsp.specs.Breach.{HasShape, HasModes, IsBroken, IsBefore, IsBelow, IsFirstBreach, IsFirstOf, HasNone, StartsEarly, IsFirstOveruse, IsFirstStartOverused, kind_of, numbers_of}
 use Rattle.mrcpsp.specs.declared.breach.Breach.{Breach}
 use Rattle.mrcpsp.specs.declared.breach.Breach.TheVariants.{Shape, Mode, Precedence, Renewable, Nonrenewable}
 use Rattle.mrcpsp.proofs.NumbersLemmas.{sum_below-le, sum_below-same}
@@ -38,7 +38,7 @@ mode-none p s has (Nonrenewable r) k b = absurd (omega arith)
 
 -- ---- precedence
 
-early-least : (p : ProjectData) (s : ScheduleData) (i j : ℕ) → ((k m : ℕ) → k < i → m < size p → IsEarly p s k m → ⊥) → ((k : ℕ) → k < j → IsEarly p s i k → ⊥) → (c : Breach) → kind_of c ≡ 3 → IsBroken p s c → IsBelow (numbers_of c) ((i + 1) ∷ (j + 1) ∷ []) → ⊥
+early-least : (p : ProjectData) (s : ScheduleData) (i j : ℕ) → ((k m : ℕ) → k < i → m < size p → StartsEarly p s k m → ⊥) → ((k : ℕ) → k < j → StartsEarly p s i k → ⊥) → (c : Breach) → kind_of c ≡ 3 → IsBroken p s c → IsBelow (numbers_of c) ((i + 1) ∷ (j + 1) ∷ []) → ⊥
 early-least p s i j earlier before Shape k b l = absurd (omega arith)
 early-least p s i j earlier before (Mode x) k b l = absurd (omega arith)
 early-least p s i j earlier before (Precedence x y) k b l =
@@ -54,7 +54,7 @@ early-least p s i j earlier before (Precedence x y) k b l =
 early-least p s i j earlier before (Renewable r t) k b l = absurd (omega arith)
 early-least p s i j earlier before (Nonrenewable r) k b l = absurd (omega arith)
 
-pub early-first : (p : ProjectData) (s : ScheduleData) (i j : ℕ) → i < size p → j < size p → IsEarly p s i j → ((k m : ℕ) → k < i → m < size p → IsEarly p s k m → ⊥) → ((k : ℕ) → k < j → IsEarly p s i k → ⊥) → IsFirstOf 3 p s (Precedence (i + 1) (j + 1))
+pub early-first : (p : ProjectData) (s : ScheduleData) (i j : ℕ) → i < size p → j < size p → StartsEarly p s i j → ((k m : ℕ) → k < i → m < size p → StartsEarly p s k m → ⊥) → ((k : ℕ) → k < j → StartsEarly p s i k → ⊥) → IsFirstOf 3 p s (Precedence (i + 1) (j + 1))
 early-first p s i j inside within early earlier before =
     let same : i + 1 - 1 ≡ i = omega arith in
     let other : j + 1 - 1 ≡ j = omega arith in
@@ -64,7 +64,7 @@ early-first p s i j inside within early earlier before =
       least = early-least p s i j earlier before;
     }
 
-pub early-none : (p : ProjectData) (s : ScheduleData) → ((k m : ℕ) → k < size p → m < size p → IsEarly p s k m → ⊥) → HasNone 3 p s
+pub early-none : (p : ProjectData) (s : ScheduleData) → ((k m : ℕ) → k < size p → m < size p → StartsEarly p s k m → ⊥) → HasNone 3 p s
 early-none p s none Shape k b = absurd (omega arith)
 early-none p s none (Mode i) k b = absurd (omega arith)
 early-none p s none (Precedence x y) k b = none (x - 1) (y - 1) (omega (arith, b.0.0, b.0.1)) (omega (arith, b.1.0, b.1.1)) (b.2, b.3)

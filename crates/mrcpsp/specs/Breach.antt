@@ -69,12 +69,12 @@ TellsFirst k p s None = HasNone k p s
 TellsFirst k p s (Some b) = IsFirstOf k p s b
 
 -- the first activity that is a successor of activity i and starts before it ends, by its place
-abbrev pub IsEarly : ProjectData → ScheduleData → ℕ → ℕ → Type 0
-IsEarly p s i j = (precedes p i j ≡ true) × (start_of s j < finish p s i)
+abbrev pub StartsEarly : ProjectData → ScheduleData → ℕ → ℕ → Type 0
+StartsEarly p s i j = (precedes p i j ≡ true) × (start_of s j < finish p s i)
 
 abbrev pub IsFirstEarly : ProjectData → ScheduleData → ℕ → Option ℕ → Type 0
-IsFirstEarly p s i None = (j : ℕ) → j < size p → IsEarly p s i j → ⊥
-IsFirstEarly p s i (Some j) = (j < size p) × IsEarly p s i j × ((k : ℕ) → k < j → IsEarly p s i k → ⊥)
+IsFirstEarly p s i None = (j : ℕ) → j < size p → StartsEarly p s i j → ⊥
+IsFirstEarly p s i (Some j) = (j < size p) × StartsEarly p s i j × ((k : ℕ) → k < j → StartsEarly p s i k → ⊥)
 
 -- the first period in which a renewable resource is used above its capacity
 abbrev pub IsFirstOveruse : ProjectData → ScheduleData → ℕ → Option ℕ → Type 0

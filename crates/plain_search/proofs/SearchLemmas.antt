@@ -16,11 +16,11 @@ use Rattle.plain_search.specs.Search.{StandsAt}
 use Rattle.plain_search.specs.declared.search.NodeList.{NodeList}
 
 pub all-tree : (plan : Plan) (nodes : List Node) (k : ℕ) → plan.kind ≡ Tree → nodes ≡ all_visits plan.project → nat_le (length nodes) k ≡ all_run plan.project plan.kind k
-unfolding tree.is_closed
+unfolding tree.is_tree_over
 all-tree plan nodes k kind listed = sym (ap (λ (kind : Kind). all_run plan.project kind k) kind ∙ ap (λ (ns : List Node). nat_le (length ns) k) (sym listed))
 
 best-tree : (plan : Plan) (nodes : List Node) (k : ℕ) → plan.kind ≡ Tree → nodes ≡ all_visits plan.project → after None (take k nodes) ≡ best_after plan k
-unfolding best_after tree.best_after
+unfolding best_after tree.tree_best_after
 best-tree plan nodes k kind listed = sym (ap (λ (kind : Kind). best_of plan.project kind k) kind ∙ ap (λ (ns : List Node). after None (take k ns)) (sym listed))
 
 -- the same where a list stands

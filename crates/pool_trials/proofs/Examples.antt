@@ -68,7 +68,7 @@ abbrev best : Reply
 best = reply.Best 1 (Some schedule) (Some 5) Optimal
 
 best_is_answered : (step (tenant_at config entries 0) (Fetch 1)).answer ≡ Replied best
-unfolding newcomers first_member purse_of members_of place_of to_submit to_fetch held free kept line_of nodes_of_turn best_after is_closed verdict_after tree.best_after tree.is_closed tree.all_visits tree.candidates tree.is_pruned tree.updated tree.visit_one pass chosen_at eligible_ones allowed_modes is_allowed_mode placed_from lft duration size modes renewables nonrenewables mode_count successors request consumption capacity stock precedes load shortest least placed_use placed_consumption last_start are_ready fits is_allowed earliest is_eligible is_executable reserve is_affordable tail schedule_of makespan finish start_of mode_of bound
+unfolding newcomers first_member purse_of members_of place_of to_submit to_fetch held free kept line_of nodes_of_turn best_after is_closed verdict_after tree.tree_best_after tree.is_tree_over tree.all_visits tree.candidates tree.is_pruned tree.updated tree.visit_one pass chosen_at eligible_ones allowed_modes is_allowed_mode placed_from lft duration size modes renewables nonrenewables mode_count successors request consumption capacity stock precedes load shortest least placed_use placed_consumption last_start are_ready fits is_allowed earliest is_eligible is_executable reserve is_affordable tail schedule_of makespan finish start_of mode_of bound
 best_is_answered = refl
 
 -- ---- its history is legal: pass 0 submitted, pass 1 took the turn and gave it back
@@ -96,7 +96,7 @@ submit_sound : IsSound config (entry (Submit plan 9))
 submit_sound = record { known = omega arith; planned = refl }
 
 left_there : AreLeft config [] entries
-unfolding newcomers first_member purse_of members_of place_of to_submit held free kept line_of nodes_of_turn best_after is_closed verdict_after tree.best_after tree.is_closed tree.all_visits tree.candidates tree.is_pruned tree.updated tree.visit_one pass chosen_at eligible_ones allowed_modes is_allowed_mode placed_from lft duration size modes renewables nonrenewables mode_count successors request consumption capacity stock precedes load shortest least placed_use placed_consumption last_start are_ready fits is_allowed earliest is_eligible is_executable reserve is_affordable tail schedule_of makespan finish start_of mode_of bound
+unfolding newcomers first_member purse_of members_of place_of to_submit held free kept line_of nodes_of_turn best_after is_closed verdict_after tree.tree_best_after tree.is_tree_over tree.all_visits tree.candidates tree.is_pruned tree.updated tree.visit_one pass chosen_at eligible_ones allowed_modes is_allowed_mode placed_from lft duration size modes renewables nonrenewables mode_count successors request consumption capacity stock precedes load shortest least placed_use placed_consumption last_start are_ready fits is_allowed earliest is_eligible is_executable reserve is_affordable tail schedule_of makespan finish start_of mode_of bound
 left_there = (
   record { sound = submit_sound; noted = refl },
   (record { sound = record { known = omega arith; planned = tt }; noted = refl }, (record { sound = record { known = omega arith; planned = tt }; noted = refl }, tt)),
@@ -122,7 +122,7 @@ take_served = record {
 }
 
 give_served : Served config second (said.Back run) (Some (entry (Give 1 3))) (told.Gave gave)
-unfolding newcomers first_member purse_of members_of place_of to_submit held free kept line_of nodes_of_turn best_after is_closed verdict_after tree.best_after tree.is_closed tree.all_visits tree.candidates tree.is_pruned tree.updated tree.visit_one pass chosen_at eligible_ones allowed_modes is_allowed_mode placed_from lft duration size modes renewables nonrenewables mode_count successors request consumption capacity stock precedes load shortest least placed_use placed_consumption last_start are_ready fits is_allowed earliest is_eligible is_executable reserve is_affordable tail schedule_of makespan finish start_of mode_of bound
+unfolding newcomers first_member purse_of members_of place_of to_submit held free kept line_of nodes_of_turn best_after is_closed verdict_after tree.tree_best_after tree.is_tree_over tree.all_visits tree.candidates tree.is_pruned tree.updated tree.visit_one pass chosen_at eligible_ones allowed_modes is_allowed_mode placed_from lft duration size modes renewables nonrenewables mode_count successors request consumption capacity stock precedes load shortest least placed_use placed_consumption last_start are_ready fits is_allowed earliest is_eligible is_executable reserve is_affordable tail schedule_of makespan finish start_of mode_of bound
 give_served = record {
   answers = record {
     job = record { seq = 1; plan = plan; phase = Out 100; nodes = 0; left = 9 };

@@ -5,7 +5,7 @@ use Rattle.quanta_till.specs.Desk.{DeskValue}
 use Rattle.quanta_till.specs.Till.{TillValue}
 use Rattle.farm_core.specs.Config.{ConfigData}
 use Rattle.farm_core.specs.World.{purses_in}
-use Rattle.farm_pool.specs.Settle.{Opening, opening_of, opening_for, AreTillsOf, AreSeated}
+use Rattle.farm_core.specs.Tills.{Opening, opening_of, opening_for, AreTillsOf, AreSeated}
 
 pub one_seated : (t : TillValue) (d : DeskValue) → d.id ≡ t.id → AreSeated (t ∷ []) (d ∷ [])
 one_seated t d first = record { count = refl; each = each }

@@ -1,7 +1,7 @@
 //! A configuration, tills, and a project's search.
 ghost use Rattle.std.specs.Prelude.{◌≡◌, true, length, IfOk, IfSome};
 ghost use Rattle.quanta_till.specs.Lease.{IsEmpty};
-ghost use Rattle.farm_pool.specs.Settle.{opening_for, opening_of};
+ghost use Rattle.farm_core.specs.Tills.{opening_for, opening_of};
 ghost use Rattle.strategy.specs.declared.kind.Kind.TheVariants.{RuleSpt, Tree};
 ghost use Rattle.turn_lock.specs.Values.{IsPassOf};
 

@@ -6,7 +6,7 @@ use Rattle.session_lines.specs.declared.request.Request.{Request}
 use Rattle.session_lines.specs.declared.request.LineFault.{LineFault}
 use Rattle.session_lines.specs.declared.request.LineFault.TheVariants.{Eof, Read, TooLong, Syntax, File, NoMemory}
 use Rattle.session_lines.specs.declared.text.Text.{Text}
-use Rattle.session_lines.specs.Cause.{HasCause, IsLonger, size_of, lines_after, IsPast, IsGivenUp}
+use Rattle.session_lines.specs.Cause.{HasCause, IsLonger, size_of, lines_after, IsPast, IsReadGivenUp}
 use Rattle.session_lines.specs.Known.{Goes}
 use Rattle.session_lines.specs.Script.{TextData, Item, onto, lines_of, after, first_or, first}
 use Rattle.session_lines.proofs.ReadLemmas.{lines-step, GoesOn, InText}
@@ -85,7 +85,7 @@ past_in_text failed text kept most left a b = cause_before failed a b (InText te
 
 -- ---- answers
 
-pub not_given_up : (most : ℕ) (text : Option TextData) (failed : Bool) (old : Option (List ℕ)) (answer : Result Request LineFault) → answer ≢ Err Read → IsGivenUp most text failed old answer
+pub not_given_up : (most : ℕ) (text : Option TextData) (failed : Bool) (old : Option (List ℕ)) (answer : Result Request LineFault) → answer ≢ Err Read → IsReadGivenUp most text failed old answer
 not_given_up most text failed old (Ok request) h = tt
 not_given_up most text failed old (Err Eof) h = tt
 not_given_up most text failed old (Err Read) h = absurd (h refl)
@@ -102,7 +102,7 @@ past-head text most left xs ys p q =
     omega (arith, is, p.paid, q, before, after)
 
 -- a submit is given up with its text
-pub head_given_up : (failed : Bool) (text : Option TextData) (most left : ℕ) (a b : Option (List ℕ)) (answer : Result Request LineFault) → Goes a b (GoesOn text most left) → IsGivenUp left text failed b answer → IsGivenUp most None failed a answer
+pub head_given_up : (failed : Bool) (text : Option TextData) (most left : ℕ) (a b : Option (List ℕ)) (answer : Result Request LineFault) → Goes a b (GoesOn text most left) → IsReadGivenUp left text failed b answer → IsReadGivenUp most None failed a answer
 head_given_up failed text most left a b (Ok request) p q = tt
 head_given_up failed text most left a b (Err Eof) p q = tt
 head_given_up failed text most left a b (Err Read) p q = cause_before failed a b (GoesOn text most left) _ _ (past-head text most left) p q

@@ -4,7 +4,7 @@ use Rattle.session_lines.specs.declared.request.LineFault.TheVariants.{TooLong, 
 use Rattle.session_lines.specs.declared.line.Head.{Head}
 use Rattle.session_lines.specs.declared.line.Meaning.{Meaning}
 use Rattle.session_lines.specs.declared.line.Meaning.TheVariants.{Blank, Whole, Opens, Long, Bad}
-use Rattle.session_lines.specs.Script.{TextData, Item, Found, found, plain, judged, opened, with_line, whole_text, cut_text, outside_text, first_or, first, before, requests}
+use Rattle.session_lines.specs.Script.{TextData, Item, Found, found, plain, judged, opened_text, with_line, whole_text, cut_text, outside_text, first_or, first, before, requests}
 use Rattle.session_lines.proofs.ReadLemmas.{grown}
 
 -- what a line outside a text begins: blank lines belong to the request after them
@@ -18,7 +18,7 @@ begins (Bad who) lines later text = found (plain (Err (Syntax who))) lines
 abbrev old_first : Option TextData → List (List ℕ) → Option Found
 old_first None [] = None
 old_first (Some text) [] = found (cut_text text) []
-old_first None (line ∷ lines) = begins (judged line) lines (old_first None lines) (λ head. old_first (Some (opened head)) lines)
+old_first None (line ∷ lines) = begins (judged line) lines (old_first None lines) (λ head. old_first (Some (opened_text head)) lines)
 old_first (Some text) (line ∷ lines) =
     let more : TextData = with_line text line in
     if more.left == 0 then found (whole_text more) lines else old_first (Some more) lines
@@ -34,7 +34,7 @@ heads (Bad who) later text = plain (Err (Syntax who)) ∷ later
 abbrev old_requests : Option TextData → List (List ℕ) → List Item
 old_requests None [] = []
 old_requests (Some text) [] = cut_text text ∷ []
-old_requests None (line ∷ lines) = heads (judged line) (old_requests None lines) (λ head. old_requests (Some (opened head)) lines)
+old_requests None (line ∷ lines) = heads (judged line) (old_requests None lines) (λ head. old_requests (Some (opened_text head)) lines)
 old_requests (Some text) (line ∷ lines) =
     let more : TextData = with_line text line in
     if more.left == 0 then whole_text more ∷ old_requests None lines else old_requests (Some more) lines
@@ -42,11 +42,11 @@ old_requests (Some text) (line ∷ lines) =
 pub requests_agree : (text : Option TextData) (lines : List (List ℕ)) → requests text lines ≡ old_requests text lines
 requests_agree None [] = refl
 requests_agree (Some text) [] = refl
-requests_agree None (line ∷ lines) = go (judged line) (requests_agree None lines) (λ head. requests_agree (Some (opened head)) lines)
+requests_agree None (line ∷ lines) = go (judged line) (requests_agree None lines) (λ head. requests_agree (Some (opened_text head)) lines)
   where
     go : (m : Meaning) → requests None lines ≡ old_requests None lines
-        → ((head : Head) → requests (Some (opened head)) lines ≡ old_requests (Some (opened head)) lines)
-        → before (outside_text m).whole (requests (outside_text m).text lines) ≡ heads m (old_requests None lines) (λ head. old_requests (Some (opened head)) lines)
+        → ((head : Head) → requests (Some (opened_text head)) lines ≡ old_requests (Some (opened_text head)) lines)
+        → before (outside_text m).whole (requests (outside_text m).text lines) ≡ heads m (old_requests None lines) (λ head. old_requests (Some (opened_text head)) lines)
     go Blank later inside = later
     go (Whole request) later inside = ap (λ l. plain (Ok request) ∷ l) later
     go (Opens head) later inside = inside head
@@ -63,11 +63,11 @@ requests_agree (Some text) (line ∷ lines) =
 pub firsts_agree : (text : Option TextData) (lines : List (List ℕ)) → first text lines ≡ old_first text lines
 firsts_agree None [] = refl
 firsts_agree (Some text) [] = refl
-firsts_agree None (line ∷ lines) = go (judged line) (firsts_agree None lines) (λ head. firsts_agree (Some (opened head)) lines)
+firsts_agree None (line ∷ lines) = go (judged line) (firsts_agree None lines) (λ head. firsts_agree (Some (opened_text head)) lines)
   where
     go : (m : Meaning) → first None lines ≡ old_first None lines
-        → ((head : Head) → first (Some (opened head)) lines ≡ old_first (Some (opened head)) lines)
-        → first_or (outside_text m).whole lines (first (outside_text m).text lines) ≡ begins m lines (old_first None lines) (λ head. old_first (Some (opened head)) lines)
+        → ((head : Head) → first (Some (opened_text head)) lines ≡ old_first (Some (opened_text head)) lines)
+        → first_or (outside_text m).whole lines (first (outside_text m).text lines) ≡ begins m lines (old_first None lines) (λ head. old_first (Some (opened_text head)) lines)
     go Blank later inside = later
     go (Whole request) later inside = refl
     go (Opens head) later inside = inside head

@@ -10,7 +10,7 @@ use Rattle.session_lines.specs.declared.line.Meaning.{Meaning}
 use Rattle.session_lines.specs.declared.line.Meaning.TheVariants.{Blank, Whole, Opens, Long, Bad}
 use Rattle.session_lines.specs.declared.text.Text.{Text}
 use Rattle.session_lines.specs.Known.{Goes}
-use Rattle.session_lines.specs.Script.{lines_of, onto, shown, is_long, is_wordless, judged, TextData, opened, with_line, whole_text, cut_text, Found, found, plain, After, outside_text, first_or, first, Answers, Cuts, Takes}
+use Rattle.session_lines.specs.Script.{lines_of, onto, shown, is_long, is_wordless, judged, TextData, opened_text, with_line, whole_text, cut_text, Found, found, plain, After, outside_text, first_or, first, IsAnswerFor, Cuts, Takes}
 use Rattle.session_lines.specs.Taken.{TakesLine, judged_by, IsText}
 use Rattle.session_lines.proofs.ScanLemmas.{Goes-map, Goes-trans}
 
@@ -84,7 +84,7 @@ after_line a b d kept blank seen m before mid after so_far line was says =
 pub after_blank : (a d : Option (List ℕ)) (before after : ℕ) → Goes a d (Begins Blank before after) → Goes a d (GoesOn None before after)
 after_blank a d before after = Goes-map a d _ _ (λ xs ys b. record { same = b.same; paid = b.paid })
 
-pub after_head : (a d : Option (List ℕ)) (head : Head) (before after : ℕ) → Goes a d (Begins (Opens head) before after) → Goes a d (GoesOn (Some (opened head)) before after)
+pub after_head : (a d : Option (List ℕ)) (head : Head) (before after : ℕ) → Goes a d (Begins (Opens head) before after) → Goes a d (GoesOn (Some (opened_text head)) before after)
 after_head a d head before after = Goes-map a d _ _ (λ xs ys b. record { same = b.same; paid = b.paid })
 
 -- a line that is a request, or stands in place of one
@@ -120,9 +120,9 @@ pub record InText (text : Option TextData) (kept : Text) (before after : ℕ) (x
   pub same : first text (lines_of xs) ≡ first (Some said) (lines_of ys)
   pub paid : length xs + after ≡ length ys + before
 
-pub InText-start : (a : Option (List ℕ)) (head : Head) (kept : Text) (n : ℕ) → IsText kept (opened head) → Goes a a (InText (Some (opened head)) kept n n)
+pub InText-start : (a : Option (List ℕ)) (head : Head) (kept : Text) (n : ℕ) → IsText kept (opened_text head) → Goes a a (InText (Some (opened_text head)) kept n n)
 InText-start None head kept n t = tt
-InText-start (Some xs) head kept n t = record { said = opened head; is = t; same = refl; paid = refl }
+InText-start (Some xs) head kept n t = record { said = opened_text head; is = t; same = refl; paid = refl }
 
 -- a text with its newest line, where it is known whether that is its last one
 abbrev pub grown : TextData → Bool → After
@@ -207,7 +207,7 @@ takes_cut most text a d (Err (File who f)) p = p
 takes_cut most text a d (Err (NoMemory who)) p = p
 
 -- the text is whole
-pub after_text : (a d : Option (List ℕ)) (text : Option TextData) (kept : Text) (before after : ℕ) (answer : Result Request LineFault) → (kept.left == 0) ≡ true → ((said : TextData) → IsText kept said → Answers (whole_text said) answer) → Goes a d (Added text kept before after) → Takes before text a d answer
+pub after_text : (a d : Option (List ℕ)) (text : Option TextData) (kept : Text) (before after : ℕ) (answer : Result Request LineFault) → (kept.left == 0) ≡ true → ((said : TextData) → IsText kept said → IsAnswerFor (whole_text said) answer) → Goes a d (Added text kept before after) → Takes before text a d answer
 after_text a d text kept before after answer none gives p = takes_cut before text a d answer (Goes-map a d _ _ (λ xs ys p.
     let ends : (p.said.left == 0) ≡ true = ap (λ n. n == 0) (sym p.is.left) ∙ none in
     let q = p.paid in
@@ -219,7 +219,7 @@ after_text a d text kept before after answer none gives p = takes_cut before tex
     }) p)
 
 -- the input's end cuts the text
-pub after_cut : (a b d : Option (List ℕ)) (text : Option TextData) (old : Text) (kept : List ℕ) (blank seen : Bool) (before mid after : ℕ) (answer : Result Request LineFault) → ((said : TextData) → IsText old said → Answers (cut_text said) answer)
+pub after_cut : (a b d : Option (List ℕ)) (text : Option TextData) (old : Text) (kept : List ℕ) (blank seen : Bool) (before mid after : ℕ) (answer : Result Request LineFault) → ((said : TextData) → IsText old said → IsAnswerFor (cut_text said) answer)
     → Goes a b (InText text old before mid) → Goes b d (TakesLine kept blank seen mid after) → seen ≡ false → Takes before text a d answer
 after_cut a b d text old kept blank seen before mid after answer gives so_far line was = takes_cut before text a d answer (Goes-trans a b d _ _ _ (λ xs ys zs p t.
     let none : ys ≡ [] = no_line ys (sym was ∙ t.some) in

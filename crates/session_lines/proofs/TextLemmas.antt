@@ -10,7 +10,7 @@ use Rattle.psplib_mm.specs.declared.fault.MmFault.{MmFault}
 use Rattle.psplib_mm.specs.declared.fault.MmFault.TheVariants as fault
 use Rattle.session_lines.specs.declared.request.LineFault.TheVariants.{File}
 use Rattle.session_lines.specs.declared.text.Text.{Text}
-use Rattle.session_lines.specs.Script.{TextData, Item, whole_text, submitted, Answers}
+use Rattle.session_lines.specs.Script.{TextData, Item, whole_text, submitted, IsAnswerFor}
 use Rattle.session_lines.specs.Taken.{IsText, unread}
 
 -- more bytes, as far as there is room
@@ -45,6 +45,6 @@ whole_answer text said t refused short =
     let read : reading text.bytes.items ≡ reading said.bytes = ap reading (t.bytes refused short) ∙ reading_kept said.bytes in
     rw (long, read, t.head) refl
 
-pub answers_unread : (item : Item) (who : List ℕ) (read : Result ProjectData MmFault) (f : MmFault) → item.submits ≡ Some who → Fails f read → (read ≡ Err f → item.answer ≡ Err (File who f)) → Answers item (Err (unread who f))
+pub answers_unread : (item : Item) (who : List ℕ) (read : Result ProjectData MmFault) (f : MmFault) → item.submits ≡ Some who → Fails f read → (read ≡ Err f → item.answer ≡ Err (File who f)) → IsAnswerFor item (Err (unread who f))
 answers_unread item who read fault.NoMemory submits fails file = submits
 answers_unread item who read f submits fails file = file fails

@@ -29,6 +29,6 @@ abbrev pub IsPast : ℕ → Option TextData → List (List ℕ) → Type 0
 IsPast most text lines = size_of (lines_after (first text lines)) + most < size_of lines
 
 -- a read is given up only where the reader failed or the request has more than so many bytes
-abbrev pub IsGivenUp : ℕ → Option TextData → Bool → Option (List ℕ) → Result Request LineFault → Type 0
-IsGivenUp most text failed old (Err Read) = HasCause failed old (λ bytes. IsPast most text (lines_of bytes))
-IsGivenUp most text failed old answer = ⊤
+abbrev pub IsReadGivenUp : ℕ → Option TextData → Bool → Option (List ℕ) → Result Request LineFault → Type 0
+IsReadGivenUp most text failed old (Err Read) = HasCause failed old (λ bytes. IsPast most text (lines_of bytes))
+IsReadGivenUp most text failed old answer = ⊤

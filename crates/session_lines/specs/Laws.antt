@@ -1,7 +1,7 @@
 -- What holds of the requests of every script.
 use Rattle.std.specs.Prelude.{◌≡◌, ℕ, List, [], ◌∷◌, Option, Some, None}
 use Rattle.std.specs.List.{flat_map}
-use Rattle.session_lines.specs.Script.{Item, Found, lines_of, first_of, requests, requests_of}
+use Rattle.session_lines.specs.Script.{Item, Found, lines_of, first_request, requests, requests_of}
 
 -- the first of the requests, and those of the lines after it
 abbrev pub from_first : Option Found → List Item
@@ -10,7 +10,7 @@ from_first (Some found) = found.item ∷ requests None found.rest
 
 -- a script's requests are its first one and those of what is left after it, and so on
 abbrev pub EachInTurn : Type 0
-EachInTurn = (script : List ℕ) → requests_of script ≡ from_first (first_of script)
+EachInTurn = (script : List ℕ) → requests_of script ≡ from_first (first_request script)
 
 -- the lines of bytes are the bytes: which lines are left tells which bytes are
 abbrev pub LinesAreBytes : Type 0

@@ -55,8 +55,8 @@ pub record TextData : Type 0 where
   pub is_long : Bool
   pub bytes : List ℕ
 
-abbrev pub opened : Head → TextData
-opened head = record { head = head; left = head.lines; is_long = false; bytes = [] }
+abbrev pub opened_text : Head → TextData
+opened_text head = record { head = head; left = head.lines; is_long = false; bytes = [] }
 
 -- the text with one more line
 abbrev pub with_line : TextData → List ℕ → TextData
@@ -106,7 +106,7 @@ pub record After : Type 0 where
 abbrev pub outside_text : Meaning → After
 outside_text Blank = record { text = None; whole = None }
 outside_text (Whole request) = record { text = None; whole = Some (plain (Ok request)) }
-outside_text (Opens head) = record { text = Some (opened head); whole = None }
+outside_text (Opens head) = record { text = Some (opened_text head); whole = None }
 outside_text Long = record { text = None; whole = Some (plain (Err (TooLong None))) }
 outside_text (Bad who) = record { text = None; whole = Some (plain (Err (Syntax who))) }
 
@@ -127,8 +127,8 @@ abbrev pub first : Option TextData → List (List ℕ) → Option Found
 first text [] = first_or (option_map cut_text text) [] None
 first text (line ∷ lines) = first_or (after text line).whole lines (first (after text line).text lines)
 
-abbrev pub first_of : List ℕ → Option Found
-first_of bytes = first None (lines_of bytes)
+abbrev pub first_request : List ℕ → Option Found
+first_request bytes = first None (lines_of bytes)
 
 -- all requests of these lines, of which the first may belong to a text
 abbrev pub before : Option Item → List Item → List Item
@@ -147,21 +147,21 @@ requests_of bytes = requests None (lines_of bytes)
 
 -- an answer for a request: its own, or that there was no memory for a submit. A text that spells no project for want of
 -- memory is never told as a fault of the text
-abbrev pub Answers : Item → Result Request LineFault → Type 0
-Answers item (Ok request) = item.answer ≡ Ok request
-Answers item (Err Eof) = ⊥
-Answers item (Err Read) = ⊥
-Answers item (Err (TooLong who)) = item.answer ≡ Err (TooLong who)
-Answers item (Err (Syntax who)) = item.answer ≡ Err (Syntax who)
-Answers item (Err (File who fault.NoMemory)) = ⊥
-Answers item (Err (File who fault)) = item.answer ≡ Err (File who fault)
-Answers item (Err (NoMemory who)) = item.submits ≡ Some who
+abbrev pub IsAnswerFor : Item → Result Request LineFault → Type 0
+IsAnswerFor item (Ok request) = item.answer ≡ Ok request
+IsAnswerFor item (Err Eof) = ⊥
+IsAnswerFor item (Err Read) = ⊥
+IsAnswerFor item (Err (TooLong who)) = item.answer ≡ Err (TooLong who)
+IsAnswerFor item (Err (Syntax who)) = item.answer ≡ Err (Syntax who)
+IsAnswerFor item (Err (File who fault.NoMemory)) = ⊥
+IsAnswerFor item (Err (File who fault)) = item.answer ≡ Err (File who fault)
+IsAnswerFor item (Err (NoMemory who)) = item.submits ≡ Some who
 
 -- a request is answered, and of the bytes xs those after it are left, ys; a request has so many bytes at most
 pub record Cuts (most : ℕ) (found : Option Found) (answer : Result Request LineFault) (xs ys : List ℕ) : Type 0 where
   pub item : Item
   pub cut : found ≡ Some (record { item = item; rest = lines_of ys })
-  pub answers : Answers item answer
+  pub answers : IsAnswerFor item answer
   pub within : length xs ≤ length ys + most
 
 -- no request is left

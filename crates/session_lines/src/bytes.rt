@@ -6,6 +6,7 @@ ghost use Rattle.session_lines.specs.Cause.{HasCause, IsLonger};
 ghost use Rattle.session_lines.specs.Known.{Goes};
 ghost use Rattle.session_lines.specs.Taken.{TakesLine};
 
+use crate::text::LONGEST;
 use crate::words::is_blank;
 use arrayvec::ArrayVec;
 use io_watch::Watch;
@@ -15,15 +16,14 @@ use std::io::Read;
 #[derive(Clone, Copy, Debug, PartialEq, Eq)]
 pub struct ReadFault;
 
-/// As many bytes of a line as it takes to tell a long one: 4,096, one more, a carriage return
-/// and a line feed.
-pub const KEPT: usize = 4099;
+/// As many bytes of a line as it takes to tell a long one: one more than it may have, a carriage return and a line feed.
+pub const KEPT_OF_LINE: usize = LONGEST + 3;
 
 /// A line that is read: its first bytes, with its end where that is among them.
 #[derive(Debug, Drop)]
 pub struct Line {
-    /// The first `KEPT` bytes.
-    pub kept: ArrayVec<u8, KEPT>,
+    /// The first `KEPT_OF_LINE` bytes.
+    pub kept: ArrayVec<u8, KEPT_OF_LINE>,
     /// Whether there is no byte of a word, of all bytes of the line without its end.
     pub is_blank: bool,
     /// Whether the last byte is a carriage return.
@@ -46,18 +46,18 @@ impl Line {
 
     // One more byte, or its line feed.
     fn keep(&mut self, byte: u8)
-        ensures kept { self.new.kept.items ≡ take KEPT (self.old.kept.items ++ byte ∷ []) }
+        ensures kept { self.new.kept.items ≡ take KEPT_OF_LINE (self.old.kept.items ++ byte ∷ []) }
         ensures blank { self.new.is_blank ≡ self.old.is_blank }
         ensures returns { self.new.returns ≡ self.old.returns }
     {
-        if self.kept.len() < KEPT {
+        if self.kept.len() < KEPT_OF_LINE {
             self.kept.push(byte);
         }
     }
 
     // One more byte that is no line feed.
     fn push(&mut self, byte: u8)
-        ensures kept { self.new.kept.items ≡ take KEPT (self.old.kept.items ++ byte ∷ []) }
+        ensures kept { self.new.kept.items ≡ take KEPT_OF_LINE (self.old.kept.items ++ byte ∷ []) }
         ensures blank { self.new.is_blank
             ≡ ((self.old.is_blank && not self.old.returns) && ((byte == 13) || is_blank byte)) }
         ensures returns { self.new.returns ≡ (byte == 13) }

@@ -27,7 +27,7 @@ mod words;
 mod writer;
 
 pub use put::WriteFault;
-pub use reading::{MOST_BYTES, read_request, read_watched};
+pub use reading::{MOST_REQUEST_BYTES, read_request, read_watched};
 pub use request::{LineFault, Request, What};
 pub use said::Said;
 pub use writer::{write_reply, write_watched};

@@ -1,7 +1,7 @@
 //! Requests of a reader.
 ghost use Rattle.std.specs.Prelude.{◌≡◌, ◌≤◌, None, Some};
-ghost use Rattle.session_lines.specs.Cause.{IsGivenUp};
-ghost use Rattle.session_lines.specs.Script.{Takes, opened};
+ghost use Rattle.session_lines.specs.Cause.{IsReadGivenUp};
+ghost use Rattle.session_lines.specs.Script.{Takes, opened_text};
 ghost use Rattle.session_lines.specs.Taken.{judged_by};
 
 use crate::bytes::{Line, next_line};
@@ -13,7 +13,7 @@ use std::alloc::Global;
 use std::io::Read;
 
 /// The most bytes that a request may have, with the blank lines before it.
-pub const MOST_BYTES: u64 = 100_000_000;
+pub const MOST_REQUEST_BYTES: u64 = 100_000_000;
 
 // What a line means.
 fn judge(line: &Line) -> Meaning
@@ -38,9 +38,9 @@ fn read_text<R: Read>(
     left: &mut u64,
     head: Head,
 ) -> Result<Request, LineFault>
-    ensures takes { Takes left.old (Some (opened head)) (R.remaining reader.old) (R.remaining reader.new)
+    ensures takes { Takes left.old (Some (opened_text head)) (R.remaining reader.old) (R.remaining reader.new)
         result }
-    ensures cause { IsGivenUp left.old (Some (opened head)) watch.new.failed (R.remaining reader.old)
+    ensures cause { IsReadGivenUp left.old (Some (opened_text head)) watch.new.failed (R.remaining reader.old)
         result }
 {
     let mut text = Text::new(alloc, head);
@@ -67,7 +67,7 @@ pub fn read_within<R: Read>(
     most: u64,
 ) -> Result<Request, LineFault>
     ensures takes { Takes most None (R.remaining reader.old) (R.remaining reader.new) result }
-    ensures cause { IsGivenUp most None watch.new.failed (R.remaining reader.old) result }
+    ensures cause { IsReadGivenUp most None watch.new.failed (R.remaining reader.old) result }
 {
     let mut left = most;
     loop {
@@ -97,15 +97,15 @@ pub fn read_watched<R: Read>(
     reader: &mut R,
     watch: &mut Watch,
 ) -> Result<Request, LineFault>
-    ensures takes { Takes MOST_BYTES None (R.remaining reader.old) (R.remaining reader.new) result }
-    ensures cause { IsGivenUp MOST_BYTES None watch.new.failed (R.remaining reader.old) result }
+    ensures takes { Takes MOST_REQUEST_BYTES None (R.remaining reader.old) (R.remaining reader.new) result }
+    ensures cause { IsReadGivenUp MOST_REQUEST_BYTES None watch.new.failed (R.remaining reader.old) result }
 {
-    read_within(alloc, reader, watch, MOST_BYTES)
+    read_within(alloc, reader, watch, MOST_REQUEST_BYTES)
 }
 
 /// The same, where nobody asks whether a read failed.
 pub fn read_request<R: Read>(alloc: Global, reader: &mut R) -> Result<Request, LineFault>
-    ensures { Takes MOST_BYTES None (R.remaining reader.old) (R.remaining reader.new) result }
+    ensures { Takes MOST_REQUEST_BYTES None (R.remaining reader.old) (R.remaining reader.new) result }
 {
     read_watched(alloc, reader, &mut Watch::new())
 }

@@ -1,19 +1,19 @@
 //! The text of a submit.
 ghost use Rattle.std.specs.Prelude.{◌≡◌, ◌≢◌, ◌-◌, ◌==◌, ◌||◌, ◌++◌, false, true, List, ℕ, take, Err};
-ghost use Rattle.session_lines.specs.Script.{TextData, opened, whole_text, cut_text, Answers, is_long, shown};
+ghost use Rattle.session_lines.specs.Script.{TextData, opened_text, whole_text, cut_text, IsAnswerFor, is_long, shown};
 ghost use Rattle.session_lines.specs.Taken.{IsText, unread};
 
 use crate::line::Head;
 use crate::request::{LineFault, Request, What};
 use farm_core::Name;
-use psplib_mm::{MmFault, read};
+use psplib_mm::{MOST_BYTES, MmFault, read};
 use std::alloc::Global;
 
 /// The longest line, without its end.
-const LONGEST: usize = 4096;
+pub(crate) const LONGEST: usize = 4096;
 
-/// As many bytes of a text as it takes to tell one that is too long.
-const MOST_BYTES: usize = 1_048_577;
+/// As many bytes of a text as it takes to tell one that is too long: one more than a file may have.
+const KEPT_OF_TEXT: usize = MOST_BYTES + 1;
 
 /// The text of a submit, while its lines come.
 #[derive(Debug, Drop)]
@@ -53,10 +53,10 @@ pub fn is_long(line: &[u8]) -> bool
 
 // Adds bytes as far as there is room. `false` where a growth was refused.
 fn add_bytes(bytes: &mut Vec<u8>, more: &[u8]) -> bool
-    ensures { (whole : List ℕ) → bytes.old.items ≡ take MOST_BYTES whole → result ≡ true
-        → bytes.new.items ≡ take MOST_BYTES (whole ++ more.now) }
+    ensures { (whole : List ℕ) → bytes.old.items ≡ take KEPT_OF_TEXT whole → result ≡ true
+        → bytes.new.items ≡ take KEPT_OF_TEXT (whole ++ more.now) }
 {
-    let room = MOST_BYTES.saturating_sub(bytes.len()).min(more.len());
+    let room = KEPT_OF_TEXT.saturating_sub(bytes.len()).min(more.len());
     bytes.extend_from_slice(&more[..room]).is_ok()
 }
 
@@ -73,7 +73,7 @@ fn unread(who: Name, fault: MmFault) -> LineFault
 impl Text {
     /// The text of which no line has come.
     pub fn new(alloc: Global, head: Head) -> Text
-        ensures { IsText result (opened head) }
+        ensures { IsText result (opened_text head) }
     {
         let left = head.lines;
         Text {
@@ -98,9 +98,9 @@ impl Text {
         ensures left { self.new.left ≡ self.old.left - 1 }
         ensures long { self.new.is_long ≡ (self.old.is_long || is_long line.now) }
         ensures refused { self.new.is_refused ≡ false → self.old.is_refused ≡ false }
-        ensures bytes { (whole : List ℕ) → self.old.bytes.items ≡ take MOST_BYTES whole
+        ensures bytes { (whole : List ℕ) → self.old.bytes.items ≡ take KEPT_OF_TEXT whole
             → self.new.is_refused ≡ false → self.new.is_long ≡ false
-            → self.new.bytes.items ≡ take MOST_BYTES (whole ++ line.now) }
+            → self.new.bytes.items ≡ take KEPT_OF_TEXT (whole ++ line.now) }
     {
         self.left = self.left.saturating_sub(1);
         if is_long(line) {
@@ -113,7 +113,7 @@ impl Text {
 
     /// The submit of a text that is whole, or why there is none.
     pub fn submit(self, alloc: Global) -> Result<Request, LineFault>
-        ensures answers { (said : TextData) → IsText self said → Answers (whole_text said) result }
+        ensures answers { (said : TextData) → IsText self said → IsAnswerFor (whole_text said) result }
         ensures judged { result ≢ Err LineFault.Read }
     {
         let Text {
@@ -150,7 +150,7 @@ impl Text {
 
     /// Why there is no submit where the input's end cuts the text.
     pub fn cut(self) -> LineFault
-        ensures answers { (said : TextData) → IsText self said → Answers (cut_text said) (Err result) }
+        ensures answers { (said : TextData) → IsText self said → IsAnswerFor (cut_text said) (Err result) }
         ensures judged { result ≢ LineFault.Read }
     {
         let who = self.head.who;

@@ -25,7 +25,7 @@ pub record IsFile (file : List ℕ) : Type 0 where
   pub read : reading file ≡ Ok project
 
 -- the file is of a project, and the text tells a schedule that breaks this first
-pub record IsBroken (file text : List ℕ) (b : Breach) : Type 0 where
+pub record IsToldBroken (file text : List ℕ) (b : Breach) : Type 0 where
   pub project : ProjectData
   pub schedule : ScheduleData
   pub read : reading file ≡ Ok project
@@ -36,5 +36,5 @@ abbrev pub IsAtFault : List ℕ → List ℕ → VerifyFault → Type 0
 IsAtFault file text (fault.File f) = Fails f (reading file)
 IsAtFault file text fault.Words = IsFile file × (length text ≤ MOST_BYTES)
 IsAtFault file text fault.TooLong = IsFile file × (MOST_BYTES < length text)
-IsAtFault file text (fault.Breach b) = IsBroken file text b
+IsAtFault file text (fault.Breach b) = IsToldBroken file text b
 IsAtFault file text fault.NoMemory = ⊤

@@ -29,7 +29,7 @@ pub(crate) struct Solving<'a> {
     pub(crate) is_json: bool,
     /// Whether how far a search has come is told on standard error.
     pub(crate) is_telling: bool,
-    /// Whether each better schedule is printed when it is found.
+    /// Whether each better schedule is printed at the next look.
     pub(crate) is_improving: bool,
 }
 
@@ -174,8 +174,8 @@ shown, 'open' where the search is not over, and 'ended' where it is over and sho
 
 Several searches run one after another, each for at most N nodes, and none after one that shows
 'optimal' or 'infeasible'; the shortest of their schedules is printed. With --improvements each
-better schedule is printed as a line of its own, with the verdict 'open', when it is found: what
-was printed last when the program is stopped is the best so far.
+better schedule is printed as a line of its own, with the verdict 'open', at the next look at the
+search, every 65,536 nodes: what was printed last when the program is stopped is the best then.
 
 Examples:
 

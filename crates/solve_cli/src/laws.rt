@@ -1,5 +1,5 @@
 //! Laws of several searches, and of the limits of texts: each is the proved contract of a function that does nothing.
-ghost use Rattle.solve_cli.specs.Laws.{SeveralAreTrue, OneIsItself, FilesAreLimited, SchedulesAreLimited, ReadsAreLimited};
+ghost use Rattle.solve_cli.specs.Laws.{SeveralAreTrue, OneIsItself, FilesAreLimited, SchedulesAreLimited, ReadsAreLimited, SearchesAreLimited, NodesAreLimited};
 
 /// Whatever the searches, the best schedule is feasible and has the makespan that is told. 'Optimal' is told only where no feasible
 /// schedule is shorter than it, and 'infeasible' only where there is none.
@@ -18,4 +18,10 @@ pub fn texts_are_limited()
     ensures file { FilesAreLimited }
     ensures schedule { SchedulesAreLimited }
     ensures read { ReadsAreLimited }
+{}
+
+/// How many searches run, and how many nodes each, in figures.
+pub fn searches_are_limited()
+    ensures searches { SearchesAreLimited }
+    ensures nodes { NodesAreLimited }
 {}

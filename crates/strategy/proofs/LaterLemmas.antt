@@ -95,8 +95,8 @@ take-later p [] best (suc k) h = inl refl
 take-later p (n ∷ nodes) best zero h = h.0
 take-later p (n ∷ nodes) best (suc k) h = take-later p nodes n.best k h.1
 
-tree-later : (p : ProjectData) (k : ℕ) → IsLater p (tree.best_after p k) (tree.best_after p (k + 1))
-unfolding tree.best_after all_visits
+tree-later : (p : ProjectData) (k : ℕ) → IsLater p (tree.tree_best_after p k) (tree.tree_best_after p (k + 1))
+unfolding tree.tree_best_after all_visits
 tree-later p k =
     let next : suc k ≡ k + 1 = omega arith in
     subst (λ n. IsLater p (after None (take k (visits p (size p) [] None))) (after None (take n (visits p (size p) [] None)))) next
@@ -129,7 +129,7 @@ pass-later p kind q =
 -- ---- every kind
 
 pub best-later : (p : ProjectData) → IsProject p → (kind : Kind) (k l : ℕ) → k ≤ l → IsLater p (best_of p kind k) (best_of p kind l)
-best-later p ok Tree k l h = later-along p (tree.best_after p) (tree-later p) k l h
+best-later p ok Tree k l h = later-along p (tree.tree_best_after p) (tree-later p) k l h
 best-later p ok RuleLft k l h = later-along p (rule_best p RuleLft) (rule-later p RuleLft) k l h
 best-later p ok RuleMts k l h = later-along p (rule_best p RuleMts) (rule-later p RuleMts) k l h
 best-later p ok RuleSpt k l h = later-along p (rule_best p RuleSpt) (rule-later p RuleSpt) k l h

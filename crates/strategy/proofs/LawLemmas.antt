@@ -10,7 +10,7 @@ use Rattle.mrcpsp.specs.Schedule.{ScheduleData, IsFeasible, IsOptimal, IsInfeasi
 use Rattle.mrcpsp.specs.Limits.{IsProject}
 use Rattle.mrcpsp.specs.Breach.{HasShape}
 use Rattle.mrcpsp.specs.Placed.{last_start, Placed, is_eligible, is_executable, is_affordable, schedule_of}
-use Rattle.strategy.specs.Tree.{Node, modes_of, candidates, placing, is_pruned, improved, updated, after, Below, visit_one, visit_all, visits, all_visits, best_after, is_closed}
+use Rattle.strategy.specs.Tree.{Node, modes_of, candidates, placing, is_pruned, improved, updated, after, Below, visit_one, visit_all, visits, all_visits, tree_best_after, is_tree_over}
 use Rattle.strategy.specs.Candidate.{Candidate}
 use Rattle.strategy.proofs.FollowLemmas.{follows-nil}
 use Rattle.strategy.proofs.TreeLemmas.{Reached, pruned_node, placed_node, visits-reaches}
@@ -98,14 +98,14 @@ module _ (p : ProjectData) (ok : IsProject p) where
   visits-good zero placed best h sound count = All-nil (GoodNode p)
   visits-good (suc d) placed best h sound count = all-good d (visits p d) (visits-good d) placed sound count (candidates p placed) (candidates-open p placed) best h
 
-pub best_is_fine : (p : ProjectData) → IsProject p → (k : ℕ) → Good p (best_after p k)
-unfolding best_after all_visits
+pub best_is_fine : (p : ProjectData) → IsProject p → (k : ℕ) → Good p (tree_best_after p k)
+unfolding tree_best_after all_visits
 best_is_fine p ok k =
     after-good p (take k (all_visits p)) None tt (All-take (GoodNode p) k (all_visits p) (visits-good p ok (size p) [] None tt (sound-nil p) (omega arith)))
 
 -- whatever is feasible, the closed tree's incumbent is at most as long
-closed-reaches : (p : ProjectData) → IsProject p → (k : ℕ) → is_closed p k ≡ true → (s : ScheduleData) → IsFeasible p s → Reached p (makespan p s) (best_after p k)
-unfolding best_after is_closed all_visits
+closed-reaches : (p : ProjectData) → IsProject p → (k : ℕ) → is_tree_over p k ≡ true → (s : ScheduleData) → IsFeasible p s → Reached p (makespan p s) (tree_best_after p k)
+unfolding tree_best_after is_tree_over all_visits
 closed-reaches p ok k closed s feasible =
     let all : take k (visits p (size p) [] None) ≡ visits p (size p) [] None = take_all k (visits p (size p) [] None) (leb-true (length (visits p (size p) [] None)) k closed) in
     rw all (visits-reaches p s ok feasible (size p) [] None (follows-nil p s) (omega arith) ok.some)
@@ -114,5 +114,5 @@ decides : (p : ProjectData) (best : Option ScheduleData) → Good p best → ((s
 decides p None h reaches = reaches
 decides p (Some s) h reaches = record { feasible = h.0; least = reaches }
 
-pub closed_decides : (p : ProjectData) → IsProject p → (k : ℕ) → is_closed p k ≡ true → MatchOption (best_after p k) (IsInfeasible p) (λ s. IsOptimal p s)
-closed_decides p ok k closed = decides p (best_after p k) (best_is_fine p ok k) (closed-reaches p ok k closed)
+pub closed_decides : (p : ProjectData) → IsProject p → (k : ℕ) → is_tree_over p k ≡ true → MatchOption (tree_best_after p k) (IsInfeasible p) (λ s. IsOptimal p s)
+closed_decides p ok k closed = decides p (tree_best_after p k) (best_is_fine p ok k) (closed-reaches p ok k closed)

@@ -66,7 +66,7 @@ final-tells p (Some s) h = h
 
 -- what a search shows before its best schedule is as short as the bound
 run-tells : (p : ProjectData) → IsProject p → (kind : Kind) (k : ℕ) → Tells p (best_of p kind k) (cond (all_run p kind k) (final_verdict kind (best_of p kind k)) Going)
-run-tells p ok Tree k = cond_both (tree.is_closed p k) (cond (is_some (tree.best_after p k)) Optimal Infeasible) Going (Tells p (tree.best_after p k)) (λ closed. final-tells p (tree.best_after p k) (closed_decides p ok k closed)) (λ _. tt)
+run-tells p ok Tree k = cond_both (tree.is_tree_over p k) (cond (is_some (tree.tree_best_after p k)) Optimal Infeasible) Going (Tells p (tree.tree_best_after p k)) (λ closed. final-tells p (tree.tree_best_after p k) (closed_decides p ok k closed)) (λ _. tt)
 run-tells p ok RuleLft k = cond_both (all_run p RuleLft k) Ended Going (Tells p (best_of p RuleLft k)) (λ _. tt) (λ _. tt)
 run-tells p ok RuleMts k = cond_both (all_run p RuleMts k) Ended Going (Tells p (best_of p RuleMts k)) (λ _. tt) (λ _. tt)
 run-tells p ok RuleSpt k = cond_both (all_run p RuleSpt k) Ended Going (Tells p (best_of p RuleSpt k)) (λ _. tt) (λ _. tt)
@@ -132,9 +132,9 @@ pub tree_decides : ClosedTreeDecides
 unfolding best_after is_closed verdict_after
 tree_decides plan ok of_tree k closed =
     let p = plan.project in
-    let best = tree.best_after p k in
+    let best = tree.tree_best_after p k in
     let project = kept p ok in
-    let told : TreeDecides plan Tree k = tree-told p best (is_at_bound p best) (tree.is_closed p k) (bound_decides p project best (best_is_fine p project k)) (closed_decides p project k) in
+    let told : TreeDecides plan Tree k = tree-told p best (is_at_bound p best) (tree.is_tree_over p k) (bound_decides p project best (best_is_fine p project k)) (closed_decides p project k) in
     subst (λ kind. TreeDecides plan kind k) (sym of_tree) told closed
 
 -- ---- the stop at the bound
@@ -179,7 +179,7 @@ ends_with_its_nodes plan ok k longer =
     )
 
 run-stays : (p : ProjectData) (kind : Kind) (k l : ℕ) → k ≤ l → all_run p kind k ≡ true → all_run p kind l ≡ true
-unfolding tree.is_closed
+unfolding tree.is_tree_over
 run-stays p Tree k l h e = le-leb (length (tree.all_visits p)) l (le_trans (leb-true (length (tree.all_visits p)) k e) h)
 run-stays p RuleLft k l h e = le-leb (size p) l (le_trans (leb-true (size p) k e) h)
 run-stays p RuleMts k l h e = le-leb (size p) l (le_trans (leb-true (size p) k e) h)

@@ -26,7 +26,7 @@ abbrev pub rule_best : ProjectData → Kind → ℕ → Option ScheduleData
 rule_best p kind k = cond (nat_lt k (size p)) None (pass p kind 0)
 
 abbrev pub best_of : ProjectData → Kind → ℕ → Option ScheduleData
-best_of p Tree k = tree.best_after p k
+best_of p Tree k = tree.tree_best_after p k
 best_of p RuleLft k = rule_best p RuleLft k
 best_of p RuleMts k = rule_best p RuleMts k
 best_of p RuleSpt k = rule_best p RuleSpt k
@@ -34,7 +34,7 @@ best_of p (Sample seed) k = best_pass p (Sample seed) (k / size p)
 
 -- whether all its nodes have run
 abbrev pub all_run : ProjectData → Kind → ℕ → Bool
-all_run p Tree k = tree.is_closed p k
+all_run p Tree k = tree.is_tree_over p k
 all_run p RuleLft k = nat_le (size p) k
 all_run p RuleMts k = nat_le (size p) k
 all_run p RuleSpt k = nat_le (size p) k

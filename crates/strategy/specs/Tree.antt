@@ -69,8 +69,8 @@ visits p (suc d) placed best = visit_all (visits p d) p placed (candidates p pla
 unfoldable pub all_visits : ProjectData → List Node
 all_visits p = visits p (size p) [] None
 
-unfoldable pub best_after : ProjectData → ℕ → Option ScheduleData
-best_after p k = after None (take k (all_visits p))
+unfoldable pub tree_best_after : ProjectData → ℕ → Option ScheduleData
+tree_best_after p k = after None (take k (all_visits p))
 
-unfoldable pub is_closed : ProjectData → ℕ → Bool
-is_closed p k = nat_le (length (all_visits p)) k
+unfoldable pub is_tree_over : ProjectData → ℕ → Bool
+is_tree_over p k = nat_le (length (all_visits p)) k

@@ -12,8 +12,8 @@ state_at seed zero = ((seed + 109) * multiplier + 109) % 2 ^ 64
 state_at seed (suc i) = (state_at seed i * multiplier + 109) % 2 ^ 64
 
 -- the word of a state: the low 32 bits of ((x >> 18) xor x) >> 27, rotated right by x >> 59
-abbrev pub output_of : ℕ → ℕ
-output_of x = rotate_right w32 (bit_xor (x / 2 ^ 18) x / 2 ^ 27 % 2 ^ 32) (x / 2 ^ 59)
+abbrev pub output_word : ℕ → ℕ
+output_word x = rotate_right w32 (bit_xor (x / 2 ^ 18) x / 2 ^ 27 % 2 ^ 32) (x / 2 ^ 59)
 
 unfoldable pub word_at : ℕ → ℕ → ℕ
-word_at seed i = output_of (state_at seed i)
+word_at seed i = output_word (state_at seed i)

@@ -109,10 +109,3 @@ module _ {O E C A : Type 0} (relation : O → List E → C → Option E → A �
     pub stands : relation opening (events_of before) call event answer
     pub legal : IsLegal relation opening w.seen
     pub own : entries_of v.number w.seen ≡ w.mine
-
-  -- a call of the pass `by` stands in this history: what it answered is right after the events before it
-  pub record StandsIn (opening : O) (history : List (ℕ × E)) (by : ℕ) (call : C) (answer : A) : Type 0 where
-    pub before : List (ℕ × E)
-    pub event : Option E
-    pub begins : IsPrefix (before ++ tagged by (listed event)) history
-    pub stands : relation opening (events_of before) call event answer

@@ -1,7 +1,9 @@
 use Rattle.std.proofs.Common.{◌≡◌, ◌<◌, length, get_or, refl, map, arith, sym, ap, ◌∙◌, subst}
-use Rattle.farm_replay.proofs.CounterLemmas.{known_number, own_till, kept_tills, tills_length}
+use Rattle.farm_core.proofs.TillLemmas.{tills_length}
+use Rattle.farm_session.proofs.TillLemmas.{own_till, kept_tills}
+use Rattle.farm_replay.proofs.NumberLemmas.{known_number}
 use Rattle.farm_core.specs.World.{purse_in, opened}
-use Rattle.farm_replay.specs.Counter.{counter_of, counter_for}
+use Rattle.farm_core.specs.Tills.{opening_of, opening_for}
 use Rattle.farm_replay.specs.Floor.{IsFloor}
 use Rattle.farm_replay.specs.Reader.{script_rest}
 use Rattle.farm_replay.proofs.PlayLemmas.{Played, begun, play_begins, settled_on, settled_cut, asked_known, asked_on, asked_cut, asked_unsent, played_sent, play_over, play_broken, play_written, play_cut}
@@ -12,7 +14,7 @@ pub loop-answered-init : goal.loop-answered-init
 unfolding opened
 loop-answered-init g c = (
   ap (λ w. w.config) c.requires.farm,
-  c.requires.counters,
+  c.requires.tills,
   c.requires.floor,
   play_begins c.args.config.now (script_rest g.R.Read.remaining c.args.script.now) (g.W.Write.contents c.args.writer.now) c.args.floor.now.farm
       (ap (λ w. w.config) c.requires.farm) (begun c.args.config.now c.args.floor.now.farm c.farms_are_replayed.ensures c.requires.farm),
@@ -65,7 +67,7 @@ loop-answered-preserved g c =
     elim c.match-hear.branch [
       | in-Told+in_default w ↦ (
         ap (λ x. x.farm.config) w.floor-is ∙ inv.0,
-        ap (map counter_of) w.counters-is ∙ inv.1,
+        ap (map opening_of) w.branches-is ∙ inv.1,
         subst (λ x. IsFloor g.J.Strategy.meaning x.farm x.held.items) (sym w.floor-is) inv.2,
         rw (w.floor-is, w.writer-is)
             (settled_on c.requests_come_in_turn.ensures c.args.config.now (script_rest g.R.Read.remaining c.args.script.now) (script_rest g.R.Read.remaining c.begin.new.self) (script_rest g.R.Read.remaining c.read_watched.new.reader)
@@ -76,13 +78,11 @@ loop-answered-preserved g c =
       )
       | in-Asked+in_default-send_before_nodes+in_default-tell w ↦ (
         ap (λ x. x.farm.config) w.floor-is ∙ w.answer-said.ensures.told.config ∙ inv.0,
-        ap (map counter_of)
-            (w.counters-is
-            ∙ kept_tills c.loop-answered.counters w.purse_of-purse.result w.index-counters-purse.result w.answer-said.new.counter
-            (subst (λ n. n < length c.loop-answered.counters) (sym w.purse_of-purse.ensures.exact)
-            (tills_length c.args.config.now c.loop-answered.counters w.in-Asked.tenant inv.1
-            (known_number w.in-Asked.who c.args.config.now w.in-Asked.tenant (asked_known c.args.config.now c.read_watched.result w.in-Asked.tenant w.in-Asked.who w.in-Asked.asked (cc (w.in-Asked.is, c.hear.ensures))))))
-            w.index-counters-purse.is w.answer-said.ensures.counter)
+        ap (map opening_of)
+            (w.branches-is
+            ∙ kept_tills c.loop-answered.branches w.purse_of-purse.result w.index-branches-purse.result w.answer-said.new.branch
+            (subst (λ n. w.purse_of-purse.result < n) (sym (tills_length c.args.config.now c.loop-answered.branches inv.1)) w.purse_of-purse.ensures.known)
+            w.index-branches-purse.is w.answer-said.ensures.kept)
             ∙ inv.1,
         subst (λ x. IsFloor g.J.Strategy.meaning x.farm x.held.items) (sym w.floor-is) w.answer-said.ensures.floor,
         rw (w.floor-is, w.writer-is)
@@ -110,18 +110,15 @@ returns-clause-cut_off g c =
     (subst (λ n. Played c.args.config.now (script_rest g.R.Read.remaining c.args.script.now) (script_rest g.R.Read.remaining c.loop-answered.script) (g.W.Write.contents c.args.writer.now) (g.W.Write.contents c.loop-answered.writer) n c.loop-answered.floor.farm)
     all c.loop-answered.invariant.3) c.end.ensures.fault
 
-pub bounds-counters-purse : goal.bounds-counters-purse
-bounds-counters-purse g c =
-    let few = tills_length c.args.config.now c.loop-answered.counters c.in-Asked.tenant c.loop-answered.invariant.1
-    (known_number c.in-Asked.who c.args.config.now c.in-Asked.tenant (asked_known c.args.config.now c.read_watched.result c.in-Asked.tenant c.in-Asked.who c.in-Asked.asked (cc (c.in-Asked.is, c.hear.ensures)))) in
-    omega (arith, few, c.purse_of-purse.ensures.exact)
+pub bounds-branches-purse : goal.bounds-branches-purse
+bounds-branches-purse g c =
+    subst (λ n. c.purse_of-purse.result < n) (sym (tills_length c.args.config.now c.loop-answered.branches c.loop-answered.invariant.1)) c.purse_of-purse.ensures.known
 
-pub answer-said-requires-clause-counter : goal.answer-said-requires-clause-counter
-answer-said-requires-clause-counter g c κs within =
-    let known = known_number c.in-Asked.who c.args.config.now c.in-Asked.tenant (asked_known c.args.config.now c.read_watched.result c.in-Asked.tenant c.in-Asked.who c.in-Asked.asked (cc (c.in-Asked.is, c.hear.ensures))) in
-    ap (λ p. counter_of (get_or c.loop-answered.counters p c.index-counters-purse.result)) c.purse_of-purse.ensures.exact
-    ∙ own_till c.args.config.now c.loop-answered.counters c.in-Asked.tenant c.index-counters-purse.result c.loop-answered.invariant.1 known
-    ∙ ap (λ k. counter_for k (purse_in k c.in-Asked.tenant)) (sym c.loop-answered.invariant.0)
+pub answer-said-requires-clause-till : goal.answer-said-requires-clause-till
+answer-said-requires-clause-till g c κs within =
+    own_till c.args.config.now c.loop-answered.branches c.purse_of-purse.result c.index-branches-purse.result c.loop-answered.invariant.1 c.purse_of-purse.ensures.known
+    ∙ ap (opening_for c.args.config.now) c.purse_of-purse.ensures.exact
+    ∙ ap (λ k. opening_for k (purse_in k c.in-Asked.tenant)) (sym c.loop-answered.invariant.0)
 
 pub returns-in-Broken-clause-cut_off : goal.returns-in-Broken-clause-cut_off
 returns-in-Broken-clause-cut_off g c =

@@ -1,8 +1,8 @@
 use Rattle.std.proofs.Common.{◌<◌, sym, ap, ◌∙◌, subst}
 use Rattle.farm_core.specs.World.{purse_in}
-use Rattle.farm_pool.specs.Settle.{opening_for}
-use Rattle.farm_pool.proofs.SettleLemmas.{tills_length}
-use Rattle.farm_service.proofs.TillLemmas.{own_till}
+use Rattle.farm_core.specs.Tills.{opening_for}
+use Rattle.farm_core.proofs.TillLemmas.{tills_length}
+use Rattle.farm_session.proofs.TillLemmas.{own_till}
 use Rattle.farm_service.proofs.connection.reply.Goals as goal
 
 pub bounds-branches-purse : goal.bounds-branches-purse

@@ -1,4 +1,4 @@
-use Rattle.farm_pool.specs.Settle.{AreTillsOf}
+use Rattle.farm_core.specs.Tills.{AreTillsOf}
 use Rattle.farm_service.proofs.connection.session.Given as goal
 
 abbrev pub invariant-loop : goal.invariant-loop

@@ -1,4 +1,4 @@
-use Rattle.std.proofs.Common.{◌≡◌, Some, sym, ap, ◌∙◌, subst}
+use Rattle.std.proofs.Common.{Some, ap, ◌∙◌, subst}
 use Rattle.job_table.specs.Table.{AreWaiting, behind}
 use Rattle.farm_core.specs.World.{World, table_of}
 use Rattle.farm_core.specs.Farm.{ArePassed}

@@ -1,4 +1,4 @@
-use Rattle.std.proofs.Common.{◌≡◌, ◌<◌, ℕ, length, ap, ◌∙◌, arith}
+use Rattle.std.proofs.Common.{◌<◌, length, ap, ◌∙◌, arith}
 use Rattle.farm_core.specs.World.{World, purse_in, purses_in}
 use Rattle.farm_core.proofs.FarmLemmas.{purses_are, purse_known}
 use Rattle.farm_core.proofs.farm.Farm.purse_of.Given.{Over}

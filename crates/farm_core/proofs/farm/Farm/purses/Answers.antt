@@ -1,5 +1,4 @@
-use Rattle.std.proofs.Common.{◌≡◌, ◌≤◌, ap, arith}
-use Rattle.farm_core.specs.World.{World, purses_in}
+use Rattle.std.proofs.Common.{arith}
 use Rattle.farm_core.proofs.FarmLemmas.{few_purses}
 use Rattle.farm_core.proofs.farm.Farm.purses.Goals as goal
 

@@ -1,6 +1,6 @@
 use Rattle.std.specs.Prelude.{All}
 use Rattle.std.proofs.Common.{◌≡◌}
-use Rattle.farm_pool.specs.Settle.{AreTillsOf}
+use Rattle.farm_core.specs.Tills.{AreTillsOf}
 use Rattle.farm_service.proofs.service.fn.attend.scope.Given as goal
 
 abbrev pub invariant-loop-i : goal.invariant-loop-i

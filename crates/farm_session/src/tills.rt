@@ -1,7 +1,7 @@
-//! The tills of a service's purses, and a connection's desks at them.
-ghost use Rattle.std.specs.Prelude.{◌≡◌, All, IfOk};
+//! The tills of a farm's purses, and the desks at which a script's or a connection's searches get their leases.
+ghost use Rattle.std.specs.Prelude.{◌≡◌, IfOk};
 ghost use Rattle.quanta_till.specs.Lease.{empty_lease};
-ghost use Rattle.farm_pool.specs.Settle.{AreSeated, AreTillsOf};
+ghost use Rattle.farm_core.specs.Tills.{AreSeated, AreTillsOf};
 
 use farm_core::Config;
 use quanta_till::{Desk, Lease, Till};
@@ -10,7 +10,7 @@ use std::marker::Model;
 
 /// A purse's till, and a desk at which leases of it are made. Contracts see the till.
 #[derive(Drop)]
-pub(crate) struct Branch<'a> {
+pub struct Branch<'a> {
     till: &'a Till,
     desk: Desk,
 }
@@ -28,7 +28,7 @@ impl<'a> Model for Branch<'a> {
 
 impl<'a> Branch<'a> {
     /// A lease of this till for a tenant, of which nothing was drawn.
-    pub(crate) fn lease(&mut self, tenant: u32) -> Result<Lease, AllocError>
+    pub fn lease(&mut self, tenant: u32) -> Result<Lease, AllocError>
         ensures made { IfOk result (λ lease. lease ≡ empty_lease self.old tenant) }
         ensures kept { self.new ≡ self.old }
     {
@@ -36,11 +36,9 @@ impl<'a> Branch<'a> {
     }
 }
 
-/// A till of each purse, in the order of their numbers, opened with the quanta that it was granted, and its first desk.
-pub(crate) fn open_tills(
-    alloc: Global,
-    config: &Config,
-) -> Result<(Vec<Till>, Vec<Desk>), AllocError>
+/// A till of each purse, in the order of their numbers, opened with the quanta that it was granted, and its first desk. An error
+/// is want of memory.
+pub fn open_tills(alloc: Global, config: &Config) -> Result<(Vec<Till>, Vec<Desk>), AllocError>
     ensures tills { IfOk result (λ made. AreTillsOf config.now made.0.items) }
     ensures seated { IfOk result (λ made. AreSeated made.0.items made.1.items) }
 {
@@ -54,8 +52,8 @@ pub(crate) fn open_tills(
     Ok((tills, desks))
 }
 
-/// One more desk at each till.
-pub(crate) fn branches<'a>(
+/// One more desk at each till. An error is want of memory.
+pub fn branches<'a>(
     alloc: Global,
     tills: &'a [Till],
     desks: &mut [Desk],
@@ -70,22 +68,4 @@ pub(crate) fn branches<'a>(
         branches.push(Branch { till, desk })?;
     }
     Ok(branches)
-}
-
-/// The desks of so many connections.
-pub(crate) fn places<'a>(
-    alloc: Global,
-    tills: &'a [Till],
-    desks: &mut [Desk],
-    count: u64,
-) -> Result<Vec<Vec<Branch<'a>>>, AllocError>
-    requires { AreSeated tills.now desks.old }
-    ensures seated { AreSeated tills.entry.now desks.new }
-    ensures tills { IfOk result (λ places. All (λ own. own.items ≡ tills.entry.now) places.items) }
-{
-    let mut places = Vec::new(alloc);
-    for _ in 0..count {
-        places.push(branches(alloc, tills, desks)?)?;
-    }
-    Ok(places)
 }

@@ -4,7 +4,7 @@ use Rattle.std.proofs.lemmas.Bool.{cases_eq}
 use Rattle.std.proofs.lemmas.List.{get_or-set_same, get_or-set_other, get_or_push, get_or_append_left, length-set, length-append}
 use Rattle.quanta_till.specs.Desk.{DeskValue}
 use Rattle.quanta_till.specs.Till.{TillValue}
-use Rattle.farm_pool.specs.Settle.{AreSeated}
+use Rattle.farm_core.specs.Tills.{AreSeated}
 
 -- a desk is changed, and stays at its till
 pub seated_set : (tills : List TillValue) (desks : List DeskValue) (i : ℕ) (z e : DeskValue) → i < length tills → e.id ≡ (get_or desks i z).id

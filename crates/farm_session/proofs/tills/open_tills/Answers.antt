@@ -1,8 +1,8 @@
 use Rattle.std.proofs.Common.{arith, ap}
 use Rattle.quanta_till.specs.Desk.{DeskValue}
-use Rattle.farm_service.proofs.SeatLemmas.{seated_push}
-use Rattle.farm_service.proofs.TillLemmas.{opened_for, tills_on}
-use Rattle.farm_service.proofs.tills.open_tills.Goals as goal
+use Rattle.farm_session.proofs.SeatLemmas.{seated_push}
+use Rattle.farm_session.proofs.TillLemmas.{opened_for, tills_on}
+use Rattle.farm_session.proofs.tills.open_tills.Goals as goal
 
 pub loop-purse-preserved : goal.loop-purse-preserved
 loop-purse-preserved c = record {

@@ -4,10 +4,10 @@ use Rattle.std.proofs.lemmas.List.{map-append, get_or-map}
 use Rattle.std.proofs.lemmas.List.FromFn.{map-range_with_len_more, get_or-map-range_with_len}
 use Rattle.std.specs.List.{range_with_len}
 use Rattle.quanta_till.specs.Till.{TillValue}
-use Rattle.farm_core.specs.Config.{ConfigData, lines_of, granted_by}
+use Rattle.farm_core.specs.Config.{ConfigData, member_lines, granted_by}
 use Rattle.farm_core.specs.World.{purses_in}
-use Rattle.farm_pool.proofs.SettleLemmas.{tills_length}
-use Rattle.farm_pool.specs.Settle.{Opening, opening_of, opening_for, AreTillsOf}
+use Rattle.farm_core.proofs.TillLemmas.{tills_length}
+use Rattle.farm_core.specs.Tills.{Opening, opening_of, opening_for, AreTillsOf}
 
 -- one till more
 pub tills_on : (config : ConfigData) (p : ℕ) (till : TillValue) (old new : List TillValue) → opening_of till ≡ opening_for config p
@@ -33,7 +33,7 @@ pub kept_tills : (tills : List TillValue) (p : ℕ) (d new : TillValue) → p < 
 kept_tills tills p d new h is same = ap (set tills p) same ∙ set_same tills p d h is
 
 -- a till that was opened for a purse with what it was granted
-pub opened_for : (config : ConfigData) (p granted : ℕ) (till : TillValue) → (till.purse ≡ p) × (till.granted ≡ granted) → granted ≡ granted_by (lines_of config.tenants p)
+pub opened_for : (config : ConfigData) (p granted : ℕ) (till : TillValue) → (till.purse ≡ p) × (till.granted ≡ granted) → granted ≡ granted_by (member_lines config.tenants p)
     → opening_of till ≡ opening_for config p
 opened_for config p granted till made exact =
     ap (λ n. let it : Opening = record { purse = n; granted = till.granted } in it) made.0

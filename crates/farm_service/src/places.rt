@@ -1,0 +1,25 @@
+//! The desks of a service's connections.
+ghost use Rattle.std.specs.Prelude.{◌≡◌, All, IfOk};
+ghost use Rattle.farm_core.specs.Tills.{AreSeated};
+
+use farm_session::{Branch, branches};
+use quanta_till::{Desk, Till};
+use std::alloc::{AllocError, Global};
+
+/// The desks of so many connections.
+pub(crate) fn places<'a>(
+    alloc: Global,
+    tills: &'a [Till],
+    desks: &mut [Desk],
+    count: u64,
+) -> Result<Vec<Vec<Branch<'a>>>, AllocError>
+    requires { AreSeated tills.now desks.old }
+    ensures seated { AreSeated tills.entry.now desks.new }
+    ensures tills { IfOk result (λ places. All (λ own. own.items ≡ tills.entry.now) places.items) }
+{
+    let mut places = Vec::new(alloc);
+    for _ in 0..count {
+        places.push(branches(alloc, tills, desks)?)?;
+    }
+    Ok(places)
+}
