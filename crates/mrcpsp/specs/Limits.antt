@@ -1,6 +1,7 @@
--- What each project keeps, fact by fact, as proofs use it.
+-- The limits that each mode and each project keep, a field for each: what follows from `is_project`, as contracts and
+-- proofs use it.
 use Rattle.std.specs.Prelude.{◌≡◌, ℕ, ◌+◌, ◌<◌, ◌≤◌, All, length, get_or}
-use Rattle.mrcpsp.specs.declared.limits.TheConstants.{MOST_AMOUNT, MOST_DURATION, MOST_HORIZON}
+use Rattle.mrcpsp.specs.declared.limits.TheConstants.{MOST_ACTIVITIES, MOST_MODES, MOST_RESOURCES, MOST_AMOUNT, MOST_DURATION, MOST_HORIZON}
 use Rattle.mrcpsp.specs.Project.{ProjectData, size, renewables, nonrenewables, modes, mode_count, successors, no_mode, horizon}
 
 -- mode m of activity j has one number for each resource, within the limits
@@ -13,12 +14,12 @@ pub record IsLimited (p : ProjectData) (j m : ℕ) : Type 0 where
 
 pub record IsProject (p : ProjectData) : Type 0 where
   pub some : 0 < size p
-  pub few : size p ≤ 202
-  pub few_renewable : renewables p ≤ 8
-  pub few_nonrenewable : nonrenewables p ≤ 8
+  pub few : size p ≤ MOST_ACTIVITIES
+  pub few_renewable : renewables p ≤ MOST_RESOURCES
+  pub few_nonrenewable : nonrenewables p ≤ MOST_RESOURCES
   pub capacities : All (λ a. a ≤ MOST_AMOUNT) p.renewable
   pub stocks : All (λ a. a ≤ MOST_AMOUNT) p.nonrenewable
-  pub moded : (j : ℕ) → j < size p → (0 < mode_count p j) × (mode_count p j ≤ 10)
+  pub moded : (j : ℕ) → j < size p → (0 < mode_count p j) × (mode_count p j ≤ MOST_MODES)
   pub limited : (j m : ℕ) → j < size p → m < mode_count p j → IsLimited p j m
   pub rising : (j : ℕ) → j < size p → All (λ s. (j + 1 < s) × (s ≤ size p)) (successors p j)
   pub short : horizon p.activities ≤ MOST_HORIZON

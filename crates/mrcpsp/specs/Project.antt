@@ -2,7 +2,7 @@
 -- (Sprecher and Drexl 1998; the limits are this project's own). Activities are numbered from 1 in a list of successors.
 use Rattle.std.specs.Prelude.{ℕ, ◌+◌, Bool, true, not, ◌&&◌, List, [], ◌∷◌, ◌++◌, length, get_or, max, nat_le, nat_lt, ◌==◌}
 use Rattle.std.specs.List.{list_all, list_any}
-use Rattle.mrcpsp.specs.declared.limits.TheConstants.{MOST_AMOUNT, MOST_DURATION, MOST_HORIZON}
+use Rattle.mrcpsp.specs.declared.limits.TheConstants.{MOST_ACTIVITIES, MOST_MODES, MOST_RESOURCES, MOST_AMOUNT, MOST_DURATION, MOST_HORIZON}
 
 -- its duration in periods, its request of each renewable resource per period, its consumption of each nonrenewable one
 pub record ModeData : Type 0 where
@@ -33,7 +33,7 @@ abbrev pub horizon : List ActivityData → ℕ
 horizon [] = 0
 horizon (a ∷ more) = longest a.modes + horizon more
 
--- so many numbers, each at most 1,000,000
+-- so many numbers, none above the limit of amounts
 abbrev pub are_amounts : ℕ → List ℕ → Bool
 are_amounts count amounts = (length amounts == count) && list_all (λ a. nat_le a MOST_AMOUNT) amounts
 
@@ -51,13 +51,13 @@ are_successors n j before (s ∷ more) =
 abbrev pub are_activities : ℕ → ℕ → ℕ → ℕ → List ActivityData → Bool
 are_activities r v n j [] = true
 are_activities r v n j (a ∷ more) =
-    is_between 1 10 (length a.modes) && list_all (is_mode r v) a.modes && are_successors n j [] a.successors
+    is_between 1 MOST_MODES (length a.modes) && list_all (is_mode r v) a.modes && are_successors n j [] a.successors
     && are_activities r v n (j + 1) more
 
--- 1 to 202 activities, at most 8 resources of either kind, and a horizon of at most 20,000
+-- the limits of activities, modes, resources, durations, amounts and the horizon hold, and the rule on successors
 abbrev pub is_project : ProjectData → Bool
-is_project p = is_between 1 202 (length p.activities)
-    && nat_le (length p.renewable) 8 && nat_le (length p.nonrenewable) 8
+is_project p = is_between 1 MOST_ACTIVITIES (length p.activities)
+    && nat_le (length p.renewable) MOST_RESOURCES && nat_le (length p.nonrenewable) MOST_RESOURCES
     && list_all (λ a. nat_le a MOST_AMOUNT) p.renewable && list_all (λ a. nat_le a MOST_AMOUNT) p.nonrenewable
     && are_activities (length p.renewable) (length p.nonrenewable) (length p.activities) 1 p.activities
     && nat_le (horizon p.activities) MOST_HORIZON

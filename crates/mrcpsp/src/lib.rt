@@ -29,7 +29,9 @@ mod sequence;
 pub use activity::Activity;
 pub use breach::Breach;
 pub use feasibility::{MOST_START, check, makespan};
-pub use limits::{MOST_AMOUNT, MOST_DURATION, MOST_HORIZON};
+pub use limits::{
+    MOST_ACTIVITIES, MOST_AMOUNT, MOST_DURATION, MOST_HORIZON, MOST_MODES, MOST_RESOURCES,
+};
 pub use mode::Mode;
 pub use project::{Project, same};
 pub use schedule::Schedule;

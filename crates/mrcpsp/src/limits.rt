@@ -5,6 +5,15 @@ ghost use Rattle.mrcpsp.specs.Project.{is_mode, are_amounts, are_successors, are
 
 use crate::{Activity, Mode};
 
+/// The most activities that a project may have.
+pub const MOST_ACTIVITIES: usize = 202;
+
+/// The most modes that an activity may have.
+pub const MOST_MODES: usize = 10;
+
+/// The most renewable resources that a project may have, and the most nonrenewable ones.
+pub const MOST_RESOURCES: usize = 8;
+
 /// The most that a request, a consumption or a capacity may be, in units of its resource.
 pub const MOST_AMOUNT: u32 = 1_000_000;
 
@@ -59,7 +68,7 @@ pub(crate) fn all_keep(activities: &[Activity], renewable: usize, nonrenewable: 
 {
     for (i, activity) in activities.iter().enumerate() {
         let modes = activity.modes.as_slice();
-        if !(1..=10).contains(&modes.len())
+        if !(1..=MOST_MODES).contains(&modes.len())
             || !all_fit(modes, renewable, nonrenewable)
             || !may_follow(activity.successors.as_slice(), i + 1, activities.len())
         {
@@ -81,7 +90,7 @@ fn longest_of(modes: &[Mode]) -> u32
 
 /// The sum of the longest durations, in periods.
 pub(crate) fn horizon_of(activities: &[Activity]) -> u64
-    requires { length activities.now ≤ 202 }
+    requires { length activities.now ≤ MOST_ACTIVITIES }
     ensures { result ≡ horizon activities.now }
 {
     let mut sum = 0;

@@ -3,7 +3,10 @@ ghost use Rattle.std.specs.Prelude.{◌≡◌, ◌↔◌, ◌<◌, ◌≤◌, �
 ghost use Rattle.mrcpsp.specs.Limits.{IsLimited, IsProject};
 ghost use Rattle.mrcpsp.specs.Project.{ProjectData, is_project, horizon, no_activity, no_mode, modes, size, renewables, nonrenewables, mode_count, successors, precedes, duration, request, consumption, capacity, stock};
 
-use crate::limits::{MOST_AMOUNT, MOST_DURATION, MOST_HORIZON, all_keep, are_small, horizon_of};
+use crate::limits::{
+    MOST_ACTIVITIES, MOST_AMOUNT, MOST_DURATION, MOST_HORIZON, MOST_MODES, MOST_RESOURCES,
+    all_keep, are_small, horizon_of,
+};
 use crate::parts::{Parts, same_parts};
 use crate::{Activity, Mode, Sequence};
 use std::alloc::{AllocError, Global};
@@ -52,9 +55,9 @@ impl Project {
     {
         let all = activities.as_slice();
         let kinds = (renewable.as_slice(), nonrenewable.as_slice());
-        let holds = (1..=202).contains(&all.len())
-            && kinds.0.len() <= 8
-            && kinds.1.len() <= 8
+        let holds = (1..=MOST_ACTIVITIES).contains(&all.len())
+            && kinds.0.len() <= MOST_RESOURCES
+            && kinds.1.len() <= MOST_RESOURCES
             && are_small(kinds.0)
             && are_small(kinds.1)
             && all_keep(all, kinds.0.len(), kinds.1.len())
@@ -163,7 +166,7 @@ impl Project {
     pub fn size(&self) -> usize
         ensures exact { result ≡ size self.now }
         ensures some { 0 < result }
-        ensures few { result ≤ 202 }
+        ensures few { result ≤ MOST_ACTIVITIES }
     {
         self.activities().len()
     }
@@ -172,7 +175,7 @@ impl Project {
     #[tactic(auto, unfolding(crate::specs::Project::renewables))]
     pub fn renewables(&self) -> usize
         ensures exact { result ≡ renewables self.now }
-        ensures few { result ≤ 8 }
+        ensures few { result ≤ MOST_RESOURCES }
     {
         self.renewable().len()
     }
@@ -181,7 +184,7 @@ impl Project {
     #[tactic(auto, unfolding(crate::specs::Project::nonrenewables))]
     pub fn nonrenewables(&self) -> usize
         ensures exact { result ≡ nonrenewables self.now }
-        ensures few { result ≤ 8 }
+        ensures few { result ≤ MOST_RESOURCES }
     {
         self.nonrenewable().len()
     }
@@ -212,7 +215,7 @@ impl Project {
         requires { activity < size self.now }
         ensures exact { result ≡ mode_count self.now activity }
         ensures some { 0 < result }
-        ensures few { result ≤ 10 }
+        ensures few { result ≤ MOST_MODES }
     {
         self.activity(activity).modes.as_slice().len()
     }

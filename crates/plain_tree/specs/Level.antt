@@ -13,7 +13,7 @@ pub record IsCandidate (p : ProjectData) (placed : List Placed) (c : Candidate) 
   pub mode : c.mode < mode_count p c.activity
   pub eligible : is_eligible p placed c.activity ≡ true
 
--- no longer than the longest durations one after the other
+-- the latest finish is after at most MOST_DURATION periods for each placed activity
 pub record IsEarly (p : ProjectData) (placed : List Placed) : Type 0 where
   pub finish : latest p placed ≤ MOST_DURATION * length placed
 

@@ -8,7 +8,7 @@ ghost use Rattle.mrcpsp.specs.Breach.{HasShape, HasModes};
 ghost use Rattle.plain_tree.specs.Level.{IsKnown};
 
 use crate::Visit;
-use mrcpsp::{Project, Schedule, Sequence, makespan};
+use mrcpsp::{MOST_MODES, Project, Schedule, Sequence, makespan};
 use serial_sgs::{Board, Place};
 use std::alloc::{AllocError, Global};
 
@@ -42,7 +42,7 @@ pub(crate) fn copy_of_incumbent(
 fn place_in(board: &Board, activity: usize) -> Place
     ensures mode { result.mode ≡ mode_in board.now.placed activity }
     ensures start { result.start ≡ start_in board.now.placed activity }
-    ensures few { result.mode ≤ 10 }
+    ensures few { result.mode ≤ MOST_MODES }
 {
     let placed = board.placed();
     for place in placed {

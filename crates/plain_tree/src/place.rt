@@ -1,11 +1,12 @@
 //! Where a candidate would be placed.
-ghost use Rattle.std.specs.Prelude.{◌≡◌, ◌<◌, ◌≤◌, [], ◌∷◌, ◌++◌, IsTrue};
+ghost use Rattle.std.specs.Prelude.{◌≡◌, ◌*◌, ◌<◌, ◌≤◌, [], ◌∷◌, ◌++◌, IsTrue};
 ghost use Rattle.mrcpsp.specs.Project.{size, mode_count};
 ghost use Rattle.mrcpsp.specs.Placed.{last_start, is_executable};
 ghost use Rattle.strategy.specs.Tree.{placing};
 ghost use Rattle.plain_tree.specs.Level.{IsEarly};
 
 use crate::visit::Candidate;
+use mrcpsp::{MOST_ACTIVITIES, MOST_DURATION};
 use serial_sgs::{Board, Place};
 
 /// The start of the activity placed last, 0 where nothing is placed.
@@ -26,7 +27,7 @@ pub(crate) fn place_of(board: &Board, candidate: Candidate) -> Place
     requires mode { candidate.mode < mode_count board.now.project candidate.activity }
     requires early { IsEarly board.now.project board.now.placed }
     ensures exact { result ≡ placing board.now.project board.now.placed candidate }
-    ensures most { result.start ≤ 404000 }
+    ensures most { result.start ≤ 2 * MOST_DURATION * MOST_ACTIVITIES }
     ensures early { IsTrue (is_executable board.now.project candidate.activity candidate.mode)
         → IsEarly board.now.project (board.now.placed ++ result ∷ []) }
 {

@@ -3,7 +3,7 @@ ghost use Rattle.std.specs.Prelude.{◌≡◌, ◌*◌, ◌<◌, ◌≤◌};
 ghost use Rattle.mrcpsp.specs.Project.{size};
 ghost use Rattle.mrcpsp.specs.Values.{shortest, chain, tail};
 
-use mrcpsp::{MOST_DURATION, Project};
+use mrcpsp::{MOST_ACTIVITIES, MOST_DURATION, Project};
 
 /// The shortest duration of an activity, in periods.
 fn shortest(project: &Project, activity: usize) -> u32
@@ -22,7 +22,7 @@ fn shortest(project: &Project, activity: usize) -> u32
 /// The longest chain of at most so many successors after an activity, by shortest durations, in periods.
 fn chain(project: &Project, steps: usize, activity: usize) -> u32
     requires activity { activity < size project.now }
-    requires few { steps ≤ 202 }
+    requires few { steps ≤ MOST_ACTIVITIES }
     ensures exact { result ≡ chain project.now steps activity }
     ensures most { result ≤ MOST_DURATION * steps }
 {
@@ -43,7 +43,7 @@ fn chain(project: &Project, steps: usize, activity: usize) -> u32
 pub(crate) fn tail(project: &Project, activity: usize) -> u32
     requires { activity < size project.now }
     ensures exact { result ≡ tail project.now activity }
-    ensures most { result ≤ 202000 }
+    ensures most { result ≤ MOST_DURATION * MOST_ACTIVITIES }
 {
     chain(project, project.size(), activity)
 }

@@ -2,7 +2,7 @@
 -- and the faults in them.
 use Rattle.std.specs.Prelude.{ℕ, zero, suc, ◌+◌, Bool, not, ◌||◌, List, [], ◌∷◌, ◌++◌, length, map, take, drop, Option, Some, None, Result, Ok, Err, nat_lt, nat_le, ◌==◌, if◌then◌else◌}
 use Rattle.std.specs.List.{list_any}
-use Rattle.mrcpsp.specs.declared.limits.TheConstants.{MOST_AMOUNT, MOST_DURATION, MOST_HORIZON}
+use Rattle.mrcpsp.specs.declared.limits.TheConstants.{MOST_ACTIVITIES, MOST_MODES, MOST_RESOURCES, MOST_AMOUNT, MOST_DURATION, MOST_HORIZON}
 use Rattle.mrcpsp.specs.Project.{ModeData, ActivityData, ProjectData, is_between, horizon}
 use Rattle.psplib_mm.specs.declared.cell.Cell.{Cell}
 use Rattle.psplib_mm.specs.declared.fault.MmFault.{MmFault}
@@ -147,10 +147,10 @@ first_broken (l ∷ limits) = if l.0 then Some l.1 else first_broken limits
 
 abbrev pub broken : ProjectData → Option LimitName
 broken p = first_broken (
-    (not (is_between 1 202 (length p.activities)), limit.Jobs)
-    ∷ (list_any (λ a. not (is_between 1 10 (length a.modes))) p.activities, limit.Modes)
-    ∷ (nat_lt 8 (length p.renewable), limit.Renewable)
-    ∷ (nat_lt 8 (length p.nonrenewable), limit.Nonrenewable)
+    (not (is_between 1 MOST_ACTIVITIES (length p.activities)), limit.Jobs)
+    ∷ (list_any (λ a. not (is_between 1 MOST_MODES (length a.modes))) p.activities, limit.Modes)
+    ∷ (nat_lt MOST_RESOURCES (length p.renewable), limit.Renewable)
+    ∷ (nat_lt MOST_RESOURCES (length p.nonrenewable), limit.Nonrenewable)
     ∷ (any_mode (λ m. nat_lt MOST_DURATION m.duration) p, limit.Duration)
     ∷ (any_mode (λ m. any_above MOST_AMOUNT m.renewable || any_above MOST_AMOUNT m.nonrenewable) p, limit.Request)
     ∷ (any_above MOST_AMOUNT p.renewable || any_above MOST_AMOUNT p.nonrenewable, limit.Capacity)

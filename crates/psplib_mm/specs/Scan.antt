@@ -3,7 +3,7 @@
 use Rattle.std.specs.Prelude.{◌≡◌, ℕ, ◌+◌, ◌-◌, ◌^◌, min, Bool, not, ◌||◌, List, [], ◌∷◌, ◌++◌, length, map, take, drop, Option, Some, None, Result, Ok, Err, nat_lt, ◌==◌, codes, if◌then◌else◌}
 use Rattle.std.specs.Option.{option_or}
 use Rattle.std.specs.List.{find, list_any, position_or_len, before_first}
-use Rattle.mrcpsp.specs.declared.limits.TheConstants.{MOST_AMOUNT, MOST_DURATION, MOST_HORIZON}
+use Rattle.mrcpsp.specs.declared.limits.TheConstants.{MOST_ACTIVITIES, MOST_MODES, MOST_RESOURCES, MOST_AMOUNT, MOST_DURATION, MOST_HORIZON}
 use Rattle.mrcpsp.specs.Project.{ProjectData, is_between, horizon}
 use Rattle.psplib_mm.specs.declared.cell.Cell.{Cell}
 use Rattle.psplib_mm.specs.declared.fault.MmFault.{MmFault}
@@ -139,10 +139,10 @@ records (Err fault) = []
 -- the first limit on the numbers of jobs, modes and resources that is broken
 abbrev pub broken_count : List Job → ℕ → ℕ → Option LimitName
 broken_count jobs r v = first_broken (
-    (not (is_between 1 202 (length jobs)), limit.Jobs)
-    ∷ (list_any (λ j. not (is_between 1 10 j.modes.number)) jobs, limit.Modes)
-    ∷ (nat_lt 8 r, limit.Renewable)
-    ∷ (nat_lt 8 v, limit.Nonrenewable)
+    (not (is_between 1 MOST_ACTIVITIES (length jobs)), limit.Jobs)
+    ∷ (list_any (λ j. not (is_between 1 MOST_MODES j.modes.number)) jobs, limit.Modes)
+    ∷ (nat_lt MOST_RESOURCES r, limit.Renewable)
+    ∷ (nat_lt MOST_RESOURCES v, limit.Nonrenewable)
     ∷ [])
 
 -- the first of the other limits that is broken

@@ -8,14 +8,17 @@ ghost use Rattle.psplib_mm.specs.Scan.{broken_count, broken_amount};
 use crate::fault::LimitName;
 use crate::groups::Resources;
 use crate::jobs::Jobs;
-use mrcpsp::{Activity, MOST_AMOUNT, MOST_DURATION, MOST_HORIZON, Mode};
+use mrcpsp::{
+    Activity, MOST_ACTIVITIES, MOST_AMOUNT, MOST_DURATION, MOST_HORIZON, MOST_MODES,
+    MOST_RESOURCES, Mode,
+};
 
 fn are_modes_miscounted(jobs: &Jobs<'_>) -> bool
-    ensures { result ≡ list_any (λ j. not (is_between 1 10 j.modes.number)) jobs.now }
+    ensures { result ≡ list_any (λ j. not (is_between 1 MOST_MODES j.modes.number)) jobs.now }
 {
     let mut left = jobs.again();
     while let Some(job) = left.next_job() {
-        if !(1..=10).contains(&job.modes.number) {
+        if !(1..=MOST_MODES).contains(&(job.modes.number as usize)) {
             return true;
         }
     }
@@ -26,13 +29,13 @@ fn are_modes_miscounted(jobs: &Jobs<'_>) -> bool
 pub fn broken_number(jobs: &Jobs<'_>, resources: Resources) -> Option<LimitName>
     ensures { result ≡ broken_count jobs.now resources.renewable resources.nonrenewable }
 {
-    if !(1..=202).contains(&jobs.len()) {
+    if !(1..=MOST_ACTIVITIES).contains(&(jobs.len() as usize)) {
         Some(LimitName::Jobs)
     } else if are_modes_miscounted(jobs) {
         Some(LimitName::Modes)
-    } else if resources.renewable > 8 {
+    } else if resources.renewable as usize > MOST_RESOURCES {
         Some(LimitName::Renewable)
-    } else if resources.nonrenewable > 8 {
+    } else if resources.nonrenewable as usize > MOST_RESOURCES {
         Some(LimitName::Nonrenewable)
     } else {
         None
@@ -90,7 +93,7 @@ fn longest_of(modes: &[Mode]) -> u32
 
 /// The sum of the longest durations, in periods.
 fn horizon_of(activities: &[Activity]) -> u64
-    requires { length activities.now ≤ 202 }
+    requires { length activities.now ≤ MOST_ACTIVITIES }
     ensures { result ≡ horizon activities.now }
 {
     let mut sum = 0;
@@ -106,7 +109,7 @@ pub fn broken_size(
     renewable: &[u32],
     nonrenewable: &[u32],
 ) -> Option<LimitName>
-    requires { length activities.now ≤ 202 }
+    requires { length activities.now ≤ MOST_ACTIVITIES }
     ensures { let given : ProjectData =
         record { activities = activities.now; renewable = renewable.now; nonrenewable = nonrenewable.now } in
         result ≡ broken_amount given }

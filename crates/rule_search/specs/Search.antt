@@ -1,5 +1,6 @@
 -- A search of one pass by a priority rule (Kolisch 1996).
 use Rattle.std.specs.Prelude.{◌≡◌, ℕ, ◌<◌, ◌≤◌, [], IsSomeAnd}
+use Rattle.mrcpsp.specs.declared.limits.TheConstants.{MOST_ACTIVITIES}
 use Rattle.mrcpsp.specs.Project.{size}
 use Rattle.measures.specs.Measures.{measures_of}
 use Rattle.strategy.specs.Pass.{placed_after}
@@ -11,14 +12,14 @@ use Rattle.rule_search.specs.declared.search.RulePass.{RulePass}
 -- a search that has run no node, with its lease
 pub use Rattle.paid_search.specs.Paid.{fresh}
 
--- the pass stands after the first k nodes of the plan's one pass, at most 202 of them: there is memory for its schedule until
--- it is whole, and the best schedule is the one after them
+-- the pass stands after the first k nodes of the plan's one pass, one for each activity at most: there is memory for its
+-- schedule until it is whole, and the best schedule is the one after them
 pub record StandsAt (r : RulePass) (plan : Plan) (k : ℕ) : Type 0 where
   pub rule : IsRule plan.kind
   pub kind : r.kind ≡ plan.kind
   pub count : r.nodes ≡ k
   pub all : r.size ≡ size plan.project
-  pub few : r.size ≤ 202
+  pub few : r.size ≤ MOST_ACTIVITIES
   pub within : k ≤ size plan.project
   pub measured : r.measures ≡ measures_of plan.project
   pub project : r.pass.project ≡ plan.project

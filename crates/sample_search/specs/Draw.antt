@@ -1,5 +1,6 @@
 -- From what an activity is drawn, and what two words draw.
 use Rattle.std.specs.Prelude.{◌≡◌, ℕ, ◌<◌, ◌≤◌, List, length, All, Option, option_map, option_and_then}
+use Rattle.mrcpsp.specs.declared.limits.TheConstants.{MOST_ACTIVITIES}
 use Rattle.mrcpsp.specs.Project.{ProjectData, size}
 use Rattle.mrcpsp.specs.Limits.{IsProject}
 use Rattle.mrcpsp.specs.Placed.{Placed}
@@ -16,7 +17,7 @@ pub record AreMeasures (p : ProjectData) (values : List ValuesData) : Type 0 whe
 -- activities of the project, by their places, and no more than there may be
 pub record AreActivities (p : ProjectData) (xs : List ℕ) : Type 0 where
   pub inside : All (λ j. j < size p) xs
-  pub few : length xs ≤ 202
+  pub few : length xs ≤ MOST_ACTIVITIES
 
 -- the first word draws an eligible activity, and the second one of its allowed modes
 abbrev pub drawn_candidate : ProjectData → ℕ → ℕ → List Placed → Option Candidate

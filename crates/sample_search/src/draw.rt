@@ -7,6 +7,7 @@ ghost use Rattle.strategy.specs.Pass.{weight_of, drawn_activity, drawn_mode};
 ghost use Rattle.sample_search.specs.Draw.{AreMeasures, AreActivities};
 
 use measures::Measures;
+use mrcpsp::MOST_HORIZON;
 
 /// The latest finish time of an activity.
 fn latest_finish(measures: &Measures, activity: usize) -> u32
@@ -14,7 +15,7 @@ fn latest_finish(measures: &Measures, activity: usize) -> u32
     requires measures { AreMeasures project measures.now }
     requires activity { activity < size project }
     ensures exact { result ≡ lft project activity }
-    ensures most { result ≤ 20000 }
+    ensures most { result ≤ MOST_HORIZON }
 {
     measures.lft(activity)
 }
@@ -26,7 +27,7 @@ fn greatest(measures: &Measures, activities: &[usize]) -> u32
     requires measures { AreMeasures project measures.now }
     requires activities { AreActivities project activities.now }
     ensures exact { result ≡ largest (map (lft project) activities.now) }
-    ensures most { result ≤ 20000 }
+    ensures most { result ≤ MOST_HORIZON }
 {
     let mut greatest = 0;
     for activity in activities {
@@ -41,9 +42,9 @@ fn weight(measures: &Measures, greatest: u32, activity: usize) -> u32
     requires measures { AreMeasures project measures.now }
     requires activity { activity < size project }
     requires sooner { lft project activity ≤ greatest }
-    requires most { greatest ≤ 20000 }
+    requires most { greatest ≤ MOST_HORIZON }
     ensures exact { result ≡ greatest - lft project activity + 1 }
-    ensures most { result ≤ 20001 }
+    ensures most { result ≤ MOST_HORIZON + 1 }
 {
     greatest - latest_finish(measures, activity) + 1
 }
@@ -54,7 +55,7 @@ fn total(measures: &Measures, activities: &[usize], greatest: u32) -> u32
     requires measures { AreMeasures project measures.now }
     requires activities { AreActivities project activities.now }
     requires greatest { greatest ≡ largest (map (lft project) activities.now) }
-    requires most { greatest ≤ 20000 }
+    requires most { greatest ≤ MOST_HORIZON }
     ensures exact { result ≡ sum_by (weight_of project activities.now) activities.now }
     ensures some { 0 < length activities.now → 0 < result }
 {

@@ -1,5 +1,7 @@
--- What each mode takes, as a row of numbers for eight resources of either kind: those that a project does not have stand at 0.
+-- What each mode takes, as a row of numbers for as many resources of either kind as a project may have: those that it does
+-- not have stand at 0.
 use Rattle.std.specs.Prelude.{◌≡◌, ℕ, ◌+◌, ◌<◌, false, List, [], length, get_or}
+use Rattle.mrcpsp.specs.declared.limits.TheConstants.{MOST_RESOURCES}
 use Rattle.mrcpsp.specs.Project.{ProjectData, size, mode_count, duration, request, consumption, capacity, stock}
 use Rattle.mrcpsp.specs.Values.{least}
 use Rattle.mrcpsp.specs.Placed.{is_executable}
@@ -11,8 +13,8 @@ no_row = record { extra = []; request = []; duration = 0; is_executable = false 
 
 -- it says what the project says of mode m of activity j, and its consumption beyond the least of the activity
 pub record IsRow (p : ProjectData) (j m : ℕ) (row : Row) : Type 0 where
-  pub extra : (r : ℕ) → r < 8 → get_or row.extra r 0 + least p j r ≡ consumption p j m r
-  pub request : (r : ℕ) → r < 8 → get_or row.request r 0 ≡ request p j m r
+  pub extra : (r : ℕ) → r < MOST_RESOURCES → get_or row.extra r 0 + least p j r ≡ consumption p j m r
+  pub request : (r : ℕ) → r < MOST_RESOURCES → get_or row.request r 0 ≡ request p j m r
   pub duration : row.duration ≡ duration p j m
   pub executable : row.is_executable ≡ is_executable p j m
 
@@ -28,5 +30,5 @@ pub record HasRows (p : ProjectData) (bound : ℕ) (table : List (List Row)) : T
 -- a row for each mode of each activity, and what there is of each resource
 pub record IsTable (p : ProjectData) (table : Rows) : Type 0 where
   pub rows : HasRows p (size p) table.rows.items
-  pub capacities : (r : ℕ) → r < 8 → get_or table.capacities r 0 ≡ capacity p r
-  pub stocks : (r : ℕ) → r < 8 → get_or table.stocks r 0 ≡ stock p r
+  pub capacities : (r : ℕ) → r < MOST_RESOURCES → get_or table.capacities r 0 ≡ capacity p r
+  pub stocks : (r : ℕ) → r < MOST_RESOURCES → get_or table.stocks r 0 ≡ stock p r

@@ -1,35 +1,46 @@
-//! Amounts of eight resources, as many as a project has at most of either kind: those that it does not have stand at 0.
-//! All eight are taken at once, since that is one step of the machine for four of them.
+//! Amounts of as many resources as a project has at most of either kind: those that it does not have stand at 0. All are
+//! taken at once, since that is one step of the machine for four of them.
 ghost use Rattle.std.specs.Prelude.{◌≡◌, ℕ, ◌+◌, ◌<◌, ◌≤◌, ◌↔◌, IsTrue, slice_index};
 
+use mrcpsp::MOST_RESOURCES;
+
+/// An amount of each resource.
+pub(crate) type Amounts = [u32; MOST_RESOURCES];
+
+/// The most that two amounts that are added may come to, which 32 bits hold. It is enough: of a nonrenewable resource at most
+/// `MOST_AMOUNT` is needed for each activity, and of a renewable one at most its capacity is used in a period.
+pub(crate) const MOST_SUM: u32 = 4_000_000_000;
+
 /// Adds these amounts to those.
-pub(crate) fn add(amounts: &mut [u32; 8], more: &[u32; 8])
-    requires few { (r : ℕ) → r < 8 → slice_index amounts.old r + slice_index more.now r ≤ 4000000000 }
-    ensures { (r : ℕ) → r < 8 → slice_index amounts.new r ≡ slice_index amounts.old r + slice_index more.now r }
+pub(crate) fn add(amounts: &mut Amounts, more: &Amounts)
+    requires few { (r : ℕ) → r < MOST_RESOURCES → slice_index amounts.old r + slice_index more.now r ≤ MOST_SUM }
+    ensures { (r : ℕ) → r < MOST_RESOURCES
+        → slice_index amounts.new r ≡ slice_index amounts.old r + slice_index more.now r }
 {
-    for kind in 0..8 {
+    for kind in 0..MOST_RESOURCES {
         amounts[kind] += more[kind];
     }
 }
 
 /// Takes these amounts away from those.
-pub(crate) fn subtract(amounts: &mut [u32; 8], less: &[u32; 8])
-    requires enough { (r : ℕ) → r < 8 → slice_index less.now r ≤ slice_index amounts.old r }
-    ensures { (r : ℕ) → r < 8 → slice_index amounts.old r ≡ slice_index amounts.new r + slice_index less.now r }
+pub(crate) fn subtract(amounts: &mut Amounts, less: &Amounts)
+    requires enough { (r : ℕ) → r < MOST_RESOURCES → slice_index less.now r ≤ slice_index amounts.old r }
+    ensures { (r : ℕ) → r < MOST_RESOURCES
+        → slice_index amounts.old r ≡ slice_index amounts.new r + slice_index less.now r }
 {
-    for kind in 0..8 {
+    for kind in 0..MOST_RESOURCES {
         amounts[kind] -= less[kind];
     }
 }
 
 /// Whether these amounts are within the most of each, with so much more of each.
-pub(crate) fn fits(amounts: &[u32; 8], more: &[u32; 8], most: &[u32; 8]) -> bool
-    requires few { (r : ℕ) → r < 8 → slice_index amounts.now r + slice_index more.now r ≤ 4000000000 }
-    ensures { IsTrue result ↔ ((r : ℕ) → r < 8
+pub(crate) fn fits(amounts: &Amounts, more: &Amounts, most: &Amounts) -> bool
+    requires few { (r : ℕ) → r < MOST_RESOURCES → slice_index amounts.now r + slice_index more.now r ≤ MOST_SUM }
+    ensures { IsTrue result ↔ ((r : ℕ) → r < MOST_RESOURCES
         → slice_index amounts.now r + slice_index more.now r ≤ slice_index most.now r) }
 {
     let mut holds = true;
-    for kind in 0..8 {
+    for kind in 0..MOST_RESOURCES {
         if most[kind] < amounts[kind] + more[kind] {
             holds = false;
         }
@@ -38,11 +49,11 @@ pub(crate) fn fits(amounts: &[u32; 8], more: &[u32; 8], most: &[u32; 8]) -> bool
 }
 
 /// Whether these amounts are the same as those.
-pub(crate) fn are_same(one: &[u32; 8], other: &[u32; 8]) -> bool
-    ensures { IsTrue result ↔ ((r : ℕ) → r < 8 → slice_index one.now r ≡ slice_index other.now r) }
+pub(crate) fn are_same(one: &Amounts, other: &Amounts) -> bool
+    ensures { IsTrue result ↔ ((r : ℕ) → r < MOST_RESOURCES → slice_index one.now r ≡ slice_index other.now r) }
 {
     let mut holds = true;
-    for kind in 0..8 {
+    for kind in 0..MOST_RESOURCES {
         if one[kind] != other[kind] {
             holds = false;
         }

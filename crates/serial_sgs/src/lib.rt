@@ -6,10 +6,12 @@
 //!
 //! - `place`: one placed activity, and its finish.
 //! - `sums`: when the placed ones finish, computed from the list, and what could run alone.
-//! - `amounts`: amounts of eight resources, which are taken at once.
+//! - `amounts`: amounts of all resources of a kind, which are taken at once.
 //! - `rows`: what each mode takes, and what there is.
 //! - `stock`: what is consumed of the nonrenewable resources, and what the others need at least, as running sums.
 //! - `order`: the direct predecessors of each activity, and when those that are placed have finished.
+//! - `members`: sets of activities, a bit for each.
+//! - `waiting`: who is placed, how many predecessors of each activity are not, and who may come next.
 //! - `profile`: the use of the renewable resources, as the points in time at which it changes.
 //! - `walk`: the earliest start, by a walk over these points.
 //! - `board`: `Board`.

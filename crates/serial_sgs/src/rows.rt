@@ -6,20 +6,21 @@ ghost use Rattle.mrcpsp.specs.Values.{least};
 ghost use Rattle.measures.specs.Measures.{measures_of};
 ghost use Rattle.serial_sgs.specs.Rows.{IsRow, AreRows, HasRows, IsTable};
 
+use crate::amounts::Amounts;
 use crate::stock::least;
 use crate::sums::is_executable;
 use measures::Measures;
-use mrcpsp::{Project, Sequence};
+use mrcpsp::{MOST_RESOURCES, Project, Sequence};
 use std::alloc::{AllocError, Global};
 
-/// What an activity takes in a mode. There are eight numbers of either kind of resources: those that a project does not have
-/// stand at 0.
+/// What an activity takes in a mode. There are numbers for as many resources of either kind as a project may have: those
+/// that it does not have stand at 0.
 #[derive(Clone, Copy, Debug)]
 pub(crate) struct Row {
     /// What it consumes of each nonrenewable resource beyond the least of the activity.
-    pub(crate) extra: [u32; 8],
+    pub(crate) extra: Amounts,
     /// What it uses of each renewable resource in each of its periods.
-    pub(crate) request: [u32; 8],
+    pub(crate) request: Amounts,
     /// How many periods it takes.
     pub(crate) duration: u32,
     /// Whether it fits into an idle project.
@@ -30,18 +31,18 @@ pub(crate) struct Row {
 #[derive(Drop)]
 pub(crate) struct Rows {
     rows: Vec<Sequence<Row>>,
-    pub(crate) capacities: [u32; 8],
-    pub(crate) stocks: [u32; 8],
+    pub(crate) capacities: Amounts,
+    pub(crate) stocks: Amounts,
 }
 
 /// What an activity in a mode requests of each renewable resource.
-fn requests_of(project: &Project, activity: usize, mode: usize) -> [u32; 8]
+fn requests_of(project: &Project, activity: usize, mode: usize) -> Amounts
     requires project { IsProject project.now }
     requires activity { activity < size project.now }
     requires mode { mode < mode_count project.now activity }
-    ensures { (r : ℕ) → r < 8 → slice_index result r ≡ request project.now activity mode r }
+    ensures { (r : ℕ) → r < MOST_RESOURCES → slice_index result r ≡ request project.now activity mode r }
 {
-    let mut requests = [0u32; 8];
+    let mut requests = [0; MOST_RESOURCES];
     for resource in 0..project.renewables() {
         requests[resource] = project.request(activity, mode, resource);
     }
@@ -49,15 +50,15 @@ fn requests_of(project: &Project, activity: usize, mode: usize) -> [u32; 8]
 }
 
 /// What an activity in a mode consumes of each nonrenewable resource beyond its least.
-fn extras_of(project: &Project, measures: &Measures, activity: usize, mode: usize) -> [u32; 8]
+fn extras_of(project: &Project, measures: &Measures, activity: usize, mode: usize) -> Amounts
     requires project { IsProject project.now }
     requires measured { measures.now ≡ measures_of project.now }
     requires activity { activity < size project.now }
     requires mode { mode < mode_count project.now activity }
-    ensures { (r : ℕ) → r < 8
+    ensures { (r : ℕ) → r < MOST_RESOURCES
         → slice_index result r + least project.now activity r ≡ consumption project.now activity mode r }
 {
-    let mut extras = [0u32; 8];
+    let mut extras = [0; MOST_RESOURCES];
     for resource in 0..project.nonrenewables() {
         let more = project.consumption(activity, mode, resource);
         let less = least(project, measures, activity, resource);
@@ -120,11 +121,11 @@ fn all_rows(
 }
 
 /// The capacity of each renewable resource.
-fn capacities_of(project: &Project) -> [u32; 8]
+fn capacities_of(project: &Project) -> Amounts
     requires { IsProject project.now }
-    ensures { (r : ℕ) → r < 8 → slice_index result r ≡ capacity project.now r }
+    ensures { (r : ℕ) → r < MOST_RESOURCES → slice_index result r ≡ capacity project.now r }
 {
-    let mut capacities = [0u32; 8];
+    let mut capacities = [0; MOST_RESOURCES];
     for resource in 0..project.renewables() {
         capacities[resource] = project.capacity(resource);
     }
@@ -132,11 +133,11 @@ fn capacities_of(project: &Project) -> [u32; 8]
 }
 
 /// The stock of each nonrenewable resource.
-fn stocks_of(project: &Project) -> [u32; 8]
+fn stocks_of(project: &Project) -> Amounts
     requires { IsProject project.now }
-    ensures { (r : ℕ) → r < 8 → slice_index result r ≡ stock project.now r }
+    ensures { (r : ℕ) → r < MOST_RESOURCES → slice_index result r ≡ stock project.now r }
 {
-    let mut stocks = [0u32; 8];
+    let mut stocks = [0; MOST_RESOURCES];
     for resource in 0..project.nonrenewables() {
         stocks[resource] = project.stock(resource);
     }

@@ -3,7 +3,7 @@ ghost use Rattle.std.specs.Prelude.{◌≡◌, ◌<◌, ◌≤◌, true, false, 
 ghost use Rattle.serial_sgs.specs.Waiting.{AreOthers, IsFirst, IsLess, IsNextOpen, NoneIsOpen, is_open};
 
 use crate::members::{is_in, keep_in, next_in};
-use mrcpsp::Sequence;
+use mrcpsp::{MOST_ACTIVITIES, Sequence};
 use std::alloc::{AllocError, Global};
 use std::marker::Model;
 
@@ -44,7 +44,7 @@ impl Waiting {
     /// Nobody is placed, of so many activities with these predecessors; or an error where there is no memory.
     pub(crate) fn new(alloc: Global, before: &[Sequence<u32>]) -> Result<Waiting, AllocError>
         requires few { length before.now ≤ 255 }
-        requires short { All (λ list. length list ≤ 202) before.now }
+        requires short { All (λ list. length list ≤ MOST_ACTIVITIES) before.now }
         ensures { IfOk result (IsFirst before.now) }
     {
         let size = before.len();
@@ -97,7 +97,7 @@ impl Waiting {
     /// Nobody is placed any more. These are the predecessors of each activity.
     pub(crate) fn restart(&mut self, before: &[Sequence<u32>])
         requires count { length before.now ≡ length self.old.flags }
-        requires short { All (λ list. length list ≤ 202) before.now }
+        requires short { All (λ list. length list ≤ MOST_ACTIVITIES) before.now }
         ensures { IsFirst before.now self.new }
     {
         for activity in 0..before.len() {
