@@ -53,14 +53,7 @@ pub relinked : {J : Type 0} (t s : ℕ) (change : Links → Links) (es news : Li
 relinked t s change es news old w found is up u n =
     ap (option_map (λ e. e.links)) (up u n) ∙ relinked_case t s u n change es old w (is_key t s (u, n)) refl found is ∙ ap (λ b. option_map (λ l. cond b (change l) l) (links_at u n es)) (key_sym t s u n)
 
--- where a key is not there, or none is given, nothing is written
-pub unlinked_none : {J : Type 0} (change : Links → Links) (es : List ((ℕ × ℕ) × Linked J)) → AreRelinked None change es es
-unlinked_none change es u n = same (links_at u n es)
-  where
-    same : (o : Option Links) → o ≡ option_map (λ l. l) o
-    same None = refl
-    same (Some l) = refl
-
+-- where a key is not there, nothing is written
 absent_case : {J : Type 0} (t s u n : ℕ) (change : Links → Links) (es : List ((ℕ × ℕ) × Linked J)) (b : Bool) → is_key u n (t, s) ≡ b → lookup (is_key t s) es ≡ None
     → links_at u n es ≡ option_map (λ l. cond b (change l) l) (links_at u n es)
 absent_case t s u n change es true e gone =

@@ -149,9 +149,6 @@ more_first t s queue = case queue.last
     case None = refl
     case (Some a) = refl
 
-first_pushed : (key : ℕ × ℕ) (keys : List (ℕ × ℕ)) → first_of (keys ++ key ∷ []) ≡ cond (is_some (last_of None keys)) (first_of keys) (Some key)
-first_pushed key keys = first_push key keys
-
 mine_is : (t s : ℕ) (last : Option (ℕ × ℕ)) (l : Links) → is_named last t s ≡ false → lengthened t s last t s l ≡ record { before = last; behind = None }
 mine_is t s last l not = let is = key_is t s in rw (is, not) refl
 

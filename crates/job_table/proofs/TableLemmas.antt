@@ -1,9 +1,8 @@
 -- What a table keeps as a job changes, comes or goes, in the words of its map, its counts and its queue.
-use Rattle.std.proofs.Common.{◌≡◌, ◌==◌, ℕ, ◌+◌, ◌^◌, ◌<◌, ◌≤◌, Bool, true, false, cond, List, length, filter, nat_eq, Option, Some, None, IsSome, refl, sym, ap, ◌∙◌, subst, arith}
+use Rattle.std.proofs.Common.{◌≡◌, ℕ, ◌+◌, ◌^◌, ◌<◌, ◌≤◌, Bool, true, false, cond, List, length, filter, nat_eq, Option, Some, None, IsSome, sym, ap, ◌∙◌, subst, arith}
 use Rattle.std.specs.Map.{lookup}
-use Rattle.std.proofs.lemmas.Bool.{eqb-true}
-use Rattle.job_table.specs.Table.{Row, JobData, TableData, is_key, is_waiting, is_out, does_wait, find_row, put_row, drop_row, add_row, without, waiting_then, add_job, change_job, drop_job}
-use Rattle.job_table.specs.Job.{is_turn, is_here, phase_after, given_up}
+use Rattle.job_table.specs.Table.{Row, JobData, TableData, is_key, is_waiting, is_out, find_row, put_row, drop_row, add_row, without, waiting_then, add_job, change_job, drop_job}
+use Rattle.job_table.specs.Job.{given_up}
 use Rattle.job_table.specs.Kept.{rows_of, counts_of, counted, moved, one_more, one_less, AreCounted, IsKept, IsHeld}
 use Rattle.job_table.specs.declared.counts.Counts.{Counts}
 use Rattle.job_table.specs.declared.phase.Phase.{Phase}
@@ -147,24 +146,7 @@ pub begun : (jobs : Jobs) (counts recounts : List (ℕ × Counts)) (waiting : Li
     → IsHeld jobs recounts waiting
 begun jobs counts recounts waiting held count = record { named = held.named; counted = λ u. count u ∙ held.counted u; kept = held.kept }
 
--- a turn that is out does not wait
-pub is_turn_not : (slice : ℕ) (phase : Phase) → is_turn slice phase ≡ true → is_waiting phase ≡ false
-is_turn_not slice Waiting turn = absurd (cc)
-is_turn_not slice (Out n) turn = refl
-is_turn_not slice (Leaving n) turn = refl
-is_turn_not slice Dry turn = refl
-is_turn_not slice Closed turn = refl
-is_turn_not slice Cancelled turn = refl
-
--- a job that was given up does not wait, and keeps its number
-pub given_up_not : (job : JobData) (phase : Phase) (then : JobData) → given_up job phase ≡ Some then → is_waiting then.phase ≡ false
-given_up_not job Waiting then gone = ap (does_wait) (sym gone)
-given_up_not job (Out n) then gone = ap (does_wait) (sym gone)
-given_up_not job (Leaving n) then gone = absurd (cc)
-given_up_not job Dry then gone = ap (does_wait) (sym gone)
-given_up_not job Closed then gone = absurd (cc)
-given_up_not job Cancelled then gone = absurd (cc)
-
+-- a job that was given up keeps its number
 seq_in : Option JobData → ℕ
 seq_in None = 0
 seq_in (Some job) = job.seq
@@ -183,61 +165,3 @@ pub recounts_as : (t : ℕ) (a b was is : Bool) (olds news : List (ℕ × Counts
     → Recounts t (moved was is (counted (lookup (nat_eq t) olds))) olds news
 recounts_as t a b was is olds news p q told =
     subst (λ x. Recounts t (moved was x (counted (lookup (nat_eq t) olds))) olds news) q (subst (λ x. Recounts t (moved x b (counted (lookup (nat_eq t) olds))) olds news) p told)
-
-moved_none : (b : Bool) (c : Counts) → moved b b c ≡ c
-moved_none true c = refl
-moved_none false c = refl
-
-uncounted : (t u : ℕ) (b : Bool) → nat_eq t u ≡ b → (counts : List (ℕ × Counts)) → counted (lookup (nat_eq u) counts) ≡ cond b (counted (lookup (nat_eq t) counts)) (counted (lookup (nat_eq u) counts))
-uncounted t u true e counts = ap (λ n. counted (lookup (nat_eq n) counts)) (sym (eqb-true t u e))
-uncounted t u false e counts = refl
-
--- counts that stay, where a turn stays out or does not go out
-pub no_recount : (t : ℕ) (was is : Bool) (counts : List (ℕ × Counts)) → was ≡ is → Recounts t (moved was is (counted (lookup (nat_eq t) counts))) counts counts
-no_recount t was is counts same u =
-    let c = counted (lookup (nat_eq t) counts) in
-    let stays : moved was is c ≡ c = ap (λ b. moved b is c) same ∙ moved_none is c in
-    uncounted t u (nat_eq t u) refl counts ∙ ap (λ x. cond (nat_eq t u) x (counted (lookup (nat_eq u) counts))) (sym stays)
-
--- whose turn is out
-pub is_turn_out : (slice : ℕ) (phase : Phase) → is_turn slice phase ≡ true → is_out phase ≡ true
-is_turn_out slice Waiting turn = absurd (cc)
-is_turn_out slice (Out n) turn = refl
-is_turn_out slice (Leaving n) turn = refl
-is_turn_out slice Dry turn = absurd (cc)
-is_turn_out slice Closed turn = absurd (cc)
-is_turn_out slice Cancelled turn = absurd (cc)
-
-back_of : (closed : Bool) (left : ℕ) (b : Bool) → is_out (cond closed Closed (cond b Dry Waiting)) ≡ false
-back_of true left b = refl
-back_of false left true = refl
-back_of false left false = refl
-
-pub back_not_out : (phase : Phase) (closed : Bool) (left : ℕ) → is_out (phase_after phase closed left) ≡ false
-back_not_out Waiting closed left = back_of closed left (left == 0)
-back_not_out (Out n) closed left = back_of closed left (left == 0)
-back_not_out (Leaving n) closed left = refl
-back_not_out Dry closed left = back_of closed left (left == 0)
-back_not_out Closed closed left = back_of closed left (left == 0)
-back_not_out Cancelled closed left = back_of closed left (left == 0)
-
-pub here_not_out : (phase : Phase) → is_here phase ≡ true → is_out phase ≡ false
-here_not_out Waiting here = refl
-here_not_out (Out n) here = absurd (cc)
-here_not_out (Leaving n) here = absurd (cc)
-here_not_out Dry here = refl
-here_not_out Closed here = absurd (cc)
-here_not_out Cancelled here = absurd (cc)
-
-out_in : Option JobData → Bool
-out_in None = false
-out_in (Some job) = is_out job.phase
-
-pub given_up_out : (job : JobData) (phase : Phase) (then : JobData) → given_up job phase ≡ Some then → is_out phase ≡ is_out then.phase
-unfolding out_in
-given_up_out job Waiting then gone = ap out_in gone
-given_up_out job (Out n) then gone = ap out_in gone
-given_up_out job (Leaving n) then gone = absurd (cc)
-given_up_out job Dry then gone = ap out_in gone
-given_up_out job Closed then gone = absurd (cc)
-given_up_out job Cancelled then gone = absurd (cc)

@@ -1,12 +1,13 @@
 -- What a table keeps as a job changes, comes or goes, in the words of its map and its queue.
-use Rattle.std.proofs.Common.{◌≡◌, ℕ, zero, suc, [], ◌∷◌, slice_get, add-one, ◌+◌, ◌^◌, ◌≤◌, Bool, true, false, cond, List, length, nat_eq, Option, Some, None, is_some, option_map, refl, sym, ap, ◌∙◌, subst, arith}
+use Rattle.std.proofs.Common.{◌≡◌, ℕ, zero, suc, [], ◌∷◌, slice_get, add-one, ◌+◌, ◌^◌, ◌<◌, ◌≤◌, Bool, true, false, cond, List, length, nat_eq, Option, Some, None, is_some, option_map, refl, sym, ap, ◌∙◌, subst, arith}
 use Rattle.std.specs.Map.{lookup, set_value, keys_of}
 use Rattle.std.specs.List.{IsDistinct}
 use Rattle.std.proofs.lemmas.Map.Steps.{set_value_same}
-use Rattle.job_table.specs.Table.{JobData, TableData, first_of, behind, AreWaiting, is_key, is_waiting, is_out, does_wait, find_row, waiting_then, add_job, change_job, drop_job}
-use Rattle.job_table.specs.Queue.{jobs_in, links_at, line_of, links_in, no_links, IsLinked}
-use Rattle.job_table.specs.Kept.{rows_of, counted, moved, one_more, one_less, IsHeld, IsTable}
+use Rattle.job_table.specs.Table.{JobData, TableData, first_of, behind, AreWaiting, is_key, is_waiting, is_out, does_wait, find_row, drop_row, without, waiting_then, add_job, change_job, drop_job}
+use Rattle.job_table.specs.Queue.{jobs_in, links_at, line_of, links_in, no_links, joined, one_gone, IsLinked}
+use Rattle.job_table.specs.Kept.{rows_of, counted, moved, one_more, one_less, whole, IsHeld, IsTable, IsChanging}
 use Rattle.job_table.specs.declared.counts.Counts.{Counts}
+use Rattle.job_table.specs.declared.phase.Phase.{Phase}
 use Rattle.job_table.specs.declared.queue.Links.{Links}
 use Rattle.job_table.specs.declared.queue.Linked.{Linked}
 use Rattle.job_table.specs.declared.queue.Queue.{Queue}
@@ -14,40 +15,44 @@ use Rattle.job_table.proofs.RowLemmas.{one_if}
 use Rattle.job_table.proofs.QueueLemmas.{times, key_is}
 use Rattle.job_table.proofs.LinkLemmas.{once_rest, once_first, ahead_none, behind_none}
 use Rattle.job_table.proofs.EntryLemmas.{jobs_lookup}
-use Rattle.job_table.proofs.LineLemmas.{HasLeft, at_key, same_links, line_is}
-use Rattle.job_table.proofs.MapLemmas.{IsUpdate, named_find, key_eq, rows_length}
+use Rattle.job_table.proofs.LineLemmas.{HasLeft, at_key, same_links, line_is, left}
+use Rattle.job_table.proofs.MapLemmas.{IsUpdate, named_find, key_eq, rows_length, rows_without}
+use Rattle.job_table.proofs.KeptLemmas.{most_kept, not_known}
+use Rattle.job_table.proofs.CountLemmas.{kept_most}
 use Rattle.job_table.proofs.WaitingLemmas.{stands}
-use Rattle.job_table.proofs.TableLemmas.{table_of, found_in, IsFound, change_in, IsChange, drop_in, IsDrop, add_in, IsAdd, Recounts}
-
--- the table that a map and a queue are
-abbrev pub whole : {J : Type 0} → List ((ℕ × ℕ) × Linked J) → Queue → TableData
-whole es queue = record { rows = rows_of (jobs_in es); waiting = line_of es queue }
+use Rattle.job_table.proofs.TableLemmas.{table_of, found_in, IsFound, change_in, IsChange, drop_in, IsDrop, add_in, IsAdd, Recounts, recounts_as, begun, same_table}
 
 pub job_there : {J : Type 0} (t s : ℕ) (es : List ((ℕ × ℕ) × Linked J)) (o : Option (Linked J)) → lookup (is_key t s) es ≡ o → lookup (is_key t s) (jobs_in es) ≡ option_map (λ e. e.job) o
 job_there t s es o there = jobs_lookup (is_key t s) es ∙ ap (option_map (λ e. e.job)) there
 
 -- what a job that is found in the map is in the table
-pub found_whole : {J : Type 0} (t s : ℕ) (old : Linked J) (es : List ((ℕ × ℕ) × Linked J)) (queue : Queue) (counts : List (ℕ × Counts)) → IsTable es counts queue → lookup (is_key t s) es ≡ Some old
+pub found_whole : {J : Type 0} (t s : ℕ) (old : Linked J) {es : List ((ℕ × ℕ) × Linked J)} {queue : Queue} {counts : List (ℕ × Counts)} → IsTable es counts queue → Some old ≡ lookup (is_key t s) es
     → IsFound t s old.job (jobs_in es) counts (line_of es queue)
-found_whole t s old es queue counts table there = found_in t s old.job (jobs_in es) counts (line_of es queue) table.held (job_there t s es (Some old) there)
+found_whole t s old {es = es} {queue = queue} {counts = counts} table there = found_in t s old.job (jobs_in es) counts (line_of es queue) table.held (job_there t s es (Some old) (sym there))
 
-pub none_whole : {J : Type 0} (t s : ℕ) (es : List ((ℕ × ℕ) × Linked J)) (queue : Queue) (counts : List (ℕ × Counts)) → IsTable es counts queue → lookup (is_key t s) es ≡ None → find_row t s (rows_of (jobs_in es)) ≡ None
-none_whole t s es queue counts table gone = named_find t s (jobs_in es) table.held.named ∙ job_there t s es None gone
+-- and what a table's caller sees of what was looked up
+pub seen : {J : Type 0} (t s : ℕ) {es : List ((ℕ × ℕ) × Linked J)} {queue : Queue} {counts : List (ℕ × Counts)} {table : TableData} {o : Option (Linked J)} → IsTable es counts queue → whole es queue ≡ table → o ≡ lookup (is_key t s) es
+    → find_row t s table.rows ≡ option_map (λ e. e.job) o
+seen t s {es = es} {o = o} kept view there = ap (λ (d : TableData). find_row t s d.rows) (sym view) ∙ named_find t s (jobs_in es) kept.held.named ∙ job_there t s es o (sym there)
 
 -- how often a tenant's number stands among those who wait
-pub stood_whole : {J : Type 0} (t s : ℕ) (es : List ((ℕ × ℕ) × Linked J)) (queue : Queue) (counts : List (ℕ × Counts)) (o : Option JobData) → IsTable es counts queue → find_row t s (rows_of (jobs_in es)) ≡ o
-    → times t s (line_of es queue) ≡ one_if (does_wait o)
-stood_whole t s es queue counts o table found = table.held.kept.waiting t s ∙ ap (λ f. one_if (does_wait f)) found
+pub stood_whole : {J : Type 0} (t s : ℕ) {es : List ((ℕ × ℕ) × Linked J)} {queue : Queue} {counts : List (ℕ × Counts)} {o : Option (Linked J)} → IsTable es counts queue → o ≡ lookup (is_key t s) es
+    → times t s (line_of es queue) ≡ one_if (does_wait (option_map (λ e. e.job) o))
+stood_whole t s {es = es} {queue = queue} table there = table.held.kept.waiting t s ∙ ap (λ f. one_if (does_wait f)) (seen t s {queue = queue} table refl there)
 
--- an entry that was not written anew is as it was
-pub unwritten : {X : Type 0} (test : ℕ × ℕ → Bool) (es news : List ((ℕ × ℕ) × X)) (old then : X) → lookup test es ≡ Some old → then ≡ old → news ≡ set_value test es then → news ≡ es
-unwritten test es news old then there same is = is ∙ ap (set_value test es) same ∙ set_value_same test es old there
+-- a table that is another one now
+pub record IsAfter {J : Type 0} (after : TableData) (es : List ((ℕ × ℕ) × Linked J)) (counts : List (ℕ × Counts)) (queue : Queue) : Type 0 where
+  pub table : IsTable es counts queue
+  pub is : whole es queue ≡ after
 
-pub same_job : {J : Type 0} (old : Linked J) (then : JobData) → then ≡ old.job → record old { job = then } ≡ old
-same_job old then same = ap (λ j. record old { job = j }) same
+-- a table whose map was only looked into
+pub looked_into : {J : Type 0} {es mid : List ((ℕ × ℕ) × Linked J)} {queue : Queue} {counts : List (ℕ × Counts)} → IsTable es counts queue → mid ≡ es → IsAfter (whole es queue) mid counts queue
+looked_into {queue = queue} {counts = counts} table same = record { table = subst (λ xs. IsTable xs counts queue) (sym same) table; is = ap (λ xs. whole xs queue) same }
 
-pub table_as : {J : Type 0} (es news : List ((ℕ × ℕ) × Linked J)) (queue : Queue) (counts : List (ℕ × Counts)) → IsTable es counts queue → news ≡ es → IsTable news counts queue
-table_as es news queue counts table same = subst (λ xs. IsTable xs counts queue) (sym same) table
+pub unchanged : {J : Type 0} (t s : ℕ) {es mid : List ((ℕ × ℕ) × Linked J)} {queue : Queue} {counts : List (ℕ × Counts)} (old : Linked J) (then : JobData) → IsTable es counts queue → Some old ≡ lookup (is_key t s) es → then ≡ old.job
+    → mid ≡ set_value (is_key t s) es (record old { job = then }) → IsAfter (whole es queue) mid counts queue
+unchanged t s {es = es} old then table there same is =
+    looked_into table (is ∙ ap (λ j. set_value (is_key t s) es (record old { job = j })) same ∙ set_value_same (is_key t s) es old (sym there))
 
 -- the map once a job is written into it, before the queue is told
 pub record IsWritten {J : Type 0} (t s : ℕ) (then : JobData) (es mid : List ((ℕ × ℕ) × Linked J)) (queue : Queue) : Type 0 where
@@ -88,17 +93,26 @@ linked_same es mid queue keys linked same = record {
   links = λ u n l is. linked.links u n l (sym (same u n) ∙ is);
 }
 
-pub written : {J : Type 0} (t s : ℕ) (old : Linked J) (then : JobData) (es mid : List ((ℕ × ℕ) × Linked J)) (queue : Queue) → IsLinked es queue (line_of es queue) → lookup (is_key t s) es ≡ Some old
-    → ((u n : ℕ) → lookup (is_key u n) mid ≡ cond (is_key t s (u, n)) (Some (record old { job = then })) (lookup (is_key u n) es)) → IsWritten t s then es mid queue
-written t s old then es mid queue linked there up =
-    let same = same_links_at t s old then es mid there up in
-    let now : IsLinked mid queue (line_of es queue) = linked_same es mid queue (line_of es queue) linked same in
+pub written : {J : Type 0} {t s : ℕ} {was is : Phase} {mid : List ((ℕ × ℕ) × Linked J)} {counts : List (ℕ × Counts)} {queue : Queue} (of : IsChanging t s was is mid counts queue) → IsWritten t s of.then of.before mid queue
+written {t = t} {s = s} {mid = mid} {queue = queue} of =
+    let es = of.before in
+    let same = same_links_at t s of.old of.then es mid of.found of.written in
+    let now : IsLinked mid queue (line_of es queue) = linked_same es mid queue (line_of es queue) of.table.linked same in
     record {
       line = line_is mid queue (line_of es queue) now;
       linked = linked_line es mid queue (line_of es queue) now;
-      there = ap is_some (same t s) ∙ ap (λ o. is_some (option_map (λ e. e.links) o)) there;
-      jobs = jobs_update t s (Some (record old { job = then })) es mid up;
+      there = ap is_some (same t s) ∙ ap (λ o. is_some (option_map (λ e. e.links) o)) of.found;
+      jobs = jobs_update t s (Some (record of.old { job = of.then })) es mid of.written;
     }
+
+abbrev pub changing : {J : Type 0} {t s : ℕ} {was is : Phase} {es mid : List ((ℕ × ℕ) × Linked J)} {counts : List (ℕ × Counts)} {queue : Queue} (old : Linked J) (then : JobData) → IsTable es counts queue → Some old ≡ lookup (is_key t s) es
+    → ((u n : ℕ) → lookup (is_key u n) mid ≡ cond (is_key t s (u, n)) (Some (record old { job = then })) (lookup (is_key u n) es)) → then.seq ≡ old.job.seq → old.job.phase ≡ was → then.phase ≡ is → IsChanging t s was is mid counts queue
+changing {es = es} old then table there up named stood stands =
+    record { before = es; old = old; then = then; table = table; found = sym there; written = up; named = named; stood = stood; stands = stands }
+
+pub changing_found : {J : Type 0} {t s : ℕ} {was is : Phase} {mid : List ((ℕ × ℕ) × Linked J)} {counts : List (ℕ × Counts)} {queue : Queue} (of : IsChanging t s was is mid counts queue)
+    → IsFound t s of.old.job (jobs_in of.before) counts (line_of of.before queue)
+changing_found {t = t} {s = s} of = found_whole t s of.old of.table (sym of.found)
 
 -- a queue in which a job does not stand, where that has come or is gone
 pub kept_without : {J : Type 0} (t s : ℕ) (es mid : List ((ℕ × ℕ) × Linked J)) (queue : Queue) (keys : List (ℕ × ℕ)) → IsLinked es queue keys → times t s keys ≡ 0 → HasLeft t s es mid → IsLinked mid queue keys
@@ -143,11 +157,6 @@ gone_out t s es mid up = record {
   others = others_stay t s None es mid up;
 }
 
--- a table that is another one now
-pub record IsAfter {J : Type 0} (after : TableData) (es : List ((ℕ × ℕ) × Linked J)) (counts : List (ℕ × Counts)) (queue : Queue) : Type 0 where
-  pub table : IsTable es counts queue
-  pub is : whole es queue ≡ after
-
 after_as : {J : Type 0} (after : TableData) (mid news : List ((ℕ × ℕ) × Linked J)) (counts : List (ℕ × Counts)) (new : Queue) → jobs_in news ≡ jobs_in mid → IsHeld (jobs_in mid) counts (line_of news new)
     → IsLinked news new (line_of news new) → table_of (jobs_in mid) (line_of news new) ≡ after → IsAfter after news counts new
 after_as after mid news counts new same held linked is = record {
@@ -155,34 +164,102 @@ after_as after mid news counts new same held linked is = record {
   is = ap (λ js. table_of js (line_of news new)) same ∙ is;
 }
 
-pub changed_whole : {J : Type 0} (t s : ℕ) (old : Linked J) (then : JobData) (es mid news : List ((ℕ × ℕ) × Linked J)) (queue new : Queue) (counts recounts : List (ℕ × Counts)) (was is : Bool) → IsTable es counts queue
-    → lookup (is_key t s) es ≡ Some old → then.seq ≡ old.job.seq → IsWritten t s then es mid queue → Recounts t (moved (is_out old.job.phase) (is_out then.phase) (counted (lookup (nat_eq t) counts))) counts recounts
-    → was ≡ is_waiting old.job.phase → is ≡ is_waiting then.phase → jobs_in news ≡ jobs_in mid → IsLinked news new (waiting_then t s was is (line_of mid queue)) → IsAfter (change_job t s old.job then (whole es queue)) news recounts new
-changed_whole t s old then es mid news queue new counts recounts was is table there seq done count p q same linked =
-    let keys : line_of news new ≡ waiting_then t s (is_waiting old.job.phase) (is_waiting then.phase) (line_of es queue) =
-    line_is news new (waiting_then t s was is (line_of mid queue)) linked ∙ ap (waiting_then t s was is) done.line ∙ ap (λ x. waiting_then t s x is (line_of es queue)) p ∙ ap (λ x. waiting_then t s (is_waiting old.job.phase) x (line_of es queue)) q in
-    let change : IsChange t s old.job then (table_of (jobs_in es) (line_of es queue)) (table_of (jobs_in mid) (line_of news new)) (jobs_in mid) recounts =
-    change_in t s old.job then (jobs_in es) (jobs_in mid) counts recounts (line_of es queue) (line_of news new) table.held (job_there t s es (Some old) there) seq done.jobs count keys in
-    after_as (change_job t s old.job then (whole es queue)) mid news recounts new same change.held (linked_line es news new (waiting_then t s was is (line_of mid queue)) linked) change.after
+pub changed_whole : {J : Type 0} (t s : ℕ) (was is : Phase) (mid news : List ((ℕ × ℕ) × Linked J)) (queue new : Queue) (counts recounts : List (ℕ × Counts)) (a b x y : Bool) (of : IsChanging t s was is mid counts queue)
+    → a ≡ is_out was → b ≡ is_out is → x ≡ is_waiting was → y ≡ is_waiting is → Recounts t (moved a b (counted (lookup (nat_eq t) counts))) counts recounts → jobs_in news ≡ jobs_in mid
+    → IsLinked news new (waiting_then t s x y (line_of mid queue)) → IsAfter (change_job t s of.old.job of.then (whole of.before queue)) news recounts new
+changed_whole t s was is mid news queue new counts recounts a b x y of a_is b_is x_is y_is count same linked =
+    let es = of.before in
+    let old = of.old.job in
+    let then = of.then in
+    let done = written of in
+    let keys : line_of news new ≡ waiting_then t s (is_waiting old.phase) (is_waiting then.phase) (line_of es queue) =
+    line_is news new (waiting_then t s x y (line_of mid queue)) linked ∙ ap (waiting_then t s x y) done.line
+    ∙ ap (λ b. waiting_then t s b y (line_of es queue)) (x_is ∙ ap is_waiting (sym of.stood)) ∙ ap (λ b. waiting_then t s (is_waiting old.phase) b (line_of es queue)) (y_is ∙ ap is_waiting (sym of.stands)) in
+    let change : IsChange t s old then (table_of (jobs_in es) (line_of es queue)) (table_of (jobs_in mid) (line_of news new)) (jobs_in mid) recounts =
+    change_in t s old then (jobs_in es) (jobs_in mid) counts recounts (line_of es queue) (line_of news new) of.table.held (job_there t s es (Some of.old) of.found) of.named done.jobs
+    (recounts_as t a b (is_out old.phase) (is_out then.phase) counts recounts (a_is ∙ ap is_out (sym of.stood)) (b_is ∙ ap is_out (sym of.stands)) count) keys in
+    after_as (change_job t s old then (whole es queue)) mid news recounts new same change.held (linked_line es news new (waiting_then t s x y (line_of mid queue)) linked) change.after
 
-pub added_whole : {J : Type 0} (t : ℕ) (job : JobData) (es mid news : List ((ℕ × ℕ) × Linked J)) (queue new : Queue) (counts recounts : List (ℕ × Counts)) (is : Bool) → IsHeld (jobs_in es) counts (line_of es queue)
-    → find_row t job.seq (rows_of (jobs_in es)) ≡ None → length (rows_of (jobs_in es)) + 1 ≤ 2 ^ 63 → IsWritten t job.seq job es mid queue → Recounts t (one_more (is_out job.phase) (counted (lookup (nat_eq t) counts))) counts recounts
-    → is ≡ is_waiting job.phase → jobs_in news ≡ jobs_in mid → IsLinked news new (waiting_then t job.seq false is (line_of mid queue)) → IsAfter (add_job t job (whole es queue)) news recounts new
-added_whole t job es mid news queue new counts recounts is held none room done count q same linked =
+-- a job has come into the map, while the counts and the queue are those from before
+pub record IsComing {J : Type 0} (t s : ℕ) (job : JobData) (es mid : List ((ℕ × ℕ) × Linked J)) (counts : List (ℕ × Counts)) (queue : Queue) : Type 0 where
+  pub held : IsHeld (jobs_in es) counts (line_of es queue)
+  pub none : find_row t job.seq (rows_of (jobs_in es)) ≡ None
+  pub room : length (rows_of (jobs_in es)) + 1 ≤ 2 ^ 63
+  pub kept : (counted (lookup (nat_eq t) counts)).kept < 2 ^ 63
+  pub out : (counted (lookup (nat_eq t) counts)).out < 2 ^ 63
+  pub done : IsWritten t job.seq job es mid queue
+  pub stood : times t s (line_of mid queue) ≡ 0
+  pub few : length (line_of mid queue) < 2 ^ 63
+
+pub coming : {J : Type 0} (t s : ℕ) (job : JobData) (fresh : Linked J) {es mid : List ((ℕ × ℕ) × Linked J)} {counts recounts : List (ℕ × Counts)} {queue : Queue} {table : TableData} → IsTable es counts queue → whole es queue ≡ table
+    → find_row t job.seq table.rows ≡ None → s ≡ job.seq → fresh.job ≡ job → fresh.links ≡ no_links → ((u : ℕ) → counted (lookup (nat_eq u) recounts) ≡ counted (lookup (nat_eq u) counts))
+    → ((u n : ℕ) → lookup (is_key u n) mid ≡ cond (is_key t s (u, n)) (Some fresh) (lookup (is_key u n) es)) → length (rows_of (jobs_in es)) < 2 ^ 63 → IsComing t s job es mid recounts queue
+coming t s job fresh {es = es} {mid = mid} {counts = counts} {recounts = recounts} {queue = queue} kept view none named is_job bare same up few =
+    let held : IsHeld (jobs_in es) recounts (line_of es queue) = begun (jobs_in es) counts recounts (line_of es queue) kept.held same in
+    let absent : find_row t job.seq (rows_of (jobs_in es)) ≡ None = ap (λ (d : TableData). find_row t job.seq d.rows) view ∙ none in
+    let stood : times t job.seq (line_of es queue) ≡ 0 = held.kept.waiting t job.seq ∙ ap (λ f. one_if (does_wait f)) absent in
+    let done : IsWritten t job.seq job es mid queue = come t job.seq job fresh es mid queue kept.linked stood is_job bare (λ u n. up u n ∙ ap (λ m. cond (is_key t m (u, n)) (Some fresh) (lookup (is_key u n) es)) named) in
+    let most = kept_most t (rows_of (jobs_in es)) in
+    record {
+      held = held;
+      none = absent;
+      room = omega (arith, few);
+      kept = omega (arith, most.0, ap (λ (c : Counts). c.kept) (held.counted t), few);
+      out = omega (arith, most.1, ap (λ (c : Counts). c.out) (held.counted t), few);
+      done = done;
+      stood = ap (λ n. times t n (line_of mid queue)) named ∙ ap (times t job.seq) done.line ∙ stood;
+      few = omega (arith, ap length done.line, most_kept _ held.kept, few);
+    }
+
+pub added_whole : {J : Type 0} (t s : ℕ) (job : JobData) (es mid news : List ((ℕ × ℕ) × Linked J)) (queue new : Queue) (counts recounts : List (ℕ × Counts)) (a x : Bool) → IsComing t s job es mid counts queue → s ≡ job.seq → a ≡ is_out job.phase
+    → x ≡ is_waiting job.phase → Recounts t (one_more a (counted (lookup (nat_eq t) counts))) counts recounts → jobs_in news ≡ jobs_in mid → IsLinked news new (waiting_then t s false x (line_of mid queue))
+    → IsAfter (add_job t job (whole es queue)) news recounts new
+added_whole t s job es mid news queue new counts recounts a x of named a_is x_is count same linked =
     let keys : line_of news new ≡ waiting_then t job.seq false (is_waiting job.phase) (line_of es queue) =
-    line_is news new (waiting_then t job.seq false is (line_of mid queue)) linked ∙ ap (waiting_then t job.seq false is) done.line ∙ ap (λ x. waiting_then t job.seq false x (line_of es queue)) q in
+    line_is news new (waiting_then t s false x (line_of mid queue)) linked ∙ ap (λ n. waiting_then t n false x (line_of mid queue)) named ∙ ap (waiting_then t job.seq false x) of.done.line ∙ ap (λ b. waiting_then t job.seq false b (line_of es queue)) x_is in
+    let told = subst (λ b. Recounts t (one_more b (counted (lookup (nat_eq t) counts))) counts recounts) a_is count in
     let add : IsAdd t job (table_of (jobs_in es) (line_of es queue)) (table_of (jobs_in mid) (line_of news new)) (jobs_in mid) recounts =
-    add_in t job (jobs_in es) (jobs_in mid) counts recounts (line_of es queue) (line_of news new) held none room done.jobs count keys in
-    after_as (add_job t job (whole es queue)) mid news recounts new same add.held (linked_line es news new (waiting_then t job.seq false is (line_of mid queue)) linked) add.after
+    add_in t job (jobs_in es) (jobs_in mid) counts recounts (line_of es queue) (line_of news new) of.held of.none of.room of.done.jobs told keys in
+    after_as (add_job t job (whole es queue)) mid news recounts new same add.held (linked_line es news new (waiting_then t s false x (line_of mid queue)) linked) add.after
 
-pub dropped_whole : {J : Type 0} (t s : ℕ) (old : Linked J) (es mid news : List ((ℕ × ℕ) × Linked J)) (queue new : Queue) (counts recounts : List (ℕ × Counts)) → IsTable es counts queue → lookup (is_key t s) es ≡ Some old
-    → ((u n : ℕ) → lookup (is_key u n) mid ≡ cond (is_key t s (u, n)) None (lookup (is_key u n) es)) → Recounts t (one_less (is_out old.job.phase) (counted (lookup (nat_eq t) counts))) counts recounts
-    → jobs_in news ≡ jobs_in mid → IsLinked news new (waiting_then t s (is_waiting old.job.phase) false (line_of es queue)) → IsAfter (drop_job t s (whole es queue)) news recounts new
-dropped_whole t s old es mid news queue new counts recounts table there up count same linked =
+-- nothing lies where no row is
+pub never_there : {J : Type 0} (t s n : ℕ) {es : List ((ℕ × ℕ) × Linked J)} {queue : Queue} {counts : List (ℕ × Counts)} {table : TableData} {o : Option (Linked J)} {other : Linked J} → IsTable es counts queue → whole es queue ≡ table
+    → find_row t n table.rows ≡ None → s ≡ n → o ≡ lookup (is_key t s) es → o ≡ Some other → ⊥
+never_there t s n {table = table} {other = other} kept view none named was is =
+    let gone : Some other.job ≡ None = ap (option_map (λ e. e.job)) (sym is) ∙ sym (seen t s kept view was) ∙ ap (λ m. find_row t m table.rows) named ∙ none in absurd (cc)
+
+dropped_whole : {J : Type 0} (t s : ℕ) (old : Linked J) (es mid news : List ((ℕ × ℕ) × Linked J)) (queue new : Queue) (counts recounts : List (ℕ × Counts)) (a : Bool) → IsTable es counts queue → Some old ≡ lookup (is_key t s) es
+    → ((u n : ℕ) → lookup (is_key u n) mid ≡ cond (is_key t s (u, n)) None (lookup (is_key u n) es)) → a ≡ is_out old.job.phase → Recounts t (one_less a (counted (lookup (nat_eq t) counts))) counts recounts
+    → jobs_in news ≡ jobs_in mid → (x : Bool) → x ≡ is_waiting old.job.phase → IsLinked news new (waiting_then t s x false (line_of es queue)) → IsAfter (drop_job t s (whole es queue)) news recounts new
+dropped_whole t s old es mid news queue new counts recounts a table there up a_is count same x x_is linked =
+    let told = subst (λ b. Recounts t (one_less b (counted (lookup (nat_eq t) counts))) counts recounts) a_is count in
+    let keys = line_is news new (waiting_then t s x false (line_of es queue)) linked ∙ ap (λ b. waiting_then t s b false (line_of es queue)) x_is in
     let drop : IsDrop t s (table_of (jobs_in es) (line_of es queue)) (table_of (jobs_in mid) (line_of news new)) (jobs_in mid) recounts =
-    drop_in t s old.job (jobs_in es) (jobs_in mid) counts recounts (line_of es queue) (line_of news new) table.held (job_there t s es (Some old) there) (jobs_update t s None es mid up) count
-    (line_is news new (waiting_then t s (is_waiting old.job.phase) false (line_of es queue)) linked) in
-    after_as (drop_job t s (whole es queue)) mid news recounts new same drop.held (linked_line es news new (waiting_then t s (is_waiting old.job.phase) false (line_of es queue)) linked) drop.after
+    drop_in t s old.job (jobs_in es) (jobs_in mid) counts recounts (line_of es queue) (line_of news new) table.held (job_there t s es (Some old) (sym there)) (jobs_update t s None es mid up) told keys in
+    after_as (drop_job t s (whole es queue)) mid news recounts new same drop.held (linked_line es news new (waiting_then t s x false (line_of es queue)) linked) drop.after
+
+-- a job that did not wait, and one that did and was taken out of the queue
+pub dropped_idle : {J : Type 0} (t s : ℕ) (old : Linked J) {es mid : List ((ℕ × ℕ) × Linked J)} {queue : Queue} {counts recounts : List (ℕ × Counts)} {a : Bool} → IsTable es counts queue → Some old ≡ lookup (is_key t s) es
+    → ((u n : ℕ) → lookup (is_key u n) mid ≡ cond (is_key t s (u, n)) None (lookup (is_key u n) es)) → a ≡ is_out old.job.phase → Recounts t (one_less a (counted (lookup (nat_eq t) counts))) counts recounts → is_waiting old.job.phase ≡ false
+    → IsAfter (drop_job t s (whole es queue)) mid recounts queue
+dropped_idle t s old {es = es} {mid = mid} {queue = queue} {counts = counts} {recounts = recounts} table there up a_is count idle =
+    dropped_whole t s old es mid mid queue queue counts recounts _ table there up a_is count refl false (sym idle)
+    (kept_without t s es mid queue (line_of es queue) table.linked (stood_whole t s table there ∙ ap one_if idle) (gone_out t s es mid up))
+
+pub dropped_waiting : {J : Type 0} (t s : ℕ) (old : Linked J) (mid : List ((ℕ × ℕ) × Linked J)) {es news : List ((ℕ × ℕ) × Linked J)} {queue new : Queue} {counts recounts : List (ℕ × Counts)} {a : Bool} → IsTable es counts queue → Some old ≡ lookup (is_key t s) es
+    → ((u n : ℕ) → lookup (is_key u n) mid ≡ cond (is_key t s (u, n)) None (lookup (is_key u n) es)) → a ≡ is_out old.job.phase → Recounts t (one_less a (counted (lookup (nat_eq t) counts))) counts recounts → is_waiting old.job.phase ≡ true
+    → ((u n : ℕ) → links_at u n news ≡ option_map (joined old.links u n) (links_at u n mid)) → jobs_in news ≡ jobs_in mid → new ≡ one_gone old.links queue → IsAfter (drop_job t s (whole es queue)) news recounts new
+dropped_waiting t s old mid {es = es} {news = news} {queue = queue} {new = new} {counts = counts} {recounts = recounts} table there up a_is count waits links same is =
+    dropped_whole t s old es mid news queue new counts recounts _ table there up a_is count same true (sym waits)
+    (left t s es mid news queue new (line_of es queue) old.links table.linked (stood_whole t s table there ∙ ap one_if waits) (table.linked.links t s old.links (ap (option_map (λ e. e.links)) (sym there))) (gone_out t s es mid up) links is)
+
+-- where no job is there, there is none to drop
+pub dropped_none : {J : Type 0} (t s : ℕ) {es : List ((ℕ × ℕ) × Linked J)} {queue : Queue} {counts : List (ℕ × Counts)} → IsTable es counts queue → None ≡ lookup (is_key t s) es → whole es queue ≡ drop_job t s (whole es queue)
+dropped_none t s {es = es} {queue = queue} table there =
+    let rows = rows_of (jobs_in es) in
+    let line = line_of es queue in
+    let gone : find_row t s rows ≡ None = seen t s {queue = queue} table refl there in
+    same_table rows (drop_row t s rows) line (without t s line) (sym (rows_without t s rows gone)) (sym (not_known t s (table_of (jobs_in es) line) table.held.kept gone))
 
 -- as many rows as entries
 jobs_keys : {J : Type 0} (es : List ((ℕ × ℕ) × Linked J)) → keys_of (jobs_in es) ≡ keys_of es
@@ -195,13 +272,6 @@ jobs_length (e ∷ es) = grind (arith, jobs_length es)
 
 pub rows_count : {J : Type 0} (es : List ((ℕ × ℕ) × Linked J)) → IsDistinct key_eq (keys_of es) → length (rows_of (jobs_in es)) ≡ length es
 rows_count es distinct = rows_length (jobs_in es) (subst (IsDistinct key_eq) (sym (jobs_keys es)) distinct) ∙ jobs_length es
-
-none_back : {J : Type 0} (o : Option (Linked J)) → option_map (λ e. e.job) o ≡ None → o ≡ None
-none_back None none = refl
-none_back (Some e) none = absurd (cc)
-
-pub job_gone : {J : Type 0} (t s : ℕ) (es : List ((ℕ × ℕ) × Linked J)) (queue : Queue) (counts : List (ℕ × Counts)) → IsTable es counts queue → find_row t s (rows_of (jobs_in es)) ≡ None → lookup (is_key t s) es ≡ None
-job_gone t s es queue counts table none = none_back (lookup (is_key t s) es) (sym (jobs_lookup (is_key t s) es) ∙ sym (named_find t s (jobs_in es) table.held.named) ∙ none)
 
 later_case : (t s : ℕ) (key : ℕ × ℕ) (keys : List (ℕ × ℕ)) (i : ℕ) (b : Bool) → is_key t s key ≡ b → ((u n : ℕ) → times u n (key ∷ keys) ≤ 1) → slice_get keys i ≡ Some (t, s) → b ≡ false
 later_case t s key keys i true e once here = absurd (omega (arith, once_first t s key keys once e, stands keys i t s here))

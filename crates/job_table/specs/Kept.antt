@@ -4,6 +4,7 @@ use Rattle.std.specs.Map.{lookup}
 use Rattle.job_table.specs.Table.{JobData, Row, TableData, is_key, is_waiting, is_out, add_row, drop_row, jobs_of, AreWaiting}
 use Rattle.job_table.specs.Queue.{jobs_in, line_of, IsLinked}
 use Rattle.job_table.specs.declared.counts.Counts.{Counts}
+use Rattle.job_table.specs.declared.phase.Phase.{Phase}
 use Rattle.job_table.specs.declared.queue.Linked.{Linked}
 use Rattle.job_table.specs.declared.queue.Queue.{Queue}
 
@@ -60,3 +61,19 @@ pub record IsHeld (jobs : List ((ℕ × ℕ) × JobData)) (counts : List (ℕ ×
 pub record IsTable {J : Type 0} (entries : List ((ℕ × ℕ) × Linked J)) (counts : List (ℕ × Counts)) (queue : Queue) : Type 0 where
   pub held : IsHeld (jobs_in entries) counts (line_of entries queue)
   pub linked : IsLinked entries queue (line_of entries queue)
+
+-- the table that a map and a queue are
+abbrev pub whole : {J : Type 0} → List ((ℕ × ℕ) × Linked J) → Queue → TableData
+whole entries queue = record { rows = rows_of (jobs_in entries); waiting = line_of entries queue }
+
+-- in the map a tenant's job has gone from a phase to another, while the counts and the queue are those from before
+pub record IsChanging {J : Type 0} (t s : ℕ) (was is : Phase) (entries : List ((ℕ × ℕ) × Linked J)) (counts : List (ℕ × Counts)) (queue : Queue) : Type 0 where
+  pub before : List ((ℕ × ℕ) × Linked J)
+  pub old : Linked J
+  pub then : JobData
+  pub table : IsTable before counts queue
+  pub found : lookup (is_key t s) before ≡ Some old
+  pub written : (u n : ℕ) → lookup (is_key u n) entries ≡ cond (is_key t s (u, n)) (Some (record old { job = then })) (lookup (is_key u n) before)
+  pub named : then.seq ≡ old.job.seq
+  pub stood : old.job.phase ≡ was
+  pub stands : then.phase ≡ is

@@ -61,12 +61,11 @@ pub(crate) fn recount(counts: &mut IndexMap<u32, Counts>, tenant: u32, was: bool
         (moved was is (counted (get nat_eq counts.old tenant)))
         (counted (get nat_eq counts.old t)) }
 {
+    if was == is {
+        return;
+    }
     let Counts { kept, out } = counts_in(counts, tenant);
-    let out = match (was, is) {
-        (true, false) => out - 1,
-        (false, true) => out + 1,
-        _ => out,
-    };
+    let out = if is { out + 1 } else { out - 1 };
     set_counts(counts, tenant, Counts { kept, out });
 }
 

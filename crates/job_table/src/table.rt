@@ -2,8 +2,9 @@
 ghost use Rattle.std.specs.Prelude.{◌≡◌, ◌↔◌, ◌+◌, ◌≤◌, IsTrue, IsFalse, true, [], Some, None, IfSome, OnSome, IfNone, IfErr, OnOk, OnErr, false, length, filter, slice_get};
 ghost use Rattle.std.specs.Option.{option_copied};
 ghost use Rattle.strategy.specs.Outcome.{is_closed};
-ghost use Rattle.job_table.specs.Table.{AreWaiting, behind, is_out, find_row, jobs_of, add_job, drop_job};
+ghost use Rattle.job_table.specs.Table.{AreWaiting, behind, is_out, find_row, jobs_of, add_job, change_job, drop_job};
 ghost use Rattle.job_table.specs.Job.{meaning_of, given_up, back, is_here, IsOwn, IsSent, IsBack, IsStrange, IsFunded, IsGivenUp};
+ghost use Rattle.job_table.specs.Kept.{whole, IsTable, IsChanging};
 
 use crate::counts::{Counts, begin_counts, count_in, count_out, counts_in, recount};
 use crate::job::is_here;
@@ -59,6 +60,26 @@ fn fund_here<J: Strategy>(job: &mut Job<J>, tenant: u32, quanta: u64) -> bool
     ensures kept { IsFalse result → job.new ≡ job.old }
 {
     is_here(job.phase()) && job.fund(tenant, quanta)
+}
+
+/// Tells the counts and the queue that a tenant's job in the map has gone from a phase to another. Takes no memory.
+fn follow<J>(
+    jobs: &mut IndexMap<(u32, u64), Linked<J>>,
+    counts: &mut IndexMap<u32, Counts>,
+    queue: &mut Queue,
+    tenant: u32,
+    seq: u64,
+    was: Phase,
+    is: Phase,
+)
+    requires { IsChanging tenant seq was is jobs.old.entries counts.old.entries queue.old }
+    ensures table { IsTable jobs.new.entries counts.new.entries queue.new }
+    ensures changed { (change : IsChanging tenant seq was is jobs.old.entries counts.old.entries queue.old)
+        → whole jobs.new.entries queue.new
+        ≡ change_job tenant seq change.old.job change.then (whole change.before queue.old) }
+{
+    recount(counts, tenant, was.is_out(), is.is_out());
+    requeue(jobs, queue, tenant, seq, was.is_waiting(), is.is_waiting());
 }
 
 impl<J> JobTable<J> {
@@ -213,14 +234,15 @@ impl<J: Strategy> JobTable<J> {
         ensures sent { IfSome result (λ search. IsSent self.old tenant seq slice (J.meaning search) self.new) }
         ensures kept { IfNone result (self.new ≡ self.old) }
     {
-        let Some(linked) = self.jobs.get_mut(&(tenant, seq)) else {
+        let (jobs, counts, queue) = (&mut self.jobs, &mut self.counts, &mut self.queue);
+        let Some(linked) = jobs.get_mut(&(tenant, seq)) else {
             return None;
         };
         let Some(search) = send_waiting(&mut linked.job, tenant, slice) else {
             return None;
         };
-        recount(&mut self.counts, tenant, false, true);
-        requeue(&mut self.jobs, &mut self.queue, tenant, seq, true, false);
+        let is = linked.job.phase();
+        follow(jobs, counts, queue, tenant, seq, Phase::Waiting, is);
         Some(search)
     }
 
@@ -240,17 +262,18 @@ impl<J: Strategy> JobTable<J> {
         ensures kept { OnErr result (self.new ≡ self.old) }
         ensures handed_back { IfErr result (λ it. it ≡ search) }
     {
-        let Some(linked) = self.jobs.get_mut(&(tenant, seq)) else {
+        let (jobs, counts, queue) = (&mut self.jobs, &mut self.counts, &mut self.queue);
+        let Some(linked) = jobs.get_mut(&(tenant, seq)) else {
             return Err(search);
         };
         let job = &mut linked.job;
         if !job.is_own(tenant, slice, ran, &search) {
             return Err(search);
         }
+        let sent = job.phase();
         job.take_back(tenant, slice, ran, search);
-        let waits = job.phase().is_waiting();
-        recount(&mut self.counts, tenant, true, false);
-        requeue(&mut self.jobs, &mut self.queue, tenant, seq, false, waits);
+        let back = job.phase();
+        follow(jobs, counts, queue, tenant, seq, sent, back);
         Ok(())
     }
 
@@ -261,15 +284,16 @@ impl<J: Strategy> JobTable<J> {
         ensures funded { IsTrue result → IsFunded self.old tenant seq quanta self.new }
         ensures kept { IsFalse result → self.new ≡ self.old }
     {
-        let Some(linked) = self.jobs.get_mut(&(tenant, seq)) else {
+        let (jobs, counts, queue) = (&mut self.jobs, &mut self.counts, &mut self.queue);
+        let Some(linked) = jobs.get_mut(&(tenant, seq)) else {
             return false;
         };
         let job = &mut linked.job;
-        let waited = job.phase().is_waiting();
+        let was = job.phase();
         if !fund_here(job, tenant, quanta) {
             return false;
         }
-        requeue(&mut self.jobs, &mut self.queue, tenant, seq, waited, true);
+        follow(jobs, counts, queue, tenant, seq, was, Phase::Waiting);
         true
     }
 
@@ -280,15 +304,17 @@ impl<J: Strategy> JobTable<J> {
             → IfSome (find_row tenant seq self.old.rows) (λ job. given_up job job.phase ≡ None) }
         ensures kept { IsFalse result → self.new ≡ self.old }
     {
-        let Some(linked) = self.jobs.get_mut(&(tenant, seq)) else {
+        let (jobs, counts, queue) = (&mut self.jobs, &mut self.counts, &mut self.queue);
+        let Some(linked) = jobs.get_mut(&(tenant, seq)) else {
             return false;
         };
         let job = &mut linked.job;
-        let waited = job.phase().is_waiting();
+        let was = job.phase();
         if !job.cancel() {
             return false;
         }
-        requeue(&mut self.jobs, &mut self.queue, tenant, seq, waited, false);
+        let is = job.phase();
+        follow(jobs, counts, queue, tenant, seq, was, is);
         true
     }
 }
