@@ -4,6 +4,7 @@ use Rattle.std.specs.declared.alloc.Global.{Global}
 use Rattle.mrcpsp.specs.Project.{ProjectData}
 use Rattle.mrcpsp.specs.Schedule.{ScheduleData}
 use Rattle.schedule_clauses.specs.Meaning.{IsWithin, holds}
+use Rattle.schedule_clauses.specs.declared.encoding.Encoding.{Encoding}
 use Rattle.schedule_clauses.specs.declared.meaning.Meaning.{Meaning}
 
 -- what a variable says holds; one without a meaning says nothing
@@ -30,6 +31,10 @@ pub record IsGood (p : ProjectData) (s : ScheduleData) (meanings : List Meaning)
 -- each clause is, for each schedule within the limit
 pub record AreGood (p : ProjectData) (limit : Option ℕ) (meanings : List Meaning) (clauses : List (Vec ℕ Global)) : Type 0 where
   pub each : (s : ScheduleData) → IsWithin p limit s → All (λ c. IsGood p s meanings c.items) clauses
+
+-- each clause of an encoding is
+abbrev pub IsSound : ProjectData → Option ℕ → Encoding → Type 0
+IsSound p limit encoding = AreGood p limit encoding.formula.meanings.items encoding.formula.clauses.items
 
 -- what had a meaning still has it
 pub record Extends (before after : List Meaning) : Type 0 where

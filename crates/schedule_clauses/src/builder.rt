@@ -1,9 +1,9 @@
 //! All clauses of a project: within a bound, or of modes and stocks alone, which hold of every feasible schedule.
 ghost use Rattle.std.specs.Prelude.{IfOk, Some, None};
-ghost use Rattle.schedule_clauses.specs.Encoding.{AreGood};
+ghost use Rattle.schedule_clauses.specs.Encoding.{IsSound};
 
 use crate::capacity_sections::{mode_section, nonrenewable_section, renewable_section};
-use crate::encoding::Encoding;
+use crate::encoding::{Encoding, Scope};
 use crate::start_sections::{end_section, precedence_section, run_section, start_section};
 use crate::windows::Windows;
 use measures::Measures;
@@ -12,29 +12,31 @@ use std::alloc::{AllocError, Global};
 
 /// Clauses that each feasible schedule of at most this makespan satisfies.
 pub(crate) fn encode(alloc: Global, project: &Project, bound: u32) -> Result<Encoding, AllocError>
-    ensures { IfOk result (λ encoding.
-        AreGood project.now (Some bound) encoding.meanings.items encoding.clauses.items) }
+    ensures { IfOk result (λ encoding. IsSound project.now (Some bound) encoding) }
 {
     let measures = Measures::of(alloc, project)?;
     let windows = Windows::new(alloc, project, &measures, bound)?;
     let limit = Some(bound);
+    let scope = Scope { project, limit };
     let mut encoding = Encoding::new(alloc)?;
-    mode_section(&mut encoding, project, limit)?;
-    start_section(&mut encoding, project, limit, &windows)?;
-    end_section(&mut encoding, project, limit, &measures, &windows, bound)?;
-    precedence_section(&mut encoding, project, limit, &measures, &windows)?;
-    run_section(&mut encoding, project, limit, &windows, bound)?;
-    renewable_section(&mut encoding, project, limit, &windows, bound)?;
-    nonrenewable_section(&mut encoding, project, limit)?;
+    mode_section(&mut encoding, scope)?;
+    start_section(&mut encoding, scope, &windows)?;
+    end_section(&mut encoding, scope, &measures, &windows)?;
+    precedence_section(&mut encoding, scope, &measures, &windows)?;
+    run_section(&mut encoding, scope, &windows)?;
+    renewable_section(&mut encoding, scope, &windows)?;
+    nonrenewable_section(&mut encoding, scope)?;
     Ok(encoding)
 }
 
 /// Clauses that each feasible schedule satisfies.
 pub(crate) fn encode_stocks(alloc: Global, project: &Project) -> Result<Encoding, AllocError>
-    ensures { IfOk result (λ encoding. AreGood project.now None encoding.meanings.items encoding.clauses.items) }
+    ensures { IfOk result (λ encoding. IsSound project.now None encoding) }
 {
+    let limit = None;
+    let scope = Scope { project, limit };
     let mut encoding = Encoding::new(alloc)?;
-    mode_section(&mut encoding, project, None)?;
-    nonrenewable_section(&mut encoding, project, None)?;
+    mode_section(&mut encoding, scope)?;
+    nonrenewable_section(&mut encoding, scope)?;
     Ok(encoding)
 }

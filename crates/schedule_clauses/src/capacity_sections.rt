@@ -1,10 +1,10 @@
 //! Clauses on modes and on capacities: all of a kind, section by section. Which numbers go into which clause is a hint alone.
 ghost use Rattle.std.specs.Prelude.{◌<◌, IfOk};
 ghost use Rattle.mrcpsp.specs.Project.{size};
-ghost use Rattle.schedule_clauses.specs.Encoding.{AreGood};
+ghost use Rattle.schedule_clauses.specs.Encoding.{IsSound};
 
 use crate::diagram::Part;
-use crate::encoding::Encoding;
+use crate::encoding::{Encoding, Scope};
 use crate::formula::{Kind, Row};
 use crate::mode_forms::{exclude, modes};
 use crate::rows::row_clauses;
@@ -15,37 +15,31 @@ use std::alloc::{AllocError, Global};
 /// An activity has exactly one mode.
 fn mode_clauses(
     encoding: &mut Encoding,
-    project: &Project,
-    limit: Option<u32>,
+    scope: Scope<'_>,
     activity: usize,
 ) -> Result<(), AllocError>
-    requires good { AreGood project.now limit encoding.old.meanings.items encoding.old.clauses.items }
-    requires activity { activity < size project.now }
-    ensures { IfOk result (λ _. AreGood project.now limit encoding.new.meanings.items encoding.new.clauses.items) }
+    requires good { IsSound scope.project.now scope.limit encoding.old }
+    requires activity { activity < size scope.project.now }
+    ensures { IfOk result (λ _. IsSound scope.entry.project.now scope.entry.limit encoding.new) }
 {
-    modes(encoding, project, limit, activity)?;
-    for mode in 0..project.mode_count(activity) {
+    modes(encoding, scope, activity)?;
+    for mode in 0..scope.project.mode_count(activity) {
         for other in 0..mode {
-            exclude(encoding, project, limit, activity, mode, other)?;
+            exclude(encoding, scope, activity, mode, other)?;
         }
     }
     Ok(())
 }
 
 /// Each activity has exactly one mode.
-pub(crate) fn mode_section(
-    encoding: &mut Encoding,
-    project: &Project,
-    limit: Option<u32>,
-) -> Result<(), AllocError>
-    requires good { AreGood project.now limit encoding.old.meanings.items encoding.old.clauses.items }
-    ensures { IfOk result (λ _. AreGood project.now limit encoding.new.meanings.items encoding.new.clauses.items) }
+pub(crate) fn mode_section(encoding: &mut Encoding, scope: Scope<'_>) -> Result<(), AllocError>
+    requires good { IsSound scope.project.now scope.limit encoding.old }
+    ensures { IfOk result (λ _. IsSound scope.entry.project.now scope.entry.limit encoding.new) }
 {
-    for activity in 0..project.size() {
-        mode_clauses(encoding, project, limit, activity)?;
+    for activity in 0..scope.project.size() {
+        mode_clauses(encoding, scope, activity)?;
     }
-    encoding.end_section(Kind::Modes)?;
-    Ok(())
+    encoding.end_section(Kind::Modes)
 }
 
 /// What may use a renewable resource in a period.
@@ -101,43 +95,37 @@ fn stock_parts(alloc: Global, project: &Project, resource: usize) -> Result<Vec<
 /// What runs before the bound fits the capacities of the renewable resources.
 pub(crate) fn renewable_section(
     encoding: &mut Encoding,
-    project: &Project,
-    limit: Option<u32>,
+    scope: Scope<'_>,
     windows: &Windows,
-    bound: u32,
 ) -> Result<(), AllocError>
-    requires good { AreGood project.now limit encoding.old.meanings.items encoding.old.clauses.items }
-    ensures { IfOk result (λ _. AreGood project.now limit encoding.new.meanings.items encoding.new.clauses.items) }
+    requires good { IsSound scope.project.now scope.limit encoding.old }
+    ensures { IfOk result (λ _. IsSound scope.entry.project.now scope.entry.limit encoding.new) }
 {
-    let alloc = encoding.alloc;
+    let project = scope.project;
     for resource in 0..project.renewables() {
         let capacity = project.capacity(resource);
-        for time in 0..bound {
-            let parts = use_parts(alloc, project, windows, resource, time)?;
+        for time in 0..windows.bound {
+            let parts = use_parts(encoding.alloc, project, windows, resource, time)?;
             let row = Row::Use { resource, time };
-            row_clauses(encoding, project, limit, row, &parts, capacity)?;
+            row_clauses(encoding, scope, row, capacity, parts)?;
         }
     }
-    encoding.end_section(Kind::Renewable)?;
-    Ok(())
+    encoding.end_section(Kind::Renewable)
 }
 
 /// The modes fit the stocks of the nonrenewable resources.
 pub(crate) fn nonrenewable_section(
     encoding: &mut Encoding,
-    project: &Project,
-    limit: Option<u32>,
+    scope: Scope<'_>,
 ) -> Result<(), AllocError>
-    requires good { AreGood project.now limit encoding.old.meanings.items encoding.old.clauses.items }
-    ensures { IfOk result (λ _. AreGood project.now limit encoding.new.meanings.items encoding.new.clauses.items) }
+    requires good { IsSound scope.project.now scope.limit encoding.old }
+    ensures { IfOk result (λ _. IsSound scope.entry.project.now scope.entry.limit encoding.new) }
 {
-    let alloc = encoding.alloc;
+    let project = scope.project;
     for resource in 0..project.nonrenewables() {
-        let stock = project.stock(resource);
-        let parts = stock_parts(alloc, project, resource)?;
+        let parts = stock_parts(encoding.alloc, project, resource)?;
         let row = Row::Stock { resource };
-        row_clauses(encoding, project, limit, row, &parts, stock)?;
+        row_clauses(encoding, scope, row, project.stock(resource), parts)?;
     }
-    encoding.end_section(Kind::Nonrenewable)?;
-    Ok(())
+    encoding.end_section(Kind::Nonrenewable)
 }

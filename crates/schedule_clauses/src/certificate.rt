@@ -5,7 +5,6 @@ ghost use Rattle.schedule_clauses.specs.Fault.{IsOfClauses, IsOfBound, IsOfStock
 ghost use Rattle.schedule_clauses.specs.Satisfied.{SatisfiedByShort, SatisfiedByFeasible, EachExceeds};
 
 use crate::builder::{encode, encode_stocks};
-use crate::encoding::Encoding;
 use crate::formula::Formula;
 use clause_proof::{ProofFault, refute};
 use mrcpsp::{Breach, Project, Schedule, check};
@@ -40,27 +39,6 @@ impl From<AllocError> for CertificateFault {
     }
 }
 
-/// What is told of an encoding's clauses.
-fn formula_of(encoding: Encoding) -> Formula
-    ensures { result.clauses ≡ encoding.clauses }
-{
-    let Encoding {
-        alloc: _,
-        meanings,
-        clauses,
-        heads: _,
-        nexts: _,
-        sections,
-        left_out,
-    } = encoding;
-    Formula {
-        clauses,
-        meanings,
-        sections,
-        left_out,
-    }
-}
-
 /// Clauses that each feasible schedule of at most this makespan satisfies, under values of their variables. An error is a
 /// bound above the horizon, or want of memory, for which more than 999,999,999 variables count too.
 #[tactic(auto, using(crate::proofs::EncodingLemmas::short_rules))]
@@ -73,7 +51,7 @@ pub fn clauses(alloc: Global, project: &Project, bound: u32) -> Result<Formula, 
         return Err(CertificateFault::Horizon(horizon));
     }
     let encoding = encode(alloc, project, bound)?;
-    Ok(formula_of(encoding))
+    Ok(encoding.formula)
 }
 
 /// Clauses on modes and stocks alone, which each feasible schedule satisfies, whatever its makespan.
@@ -83,7 +61,7 @@ pub fn stock_clauses(alloc: Global, project: &Project) -> Result<Formula, Certif
     ensures fault { IfErr result (λ fault. fault ≡ CertificateFault.NoMemory) }
 {
     let encoding = encode_stocks(alloc, project)?;
-    Ok(formula_of(encoding))
+    Ok(encoding.formula)
 }
 
 /// Checks a proof that each feasible schedule takes more periods than the bound.

@@ -1,9 +1,9 @@
 //! Clauses over variables whose meanings are kept.
 ghost use Rattle.std.specs.Prelude.{◌≡◌, ◌+◌, ◌*◌, ◌<◌, ◌≤◌, ◌/◌, ◌%◌, ◌==◌, ◌++◌, ℕ, IfOk, IfSome, List, [], Some, slice_get};
 ghost use Rattle.schedule_clauses.specs.Meaning.{IsValid};
-ghost use Rattle.schedule_clauses.specs.Encoding.{AreGood, Extends};
+ghost use Rattle.schedule_clauses.specs.Encoding.{IsSound, Extends};
 
-use crate::formula::{Kind, Row, Section};
+use crate::formula::{Formula, Kind, Row, Section};
 use crate::meaning::{Meaning, Term};
 use mrcpsp::Project;
 use std::alloc::{AllocError, Global};
@@ -11,17 +11,20 @@ use std::alloc::{AllocError, Global};
 /// No variable.
 const NONE: u32 = u32::MAX;
 
-/// The meanings of the variables, the clauses, and for each hash value the variables that have it. What the sections are
-/// and which rows are left out is only told.
+/// The schedules of which clauses are true: the feasible ones of a project, with a limit those of at most this makespan.
+#[derive(Clone, Copy)]
+pub(crate) struct Scope<'a> {
+    pub(crate) project: &'a Project,
+    pub(crate) limit: Option<u32>,
+}
+
+/// The clauses and their variables, and for each hash value the variables that have it.
 #[derive(Drop)]
 pub(crate) struct Encoding {
     pub(crate) alloc: Global,
-    pub(crate) meanings: Vec<Meaning>,
-    pub(crate) clauses: Vec<Vec<u32>>,
-    pub(crate) heads: Vec<u32>,
-    pub(crate) nexts: Vec<u32>,
-    pub(crate) sections: Vec<Section>,
-    pub(crate) left_out: Vec<Row>,
+    pub(crate) formula: Formula,
+    heads: Vec<u32>,
+    nexts: Vec<u32>,
 }
 
 fn mix(sum: u64, part: u64) -> u64 {
@@ -76,7 +79,7 @@ fn find(meanings: &[Meaning], nexts: &[u32], first: u32, meaning: Meaning) -> Op
 impl Encoding {
     /// No clauses. The number 0 is no variable's, since proofs cannot name it.
     pub(crate) fn new(alloc: Global) -> Result<Encoding, AllocError>
-        ensures { IfOk result (λ encoding. encoding.clauses.items ≡ []) }
+        ensures { IfOk result (λ encoding. encoding.formula.clauses.items ≡ []) }
     {
         let mut heads = Vec::with_capacity(alloc, 65536)?;
         heads.resize(65536, NONE)?;
@@ -87,22 +90,25 @@ impl Encoding {
         })?;
         let mut nexts = Vec::new(alloc);
         nexts.push(NONE)?;
-        Ok(Encoding {
-            alloc,
-            meanings,
+        let formula = Formula {
             clauses: Vec::new(alloc),
-            heads,
-            nexts,
+            meanings,
             sections: Vec::new(alloc),
             left_out: Vec::new(alloc),
+        };
+        Ok(Encoding {
+            alloc,
+            formula,
+            heads,
+            nexts,
         })
     }
 
     /// The variable with this meaning; it is made where there is none. No more than 1,000,000,000 are.
     fn variable(&mut self, meaning: Meaning) -> Result<u32, AllocError>
-        ensures extends { IfOk result (λ _. Extends self.old.meanings.items self.new.meanings.items) }
-        ensures stands { IfOk result (λ x. slice_get self.new.meanings.items x ≡ Some meaning) }
-        ensures same { self.new.clauses ≡ self.old.clauses }
+        ensures extends { IfOk result (λ _. Extends self.old.formula.meanings.items self.new.formula.meanings.items) }
+        ensures stands { IfOk result (λ x. slice_get self.new.formula.meanings.items x ≡ Some meaning) }
+        ensures same { self.new.formula.clauses ≡ self.old.formula.clauses }
         ensures few { IfOk result (λ x. x < 1000000000) }
     {
         let head = (hash(meaning) & 0xffff) as usize;
@@ -111,16 +117,16 @@ impl Encoding {
         } else {
             NONE
         };
-        if let Some(found) = find(&self.meanings, &self.nexts, first, meaning)
+        if let Some(found) = find(&self.formula.meanings, &self.nexts, first, meaning)
             && found < 1_000_000_000
         {
             return Ok(found);
         }
-        let number = self.meanings.len();
+        let number = self.formula.meanings.len();
         if number >= 1_000_000_000 {
             return Err(AllocError);
         }
-        self.meanings.push(meaning)?;
+        self.formula.meanings.push(meaning)?;
         self.nexts.push(first)?;
         if head < self.heads.len() {
             self.heads[head] = number as u32;
@@ -131,10 +137,10 @@ impl Encoding {
     /// The literal of a term.
     #[tactic(auto, using(crate::proofs::EncodingLemmas::sign_rules))]
     fn literal(&mut self, term: Term) -> Result<u32, AllocError>
-        ensures extends { IfOk result (λ _. Extends self.old.meanings.items self.new.meanings.items) }
-        ensures stands { IfOk result (λ l. slice_get self.new.meanings.items (l / 2) ≡ Some term.meaning) }
+        ensures extends { IfOk result (λ _. Extends self.old.formula.meanings.items self.new.formula.meanings.items) }
+        ensures stands { IfOk result (λ l. slice_get self.new.formula.meanings.items (l / 2) ≡ Some term.meaning) }
         ensures sign { IfOk result (λ l. (l % 2 == 0) ≡ term.positive) }
-        ensures same { self.new.clauses ≡ self.old.clauses }
+        ensures same { self.new.formula.clauses ≡ self.old.formula.clauses }
     {
         let variable = self.variable(term.meaning)?;
         let literal = if term.positive {
@@ -145,47 +151,42 @@ impl Encoding {
         Ok(literal)
     }
 
-    /// One more clause, of which each schedule within the limit makes a term true.
+    /// One more clause, of which each schedule in the scope makes a term true.
     #[tactic(auto, using(crate::proofs::EncodingLemmas::add_rules))]
-    pub(crate) fn add(
-        &mut self,
-        project: &Project,
-        limit: Option<u32>,
-        terms: &[Term],
-    ) -> Result<(), AllocError>
-        requires valid { IsValid project.now limit terms.now }
-        requires good { AreGood project.now limit self.old.meanings.items self.old.clauses.items }
-        ensures { IfOk result (λ _. AreGood project.now limit self.new.meanings.items self.new.clauses.items) }
+    pub(crate) fn add(&mut self, scope: Scope<'_>, terms: &[Term]) -> Result<(), AllocError>
+        requires valid { IsValid scope.project.now scope.limit terms.now }
+        requires good { IsSound scope.project.now scope.limit self.old }
+        ensures { IfOk result (λ _. IsSound scope.entry.project.now scope.entry.limit self.new) }
     {
         let mut literals = Vec::new(self.alloc);
         for term in terms {
             let literal = self.literal(*term)?;
             literals.push(literal)?;
         }
-        self.clauses.push(literals)?;
+        self.formula.clauses.push(literals)?;
         Ok(())
     }
 
     /// The clauses behind the last section are one of this kind.
     pub(crate) fn end_section(&mut self, kind: Kind) -> Result<(), AllocError>
-        ensures meanings { self.new.meanings ≡ self.old.meanings }
-        ensures clauses { self.new.clauses ≡ self.old.clauses }
+        ensures meanings { self.new.formula.meanings ≡ self.old.formula.meanings }
+        ensures clauses { self.new.formula.clauses ≡ self.old.formula.clauses }
     {
         let mut before = 0usize;
-        for section in &self.sections {
+        for section in &self.formula.sections {
             before = before.saturating_add(section.count);
         }
-        let count = self.clauses.len().saturating_sub(before);
-        self.sections.push(Section { kind, count })?;
+        let count = self.formula.clauses.len().saturating_sub(before);
+        self.formula.sections.push(Section { kind, count })?;
         Ok(())
     }
 
     /// A row is left out.
     pub(crate) fn leave_out(&mut self, row: Row) -> Result<(), AllocError>
-        ensures meanings { self.new.meanings ≡ self.old.meanings }
-        ensures clauses { self.new.clauses ≡ self.old.clauses }
+        ensures meanings { self.new.formula.meanings ≡ self.old.formula.meanings }
+        ensures clauses { self.new.formula.clauses ≡ self.old.formula.clauses }
     {
-        self.left_out.push(row)?;
+        self.formula.left_out.push(row)?;
         Ok(())
     }
 }

@@ -7,7 +7,7 @@
 //! tested.
 //!
 //! - `meaning`: what a variable says of a schedule.
-//! - `encoding`: clauses over variables whose meanings are kept.
+//! - `encoding`: clauses over variables whose meanings are kept, and of which schedules they are true.
 //! - `mode_forms`, `start_forms`, `amount_forms`: the forms of clauses.
 //! - `windows`: the times at which an activity can start. Hints.
 //! - `diagram`, `rows`: capacity rows as decision diagrams. Hints, and their clauses.

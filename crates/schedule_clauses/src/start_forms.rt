@@ -1,104 +1,61 @@
 //! Forms of clauses on starts: order, precedence, ends within the bound, and when an activity runs. Each is added only where
 //! it is known to be true of every schedule within the limit; where its numbers do not fit, nothing is added.
-ghost use Rattle.std.specs.Prelude.{◌≡◌, ◌<◌, ◌≤◌, ◌+◌, ◌∷◌, [], IfOk};
+ghost use Rattle.std.specs.Prelude.{◌≡◌, ◌<◌, IfOk};
 ghost use Rattle.mrcpsp.specs.Project.{size, mode_count};
 ghost use Rattle.mrcpsp.specs.Values.{tail, shortest};
-ghost use Rattle.schedule_clauses.specs.Encoding.{AreGood};
+ghost use Rattle.schedule_clauses.specs.Encoding.{IsSound};
 
-use crate::encoding::Encoding;
-use crate::meaning::{Meaning, is, is_not};
-use mrcpsp::Project;
+use crate::encoding::{Encoding, Scope};
+use crate::meaning::{MOST, in_mode, runs_at, starts_by};
 use std::alloc::AllocError;
-
-/// The greatest time that a form takes.
-const MOST: u32 = 1_000_000_000;
 
 /// What starts by a time starts by a later one.
 #[tactic(auto, using(crate::proofs::FormLemmas::form_rules))]
 pub(crate) fn later(
     encoding: &mut Encoding,
-    project: &Project,
-    limit: Option<u32>,
+    scope: Scope<'_>,
     activity: usize,
     time: u32,
     later: u32,
 ) -> Result<(), AllocError>
-    requires good { AreGood project.now limit encoding.old.meanings.items encoding.old.clauses.items }
-    ensures { IfOk result (λ _. AreGood project.now limit encoding.new.meanings.items encoding.new.clauses.items) }
+    requires good { IsSound scope.project.now scope.limit encoding.old }
+    ensures { IfOk result (λ _. IsSound scope.entry.project.now scope.entry.limit encoding.new) }
 {
     if later < time {
         return Ok(());
     }
-    encoding.add(
-        project,
-        limit,
-        &[
-            is_not(Meaning::StartsBy { activity, time }),
-            is(Meaning::StartsBy {
-                activity,
-                time: later,
-            }),
-        ],
-    )
+    let clause = [!starts_by(activity, time), starts_by(activity, later)];
+    encoding.add(scope, &clause)
 }
 
 /// Where a successor starts by `time`, the activity in this mode has started by `latest`, or cannot have started.
 #[tactic(auto, using(crate::proofs::FormLemmas::form_rules))]
 pub(crate) fn precedence(
     encoding: &mut Encoding,
-    project: &Project,
-    limit: Option<u32>,
+    scope: Scope<'_>,
     before: usize,
     mode: usize,
     after: usize,
     time: u32,
     latest: Option<u32>,
 ) -> Result<(), AllocError>
-    requires good { AreGood project.now limit encoding.old.meanings.items encoding.old.clauses.items }
-    requires before { before < size project.now }
-    requires mode { mode < mode_count project.now before }
-    requires after { after < size project.now }
-    ensures { IfOk result (λ _. AreGood project.now limit encoding.new.meanings.items encoding.new.clauses.items) }
+    requires good { IsSound scope.project.now scope.limit encoding.old }
+    requires before { before < size scope.project.now }
+    requires mode { mode < mode_count scope.project.now before }
+    requires after { after < size scope.project.now }
+    ensures { IfOk result (λ _. IsSound scope.entry.project.now scope.entry.limit encoding.new) }
 {
-    if !project.precedes(before, after) {
+    if !scope.project.precedes(before, after) {
         return Ok(());
     }
-    let duration = project.duration(before, mode);
+    let duration = scope.project.duration(before, mode);
+    let chosen = in_mode(before, mode);
+    let started = starts_by(after, time);
     match latest {
         Some(latest) if latest <= MOST && time <= latest + duration => {
-            encoding.add(
-                project,
-                limit,
-                &[
-                    is_not(Meaning::InMode {
-                        activity: before,
-                        mode,
-                    }),
-                    is_not(Meaning::StartsBy {
-                        activity: after,
-                        time,
-                    }),
-                    is(Meaning::StartsBy {
-                        activity: before,
-                        time: latest,
-                    }),
-                ],
-            )
+            encoding.add(scope, &[!chosen, !started, starts_by(before, latest)])
         }
-        None if time < duration => encoding.add(
-            project,
-            limit,
-            &[
-                is_not(Meaning::InMode {
-                    activity: before,
-                    mode,
-                }),
-                is_not(Meaning::StartsBy {
-                    activity: after,
-                    time,
-                }),
-            ],
-        ),
+        None if time < duration => encoding.add(scope, &[!chosen, !started]),
         _ => Ok(()),
     }
 }
@@ -107,48 +64,28 @@ pub(crate) fn precedence(
 #[tactic(auto, using(crate::proofs::FormLemmas::form_rules))]
 pub(crate) fn shortest_precedence(
     encoding: &mut Encoding,
-    project: &Project,
-    limit: Option<u32>,
+    scope: Scope<'_>,
     before: usize,
     after: usize,
     time: u32,
     latest: Option<u32>,
     least: u32,
 ) -> Result<(), AllocError>
-    requires good { AreGood project.now limit encoding.old.meanings.items encoding.old.clauses.items }
-    requires before { before < size project.now }
-    requires after { after < size project.now }
-    requires least { least ≡ shortest project.now before }
-    ensures { IfOk result (λ _. AreGood project.now limit encoding.new.meanings.items encoding.new.clauses.items) }
+    requires good { IsSound scope.project.now scope.limit encoding.old }
+    requires before { before < size scope.project.now }
+    requires after { after < size scope.project.now }
+    requires least { least ≡ shortest scope.project.now before }
+    ensures { IfOk result (λ _. IsSound scope.entry.project.now scope.entry.limit encoding.new) }
 {
-    if !project.precedes(before, after) {
+    if !scope.project.precedes(before, after) {
         return Ok(());
     }
+    let started = starts_by(after, time);
     match latest {
         Some(latest) if latest <= MOST && least <= MOST && time <= latest + least => {
-            encoding.add(
-                project,
-                limit,
-                &[
-                    is_not(Meaning::StartsBy {
-                        activity: after,
-                        time,
-                    }),
-                    is(Meaning::StartsBy {
-                        activity: before,
-                        time: latest,
-                    }),
-                ],
-            )
+            encoding.add(scope, &[!started, starts_by(before, latest)])
         }
-        None if time < least => encoding.add(
-            project,
-            limit,
-            &[is_not(Meaning::StartsBy {
-                activity: after,
-                time,
-            })],
-        ),
+        None if time < least => encoding.add(scope, &[!started]),
         _ => Ok(()),
     }
 }
@@ -157,43 +94,29 @@ pub(crate) fn shortest_precedence(
 #[tactic(auto, using(crate::proofs::FormLemmas::end_rules))]
 pub(crate) fn end(
     encoding: &mut Encoding,
-    project: &Project,
-    limit: Option<u32>,
+    scope: Scope<'_>,
     activity: usize,
     mode: usize,
     latest: Option<u32>,
     rest: u32,
 ) -> Result<(), AllocError>
-    requires good { AreGood project.now limit encoding.old.meanings.items encoding.old.clauses.items }
-    requires activity { activity < size project.now }
-    requires mode { mode < mode_count project.now activity }
-    requires rest { rest ≡ tail project.now activity }
-    ensures { IfOk result (λ _. AreGood project.now limit encoding.new.meanings.items encoding.new.clauses.items) }
+    requires good { IsSound scope.project.now scope.limit encoding.old }
+    requires activity { activity < size scope.project.now }
+    requires mode { mode < mode_count scope.project.now activity }
+    requires rest { rest ≡ tail scope.project.now activity }
+    ensures { IfOk result (λ _. IsSound scope.entry.project.now scope.entry.limit encoding.new) }
 {
-    let Some(bound) = limit else {
+    let Some(bound) = scope.limit else {
         return Ok(());
     };
-    let _all = project.activities();
-    let duration = project.duration(activity, mode);
+    let _all = scope.project.activities();
+    let duration = scope.project.duration(activity, mode);
+    let chosen = in_mode(activity, mode);
     match latest {
         Some(latest) if latest <= MOST && rest <= MOST && bound <= latest + duration + rest => {
-            encoding.add(
-                project,
-                limit,
-                &[
-                    is_not(Meaning::InMode { activity, mode }),
-                    is(Meaning::StartsBy {
-                        activity,
-                        time: latest,
-                    }),
-                ],
-            )
+            encoding.add(scope, &[!chosen, starts_by(activity, latest)])
         }
-        None if rest <= MOST && bound < duration + rest => encoding.add(
-            project,
-            limit,
-            &[is_not(Meaning::InMode { activity, mode })],
-        ),
+        None if rest <= MOST && bound < duration + rest => encoding.add(scope, &[!chosen]),
         _ => Ok(()),
     }
 }
@@ -202,25 +125,24 @@ pub(crate) fn end(
 #[tactic(auto, using(crate::proofs::FormLemmas::end_rules))]
 pub(crate) fn latest(
     encoding: &mut Encoding,
-    project: &Project,
-    limit: Option<u32>,
+    scope: Scope<'_>,
     activity: usize,
     time: u32,
     rest: u32,
     least: u32,
 ) -> Result<(), AllocError>
-    requires good { AreGood project.now limit encoding.old.meanings.items encoding.old.clauses.items }
-    requires activity { activity < size project.now }
-    requires rest { rest ≡ tail project.now activity }
-    requires least { least ≡ shortest project.now activity }
-    ensures { IfOk result (λ _. AreGood project.now limit encoding.new.meanings.items encoding.new.clauses.items) }
+    requires good { IsSound scope.project.now scope.limit encoding.old }
+    requires activity { activity < size scope.project.now }
+    requires rest { rest ≡ tail scope.project.now activity }
+    requires least { least ≡ shortest scope.project.now activity }
+    ensures { IfOk result (λ _. IsSound scope.entry.project.now scope.entry.limit encoding.new) }
 {
-    let Some(bound) = limit else {
+    let Some(bound) = scope.limit else {
         return Ok(());
     };
-    let _all = project.activities();
+    let _all = scope.project.activities();
     if time <= MOST && rest <= MOST && least <= MOST && bound <= time + least + rest {
-        return encoding.add(project, limit, &[is(Meaning::StartsBy { activity, time })]);
+        return encoding.add(scope, &[starts_by(activity, time)]);
     }
     Ok(())
 }
@@ -229,64 +151,31 @@ pub(crate) fn latest(
 #[tactic(auto, using(crate::proofs::FormLemmas::form_rules))]
 pub(crate) fn runs(
     encoding: &mut Encoding,
-    project: &Project,
-    limit: Option<u32>,
+    scope: Scope<'_>,
     activity: usize,
     mode: usize,
     begun: u32,
     time: u32,
     latest: Option<u32>,
 ) -> Result<(), AllocError>
-    requires good { AreGood project.now limit encoding.old.meanings.items encoding.old.clauses.items }
-    requires activity { activity < size project.now }
-    requires mode { mode < mode_count project.now activity }
-    ensures { IfOk result (λ _. AreGood project.now limit encoding.new.meanings.items encoding.new.clauses.items) }
+    requires good { IsSound scope.project.now scope.limit encoding.old }
+    requires activity { activity < size scope.project.now }
+    requires mode { mode < mode_count scope.project.now activity }
+    ensures { IfOk result (λ _. IsSound scope.entry.project.now scope.entry.limit encoding.new) }
 {
-    let duration = project.duration(activity, mode);
+    let duration = scope.project.duration(activity, mode);
     if time < begun {
         return Ok(());
     }
+    let chosen = in_mode(activity, mode);
+    let started = starts_by(activity, begun);
+    let run = runs_at(activity, mode, time);
     match latest {
         Some(latest) if latest <= MOST && time <= latest + duration => {
-            encoding.add(
-                project,
-                limit,
-                &[
-                    is_not(Meaning::InMode { activity, mode }),
-                    is_not(Meaning::StartsBy {
-                        activity,
-                        time: begun,
-                    }),
-                    is(Meaning::StartsBy {
-                        activity,
-                        time: latest,
-                    }),
-                    is(Meaning::Runs {
-                        activity,
-                        mode,
-                        time,
-                    }),
-                ],
-            )
+            let clause = [!chosen, !started, starts_by(activity, latest), run];
+            encoding.add(scope, &clause)
         }
-        None if time < duration => {
-            encoding.add(
-                project,
-                limit,
-                &[
-                    is_not(Meaning::InMode { activity, mode }),
-                    is_not(Meaning::StartsBy {
-                        activity,
-                        time: begun,
-                    }),
-                    is(Meaning::Runs {
-                        activity,
-                        mode,
-                        time,
-                    }),
-                ],
-            )
-        }
+        None if time < duration => encoding.add(scope, &[!chosen, !started, run]),
         _ => Ok(()),
     }
 }

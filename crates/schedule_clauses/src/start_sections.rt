@@ -3,9 +3,9 @@ ghost use Rattle.std.specs.Prelude.{◌≡◌, ◌<◌, IfOk};
 ghost use Rattle.mrcpsp.specs.Project.{size};
 ghost use Rattle.mrcpsp.specs.Values.{tail, shortest};
 ghost use Rattle.measures.specs.Measures.{measures_of};
-ghost use Rattle.schedule_clauses.specs.Encoding.{AreGood};
+ghost use Rattle.schedule_clauses.specs.Encoding.{IsSound};
 
-use crate::encoding::Encoding;
+use crate::encoding::{Encoding, Scope};
 use crate::formula::Kind;
 use crate::start_forms::{end, later, latest, precedence, runs, shortest_precedence};
 use crate::windows::{Window, Windows, least_of, rest_of, start_for};
@@ -16,17 +16,16 @@ use std::alloc::AllocError;
 /// What starts by a time of its window starts by the next.
 fn order_clauses(
     encoding: &mut Encoding,
-    project: &Project,
-    limit: Option<u32>,
+    scope: Scope<'_>,
     activity: usize,
     window: Window,
 ) -> Result<(), AllocError>
-    requires good { AreGood project.now limit encoding.old.meanings.items encoding.old.clauses.items }
-    ensures { IfOk result (λ _. AreGood project.now limit encoding.new.meanings.items encoding.new.clauses.items) }
+    requires good { IsSound scope.project.now scope.limit encoding.old }
+    ensures { IfOk result (λ _. IsSound scope.entry.project.now scope.entry.limit encoding.new) }
 {
     let before = window.first.saturating_sub(1);
     for time in before.min(window.last)..window.last.max(before) {
-        later(encoding, project, limit, activity, time, time + 1)?;
+        later(encoding, scope, activity, time, time + 1)?;
     }
     Ok(())
 }
@@ -34,43 +33,40 @@ fn order_clauses(
 /// The order of the starts of all activities.
 pub(crate) fn start_section(
     encoding: &mut Encoding,
-    project: &Project,
-    limit: Option<u32>,
+    scope: Scope<'_>,
     windows: &Windows,
 ) -> Result<(), AllocError>
-    requires good { AreGood project.now limit encoding.old.meanings.items encoding.old.clauses.items }
-    ensures { IfOk result (λ _. AreGood project.now limit encoding.new.meanings.items encoding.new.clauses.items) }
+    requires good { IsSound scope.project.now scope.limit encoding.old }
+    ensures { IfOk result (λ _. IsSound scope.entry.project.now scope.entry.limit encoding.new) }
 {
-    for activity in 0..project.size() {
-        order_clauses(encoding, project, limit, activity, windows.of(activity))?;
+    for activity in 0..scope.project.size() {
+        order_clauses(encoding, scope, activity, windows.of(activity))?;
     }
-    encoding.end_section(Kind::Starts)?;
-    Ok(())
+    encoding.end_section(Kind::Starts)
 }
 
 /// What comes behind an activity ends within the bound.
 fn end_clauses(
     encoding: &mut Encoding,
-    project: &Project,
-    limit: Option<u32>,
+    scope: Scope<'_>,
+    windows: &Windows,
     activity: usize,
-    window: Window,
-    bound: u32,
     rest: u32,
     least: u32,
 ) -> Result<(), AllocError>
-    requires good { AreGood project.now limit encoding.old.meanings.items encoding.old.clauses.items }
-    requires activity { activity < size project.now }
-    requires rest { rest ≡ tail project.now activity }
-    requires least { least ≡ shortest project.now activity }
-    ensures { IfOk result (λ _. AreGood project.now limit encoding.new.meanings.items encoding.new.clauses.items) }
+    requires good { IsSound scope.project.now scope.limit encoding.old }
+    requires activity { activity < size scope.project.now }
+    requires rest { rest ≡ tail scope.project.now activity }
+    requires least { least ≡ shortest scope.project.now activity }
+    ensures { IfOk result (λ _. IsSound scope.entry.project.now scope.entry.limit encoding.new) }
 {
-    latest(encoding, project, limit, activity, window.last, rest, least)?;
-    for mode in 0..project.mode_count(activity) {
-        let duration = project.duration(activity, mode).saturating_add(rest);
-        let by = start_for(bound, duration, window.first);
+    let window = windows.of(activity);
+    latest(encoding, scope, activity, window.last, rest, least)?;
+    for mode in 0..scope.project.mode_count(activity) {
+        let duration = scope.project.duration(activity, mode).saturating_add(rest);
+        let by = start_for(windows.bound, duration, window.first);
         if by != Some(window.last) {
-            end(encoding, project, limit, activity, mode, by, rest)?;
+            end(encoding, scope, activity, mode, by, rest)?;
         }
     }
     Ok(())
@@ -79,54 +75,47 @@ fn end_clauses(
 /// What comes behind each activity ends within the bound.
 pub(crate) fn end_section(
     encoding: &mut Encoding,
-    project: &Project,
-    limit: Option<u32>,
+    scope: Scope<'_>,
     measures: &Measures,
     windows: &Windows,
-    bound: u32,
 ) -> Result<(), AllocError>
-    requires good { AreGood project.now limit encoding.old.meanings.items encoding.old.clauses.items }
-    requires measures { measures.now ≡ measures_of project.now }
-    ensures { IfOk result (λ _. AreGood project.now limit encoding.new.meanings.items encoding.new.clauses.items) }
+    requires good { IsSound scope.project.now scope.limit encoding.old }
+    requires measures { measures.now ≡ measures_of scope.project.now }
+    ensures { IfOk result (λ _. IsSound scope.entry.project.now scope.entry.limit encoding.new) }
 {
-    for activity in 0..project.size() {
-        let rest = rest_of(project, measures, activity);
-        let least = least_of(project, measures, activity);
-        let window = windows.of(activity);
-        end_clauses(
-            encoding, project, limit, activity, window, bound, rest, least,
-        )?;
+    for activity in 0..scope.project.size() {
+        let rest = rest_of(scope.project, measures, activity);
+        let least = least_of(scope.project, measures, activity);
+        end_clauses(encoding, scope, windows, activity, rest, least)?;
     }
-    encoding.end_section(Kind::Ends)?;
-    Ok(())
+    encoding.end_section(Kind::Ends)
 }
 
 /// Where `after` starts by a time, `before` has ended, in each of its modes and in the shortest.
 fn time_clauses(
     encoding: &mut Encoding,
-    project: &Project,
-    limit: Option<u32>,
+    scope: Scope<'_>,
+    window: Window,
     before: usize,
     after: usize,
     time: u32,
     least: u32,
-    window: Window,
 ) -> Result<(), AllocError>
-    requires good { AreGood project.now limit encoding.old.meanings.items encoding.old.clauses.items }
-    requires before { before < size project.now }
-    requires after { after < size project.now }
-    requires least { least ≡ shortest project.now before }
-    ensures { IfOk result (λ _. AreGood project.now limit encoding.new.meanings.items encoding.new.clauses.items) }
+    requires good { IsSound scope.project.now scope.limit encoding.old }
+    requires before { before < size scope.project.now }
+    requires after { after < size scope.project.now }
+    requires least { least ≡ shortest scope.project.now before }
+    ensures { IfOk result (λ _. IsSound scope.entry.project.now scope.entry.limit encoding.new) }
 {
     let by = start_for(time, least, window.first);
     if by.is_none() || by.unwrap_or(0) < window.last {
-        shortest_precedence(encoding, project, limit, before, after, time, by, least)?;
+        shortest_precedence(encoding, scope, before, after, time, by, least)?;
     }
-    for mode in 0..project.mode_count(before) {
-        let duration = project.duration(before, mode);
+    for mode in 0..scope.project.mode_count(before) {
+        let duration = scope.project.duration(before, mode);
         let by = start_for(time, duration, window.first);
         if duration != least && (by.is_none() || by.unwrap_or(0) < window.last) {
-            precedence(encoding, project, limit, before, mode, after, time, by)?;
+            precedence(encoding, scope, before, mode, after, time, by)?;
         }
     }
     Ok(())
@@ -135,24 +124,28 @@ fn time_clauses(
 /// The successor `after` starts where `before` has ended.
 fn precedence_clauses(
     encoding: &mut Encoding,
-    project: &Project,
-    limit: Option<u32>,
+    scope: Scope<'_>,
+    windows: &Windows,
     before: usize,
     after: usize,
     least: u32,
-    windows: &Windows,
 ) -> Result<(), AllocError>
-    requires good { AreGood project.now limit encoding.old.meanings.items encoding.old.clauses.items }
-    requires before { before < size project.now }
-    requires after { after < size project.now }
-    requires least { least ≡ shortest project.now before }
-    ensures { IfOk result (λ _. AreGood project.now limit encoding.new.meanings.items encoding.new.clauses.items) }
+    requires good { IsSound scope.project.now scope.limit encoding.old }
+    requires before { before < size scope.project.now }
+    requires after { after < size scope.project.now }
+    requires least { least ≡ shortest scope.project.now before }
+    ensures { IfOk result (λ _. IsSound scope.entry.project.now scope.entry.limit encoding.new) }
 {
     let window = windows.of(after);
     for time in window.first.saturating_sub(1)..window.last.saturating_add(1) {
-        let earlier = windows.of(before);
         time_clauses(
-            encoding, project, limit, before, after, time, least, earlier,
+            encoding,
+            scope,
+            windows.of(before),
+            before,
+            after,
+            time,
+            least,
         )?;
     }
     Ok(())
@@ -161,25 +154,23 @@ fn precedence_clauses(
 /// Each activity starts where those before it have ended.
 pub(crate) fn precedence_section(
     encoding: &mut Encoding,
-    project: &Project,
-    limit: Option<u32>,
+    scope: Scope<'_>,
     measures: &Measures,
     windows: &Windows,
 ) -> Result<(), AllocError>
-    requires good { AreGood project.now limit encoding.old.meanings.items encoding.old.clauses.items }
-    requires measures { measures.now ≡ measures_of project.now }
-    ensures { IfOk result (λ _. AreGood project.now limit encoding.new.meanings.items encoding.new.clauses.items) }
+    requires good { IsSound scope.project.now scope.limit encoding.old }
+    requires measures { measures.now ≡ measures_of scope.project.now }
+    ensures { IfOk result (λ _. IsSound scope.entry.project.now scope.entry.limit encoding.new) }
 {
-    for after in 0..project.size() {
+    for after in 0..scope.project.size() {
         for before in 0..after {
-            if project.precedes(before, after) {
-                let least = least_of(project, measures, before);
-                precedence_clauses(encoding, project, limit, before, after, least, windows)?;
+            if scope.project.precedes(before, after) {
+                let least = least_of(scope.project, measures, before);
+                precedence_clauses(encoding, scope, windows, before, after, least)?;
             }
         }
     }
-    encoding.end_section(Kind::Precedence)?;
-    Ok(())
+    encoding.end_section(Kind::Precedence)
 }
 
 /// Whether an activity in this mode uses a renewable resource.
@@ -198,24 +189,23 @@ fn does_use(project: &Project, activity: usize, mode: usize) -> bool {
 /// When an activity runs, in each mode that uses a renewable resource.
 fn run_clauses(
     encoding: &mut Encoding,
-    project: &Project,
-    limit: Option<u32>,
+    scope: Scope<'_>,
+    windows: &Windows,
     activity: usize,
-    window: Window,
-    bound: u32,
 ) -> Result<(), AllocError>
-    requires good { AreGood project.now limit encoding.old.meanings.items encoding.old.clauses.items }
-    requires activity { activity < size project.now }
-    ensures { IfOk result (λ _. AreGood project.now limit encoding.new.meanings.items encoding.new.clauses.items) }
+    requires good { IsSound scope.project.now scope.limit encoding.old }
+    requires activity { activity < size scope.project.now }
+    ensures { IfOk result (λ _. IsSound scope.entry.project.now scope.entry.limit encoding.new) }
 {
-    for mode in 0..project.mode_count(activity) {
-        let duration = project.duration(activity, mode);
-        if duration > 0 && does_use(project, activity, mode) {
-            let over = window.last.saturating_add(duration).min(bound);
+    let window = windows.of(activity);
+    for mode in 0..scope.project.mode_count(activity) {
+        let duration = scope.project.duration(activity, mode);
+        if duration > 0 && does_use(scope.project, activity, mode) {
+            let over = window.last.saturating_add(duration).min(windows.bound);
             for time in window.first..over {
                 let begun = time.min(window.last);
                 let by = start_for(time, duration, window.first);
-                runs(encoding, project, limit, activity, mode, begun, time, by)?;
+                runs(encoding, scope, activity, mode, begun, time, by)?;
             }
         }
     }
@@ -225,24 +215,14 @@ fn run_clauses(
 /// When each activity runs.
 pub(crate) fn run_section(
     encoding: &mut Encoding,
-    project: &Project,
-    limit: Option<u32>,
+    scope: Scope<'_>,
     windows: &Windows,
-    bound: u32,
 ) -> Result<(), AllocError>
-    requires good { AreGood project.now limit encoding.old.meanings.items encoding.old.clauses.items }
-    ensures { IfOk result (λ _. AreGood project.now limit encoding.new.meanings.items encoding.new.clauses.items) }
+    requires good { IsSound scope.project.now scope.limit encoding.old }
+    ensures { IfOk result (λ _. IsSound scope.entry.project.now scope.entry.limit encoding.new) }
 {
-    for activity in 0..project.size() {
-        run_clauses(
-            encoding,
-            project,
-            limit,
-            activity,
-            windows.of(activity),
-            bound,
-        )?;
+    for activity in 0..scope.project.size() {
+        run_clauses(encoding, scope, windows, activity)?;
     }
-    encoding.end_section(Kind::Runs)?;
-    Ok(())
+    encoding.end_section(Kind::Runs)
 }

@@ -4,13 +4,15 @@ ghost use Rattle.mrcpsp.specs.Project.{size};
 ghost use Rattle.mrcpsp.specs.Values.{tail, shortest};
 ghost use Rattle.measures.specs.Measures.{measures_of};
 
+use crate::diagram::number_at;
 use measures::Measures;
 use mrcpsp::Project;
 use std::alloc::{AllocError, Global};
 
-/// The first and the last start of each activity.
+/// The first and the last start of each activity, where all end by the bound.
 #[derive(Drop)]
 pub(crate) struct Windows {
+    pub(crate) bound: u32,
     first: Vec<u32>,
     last: Vec<u32>,
 }
@@ -20,13 +22,6 @@ pub(crate) struct Windows {
 pub(crate) struct Window {
     pub(crate) first: u32,
     pub(crate) last: u32,
-}
-
-fn number_at(numbers: &[u32], at: usize) -> u32 {
-    match numbers.get(at) {
-        Some(number) => *number,
-        None => 0,
-    }
 }
 
 fn raise(numbers: &mut [u32], at: usize, least: u32) {
@@ -89,7 +84,7 @@ impl Windows {
                 );
             }
         }
-        Ok(Windows { first, last })
+        Ok(Windows { bound, first, last })
     }
 
     /// The window of an activity.

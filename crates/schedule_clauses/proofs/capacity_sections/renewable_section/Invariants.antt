@@ -1,8 +1,8 @@
-use Rattle.schedule_clauses.specs.Encoding.{AreGood}
+use Rattle.schedule_clauses.specs.Encoding.{IsSound}
 use Rattle.schedule_clauses.proofs.capacity_sections.renewable_section.Given as goal
 
 abbrev pub invariant-loop-resource : goal.invariant-loop-resource
-invariant-loop-resource l = AreGood l.project l.limit l.encoding.meanings.items l.encoding.clauses.items
+invariant-loop-resource l = IsSound l.scope.project.now l.scope.limit l.encoding
 
 abbrev pub invariant-loop-time : goal.invariant-loop-time
-invariant-loop-time l = AreGood l.project l.limit l.encoding.meanings.items l.encoding.clauses.items
+invariant-loop-time l = IsSound l.scope.project.now l.scope.limit l.encoding

@@ -6,7 +6,7 @@ use Rattle.schedule_clauses.proofs.mode_forms.modes.Goals as goal
 pub add-requires-clause-valid : goal.add-requires-clause-valid
 add-requires-clause-valid c =
     rw c.deref.ensures.value
-    (valid-modes c.args.project.now c.args.limit c.args.activity c.loop-mode.terms.items c.requires.activity
+    (valid-modes c.args.scope.project.now c.args.scope.limit c.args.activity c.loop-mode.terms.items c.requires.activity
     (let e : length c.loop-mode.terms.items ≡ c.loop-mode.mode = c.loop-mode.invariant.long in
-    let f : c.loop-mode.mode ≡ mode_count c.args.project.now c.args.activity = omega arith in e ∙ f)
+    let f : c.loop-mode.mode ≡ mode_count c.args.scope.project.now c.args.activity = omega arith in e ∙ f)
     c.loop-mode.invariant.each)

@@ -1,5 +1,5 @@
-use Rattle.schedule_clauses.specs.Encoding.{AreGood}
+use Rattle.schedule_clauses.specs.Encoding.{IsSound}
 use Rattle.schedule_clauses.proofs.start_sections.start_section.Given as goal
 
 abbrev pub invariant-loop-activity : goal.invariant-loop-activity
-invariant-loop-activity l = AreGood l.project l.limit l.encoding.meanings.items l.encoding.clauses.items
+invariant-loop-activity l = IsSound l.scope.project.now l.scope.limit l.encoding
