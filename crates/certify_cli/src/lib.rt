@@ -15,6 +15,7 @@
 //! - `ending`: how a command ends.
 //! - `watches`: whether a command could not read its inputs, or not write its line.
 //! - `program`: the commands for files, with an exit status.
+//! - `laws`: the limits of what is read, in figures.
 #![tactic(auto)]
 
 mod certifying;
@@ -22,6 +23,7 @@ mod commands;
 mod dimacs;
 mod ending;
 mod fault;
+pub mod laws;
 mod program;
 mod watches;
 

@@ -5,8 +5,6 @@ use Rattle.strategy.specs.declared.kind.Kind.{Kind}
 use Rattle.psplib_mm.specs.declared.reading.TheConstants as file
 use Rattle.schedule_text.specs.declared.reading.TheConstants as schedule
 use Rattle.solve_cli.specs.declared.ending.TheConstants.{MOST_TEXT}
-use Rattle.solve_cli.specs.declared.searching.TheConstants.{MOST_NODES}
-use Rattle.solve_cli.specs.declared.several.TheConstants.{MOST_SEARCHES}
 use Rattle.solve_cli.specs.Found.{IsFound}
 use Rattle.solve_cli.specs.Several.{IsFoundByEach, IsTrueOf}
 use Rattle.solve_cli.specs.declared.searching.Found.{Found}
@@ -28,11 +26,3 @@ SchedulesAreLimited = schedule.MOST_BYTES ≡ 1048576
 -- At most 1,048,577 bytes are read of either, one more than it may have.
 abbrev pub ReadsAreLimited : Type 0
 ReadsAreLimited = MOST_TEXT ≡ 1048577
-
--- At most 1,000 searches run one after another,
-abbrev pub SearchesAreLimited : Type 0
-SearchesAreLimited = MOST_SEARCHES ≡ 1000
-
--- each of at most 1,000,000,000,000 nodes.
-abbrev pub NodesAreLimited : Type 0
-NodesAreLimited = MOST_NODES ≡ 1000000000000

@@ -1,5 +1,9 @@
-//! Laws of several searches, and of the limits of texts: each is the proved contract of a function that does nothing.
-ghost use Rattle.solve_cli.specs.Laws.{SeveralAreTrue, OneIsItself, FilesAreLimited, SchedulesAreLimited, ReadsAreLimited, SearchesAreLimited, NodesAreLimited};
+//! Laws of several searches, and of limits: each is the proved contract of a function that does nothing.
+ghost use Rattle.std.specs.Prelude.{◌≡◌};
+ghost use Rattle.solve_cli.specs.Laws.{SeveralAreTrue, OneIsItself, FilesAreLimited, SchedulesAreLimited, ReadsAreLimited};
+
+use crate::searching::MOST_NODES;
+use crate::several::MOST_SEARCHES;
 
 /// Whatever the searches, the best schedule is feasible and has the makespan that is told. 'Optimal' is told only where no feasible
 /// schedule is shorter than it, and 'infeasible' only where there is none.
@@ -20,8 +24,8 @@ pub fn texts_are_limited()
     ensures read { ReadsAreLimited }
 {}
 
-/// How many searches run, and how many nodes each, in figures.
+/// How many searches run one after another, and how many nodes each, at most, in figures.
 pub fn searches_are_limited()
-    ensures searches { SearchesAreLimited }
-    ensures nodes { NodesAreLimited }
+    ensures searches { MOST_SEARCHES ≡ 1000 }
+    ensures nodes { MOST_NODES ≡ 1000000000000 }
 {}
