@@ -1,10 +1,10 @@
 //! Whether a schedule is feasible, and what it breaks first.
-ghost use Rattle.std.specs.Prelude.{◌≡◌, ◌<◌, ◌≤◌, ◌↔◌, IsTrue, IsOk, IfOk, IfErr, IfNone};
+ghost use Rattle.std.specs.Prelude.{◌≡◌, ◌+◌, ◌<◌, ◌≤◌, ◌↔◌, IsTrue, IsOk, IfOk, IfErr, IfNone};
 ghost use Rattle.mrcpsp.specs.Project.{size, renewables, nonrenewables, mode_count};
 ghost use Rattle.mrcpsp.specs.Schedule.{IsFeasible, start_of, finish, mode_of, use_of, consumed, makespan as greatest_finish};
 ghost use Rattle.mrcpsp.specs.Breach.{HasShape, HasModes, TellsFirst, IsFirstBreach, IsFirstEarly, IsFirstOveruse};
 
-use crate::{Breach, Project, Schedule};
+use crate::{Breach, MOST_DURATION, Project, Schedule};
 
 /// The latest start that a schedule may give an activity, as a period, from 0.
 pub const MOST_START: u32 = 1_000_000_000;
@@ -89,7 +89,7 @@ fn finish_of(project: &Project, schedule: &Schedule, activity: usize) -> u32
     requires modes { HasModes project.now schedule.now }
     requires activity { activity < size project.now }
     ensures exact { result ≡ finish project.now schedule.now activity }
-    ensures early { result ≤ 1000001000 }
+    ensures early { result ≤ MOST_START + MOST_DURATION }
 {
     let mode = place_of_mode(project, schedule, activity);
     start_at(project, schedule, activity) + project.duration(activity, mode)

@@ -31,6 +31,7 @@ pub use breach::Breach;
 pub use feasibility::{MOST_START, check, makespan};
 pub use limits::{
     MOST_ACTIVITIES, MOST_AMOUNT, MOST_DURATION, MOST_HORIZON, MOST_MODES, MOST_RESOURCES,
+    horizon_of,
 };
 pub use mode::Mode;
 pub use project::{Project, same};

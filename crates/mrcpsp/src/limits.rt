@@ -88,8 +88,8 @@ fn longest_of(modes: &[Mode]) -> u32
     most
 }
 
-/// The sum of the longest durations, in periods.
-pub(crate) fn horizon_of(activities: &[Activity]) -> u64
+/// The horizon of these activities: the sum of their longest durations, in periods.
+pub fn horizon_of(activities: &[Activity]) -> u64
     requires { length activities.now ≤ MOST_ACTIVITIES }
     ensures { result ≡ horizon activities.now }
 {

@@ -1,7 +1,7 @@
 //! The limits of a project.
 ghost use Rattle.std.specs.Prelude.{◌≡◌, ◌≤◌, ◌||◌, ◌∷◌, [], length, not, nat_lt};
 ghost use Rattle.std.specs.List.{list_any};
-ghost use Rattle.mrcpsp.specs.Project.{ProjectData, is_between, longest, horizon};
+ghost use Rattle.mrcpsp.specs.Project.{ProjectData, is_between};
 ghost use Rattle.psplib_mm.specs.Contents.{any_above, first_broken};
 ghost use Rattle.psplib_mm.specs.Scan.{broken_count, broken_amount};
 
@@ -10,7 +10,7 @@ use crate::groups::Resources;
 use crate::jobs::Jobs;
 use mrcpsp::{
     Activity, MOST_ACTIVITIES, MOST_AMOUNT, MOST_DURATION, MOST_HORIZON, MOST_MODES,
-    MOST_RESOURCES, Mode,
+    MOST_RESOURCES, Mode, horizon_of,
 };
 
 fn are_modes_miscounted(jobs: &Jobs<'_>) -> bool
@@ -79,28 +79,6 @@ fn is_any_activity_large(activities: &[Activity]) -> bool
     activities
         .iter()
         .any(|activity| is_any_large(activity.modes.as_slice()))
-}
-
-fn longest_of(modes: &[Mode]) -> u32
-    ensures { result ≡ longest modes.now }
-{
-    let mut most = 0;
-    for mode in modes {
-        most = most.max(mode.duration);
-    }
-    most
-}
-
-/// The sum of the longest durations, in periods.
-fn horizon_of(activities: &[Activity]) -> u64
-    requires { length activities.now ≤ MOST_ACTIVITIES }
-    ensures { result ≡ horizon activities.now }
-{
-    let mut sum = 0;
-    for activity in activities {
-        sum += u64::from(longest_of(activity.modes.as_slice()));
-    }
-    sum
 }
 
 /// The first limit on durations, requests, capacities and the horizon that is broken.
