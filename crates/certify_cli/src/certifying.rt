@@ -4,7 +4,7 @@ ghost use Rattle.psplib_mm.specs.Gives.{Gives};
 ghost use Rattle.psplib_mm.specs.Reading.{reading};
 ghost use Rattle.mrcpsp.specs.Schedule.{IsInfeasible};
 ghost use Rattle.certify_cli.specs.Certified.{CertifiesOptimal, CertifiesInfeasible};
-ghost use Rattle.certify_cli.specs.Commands.{IsStopped, IsOfFile, IsOfText, IsOfProof};
+ghost use Rattle.certify_cli.specs.Commands.{IsStopped, IsOfFile, IsOfText, IsOfProofAlone};
 
 use crate::dimacs::write_formula;
 use crate::fault::CertifyFault;
@@ -78,7 +78,7 @@ pub fn certify_infeasible<W: Write>(
 ) -> Result<(), CertifyFault>
     ensures ok { IfOk result (λ _. CertifiesInfeasible file.now (W.contents writer.old) (W.contents writer.new)) }
     ensures file { IfErr result (λ fault. IsOfFile fault file.now) }
-    ensures judged { IfErr result (λ fault. IsOfProof fault) }
+    ensures judged { IfErr result (λ fault. IsOfProofAlone fault) }
     ensures fault { IfErr result (λ fault.
         (W.contents writer.new ≡ W.contents writer.old) ⊎ (fault ≡ CertifyFault.Write)) }
 {
@@ -94,7 +94,7 @@ pub fn certify_infeasible_watched<W: Write>(
     watch: &mut FileWatch,
 ) -> Result<(), CertifyFault>
     ensures ok { IfOk result (λ _. CertifiesInfeasible file.now (W.contents writer.old) (W.contents writer.new)) }
-    ensures judged { IfErr result (λ fault. IsOfProof fault) }
+    ensures judged { IfErr result (λ fault. IsOfProofAlone fault) }
     ensures fault { IfErr result (λ fault.
         IsOfFile fault file.now × IsStopped fault watch.new (W.contents writer.old) (W.contents writer.new)) }
 {
