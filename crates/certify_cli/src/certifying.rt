@@ -49,10 +49,7 @@ pub fn certify_watched<W: Write>(
     ensures fault { IfErr result (λ fault.
         IsOfFile fault file.now × IsStopped fault watch.new (W.contents writer.old) (W.contents writer.new)) }
 {
-    let project = match read(alloc, file) {
-        Ok(project) => project,
-        Err(fault) => return Err(CertifyFault::File(fault)),
-    };
+    let project = read(alloc, file).map_err(CertifyFault::File)?;
     let schedule = match read_schedule(alloc, text) {
         Ok(Some(schedule)) => schedule,
         Ok(None) if text.len() > MOST_BYTES => return Err(CertifyFault::TooLong),
@@ -98,10 +95,7 @@ pub fn certify_infeasible_watched<W: Write>(
     ensures fault { IfErr result (λ fault.
         IsOfFile fault file.now × IsStopped fault watch.new (W.contents writer.old) (W.contents writer.new)) }
 {
-    let project = match read(alloc, file) {
-        Ok(project) => project,
-        Err(fault) => return Err(CertifyFault::File(fault)),
-    };
+    let project = read(alloc, file).map_err(CertifyFault::File)?;
     match schedule_clauses::certify_infeasible(alloc, &project, proof) {
         Ok(()) => match watch.write(writer, "infeasible\n") {
             Ok(()) => Ok(()),
@@ -123,10 +117,7 @@ pub fn write_clauses<W: Write>(
     ensures fault { IfErr result (λ fault.
         (W.contents writer.new ≡ W.contents writer.old) ⊎ (fault ≡ CertifyFault.Write)) }
 {
-    let project = match read(alloc, file) {
-        Ok(project) => project,
-        Err(fault) => return Err(CertifyFault::File(fault)),
-    };
+    let project = read(alloc, file).map_err(CertifyFault::File)?;
     let made = match bound {
         Some(bound) => clauses(alloc, &project, bound),
         None => stock_clauses(alloc, &project),
