@@ -49,13 +49,13 @@ IsOfText why.NoMemory file text = ⊤
 IsOfText why.Write file text = ⊤
 
 -- and where no schedule is asked for, never that there is none, a breach or a horizon
-abbrev pub IsOfProof : CertifyFault → Type 0
-IsOfProof (why.File fault) = ⊤
-IsOfProof why.Words = ⊥
-IsOfProof why.TooLong = ⊥
-IsOfProof (why.Certificate fault) = IsOfStocks fault
-IsOfProof why.NoMemory = ⊤
-IsOfProof why.Write = ⊤
+abbrev pub IsOfProofAlone : CertifyFault → Type 0
+IsOfProofAlone (why.File fault) = ⊤
+IsOfProofAlone why.Words = ⊥
+IsOfProofAlone why.TooLong = ⊥
+IsOfProofAlone (why.Certificate fault) = IsOfStocks fault
+IsOfProofAlone why.NoMemory = ⊤
+IsOfProofAlone why.Write = ⊤
 
 -- nothing was written, or a write failed
 abbrev pub IsStopped : CertifyFault → FileWatch → Option (List ℕ) → Option (List ℕ) → Type 0
@@ -94,7 +94,7 @@ IsJudgedAlone (Ok done) = ⊤
 IsJudgedAlone (Err (File kind)) = ⊤
 IsJudgedAlone (Err (Text kind)) = ⊥
 IsJudgedAlone (Err (Proof kind)) = ⊤
-IsJudgedAlone (Err (Certify fault)) = IsOfProof fault
+IsJudgedAlone (Err (Certify fault)) = IsOfProofAlone fault
 
 abbrev pub IsInfeasibleOf : Result ⊤ CommandFault → Watches → Option (List ℕ) → Option (List ℕ) → Option (List ℕ) → Type 0
 IsInfeasibleOf ended seen file before after =

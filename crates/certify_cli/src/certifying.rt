@@ -4,7 +4,7 @@ ghost use Rattle.psplib_mm.specs.Gives.{Gives};
 ghost use Rattle.psplib_mm.specs.Reading.{reading};
 ghost use Rattle.mrcpsp.specs.Schedule.{IsInfeasible};
 ghost use Rattle.certify_cli.specs.Certified.{CertifiesOptimal, CertifiesInfeasible};
-ghost use Rattle.certify_cli.specs.Commands.{IsStopped, IsOfFile, IsOfText, IsOfProof};
+ghost use Rattle.certify_cli.specs.Commands.{IsStopped, IsOfFile, IsOfText, IsOfProofAlone};
 
 use crate::dimacs::write_formula;
 use crate::fault::CertifyFault;
@@ -49,10 +49,7 @@ pub fn certify_watched<W: Write>(
     ensures fault { IfErr result (λ fault.
         IsOfFile fault file.now × IsStopped fault watch.new (W.contents writer.old) (W.contents writer.new)) }
 {
-    let project = match read(alloc, file) {
-        Ok(project) => project,
-        Err(fault) => return Err(CertifyFault::File(fault)),
-    };
+    let project = read(alloc, file).map_err(CertifyFault::File)?;
     let schedule = match read_schedule(alloc, text) {
         Ok(Some(schedule)) => schedule,
         Ok(None) if text.len() > MOST_BYTES => return Err(CertifyFault::TooLong),
@@ -78,7 +75,7 @@ pub fn certify_infeasible<W: Write>(
 ) -> Result<(), CertifyFault>
     ensures ok { IfOk result (λ _. CertifiesInfeasible file.now (W.contents writer.old) (W.contents writer.new)) }
     ensures file { IfErr result (λ fault. IsOfFile fault file.now) }
-    ensures judged { IfErr result (λ fault. IsOfProof fault) }
+    ensures judged { IfErr result (λ fault. IsOfProofAlone fault) }
     ensures fault { IfErr result (λ fault.
         (W.contents writer.new ≡ W.contents writer.old) ⊎ (fault ≡ CertifyFault.Write)) }
 {
@@ -94,14 +91,11 @@ pub fn certify_infeasible_watched<W: Write>(
     watch: &mut FileWatch,
 ) -> Result<(), CertifyFault>
     ensures ok { IfOk result (λ _. CertifiesInfeasible file.now (W.contents writer.old) (W.contents writer.new)) }
-    ensures judged { IfErr result (λ fault. IsOfProof fault) }
+    ensures judged { IfErr result (λ fault. IsOfProofAlone fault) }
     ensures fault { IfErr result (λ fault.
         IsOfFile fault file.now × IsStopped fault watch.new (W.contents writer.old) (W.contents writer.new)) }
 {
-    let project = match read(alloc, file) {
-        Ok(project) => project,
-        Err(fault) => return Err(CertifyFault::File(fault)),
-    };
+    let project = read(alloc, file).map_err(CertifyFault::File)?;
     match schedule_clauses::certify_infeasible(alloc, &project, proof) {
         Ok(()) => match watch.write(writer, "infeasible\n") {
             Ok(()) => Ok(()),
@@ -123,10 +117,7 @@ pub fn write_clauses<W: Write>(
     ensures fault { IfErr result (λ fault.
         (W.contents writer.new ≡ W.contents writer.old) ⊎ (fault ≡ CertifyFault.Write)) }
 {
-    let project = match read(alloc, file) {
-        Ok(project) => project,
-        Err(fault) => return Err(CertifyFault::File(fault)),
-    };
+    let project = read(alloc, file).map_err(CertifyFault::File)?;
     let made = match bound {
         Some(bound) => clauses(alloc, &project, bound),
         None => stock_clauses(alloc, &project),

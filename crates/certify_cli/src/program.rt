@@ -9,38 +9,11 @@ use crate::ending::{MOST_TEXT, Paths};
 use crate::fault::CertifyFault;
 use crate::watches::Watches;
 use file_words::{reason, tell_unread};
-use std::alloc::Global;
-use std::io::{BufWriter, Eprint, Read, Write};
+use std::io;
+use std::io::{BufWriter, Eprint, Write};
 use std::process::ExitCode;
-use std::rt::{Files, Runtime};
-use std::{fs, io};
-use watched_files::{Source, open};
-
-/// The first bytes of a reader.
-fn read_front<R: Read + Drop>(alloc: Global, reader: R, most: u64) -> io::Result<Vec<u8>> {
-    let mut bytes = Vec::new(alloc);
-    reader.take(most).read_to_end(&mut bytes)?;
-    Ok(bytes)
-}
-
-/// The first bytes of the file at the path, or of standard input at `-`. `None` is told on standard error.
-fn read_path<R: Runtime + AllocGlobal>(rt: &R, path: &str, most: u64) -> Option<Vec<u8>> {
-    let bytes = if path == "-" {
-        read_front(rt.alloc(), rt.reader(), most)
-    } else {
-        match fs::open(rt, path) {
-            Ok(file) => read_front(rt.alloc(), file, most),
-            Err(error) => Err(error),
-        }
-    };
-    match bytes {
-        Ok(bytes) => Some(bytes),
-        Err(error) => {
-            tell_unread(rt, path, reason(error.kind()));
-            None
-        }
-    }
-}
+use std::rt::Runtime;
+use watched_files::{FileWatch, Source, open};
 
 /// The status of a command, with its fault on standard error.
 fn end<R: Eprint>(rt: &R, ended: Result<(), CertifyFault>) -> ExitCode
@@ -56,15 +29,20 @@ fn end<R: Eprint>(rt: &R, ended: Result<(), CertifyFault>) -> ExitCode
     }
 }
 
-/// What the path names. `None` is told on standard error.
-fn open_path<R: Runtime>(rt: &R, path: &str) -> Option<Source<R::Reader, R::File>> {
-    match open(rt, path) {
-        Ok(source) => Some(source),
+/// What was opened or read of the path. `None` is told on standard error.
+fn told<R: Eprint, T: Drop>(rt: &R, path: &str, got: io::Result<T>) -> Option<T> {
+    match got {
+        Ok(value) => Some(value),
         Err(error) => {
             tell_unread(rt, path, reason(error.kind()));
             None
         }
     }
+}
+
+/// What the path names.
+fn open_path<R: Runtime>(rt: &R, path: &str) -> Option<Source<R::Reader, R::File>> {
+    told(rt, path, open(rt, path))
 }
 
 /// The same of a proof; without a path it is an empty one.
@@ -136,7 +114,11 @@ pub fn run_clauses<R: Runtime + AllocGlobal>(rt: &R, file: &str, bound: &str) ->
             return ExitCode::FAILURE;
         }
     };
-    let Some(project) = read_path(rt, file, MOST_TEXT) else {
+    let Some(source) = open_path(rt, file) else {
+        return ExitCode::FAILURE;
+    };
+    let read = FileWatch::new().read_front(rt.alloc(), source, MOST_TEXT);
+    let Some(project) = told(rt, file, read) else {
         return ExitCode::FAILURE;
     };
     let Ok(mut output) = BufWriter::new(rt.alloc(), io::writer(rt)) else {

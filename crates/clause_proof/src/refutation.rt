@@ -159,8 +159,9 @@ fn run(
 }
 
 /// Checks a proof that no values of the variables make all clauses true, in either form. Where the clauses alone conflict
-/// by unit propagation, the proof is not read. Time and memory are bounded by the clauses and the proof: a proof of so many
-/// bytes takes at most that many steps. An error is the first fault, with its line.
+/// by unit propagation, the proof is not read. It is proved that each call ends, and that the clauses cannot all be true
+/// where a proof is accepted. That an error is the first fault, with its line, is tested. No clause says how long a call
+/// takes: each step of the proof is at least one of its bytes.
 #[tactic(auto, using(crate::proofs::RefutationLemmas::refute_rules))]
 pub fn refute(alloc: Global, clauses: Vec<Vec<u32>>, proof: &[u8]) -> Result<(), ProofFault>
     ensures { IfOk result (λ _. IsUnsatisfiable clauses.items) }
