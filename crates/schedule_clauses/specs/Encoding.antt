@@ -33,8 +33,8 @@ pub record AreGood (p : ProjectData) (limit : Option ℕ) (meanings : List Meani
   pub each : (s : ScheduleData) → IsWithin p limit s → All (λ c. IsGood p s meanings c.items) clauses
 
 -- each clause of an encoding is
-abbrev pub IsSound : ProjectData → Option ℕ → Encoding → Type 0
-IsSound p limit encoding = AreGood p limit encoding.formula.meanings.items encoding.formula.clauses.items
+abbrev pub AllGood : ProjectData → Option ℕ → Encoding → Type 0
+AllGood p limit encoding = AreGood p limit encoding.formula.meanings.items encoding.formula.clauses.items
 
 -- what had a meaning still has it
 pub record Extends (before after : List Meaning) : Type 0 where

@@ -2,7 +2,7 @@
 //! nonrenewable one. They hold of every feasible schedule; where their numbers do not fit, nothing is added.
 ghost use Rattle.std.specs.Prelude.{◌<◌, IfOk};
 ghost use Rattle.mrcpsp.specs.Project.{size, mode_count, renewables, nonrenewables};
-ghost use Rattle.schedule_clauses.specs.Encoding.{IsSound};
+ghost use Rattle.schedule_clauses.specs.Encoding.{AllGood};
 
 use crate::diagram::Part;
 use crate::encoding::{Encoding, Scope};
@@ -13,8 +13,8 @@ use std::alloc::AllocError;
 /// All activities take at most the capacity.
 #[tactic(auto, using(crate::proofs::FormLemmas::form_rules))]
 pub(crate) fn all(encoding: &mut Encoding, scope: Scope<'_>, row: Row) -> Result<(), AllocError>
-    requires good { IsSound scope.project.now scope.limit encoding.old }
-    ensures { IfOk result (λ _. IsSound scope.entry.project.now scope.entry.limit encoding.new) }
+    requires good { AllGood scope.project.now scope.limit encoding.old }
+    ensures { IfOk result (λ _. AllGood scope.entry.project.now scope.entry.limit encoding.new) }
 {
     let count = scope.project.size();
     match row {
@@ -39,8 +39,8 @@ pub(crate) fn fewer(
     from: Node,
     to: Node,
 ) -> Result<(), AllocError>
-    requires good { IsSound scope.project.now scope.limit encoding.old }
-    ensures { IfOk result (λ _. IsSound scope.entry.project.now scope.entry.limit encoding.new) }
+    requires good { AllGood scope.project.now scope.limit encoding.old }
+    ensures { IfOk result (λ _. AllGood scope.entry.project.now scope.entry.limit encoding.new) }
 {
     if from.count < to.count || to.most < from.most {
         return Ok(());
@@ -68,11 +68,11 @@ fn use_run(
     most: u32,
     rest: Option<Node>,
 ) -> Result<(), AllocError>
-    requires good { IsSound scope.project.now scope.limit encoding.old }
+    requires good { AllGood scope.project.now scope.limit encoding.old }
     requires resource { resource < renewables scope.project.now }
     requires activity { part.activity < size scope.project.now }
     requires mode { part.mode < mode_count scope.project.now part.activity }
-    ensures { IfOk result (λ _. IsSound scope.entry.project.now scope.entry.limit encoding.new) }
+    ensures { IfOk result (λ _. AllGood scope.entry.project.now scope.entry.limit encoding.new) }
 {
     let Part { activity, mode, .. } = part;
     let size = scope.project.size();
@@ -99,11 +99,11 @@ fn stock_mode(
     most: u32,
     rest: Option<Node>,
 ) -> Result<(), AllocError>
-    requires good { IsSound scope.project.now scope.limit encoding.old }
+    requires good { AllGood scope.project.now scope.limit encoding.old }
     requires resource { resource < nonrenewables scope.project.now }
     requires activity { part.activity < size scope.project.now }
     requires mode { part.mode < mode_count scope.project.now part.activity }
-    ensures { IfOk result (λ _. IsSound scope.entry.project.now scope.entry.limit encoding.new) }
+    ensures { IfOk result (λ _. AllGood scope.entry.project.now scope.entry.limit encoding.new) }
 {
     let Part { activity, mode, .. } = part;
     let size = scope.project.size();
@@ -131,8 +131,8 @@ pub(crate) fn take(
     most: u32,
     rest: Option<Node>,
 ) -> Result<(), AllocError>
-    requires good { IsSound scope.project.now scope.limit encoding.old }
-    ensures { IfOk result (λ _. IsSound scope.entry.project.now scope.entry.limit encoding.new) }
+    requires good { AllGood scope.project.now scope.limit encoding.old }
+    ensures { IfOk result (λ _. AllGood scope.entry.project.now scope.entry.limit encoding.new) }
 {
     let project = scope.project;
     if part.activity >= project.size() || part.mode >= project.mode_count(part.activity) {

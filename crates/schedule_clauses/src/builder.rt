@@ -1,6 +1,6 @@
 //! All clauses of a project: within a bound, or of modes and stocks alone, which hold of every feasible schedule.
 ghost use Rattle.std.specs.Prelude.{IfOk, Some, None};
-ghost use Rattle.schedule_clauses.specs.Encoding.{IsSound};
+ghost use Rattle.schedule_clauses.specs.Encoding.{AllGood};
 
 use crate::capacity_sections::{mode_section, nonrenewable_section, renewable_section};
 use crate::encoding::{Encoding, Scope};
@@ -12,7 +12,7 @@ use std::alloc::{AllocError, Global};
 
 /// Clauses that each feasible schedule of at most this makespan satisfies.
 pub(crate) fn encode(alloc: Global, project: &Project, bound: u32) -> Result<Encoding, AllocError>
-    ensures { IfOk result (λ encoding. IsSound project.now (Some bound) encoding) }
+    ensures { IfOk result (λ encoding. AllGood project.now (Some bound) encoding) }
 {
     let measures = Measures::of(alloc, project)?;
     let windows = Windows::new(alloc, project, &measures, bound)?;
@@ -31,7 +31,7 @@ pub(crate) fn encode(alloc: Global, project: &Project, bound: u32) -> Result<Enc
 
 /// Clauses that each feasible schedule satisfies.
 pub(crate) fn encode_stocks(alloc: Global, project: &Project) -> Result<Encoding, AllocError>
-    ensures { IfOk result (λ encoding. IsSound project.now None encoding) }
+    ensures { IfOk result (λ encoding. AllGood project.now None encoding) }
 {
     let limit = None;
     let scope = Scope { project, limit };

@@ -1,7 +1,7 @@
 //! Clauses on modes and on capacities: all of a kind, section by section. Which numbers go into which clause is a hint alone.
 ghost use Rattle.std.specs.Prelude.{◌<◌, IfOk};
 ghost use Rattle.mrcpsp.specs.Project.{size};
-ghost use Rattle.schedule_clauses.specs.Encoding.{IsSound};
+ghost use Rattle.schedule_clauses.specs.Encoding.{AllGood};
 
 use crate::diagram::Part;
 use crate::encoding::{Encoding, Scope};
@@ -18,9 +18,9 @@ fn mode_clauses(
     scope: Scope<'_>,
     activity: usize,
 ) -> Result<(), AllocError>
-    requires good { IsSound scope.project.now scope.limit encoding.old }
+    requires good { AllGood scope.project.now scope.limit encoding.old }
     requires activity { activity < size scope.project.now }
-    ensures { IfOk result (λ _. IsSound scope.entry.project.now scope.entry.limit encoding.new) }
+    ensures { IfOk result (λ _. AllGood scope.entry.project.now scope.entry.limit encoding.new) }
 {
     modes(encoding, scope, activity)?;
     for mode in 0..scope.project.mode_count(activity) {
@@ -33,8 +33,8 @@ fn mode_clauses(
 
 /// Each activity has exactly one mode.
 pub(crate) fn mode_section(encoding: &mut Encoding, scope: Scope<'_>) -> Result<(), AllocError>
-    requires good { IsSound scope.project.now scope.limit encoding.old }
-    ensures { IfOk result (λ _. IsSound scope.entry.project.now scope.entry.limit encoding.new) }
+    requires good { AllGood scope.project.now scope.limit encoding.old }
+    ensures { IfOk result (λ _. AllGood scope.entry.project.now scope.entry.limit encoding.new) }
 {
     for activity in 0..scope.project.size() {
         mode_clauses(encoding, scope, activity)?;
@@ -98,8 +98,8 @@ pub(crate) fn renewable_section(
     scope: Scope<'_>,
     windows: &Windows,
 ) -> Result<(), AllocError>
-    requires good { IsSound scope.project.now scope.limit encoding.old }
-    ensures { IfOk result (λ _. IsSound scope.entry.project.now scope.entry.limit encoding.new) }
+    requires good { AllGood scope.project.now scope.limit encoding.old }
+    ensures { IfOk result (λ _. AllGood scope.entry.project.now scope.entry.limit encoding.new) }
 {
     let project = scope.project;
     for resource in 0..project.renewables() {
@@ -118,8 +118,8 @@ pub(crate) fn nonrenewable_section(
     encoding: &mut Encoding,
     scope: Scope<'_>,
 ) -> Result<(), AllocError>
-    requires good { IsSound scope.project.now scope.limit encoding.old }
-    ensures { IfOk result (λ _. IsSound scope.entry.project.now scope.entry.limit encoding.new) }
+    requires good { AllGood scope.project.now scope.limit encoding.old }
+    ensures { IfOk result (λ _. AllGood scope.entry.project.now scope.entry.limit encoding.new) }
 {
     let project = scope.project;
     for resource in 0..project.nonrenewables() {

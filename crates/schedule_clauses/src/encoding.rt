@@ -1,7 +1,7 @@
 //! Clauses over variables whose meanings are kept.
 ghost use Rattle.std.specs.Prelude.{◌≡◌, ◌+◌, ◌*◌, ◌<◌, ◌≤◌, ◌/◌, ◌%◌, ◌==◌, ◌++◌, ℕ, IfOk, IfSome, List, [], Some, slice_get};
 ghost use Rattle.schedule_clauses.specs.Meaning.{IsValid};
-ghost use Rattle.schedule_clauses.specs.Encoding.{IsSound, Extends};
+ghost use Rattle.schedule_clauses.specs.Encoding.{AllGood, Extends};
 
 use crate::formula::{Formula, Kind, Row, Section};
 use crate::meaning::{Meaning, Term};
@@ -155,8 +155,8 @@ impl Encoding {
     #[tactic(auto, using(crate::proofs::EncodingLemmas::add_rules))]
     pub(crate) fn add(&mut self, scope: Scope<'_>, terms: &[Term]) -> Result<(), AllocError>
         requires valid { IsValid scope.project.now scope.limit terms.now }
-        requires good { IsSound scope.project.now scope.limit self.old }
-        ensures { IfOk result (λ _. IsSound scope.entry.project.now scope.entry.limit self.new) }
+        requires good { AllGood scope.project.now scope.limit self.old }
+        ensures { IfOk result (λ _. AllGood scope.entry.project.now scope.entry.limit self.new) }
     {
         let mut literals = Vec::new(self.alloc);
         for term in terms {

@@ -1,7 +1,7 @@
 //! Forms of clauses on modes: an activity has exactly one. They hold of every feasible schedule.
 ghost use Rattle.std.specs.Prelude.{◌<◌, IfOk};
 ghost use Rattle.mrcpsp.specs.Project.{size};
-ghost use Rattle.schedule_clauses.specs.Encoding.{IsSound};
+ghost use Rattle.schedule_clauses.specs.Encoding.{AllGood};
 
 use crate::encoding::{Encoding, Scope};
 use crate::meaning::in_mode;
@@ -14,9 +14,9 @@ pub(crate) fn modes(
     scope: Scope<'_>,
     activity: usize,
 ) -> Result<(), AllocError>
-    requires good { IsSound scope.project.now scope.limit encoding.old }
+    requires good { AllGood scope.project.now scope.limit encoding.old }
     requires activity { activity < size scope.project.now }
-    ensures { IfOk result (λ _. IsSound scope.entry.project.now scope.entry.limit encoding.new) }
+    ensures { IfOk result (λ _. AllGood scope.entry.project.now scope.entry.limit encoding.new) }
 {
     let mut terms = Vec::new(encoding.alloc);
     for mode in 0..scope.project.mode_count(activity) {
@@ -34,8 +34,8 @@ pub(crate) fn exclude(
     mode: usize,
     other: usize,
 ) -> Result<(), AllocError>
-    requires good { IsSound scope.project.now scope.limit encoding.old }
-    ensures { IfOk result (λ _. IsSound scope.entry.project.now scope.entry.limit encoding.new) }
+    requires good { AllGood scope.project.now scope.limit encoding.old }
+    ensures { IfOk result (λ _. AllGood scope.entry.project.now scope.entry.limit encoding.new) }
 {
     if mode == other {
         return Ok(());

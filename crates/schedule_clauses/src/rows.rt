@@ -1,6 +1,6 @@
 //! The clauses of a capacity row, by its diagram.
 ghost use Rattle.std.specs.Prelude.{IfOk};
-ghost use Rattle.schedule_clauses.specs.Encoding.{IsSound};
+ghost use Rattle.schedule_clauses.specs.Encoding.{AllGood};
 
 use crate::amount_forms::{all, fewer, take};
 use crate::diagram::{Diagram, Level, Part, in_order};
@@ -19,8 +19,8 @@ fn part_clauses(
     amount: u32,
     below: &mut Vec<u32>,
 ) -> Result<(), AllocError>
-    requires good { IsSound scope.project.now scope.limit encoding.old }
-    ensures { IfOk result (λ _. IsSound scope.entry.project.now scope.entry.limit encoding.new) }
+    requires good { AllGood scope.project.now scope.limit encoding.old }
+    ensures { IfOk result (λ _. AllGood scope.entry.project.now scope.entry.limit encoding.new) }
 {
     if amount < part.amount {
         return take(encoding, scope, diagram.row, part, amount, None);
@@ -43,8 +43,8 @@ fn skip_clauses(
     amount: u32,
     below: &mut Vec<u32>,
 ) -> Result<(), AllocError>
-    requires good { IsSound scope.project.now scope.limit encoding.old }
-    ensures { IfOk result (λ _. IsSound scope.entry.project.now scope.entry.limit encoding.new) }
+    requires good { AllGood scope.project.now scope.limit encoding.old }
+    ensures { IfOk result (λ _. AllGood scope.entry.project.now scope.entry.limit encoding.new) }
 {
     let Some(most) = diagram.greatest(level.place, amount) else {
         return Ok(());
@@ -68,8 +68,8 @@ fn node_clauses(
     amount: u32,
     below: &mut Vec<u32>,
 ) -> Result<(), AllocError>
-    requires good { IsSound scope.project.now scope.limit encoding.old }
-    ensures { IfOk result (λ _. IsSound scope.entry.project.now scope.entry.limit encoding.new) }
+    requires good { AllGood scope.project.now scope.limit encoding.old }
+    ensures { IfOk result (λ _. AllGood scope.entry.project.now scope.entry.limit encoding.new) }
 {
     skip_clauses(encoding, scope, diagram, level, amount, below)?;
     for part in diagram.parts_of(level) {
@@ -86,8 +86,8 @@ fn level_clauses(
     level: Level,
     amounts: &[u32],
 ) -> Result<Vec<u32>, AllocError>
-    requires good { IsSound scope.project.now scope.limit encoding.old }
-    ensures { IfOk result (λ _. IsSound scope.entry.project.now scope.entry.limit encoding.new) }
+    requires good { AllGood scope.project.now scope.limit encoding.old }
+    ensures { IfOk result (λ _. AllGood scope.entry.project.now scope.entry.limit encoding.new) }
 {
     let mut below = Vec::new(encoding.alloc);
     for amount in amounts {
@@ -104,8 +104,8 @@ fn top_clauses(
     last: usize,
     most: u32,
 ) -> Result<(), AllocError>
-    requires good { IsSound scope.project.now scope.limit encoding.old }
-    ensures { IfOk result (λ _. IsSound scope.entry.project.now scope.entry.limit encoding.new) }
+    requires good { AllGood scope.project.now scope.limit encoding.old }
+    ensures { IfOk result (λ _. AllGood scope.entry.project.now scope.entry.limit encoding.new) }
 {
     all(encoding, scope, diagram.row)?;
     let from = Node {
@@ -125,8 +125,8 @@ pub(crate) fn row_clauses(
     capacity: u32,
     parts: Vec<Part>,
 ) -> Result<(), AllocError>
-    requires good { IsSound scope.project.now scope.limit encoding.old }
-    ensures { IfOk result (λ _. IsSound scope.entry.project.now scope.entry.limit encoding.new) }
+    requires good { AllGood scope.project.now scope.limit encoding.old }
+    ensures { IfOk result (λ _. AllGood scope.entry.project.now scope.entry.limit encoding.new) }
 {
     let Some(diagram) = Diagram::new(encoding.alloc, row, capacity, parts)? else {
         return encoding.leave_out(row);

@@ -3,7 +3,7 @@
 ghost use Rattle.std.specs.Prelude.{◌≡◌, ◌<◌, IfOk};
 ghost use Rattle.mrcpsp.specs.Project.{size, mode_count};
 ghost use Rattle.mrcpsp.specs.Values.{tail, shortest};
-ghost use Rattle.schedule_clauses.specs.Encoding.{IsSound};
+ghost use Rattle.schedule_clauses.specs.Encoding.{AllGood};
 
 use crate::encoding::{Encoding, Scope};
 use crate::meaning::{MOST, in_mode, runs_at, starts_by};
@@ -18,8 +18,8 @@ pub(crate) fn later(
     time: u32,
     later: u32,
 ) -> Result<(), AllocError>
-    requires good { IsSound scope.project.now scope.limit encoding.old }
-    ensures { IfOk result (λ _. IsSound scope.entry.project.now scope.entry.limit encoding.new) }
+    requires good { AllGood scope.project.now scope.limit encoding.old }
+    ensures { IfOk result (λ _. AllGood scope.entry.project.now scope.entry.limit encoding.new) }
 {
     if later < time {
         return Ok(());
@@ -39,11 +39,11 @@ pub(crate) fn precedence(
     time: u32,
     latest: Option<u32>,
 ) -> Result<(), AllocError>
-    requires good { IsSound scope.project.now scope.limit encoding.old }
+    requires good { AllGood scope.project.now scope.limit encoding.old }
     requires before { before < size scope.project.now }
     requires mode { mode < mode_count scope.project.now before }
     requires after { after < size scope.project.now }
-    ensures { IfOk result (λ _. IsSound scope.entry.project.now scope.entry.limit encoding.new) }
+    ensures { IfOk result (λ _. AllGood scope.entry.project.now scope.entry.limit encoding.new) }
 {
     if !scope.project.precedes(before, after) {
         return Ok(());
@@ -71,11 +71,11 @@ pub(crate) fn shortest_precedence(
     latest: Option<u32>,
     least: u32,
 ) -> Result<(), AllocError>
-    requires good { IsSound scope.project.now scope.limit encoding.old }
+    requires good { AllGood scope.project.now scope.limit encoding.old }
     requires before { before < size scope.project.now }
     requires after { after < size scope.project.now }
     requires least { least ≡ shortest scope.project.now before }
-    ensures { IfOk result (λ _. IsSound scope.entry.project.now scope.entry.limit encoding.new) }
+    ensures { IfOk result (λ _. AllGood scope.entry.project.now scope.entry.limit encoding.new) }
 {
     if !scope.project.precedes(before, after) {
         return Ok(());
@@ -100,11 +100,11 @@ pub(crate) fn end(
     latest: Option<u32>,
     rest: u32,
 ) -> Result<(), AllocError>
-    requires good { IsSound scope.project.now scope.limit encoding.old }
+    requires good { AllGood scope.project.now scope.limit encoding.old }
     requires activity { activity < size scope.project.now }
     requires mode { mode < mode_count scope.project.now activity }
     requires rest { rest ≡ tail scope.project.now activity }
-    ensures { IfOk result (λ _. IsSound scope.entry.project.now scope.entry.limit encoding.new) }
+    ensures { IfOk result (λ _. AllGood scope.entry.project.now scope.entry.limit encoding.new) }
 {
     let Some(bound) = scope.limit else {
         return Ok(());
@@ -131,11 +131,11 @@ pub(crate) fn latest(
     rest: u32,
     least: u32,
 ) -> Result<(), AllocError>
-    requires good { IsSound scope.project.now scope.limit encoding.old }
+    requires good { AllGood scope.project.now scope.limit encoding.old }
     requires activity { activity < size scope.project.now }
     requires rest { rest ≡ tail scope.project.now activity }
     requires least { least ≡ shortest scope.project.now activity }
-    ensures { IfOk result (λ _. IsSound scope.entry.project.now scope.entry.limit encoding.new) }
+    ensures { IfOk result (λ _. AllGood scope.entry.project.now scope.entry.limit encoding.new) }
 {
     let Some(bound) = scope.limit else {
         return Ok(());
@@ -158,10 +158,10 @@ pub(crate) fn runs(
     time: u32,
     latest: Option<u32>,
 ) -> Result<(), AllocError>
-    requires good { IsSound scope.project.now scope.limit encoding.old }
+    requires good { AllGood scope.project.now scope.limit encoding.old }
     requires activity { activity < size scope.project.now }
     requires mode { mode < mode_count scope.project.now activity }
-    ensures { IfOk result (λ _. IsSound scope.entry.project.now scope.entry.limit encoding.new) }
+    ensures { IfOk result (λ _. AllGood scope.entry.project.now scope.entry.limit encoding.new) }
 {
     let duration = scope.project.duration(activity, mode);
     if time < begun {

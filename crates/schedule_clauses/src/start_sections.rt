@@ -3,7 +3,7 @@ ghost use Rattle.std.specs.Prelude.{◌≡◌, ◌<◌, IfOk};
 ghost use Rattle.mrcpsp.specs.Project.{size};
 ghost use Rattle.mrcpsp.specs.Values.{tail, shortest};
 ghost use Rattle.measures.specs.Measures.{measures_of};
-ghost use Rattle.schedule_clauses.specs.Encoding.{IsSound};
+ghost use Rattle.schedule_clauses.specs.Encoding.{AllGood};
 
 use crate::encoding::{Encoding, Scope};
 use crate::formula::Kind;
@@ -20,8 +20,8 @@ fn order_clauses(
     activity: usize,
     window: Window,
 ) -> Result<(), AllocError>
-    requires good { IsSound scope.project.now scope.limit encoding.old }
-    ensures { IfOk result (λ _. IsSound scope.entry.project.now scope.entry.limit encoding.new) }
+    requires good { AllGood scope.project.now scope.limit encoding.old }
+    ensures { IfOk result (λ _. AllGood scope.entry.project.now scope.entry.limit encoding.new) }
 {
     let before = window.first.saturating_sub(1);
     for time in before.min(window.last)..window.last.max(before) {
@@ -36,8 +36,8 @@ pub(crate) fn start_section(
     scope: Scope<'_>,
     windows: &Windows,
 ) -> Result<(), AllocError>
-    requires good { IsSound scope.project.now scope.limit encoding.old }
-    ensures { IfOk result (λ _. IsSound scope.entry.project.now scope.entry.limit encoding.new) }
+    requires good { AllGood scope.project.now scope.limit encoding.old }
+    ensures { IfOk result (λ _. AllGood scope.entry.project.now scope.entry.limit encoding.new) }
 {
     for activity in 0..scope.project.size() {
         order_clauses(encoding, scope, activity, windows.of(activity))?;
@@ -54,11 +54,11 @@ fn end_clauses(
     rest: u32,
     least: u32,
 ) -> Result<(), AllocError>
-    requires good { IsSound scope.project.now scope.limit encoding.old }
+    requires good { AllGood scope.project.now scope.limit encoding.old }
     requires activity { activity < size scope.project.now }
     requires rest { rest ≡ tail scope.project.now activity }
     requires least { least ≡ shortest scope.project.now activity }
-    ensures { IfOk result (λ _. IsSound scope.entry.project.now scope.entry.limit encoding.new) }
+    ensures { IfOk result (λ _. AllGood scope.entry.project.now scope.entry.limit encoding.new) }
 {
     let window = windows.of(activity);
     latest(encoding, scope, activity, window.last, rest, least)?;
@@ -79,9 +79,9 @@ pub(crate) fn end_section(
     measures: &Measures,
     windows: &Windows,
 ) -> Result<(), AllocError>
-    requires good { IsSound scope.project.now scope.limit encoding.old }
+    requires good { AllGood scope.project.now scope.limit encoding.old }
     requires measures { measures.now ≡ measures_of scope.project.now }
-    ensures { IfOk result (λ _. IsSound scope.entry.project.now scope.entry.limit encoding.new) }
+    ensures { IfOk result (λ _. AllGood scope.entry.project.now scope.entry.limit encoding.new) }
 {
     for activity in 0..scope.project.size() {
         let rest = rest_of(scope.project, measures, activity);
@@ -101,11 +101,11 @@ fn time_clauses(
     time: u32,
     least: u32,
 ) -> Result<(), AllocError>
-    requires good { IsSound scope.project.now scope.limit encoding.old }
+    requires good { AllGood scope.project.now scope.limit encoding.old }
     requires before { before < size scope.project.now }
     requires after { after < size scope.project.now }
     requires least { least ≡ shortest scope.project.now before }
-    ensures { IfOk result (λ _. IsSound scope.entry.project.now scope.entry.limit encoding.new) }
+    ensures { IfOk result (λ _. AllGood scope.entry.project.now scope.entry.limit encoding.new) }
 {
     let by = start_for(time, least, window.first);
     if by.is_none() || by.unwrap_or(0) < window.last {
@@ -130,11 +130,11 @@ fn precedence_clauses(
     after: usize,
     least: u32,
 ) -> Result<(), AllocError>
-    requires good { IsSound scope.project.now scope.limit encoding.old }
+    requires good { AllGood scope.project.now scope.limit encoding.old }
     requires before { before < size scope.project.now }
     requires after { after < size scope.project.now }
     requires least { least ≡ shortest scope.project.now before }
-    ensures { IfOk result (λ _. IsSound scope.entry.project.now scope.entry.limit encoding.new) }
+    ensures { IfOk result (λ _. AllGood scope.entry.project.now scope.entry.limit encoding.new) }
 {
     let window = windows.of(after);
     for time in window.first.saturating_sub(1)..window.last.saturating_add(1) {
@@ -158,9 +158,9 @@ pub(crate) fn precedence_section(
     measures: &Measures,
     windows: &Windows,
 ) -> Result<(), AllocError>
-    requires good { IsSound scope.project.now scope.limit encoding.old }
+    requires good { AllGood scope.project.now scope.limit encoding.old }
     requires measures { measures.now ≡ measures_of scope.project.now }
-    ensures { IfOk result (λ _. IsSound scope.entry.project.now scope.entry.limit encoding.new) }
+    ensures { IfOk result (λ _. AllGood scope.entry.project.now scope.entry.limit encoding.new) }
 {
     for after in 0..scope.project.size() {
         for before in 0..after {
@@ -193,9 +193,9 @@ fn run_clauses(
     windows: &Windows,
     activity: usize,
 ) -> Result<(), AllocError>
-    requires good { IsSound scope.project.now scope.limit encoding.old }
+    requires good { AllGood scope.project.now scope.limit encoding.old }
     requires activity { activity < size scope.project.now }
-    ensures { IfOk result (λ _. IsSound scope.entry.project.now scope.entry.limit encoding.new) }
+    ensures { IfOk result (λ _. AllGood scope.entry.project.now scope.entry.limit encoding.new) }
 {
     let window = windows.of(activity);
     for mode in 0..scope.project.mode_count(activity) {
@@ -218,8 +218,8 @@ pub(crate) fn run_section(
     scope: Scope<'_>,
     windows: &Windows,
 ) -> Result<(), AllocError>
-    requires good { IsSound scope.project.now scope.limit encoding.old }
-    ensures { IfOk result (λ _. IsSound scope.entry.project.now scope.entry.limit encoding.new) }
+    requires good { AllGood scope.project.now scope.limit encoding.old }
+    ensures { IfOk result (λ _. AllGood scope.entry.project.now scope.entry.limit encoding.new) }
 {
     for activity in 0..scope.project.size() {
         run_clauses(encoding, scope, windows, activity)?;

@@ -1,5 +1,5 @@
-use Rattle.schedule_clauses.specs.Encoding.{IsSound}
+use Rattle.schedule_clauses.specs.Encoding.{AllGood}
 use Rattle.schedule_clauses.proofs.start_sections.end_clauses.Given as goal
 
 abbrev pub invariant-loop-mode : goal.invariant-loop-mode
-invariant-loop-mode l = IsSound l.scope.project.now l.scope.limit l.encoding
+invariant-loop-mode l = AllGood l.scope.project.now l.scope.limit l.encoding
