@@ -7,7 +7,7 @@
 //!
 //! - `sequence`: `Sequence`, a vector that contracts see as a list.
 //! - `mode`, `activity`, `schedule`: the types with public fields, their copies and their equality.
-//! - `limits`: the tests of the limits, and the rule on successors.
+//! - `limits`: the limits and their tests, the rule on successors, and the horizon.
 //! - `parts`: the lists that a project is made of, which it keeps alone or shares with its copies.
 //! - `project`: `Project`, its readers by place, and `same`.
 //! - `breach`: what a schedule breaks, and its text.
