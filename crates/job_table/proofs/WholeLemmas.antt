@@ -12,10 +12,10 @@ use Rattle.job_table.specs.declared.queue.Links.{Links}
 use Rattle.job_table.specs.declared.queue.Linked.{Linked}
 use Rattle.job_table.specs.declared.queue.Queue.{Queue}
 use Rattle.job_table.proofs.RowLemmas.{one_if}
-use Rattle.job_table.proofs.QueueLemmas.{times, key_is}
+use Rattle.job_table.proofs.QueueLemmas.{at_key, times, key_is}
 use Rattle.job_table.proofs.LinkLemmas.{once_rest, once_first, ahead_none, behind_none}
 use Rattle.job_table.proofs.EntryLemmas.{jobs_lookup}
-use Rattle.job_table.proofs.LineLemmas.{HasLeft, at_key, same_links, line_is, left}
+use Rattle.job_table.proofs.LineLemmas.{HasLeft, same_links, line_is, left}
 use Rattle.job_table.proofs.MapLemmas.{IsUpdate, named_find, key_eq, rows_length, rows_without}
 use Rattle.job_table.proofs.KeptLemmas.{most_kept, not_known}
 use Rattle.job_table.proofs.CountLemmas.{kept_most}
@@ -58,7 +58,6 @@ unchanged t s {es = es} old then table there same is =
 pub record IsWritten {J : Type 0} (t s : ℕ) (then : JobData) (es mid : List ((ℕ × ℕ) × Linked J)) (queue : Queue) : Type 0 where
   pub line : line_of mid queue ≡ line_of es queue
   pub linked : IsLinked mid queue (line_of mid queue)
-  pub there : is_some (links_at t s mid) ≡ true
   pub jobs : IsUpdate t s (Some then) (jobs_in es) (jobs_in mid)
 
 option_case : {X Y : Type 0} (f : X → Y) (b : Bool) (o was : Option X) → option_map f (cond b o was) ≡ cond b (option_map f o) (option_map f was)
@@ -101,7 +100,6 @@ written {t = t} {s = s} {mid = mid} {queue = queue} of =
     record {
       line = line_is mid queue (line_of es queue) now;
       linked = linked_line now;
-      there = ap is_some (same t s) ∙ ap (λ o. is_some (option_map (λ e. e.links) o)) of.found;
       jobs = jobs_update t s (Some (record of.old { job = of.then })) es mid of.written;
     }
 
@@ -144,7 +142,6 @@ come t s job fresh es mid queue linked none is_job bare up =
     record {
       line = line_is mid queue (line_of es queue) now;
       linked = linked_line now;
-      there = ap (λ o. is_some (option_map (λ e. e.links) o)) own;
       jobs = subst (λ j. IsUpdate t s (Some j) (jobs_in es) (jobs_in mid)) is_job (jobs_update t s (Some fresh) es mid up);
     }
   where
