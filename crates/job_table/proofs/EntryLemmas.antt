@@ -1,13 +1,13 @@
 -- The jobs and the links in a map of which an entry was written.
-use Rattle.std.proofs.Common.{◌≡◌, ℕ, Bool, true, false, cond, ◌==◌, List, [], ◌∷◌, Option, Some, None, option_map, refl, sym, ap, ◌∙◌, subst, arith}
+use Rattle.std.proofs.Common.{◌≡◌, ℕ, Bool, true, false, cond, ◌==◌, List, [], ◌∷◌, Option, Some, None, option_map, refl, sym, ap, ◌∙◌, subst}
 use Rattle.std.specs.Map.{lookup, set_value}
 use Rattle.std.proofs.lemmas.Bool.{and_parts, eqb-true}
 use Rattle.std.proofs.lemmas.Map.Steps.{set_value_same}
-use Rattle.std.proofs.lemmas.Bool.Decides.{nat_tests}
 use Rattle.job_table.specs.Table.{is_key}
 use Rattle.job_table.specs.Queue.{jobs_in, links_at, AreRelinked}
 use Rattle.job_table.specs.declared.queue.Links.{Links}
 use Rattle.job_table.specs.declared.queue.Linked.{Linked}
+use Rattle.job_table.proofs.QueueLemmas.{key_sym}
 
 pub jobs_lookup : {J : Type 0} (p : ℕ × ℕ → Bool) (es : List ((ℕ × ℕ) × Linked J)) → lookup p (jobs_in es) ≡ option_map (λ e. e.job) (lookup p es)
 jobs_lookup p [] = refl
@@ -31,8 +31,10 @@ pub jobs_stay : {J : Type 0} (p : ℕ × ℕ → Bool) (es news : List ((ℕ × 
 jobs_stay p es news old w found same is =
     ap jobs_in is ∙ jobs_set p es w ∙ set_value_same p (jobs_in es) w.job (jobs_lookup p es ∙ ap (option_map (λ e. e.job)) found ∙ ap Some (sym same))
 
-pub key_sym : (t s u n : ℕ) → is_key t s (u, n) ≡ is_key u n (t, s)
-key_sym t s u n = grind (arith, nat_tests)
+-- links that are not changed
+same : (o : Option Links) → o ≡ option_map (λ l. l) o
+same None = refl
+same (Some l) = refl
 
 relinked_case : {J : Type 0} (t s u n : ℕ) (change : Links → Links) (es : List ((ℕ × ℕ) × Linked J)) (old w : Linked J) (b : Bool) → is_key t s (u, n) ≡ b → lookup (is_key t s) es ≡ Some old → w.links ≡ change old.links
     → option_map (λ e. e.links) (cond b (Some w) (lookup (is_key u n) es)) ≡ option_map (λ l. cond b (change l) l) (links_at u n es)
@@ -43,10 +45,6 @@ relinked_case t s u n change es old w true e found is =
     let here : lookup (is_key u n) es ≡ Some old = ap (λ v. lookup (is_key v n) es) (sym t_is) ∙ ap (λ m. lookup (is_key t m) es) (sym s_is) ∙ found in
     ap Some is ∙ ap (λ o. option_map change (option_map (λ e. e.links) o)) (sym here)
 relinked_case t s u n change es old w false e found is = same (links_at u n es)
-  where
-    same : (o : Option Links) → o ≡ option_map (λ l. l) o
-    same None = refl
-    same (Some l) = refl
 
 pub relinked : {J : Type 0} (t s : ℕ) (change : Links → Links) (es news : List ((ℕ × ℕ) × Linked J)) (old w : Linked J) → lookup (is_key t s) es ≡ Some old → w.links ≡ change old.links
     → ((u n : ℕ) → lookup (is_key u n) news ≡ cond (is_key t s (u, n)) (Some w) (lookup (is_key u n) es)) → AreRelinked (Some (t, s)) change es news
@@ -63,10 +61,6 @@ absent_case t s u n change es true e gone =
     let none : links_at u n es ≡ None = ap (λ v. links_at v n es) t_is ∙ ap (λ m. links_at t m es) s_is ∙ ap (option_map (λ e. e.links)) gone in
     none ∙ ap (option_map change) (sym none)
 absent_case t s u n change es false e gone = same (links_at u n es)
-  where
-    same : (o : Option Links) → o ≡ option_map (λ l. l) o
-    same None = refl
-    same (Some l) = refl
 
 pub absent : {J : Type 0} (t s : ℕ) (change : Links → Links) (es : List ((ℕ × ℕ) × Linked J)) → lookup (is_key t s) es ≡ None → AreRelinked (Some (t, s)) change es es
 absent t s change es gone u n = absent_case t s u n change es (is_key u n (t, s)) refl gone

@@ -1,28 +1,17 @@
 -- What a table keeps of itself as jobs come, change and go.
-use Rattle.std.proofs.Common.{◌≡◌, ◌==◌, ℕ, ◌+◌, ◌^◌, ◌<◌, ◌≤◌, Bool, true, false, List, length, Some, None, refl, sym, ap, ◌∙◌, subst, arith}
-use Rattle.std.proofs.lemmas.Bool.{and_parts, eqb-true}
+use Rattle.std.proofs.Common.{◌≡◌, ℕ, ◌+◌, ◌^◌, ◌<◌, ◌≤◌, Bool, true, false, List, length, Some, None, refl, sym, ap, ◌∙◌, arith}
 use Rattle.std.proofs.lemmas.Bool.Decides.{nat_tests}
 use Rattle.job_table.specs.Table.{Row, JobData, TableData, is_key, is_waiting, does_wait, find_row, without, waiting_then, add_job, change_job, drop_job, AreApart, AreWaiting}
 use Rattle.job_table.specs.Kept.{IsKept}
 use Rattle.job_table.proofs.RowLemmas.{one_if, count_rows, put_same, put_other, put_length, put_count, drop_same, drop_other, drop_length, drop_count, add_same, add_other, add_length, add_count, found_count, most_rows}
-use Rattle.job_table.proofs.QueueLemmas.{times, out_same, out_other, out_length, out_none, then_same, then_other, then_length}
-
--- a key is another one, or the same
-each_key : (t s : ℕ) (old new : TableData) → AreWaiting old → times t s new.waiting ≡ one_if (does_wait (find_row t s new.rows))
-    → ((u n : ℕ) → is_key u n (t, s) ≡ false → times u n new.waiting ≡ times u n old.waiting) → ((u n : ℕ) → is_key u n (t, s) ≡ false → find_row u n new.rows ≡ find_row u n old.rows)
-    → (u n : ℕ) (b : Bool) → is_key u n (t, s) ≡ b → times u n new.waiting ≡ one_if (does_wait (find_row u n new.rows))
-each_key t s old new before own keys rows u n false e = keys u n e ∙ before u n ∙ ap (λ f. one_if (does_wait f)) (sym (rows u n e))
-each_key t s old new before own keys rows u n true e =
-    let parts = and_parts (u == t) (n == s) e in
-    let t_is : t ≡ u = sym (eqb-true u t parts.0) in
-    let s_is : s ≡ n = sym (eqb-true n s parts.1) in
-    subst (λ m. times u m new.waiting ≡ one_if (does_wait (find_row u m new.rows))) s_is (subst (λ v. times v s new.waiting ≡ one_if (does_wait (find_row v s new.rows))) t_is own)
+use Rattle.job_table.proofs.QueueLemmas.{times, at_key, key_sym, out_same, out_other, out_length, out_none, then_same, then_other, then_length}
 
 -- those who wait, where that is so of one key and nothing has changed for the others
 at_each : (t s : ℕ) (old new : TableData) → AreWaiting old → times t s new.waiting ≡ one_if (does_wait (find_row t s new.rows))
     → ((u n : ℕ) → is_key u n (t, s) ≡ false → times u n new.waiting ≡ times u n old.waiting) → ((u n : ℕ) → is_key u n (t, s) ≡ false → find_row u n new.rows ≡ find_row u n old.rows)
     → AreWaiting new
-at_each t s old new before own keys rows u n = each_key t s old new before own keys rows u n (is_key u n (t, s)) refl
+at_each t s old new before own keys rows u n = at_key t s u n (is_key t s (u, n)) refl (λ v m. times v m new.waiting ≡ one_if (does_wait (find_row v m new.rows))) own
+    (λ e. let other = key_sym u n t s ∙ e in keys u n other ∙ before u n ∙ ap (λ f. one_if (does_wait f)) (sym (rows u n other)))
 
 abbrev waits : Row → Bool
 waits row = is_waiting row.job.phase

@@ -1,7 +1,6 @@
 -- The queue as a job leaves it or comes last, and that its links lead along all that stand in it.
-use Rattle.std.proofs.Common.{◌≡◌, ℕ, ◌-◌, ◌≤◌, Bool, true, false, cond, ◌==◌, List, [], ◌∷◌, ◌++◌, length, Option, Some, None, is_some, option_map, not, refl, sym, ap, ◌∙◌, subst, arith}
+use Rattle.std.proofs.Common.{◌≡◌, ℕ, ◌-◌, ◌≤◌, Bool, true, false, cond, List, [], ◌∷◌, ◌++◌, length, Option, Some, None, is_some, option_map, not, refl, sym, ap, ◌∙◌, subst, arith}
 use mathlib.Core.Bool.{beq}
-use Rattle.std.proofs.lemmas.Bool.{and_parts, eqb-true}
 use Rattle.job_table.specs.Table.{is_key, without, waiting_then, first_of, behind}
 use Rattle.job_table.specs.Queue.{last_of, ahead, is_named}
 use Rattle.job_table.specs.Queue.{links_at, behind_in, along, line_of, links_in, no_links, IsLinked, AreRelinked, with_first, joined, one_gone, one_come, lengthened}
@@ -9,8 +8,7 @@ use Rattle.job_table.specs.declared.queue.Links.{Links}
 use Rattle.job_table.specs.declared.queue.Queue.{Queue}
 use Rattle.job_table.specs.declared.queue.Linked.{Linked}
 use Rattle.job_table.proofs.LinkLemmas.{AreOnce, once_rest, once_first, behind_none, ahead_none, first_not, behind_without, ahead_without, first_out, last_out, first_push, last_push, last_not, behind_push, behind_pushed, ahead_push, ahead_pushed}
-use Rattle.job_table.proofs.QueueLemmas.{times, times_first, key_is, out_same, out_other, out_length, push_same, push_other, push_length}
-use Rattle.job_table.proofs.EntryLemmas.{key_sym}
+use Rattle.job_table.proofs.QueueLemmas.{at_key, key_sym, times, times_first, key_is, out_same, out_other, out_length, push_same, push_other, push_length}
 
 -- the keys along the links, where these name the neighbours
 walk : {J : Type 0} (es : List ((ℕ × ℕ) × Linked J)) (keys : List (ℕ × ℕ)) → AreOnce keys → ((u n : ℕ) → times u n keys ≡ 1 → behind_in (links_at u n es) ≡ behind u n keys) → along (length keys) (first_of keys) es ≡ keys
@@ -46,13 +44,6 @@ pub line_is : {J : Type 0} (es : List ((ℕ × ℕ) × Linked J)) (queue : Queue
 line_is es queue keys linked =
     ap (λ n. along n queue.first es) linked.len ∙ ap (λ o. along (length keys) o es) linked.first
     ∙ walk es keys linked.once (λ u n here. let has = has_links (links_at u n es) (linked.there u n here) in ap behind_in has.is ∙ ap (λ (l : Links). l.behind) (linked.links u n has.links has.is))
-
--- another key, or the same
-pub at_key : (t s u n : ℕ) (b : Bool) → is_key t s (u, n) ≡ b → (P : ℕ → ℕ → Type 0) → P t s → (is_key t s (u, n) ≡ false → P u n) → P u n
-at_key t s u n true e P own other =
-    let parts = and_parts (t == u) (s == n) e in
-    subst (λ m. P u m) (eqb-true s n parts.1) (subst (λ v. P v s) (eqb-true t u parts.0) own)
-at_key t s u n false e P own other = other e
 
 pub same_links : (a b : Links) → a.before ≡ b.before → a.behind ≡ b.behind → a ≡ b
 same_links a b p q = ap (λ o. let l : Links = record { before = o; behind = a.behind } in l) p ∙ ap (λ o. let l : Links = record { before = b.before; behind = o } in l) q

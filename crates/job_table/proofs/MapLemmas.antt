@@ -100,13 +100,10 @@ rows_add t job es new named none up =
     (λ u n. named_find u n new news ∙ up u n ∙ find_both t job.seq u n (is_key t job.seq (u, n)) refl (add_row row rows) (Some job) (lookup (is_key u n) es) (add_same row rows none)
     (λ e. add_other u n row rows (other_row u n t job.seq e) ∙ named_find u n es named))
 
-none_dropped : (t s : ℕ) (rows : List Row) → find_row t s rows ≡ None → drop_row t s rows ≡ rows
-none_dropped t s [] none = refl
-none_dropped t s (row ∷ rows) none = grind (arith, none_dropped t s rows)
-
 -- a map without a key is as it was without it
 pub rows_without : (t s : ℕ) (rows : List Row) → find_row t s rows ≡ None → drop_row t s rows ≡ rows
-rows_without t s rows none = none_dropped t s rows none
+rows_without t s [] none = refl
+rows_without t s (row ∷ rows) none = grind (arith, rows_without t s rows)
 
 none_lookup : (t s : ℕ) (es : Jobs) → AllByRecursion (λ (y : ℕ × ℕ). is_key t s y ≡ false) (keys_of es) → lookup (is_key t s) es ≡ None
 none_lookup t s [] all = refl
@@ -123,6 +120,6 @@ rows_length (e ∷ es) distinct =
     let s = e.0.1 in
     let gone : lookup (is_key t s) es ≡ None = none_lookup t s es (IsDistinct-head key_eq e.0 (keys_of es) distinct) in
     let none : find_row t s (rows_of es) ≡ None = rows_find t s es ∙ ap (option_map (under s)) gone in
-    let same = none_dropped t s (rows_of es) none in
+    let same = rows_without t s (rows_of es) none in
     let more = rows_length es (IsDistinct-tail key_eq e.0 (keys_of es) distinct) in
     omega (arith, add_length (row_of e) (drop_row t s (rows_of es)), ap length same, more)

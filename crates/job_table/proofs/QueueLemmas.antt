@@ -1,5 +1,6 @@
 -- How often a key stands among those who wait once a job has changed.
-use Rattle.std.proofs.Common.{◌≡◌, ℕ, ◌+◌, ◌<◌, Bool, true, false, List, [], ◌∷◌, ◌++◌, filter, length, refl, arith}
+use Rattle.std.proofs.Common.{◌≡◌, ℕ, ◌+◌, ◌<◌, Bool, true, false, List, [], ◌∷◌, ◌++◌, filter, length, ◌==◌, refl, subst, arith}
+use Rattle.std.proofs.lemmas.Bool.{and_parts, eqb-true}
 use Rattle.std.proofs.lemmas.Bool.Decides.{nat_tests}
 use Rattle.job_table.specs.Table.{is_key, without, waiting_then}
 use Rattle.job_table.proofs.RowLemmas.{one_if}
@@ -11,6 +12,16 @@ times t s keys = length (filter (is_key t s) keys)
 pub times_first : (t s : ℕ) (key : ℕ × ℕ) (keys : List (ℕ × ℕ)) (b : Bool) → is_key t s key ≡ b → times t s (key ∷ keys) ≡ times t s keys + one_if b
 times_first t s key keys true e = grind arith
 times_first t s key keys false e = grind arith
+
+pub key_sym : (t s u n : ℕ) → is_key t s (u, n) ≡ is_key u n (t, s)
+key_sym t s u n = grind (arith, nat_tests)
+
+-- another key, or the same
+pub at_key : (t s u n : ℕ) (b : Bool) → is_key t s (u, n) ≡ b → (P : ℕ → ℕ → Type 0) → P t s → (is_key t s (u, n) ≡ false → P u n) → P u n
+at_key t s u n true e P own other =
+    let parts = and_parts (t == u) (s == n) e in
+    subst (λ m. P u m) (eqb-true s n parts.1) (subst (λ v. P v s) (eqb-true t u parts.0) own)
+at_key t s u n false e P own other = other e
 
 pub key_is : (t s : ℕ) → is_key t s (t, s) ≡ true
 key_is t s = grind (arith, nat_tests)

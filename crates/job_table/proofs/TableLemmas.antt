@@ -54,16 +54,16 @@ counts_by jobs = record { kept = length jobs; out = length (filter (λ (job : Jo
 abbrev pub Recounts : ℕ → Counts → List (ℕ × Counts) → List (ℕ × Counts) → Type 0
 Recounts t new olds news = (u : ℕ) → counted (lookup (nat_eq u) news) ≡ cond (nat_eq t u) new (counted (lookup (nat_eq u) olds))
 
--- a table in which a job has become another
-pub record IsChange (t s : ℕ) (job then : JobData) (old new : TableData) (jobs : Jobs) (counts : List (ℕ × Counts)) : Type 0 where
+-- a table that is another one now, with these jobs and counts
+pub record IsNow (after new : TableData) (jobs : Jobs) (counts : List (ℕ × Counts)) : Type 0 where
   pub held : IsHeld jobs counts new.waiting
-  pub after : new ≡ change_job t s job then old
+  pub is : new ≡ after
 
 pub change_in : (t s : ℕ) (job then : JobData) (jobs news : Jobs) (counts recounts : List (ℕ × Counts)) (waiting keys : List (ℕ × ℕ)) → IsHeld jobs counts waiting
     → lookup (is_key t s) jobs ≡ Some job → then.seq ≡ job.seq → IsUpdate t s (Some then) jobs news
     → Recounts t (moved (is_out job.phase) (is_out then.phase) (counted (lookup (nat_eq t) counts))) counts recounts
     → keys ≡ waiting_then t s (is_waiting job.phase) (is_waiting then.phase) waiting
-    → IsChange t s job then (table_of jobs waiting) (table_of news keys) news recounts
+    → IsNow (change_job t s job then (table_of jobs waiting)) (table_of news keys) news recounts
 change_in t s job then jobs news counts recounts waiting keys held there seq up count queue =
     let it = found_in t s job jobs counts waiting held there in
     let rows = rows_of jobs in
@@ -83,17 +83,12 @@ change_in t s job then jobs news counts recounts waiting keys held there seq up 
         counted = subst (AreCounted recounts) (sym rows_are) counts_are;
         kept = subst IsKept (sym after) (changed t s job then (table_of jobs waiting) held.kept it.found named);
       };
-      after = after;
+      is = after;
     }
-
--- a table from which a job is gone
-pub record IsDrop (t s : ℕ) (old new : TableData) (jobs : Jobs) (counts : List (ℕ × Counts)) : Type 0 where
-  pub held : IsHeld jobs counts new.waiting
-  pub after : new ≡ drop_job t s old
 
 pub drop_in : (t s : ℕ) (job : JobData) (jobs news : Jobs) (counts recounts : List (ℕ × Counts)) (waiting keys : List (ℕ × ℕ)) → IsHeld jobs counts waiting
     → lookup (is_key t s) jobs ≡ Some job → IsUpdate t s None jobs news → Recounts t (one_less (is_out job.phase) (counted (lookup (nat_eq t) counts))) counts recounts
-    → keys ≡ waiting_then t s (is_waiting job.phase) false waiting → IsDrop t s (table_of jobs waiting) (table_of news keys) news recounts
+    → keys ≡ waiting_then t s (is_waiting job.phase) false waiting → IsNow (drop_job t s (table_of jobs waiting)) (table_of news keys) news recounts
 drop_in t s job jobs news counts recounts waiting keys held there up count queue =
     let it = found_in t s job jobs counts waiting held there in
     let rows = rows_of jobs in
@@ -111,18 +106,13 @@ drop_in t s job jobs news counts recounts waiting keys held there up count queue
         counted = subst (AreCounted recounts) (sym rows_are) counts_are;
         kept = subst IsKept (sym after) (dropped t s job (table_of jobs waiting) held.kept (order_apart rows (rows_order jobs)) it.found);
       };
-      after = after;
+      is = after;
     }
-
--- a table with a job more
-pub record IsAdd (t : ℕ) (job : JobData) (old new : TableData) (jobs : Jobs) (counts : List (ℕ × Counts)) : Type 0 where
-  pub held : IsHeld jobs counts new.waiting
-  pub after : new ≡ add_job t job old
 
 pub add_in : (t : ℕ) (job : JobData) (jobs news : Jobs) (counts recounts : List (ℕ × Counts)) (waiting keys : List (ℕ × ℕ)) → IsHeld jobs counts waiting
     → find_row t job.seq (rows_of jobs) ≡ None → length (rows_of jobs) + 1 ≤ 2 ^ 63 → IsUpdate t job.seq (Some job) jobs news
     → Recounts t (one_more (is_out job.phase) (counted (lookup (nat_eq t) counts))) counts recounts → keys ≡ waiting_then t job.seq false (is_waiting job.phase) waiting
-    → IsAdd t job (table_of jobs waiting) (table_of news keys) news recounts
+    → IsNow (add_job t job (table_of jobs waiting)) (table_of news keys) news recounts
 add_in t job jobs news counts recounts waiting keys held none room up count queue =
     let rows = rows_of jobs in
     let row : Row = record { tenant = t; job = job } in
@@ -138,7 +128,7 @@ add_in t job jobs news counts recounts waiting keys held none room up count queu
         counted = subst (AreCounted recounts) (sym rows_are) counts_are;
         kept = subst IsKept (sym after) (added t job (table_of jobs waiting) held.kept none room);
       };
-      after = after;
+      is = after;
     }
 
 -- the same table, with the same counts kept elsewhere

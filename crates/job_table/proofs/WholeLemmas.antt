@@ -12,17 +12,17 @@ use Rattle.job_table.specs.declared.queue.Links.{Links}
 use Rattle.job_table.specs.declared.queue.Linked.{Linked}
 use Rattle.job_table.specs.declared.queue.Queue.{Queue}
 use Rattle.job_table.proofs.RowLemmas.{one_if}
-use Rattle.job_table.proofs.QueueLemmas.{times, key_is}
+use Rattle.job_table.proofs.QueueLemmas.{at_key, times, key_is}
 use Rattle.job_table.proofs.LinkLemmas.{once_rest, once_first, ahead_none, behind_none}
 use Rattle.job_table.proofs.EntryLemmas.{jobs_lookup}
-use Rattle.job_table.proofs.LineLemmas.{HasLeft, at_key, same_links, line_is, left}
+use Rattle.job_table.proofs.LineLemmas.{HasLeft, same_links, line_is, left}
 use Rattle.job_table.proofs.MapLemmas.{IsUpdate, named_find, key_eq, rows_length, rows_without}
 use Rattle.job_table.proofs.KeptLemmas.{most_kept, not_known}
 use Rattle.job_table.proofs.CountLemmas.{kept_most}
 use Rattle.job_table.proofs.WaitingLemmas.{stands}
-use Rattle.job_table.proofs.TableLemmas.{table_of, found_in, IsFound, change_in, IsChange, drop_in, IsDrop, add_in, IsAdd, Recounts, recounts_as, begun, same_table}
+use Rattle.job_table.proofs.TableLemmas.{table_of, found_in, IsFound, change_in, drop_in, add_in, IsNow, Recounts, recounts_as, begun, same_table}
 
-pub job_there : {J : Type 0} (t s : ℕ) (es : List ((ℕ × ℕ) × Linked J)) (o : Option (Linked J)) → lookup (is_key t s) es ≡ o → lookup (is_key t s) (jobs_in es) ≡ option_map (λ e. e.job) o
+job_there : {J : Type 0} (t s : ℕ) (es : List ((ℕ × ℕ) × Linked J)) (o : Option (Linked J)) → lookup (is_key t s) es ≡ o → lookup (is_key t s) (jobs_in es) ≡ option_map (λ e. e.job) o
 job_there t s es o there = jobs_lookup (is_key t s) es ∙ ap (option_map (λ e. e.job)) there
 
 -- what a job that is found in the map is in the table
@@ -58,7 +58,6 @@ unchanged t s {es = es} old then table there same is =
 pub record IsWritten {J : Type 0} (t s : ℕ) (then : JobData) (es mid : List ((ℕ × ℕ) × Linked J)) (queue : Queue) : Type 0 where
   pub line : line_of mid queue ≡ line_of es queue
   pub linked : IsLinked mid queue (line_of mid queue)
-  pub there : is_some (links_at t s mid) ≡ true
   pub jobs : IsUpdate t s (Some then) (jobs_in es) (jobs_in mid)
 
 option_case : {X Y : Type 0} (f : X → Y) (b : Bool) (o was : Option X) → option_map f (cond b o was) ≡ cond b (option_map f o) (option_map f was)
@@ -70,8 +69,8 @@ jobs_update : {J : Type 0} (t s : ℕ) (o : Option (Linked J)) (es news : List (
 jobs_update {J = J} t s o es news up u n =
     job_there u n news (cond (is_key t s (u, n)) o (lookup (is_key u n) es)) (up u n) ∙ option_case (λ (e : Linked J). e.job) (is_key t s (u, n)) o (lookup (is_key u n) es) ∙ ap (cond (is_key t s (u, n)) (option_map (λ e. e.job) o)) (sym (jobs_lookup (is_key u n) es))
 
-linked_line : {J : Type 0} (es mid : List ((ℕ × ℕ) × Linked J)) (queue : Queue) (keys : List (ℕ × ℕ)) → IsLinked mid queue keys → IsLinked mid queue (line_of mid queue)
-linked_line es mid queue keys linked = subst (IsLinked mid queue) (sym (line_is mid queue keys linked)) linked
+linked_line : {J : Type 0} {mid : List ((ℕ × ℕ) × Linked J)} {queue : Queue} {keys : List (ℕ × ℕ)} → IsLinked mid queue keys → IsLinked mid queue (line_of mid queue)
+linked_line {mid = mid} {queue = queue} {keys = keys} linked = subst (IsLinked mid queue) (sym (line_is mid queue keys linked)) linked
 
 links_case : {J : Type 0} (old : Linked J) (then : JobData) (b : Bool) (was : Option (Linked J)) → was ≡ Some old → option_map (λ e. e.links) (cond b (Some (record old { job = then })) was) ≡ option_map (λ e. e.links) was
 links_case old then true was is = ap (option_map (λ e. e.links)) (sym is)
@@ -100,8 +99,7 @@ written {t = t} {s = s} {mid = mid} {queue = queue} of =
     let now : IsLinked mid queue (line_of es queue) = linked_same es mid queue (line_of es queue) of.table.linked same in
     record {
       line = line_is mid queue (line_of es queue) now;
-      linked = linked_line es mid queue (line_of es queue) now;
-      there = ap is_some (same t s) ∙ ap (λ o. is_some (option_map (λ e. e.links) o)) of.found;
+      linked = linked_line now;
       jobs = jobs_update t s (Some (record of.old { job = of.then })) es mid of.written;
     }
 
@@ -115,7 +113,7 @@ pub changing_found : {J : Type 0} {t s : ℕ} {was is : Phase} {mid : List ((ℕ
 changing_found {t = t} {s = s} of = found_whole t s of.old of.table (sym of.found)
 
 -- a queue in which a job does not stand, where that has come or is gone
-pub kept_without : {J : Type 0} (t s : ℕ) (es mid : List ((ℕ × ℕ) × Linked J)) (queue : Queue) (keys : List (ℕ × ℕ)) → IsLinked es queue keys → times t s keys ≡ 0 → HasLeft t s es mid → IsLinked mid queue keys
+kept_without : {J : Type 0} (t s : ℕ) (es mid : List ((ℕ × ℕ) × Linked J)) (queue : Queue) (keys : List (ℕ × ℕ)) → IsLinked es queue keys → times t s keys ≡ 0 → HasLeft t s es mid → IsLinked mid queue keys
 kept_without t s es mid queue keys linked none gone = record {
   first = linked.first;
   last = linked.last;
@@ -135,7 +133,7 @@ others_stay t s o es mid up u n e = ap (option_map (λ e. e.links)) (up u n ∙ 
 own_entry : {J : Type 0} (t s : ℕ) (o : Option (Linked J)) (es mid : List ((ℕ × ℕ) × Linked J)) → ((u n : ℕ) → lookup (is_key u n) mid ≡ cond (is_key t s (u, n)) o (lookup (is_key u n) es)) → lookup (is_key t s) mid ≡ o
 own_entry t s o es mid up = up t s ∙ ap (λ b. cond b o (lookup (is_key t s) es)) (key_is t s)
 
-pub come : {J : Type 0} (t s : ℕ) (job : JobData) (fresh : Linked J) (es mid : List ((ℕ × ℕ) × Linked J)) (queue : Queue) → IsLinked es queue (line_of es queue) → times t s (line_of es queue) ≡ 0 → fresh.job ≡ job → fresh.links ≡ no_links
+come : {J : Type 0} (t s : ℕ) (job : JobData) (fresh : Linked J) (es mid : List ((ℕ × ℕ) × Linked J)) (queue : Queue) → IsLinked es queue (line_of es queue) → times t s (line_of es queue) ≡ 0 → fresh.job ≡ job → fresh.links ≡ no_links
     → ((u n : ℕ) → lookup (is_key u n) mid ≡ cond (is_key t s (u, n)) (Some fresh) (lookup (is_key u n) es)) → IsWritten t s job es mid queue
 come t s job fresh es mid queue linked none is_job bare up =
     let own = own_entry t s (Some fresh) es mid up in
@@ -143,25 +141,24 @@ come t s job fresh es mid queue linked none is_job bare up =
     kept_without t s es mid queue (line_of es queue) linked none (record { own = λ l is. bare_links fresh l bare (sym (ap (option_map (λ e. e.links)) own) ∙ is); others = others_stay t s (Some fresh) es mid up }) in
     record {
       line = line_is mid queue (line_of es queue) now;
-      linked = linked_line es mid queue (line_of es queue) now;
-      there = ap (λ o. is_some (option_map (λ e. e.links) o)) own;
+      linked = linked_line now;
       jobs = subst (λ j. IsUpdate t s (Some j) (jobs_in es) (jobs_in mid)) is_job (jobs_update t s (Some fresh) es mid up);
     }
   where
     bare_links : {J : Type 0} (fresh : Linked J) (l : Links) → fresh.links ≡ no_links → Some fresh.links ≡ Some l → l ≡ no_links
     bare_links fresh l bare is = let same : fresh.links ≡ l = cc in sym same ∙ bare
 
-pub gone_out : {J : Type 0} (t s : ℕ) (es mid : List ((ℕ × ℕ) × Linked J)) → ((u n : ℕ) → lookup (is_key u n) mid ≡ cond (is_key t s (u, n)) None (lookup (is_key u n) es)) → HasLeft t s es mid
+gone_out : {J : Type 0} (t s : ℕ) (es mid : List ((ℕ × ℕ) × Linked J)) → ((u n : ℕ) → lookup (is_key u n) mid ≡ cond (is_key t s (u, n)) None (lookup (is_key u n) es)) → HasLeft t s es mid
 gone_out t s es mid up = record {
   own = λ l is. let none : links_at t s mid ≡ None = ap (option_map (λ e. e.links)) (own_entry t s None es mid up) in absurd (cc);
   others = others_stay t s None es mid up;
 }
 
-after_as : {J : Type 0} (after : TableData) (mid news : List ((ℕ × ℕ) × Linked J)) (counts : List (ℕ × Counts)) (new : Queue) → jobs_in news ≡ jobs_in mid → IsHeld (jobs_in mid) counts (line_of news new)
-    → IsLinked news new (line_of news new) → table_of (jobs_in mid) (line_of news new) ≡ after → IsAfter after news counts new
-after_as after mid news counts new same held linked is = record {
-  table = record { held = subst (λ js. IsHeld js counts (line_of news new)) (sym same) held; linked = linked };
-  is = ap (λ js. table_of js (line_of news new)) same ∙ is;
+after_as : {J : Type 0} (mid : List ((ℕ × ℕ) × Linked J)) {after : TableData} {news : List ((ℕ × ℕ) × Linked J)} {counts : List (ℕ × Counts)} {new : Queue} {keys : List (ℕ × ℕ)} → IsLinked news new keys → jobs_in news ≡ jobs_in mid
+    → IsNow after (table_of (jobs_in mid) (line_of news new)) (jobs_in mid) counts → IsAfter after news counts new
+after_as mid {news = news} {counts = counts} {new = new} linked same now = record {
+  table = record { held = subst (λ js. IsHeld js counts (line_of news new)) (sym same) now.held; linked = linked_line linked };
+  is = ap (λ js. table_of js (line_of news new)) same ∙ now.is;
 }
 
 pub changed_whole : {J : Type 0} (t s : ℕ) (was is : Phase) (mid news : List ((ℕ × ℕ) × Linked J)) (queue new : Queue) (counts recounts : List (ℕ × Counts)) (a b x y : Bool) (of : IsChanging t s was is mid counts queue)
@@ -175,10 +172,8 @@ changed_whole t s was is mid news queue new counts recounts a b x y of a_is b_is
     let keys : line_of news new ≡ waiting_then t s (is_waiting old.phase) (is_waiting then.phase) (line_of es queue) =
     line_is news new (waiting_then t s x y (line_of mid queue)) linked ∙ ap (waiting_then t s x y) done.line
     ∙ ap (λ b. waiting_then t s b y (line_of es queue)) (x_is ∙ ap is_waiting (sym of.stood)) ∙ ap (λ b. waiting_then t s (is_waiting old.phase) b (line_of es queue)) (y_is ∙ ap is_waiting (sym of.stands)) in
-    let change : IsChange t s old then (table_of (jobs_in es) (line_of es queue)) (table_of (jobs_in mid) (line_of news new)) (jobs_in mid) recounts =
-    change_in t s old then (jobs_in es) (jobs_in mid) counts recounts (line_of es queue) (line_of news new) of.table.held (job_there t s es (Some of.old) of.found) of.named done.jobs
-    (recounts_as t a b (is_out old.phase) (is_out then.phase) counts recounts (a_is ∙ ap is_out (sym of.stood)) (b_is ∙ ap is_out (sym of.stands)) count) keys in
-    after_as (change_job t s old then (whole es queue)) mid news recounts new same change.held (linked_line es news new (waiting_then t s x y (line_of mid queue)) linked) change.after
+    after_as mid linked same (change_in t s old then (jobs_in es) (jobs_in mid) counts recounts (line_of es queue) (line_of news new) of.table.held (job_there t s es (Some of.old) of.found) of.named done.jobs
+    (recounts_as t a b (is_out old.phase) (is_out then.phase) counts recounts (a_is ∙ ap is_out (sym of.stood)) (b_is ∙ ap is_out (sym of.stands)) count) keys)
 
 -- a job has come into the map, while the counts and the queue are those from before
 pub record IsComing {J : Type 0} (t s : ℕ) (job : JobData) (es mid : List ((ℕ × ℕ) × Linked J)) (counts : List (ℕ × Counts)) (queue : Queue) : Type 0 where
@@ -218,9 +213,7 @@ added_whole t s job es mid news queue new counts recounts a x of named a_is x_is
     let keys : line_of news new ≡ waiting_then t job.seq false (is_waiting job.phase) (line_of es queue) =
     line_is news new (waiting_then t s false x (line_of mid queue)) linked ∙ ap (λ n. waiting_then t n false x (line_of mid queue)) named ∙ ap (waiting_then t job.seq false x) of.done.line ∙ ap (λ b. waiting_then t job.seq false b (line_of es queue)) x_is in
     let told = subst (λ b. Recounts t (one_more b (counted (lookup (nat_eq t) counts))) counts recounts) a_is count in
-    let add : IsAdd t job (table_of (jobs_in es) (line_of es queue)) (table_of (jobs_in mid) (line_of news new)) (jobs_in mid) recounts =
-    add_in t job (jobs_in es) (jobs_in mid) counts recounts (line_of es queue) (line_of news new) of.held of.none of.room of.done.jobs told keys in
-    after_as (add_job t job (whole es queue)) mid news recounts new same add.held (linked_line es news new (waiting_then t s false x (line_of mid queue)) linked) add.after
+    after_as mid linked same (add_in t job (jobs_in es) (jobs_in mid) counts recounts (line_of es queue) (line_of news new) of.held of.none of.room of.done.jobs told keys)
 
 -- nothing lies where no row is
 pub never_there : {J : Type 0} (t s n : ℕ) {es : List ((ℕ × ℕ) × Linked J)} {queue : Queue} {counts : List (ℕ × Counts)} {table : TableData} {o : Option (Linked J)} {other : Linked J} → IsTable es counts queue → whole es queue ≡ table
@@ -234,9 +227,7 @@ dropped_whole : {J : Type 0} (t s : ℕ) (old : Linked J) (es mid news : List ((
 dropped_whole t s old es mid news queue new counts recounts a table there up a_is count same x x_is linked =
     let told = subst (λ b. Recounts t (one_less b (counted (lookup (nat_eq t) counts))) counts recounts) a_is count in
     let keys = line_is news new (waiting_then t s x false (line_of es queue)) linked ∙ ap (λ b. waiting_then t s b false (line_of es queue)) x_is in
-    let drop : IsDrop t s (table_of (jobs_in es) (line_of es queue)) (table_of (jobs_in mid) (line_of news new)) (jobs_in mid) recounts =
-    drop_in t s old.job (jobs_in es) (jobs_in mid) counts recounts (line_of es queue) (line_of news new) table.held (job_there t s es (Some old) (sym there)) (jobs_update t s None es mid up) told keys in
-    after_as (drop_job t s (whole es queue)) mid news recounts new same drop.held (linked_line es news new (waiting_then t s x false (line_of es queue)) linked) drop.after
+    after_as mid linked same (drop_in t s old.job (jobs_in es) (jobs_in mid) counts recounts (line_of es queue) (line_of news new) table.held (job_there t s es (Some old) (sym there)) (jobs_update t s None es mid up) told keys)
 
 -- a job that did not wait, and one that did and was taken out of the queue
 pub dropped_idle : {J : Type 0} (t s : ℕ) (old : Linked J) {es mid : List ((ℕ × ℕ) × Linked J)} {queue : Queue} {counts recounts : List (ℕ × Counts)} {a : Bool} → IsTable es counts queue → Some old ≡ lookup (is_key t s) es

@@ -67,13 +67,15 @@ abbrev pub whole : {J : Type 0} → List ((ℕ × ℕ) × Linked J) → Queue �
 whole entries queue = record { rows = rows_of (jobs_in entries); waiting = line_of entries queue }
 
 -- in the map a tenant's job has gone from a phase to another, while the counts and the queue are those from before
-pub record IsChanging {J : Type 0} (t s : ℕ) (was is : Phase) (entries : List ((ℕ × ℕ) × Linked J)) (counts : List (ℕ × Counts)) (queue : Queue) : Type 0 where
+pub record IsChanging {J : Type 0} (t s : ℕ) (was is : Phase) (entries : List ((ℕ × ℕ) × Linked J))
+    (counts : List (ℕ × Counts)) (queue : Queue) : Type 0 where
   pub before : List ((ℕ × ℕ) × Linked J)
   pub old : Linked J
   pub then : JobData
   pub table : IsTable before counts queue
   pub found : lookup (is_key t s) before ≡ Some old
-  pub written : (u n : ℕ) → lookup (is_key u n) entries ≡ cond (is_key t s (u, n)) (Some (record old { job = then })) (lookup (is_key u n) before)
+  pub written : (u n : ℕ) → lookup (is_key u n) entries
+      ≡ cond (is_key t s (u, n)) (Some (record old { job = then })) (lookup (is_key u n) before)
   pub named : then.seq ≡ old.job.seq
   pub stood : old.job.phase ≡ was
   pub stands : then.phase ≡ is
