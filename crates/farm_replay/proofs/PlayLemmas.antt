@@ -291,19 +291,6 @@ asked_takes config most old new (Err (Syntax w)) t who what is h = absurd (cc)
 asked_takes config most old new (Err (File w why)) t who what is h = absurd (cc)
 asked_takes config most old new (Err (NoMemory w)) t who what is h = absurd (cc)
 
-pub asked_known : (config : ConfigData) (answer : Result Request LineFault) (t : ℕ) (who : List ℕ) (what : What) → heard.Asked t who what ≡ heard_of config answer → tenant_number who config ≡ Some t
-asked_known config (Ok request) t who what is = known (tenant_number request.who config) refl is
-  where
-    known : (n : Option ℕ) → tenant_number request.who config ≡ n → heard.Asked t who what ≡ heard_for request.who request.what n → tenant_number who config ≡ Some t
-    known None at h = absurd (cc)
-    known (Some n) at h = let a : request.who ≡ who = cc in let d : n ≡ t = cc in ap (λ w. tenant_number w config) (sym a) ∙ at ∙ ap (λ k. Some k) d
-asked_known config (Err Eof) t who what is = absurd (cc)
-asked_known config (Err Read) t who what is = absurd (cc)
-asked_known config (Err (TooLong w)) t who what is = absurd (cc)
-asked_known config (Err (Syntax w)) t who what is = absurd (cc)
-asked_known config (Err (File w why)) t who what is = absurd (cc)
-asked_known config (Err (NoMemory w)) t who what is = absurd (cc)
-
 over_takes : EachInTurn → (config : ConfigData) (most : ℕ) (old new : Option (List ℕ)) (answer : Result Request LineFault) → heard.Over ≡ heard_of config answer → Takes most None old new answer
     → Goes old new (λ ys zs. requests_of ys ≡ [])
 over_takes turns config most old new (Ok request) is h = absurd (nowhere (tenant_number request.who config) is)

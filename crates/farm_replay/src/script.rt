@@ -1,5 +1,5 @@
 //! Scripts of requests, run one after another on a farm of one thread.
-ghost use Rattle.std.specs.Prelude.{◌≡◌, [], true, length, map, IfSome, IfErr, OnOk, OnErr};
+ghost use Rattle.std.specs.Prelude.{◌≡◌, [], true, IfSome, IfErr, OnOk, OnErr};
 ghost use Rattle.farm_core.specs.World.{opened};
 ghost use Rattle.session_lines.specs.Known.{Writes};
 ghost use Rattle.session_lines.specs.ReplyText.{reply_line};

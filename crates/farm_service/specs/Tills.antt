@@ -1,10 +1,10 @@
 -- The tills of a service's purses, and how it ends.
-use Rattle.std.specs.Prelude.{◌≡◌, ℕ, List, map, None}
+use Rattle.std.specs.Prelude.{◌≡◌, List, map, None}
 use Rattle.quanta_till.specs.Desk.{DeskValue}
 use Rattle.quanta_till.specs.Till.{TillValue}
 use Rattle.farm_core.specs.Config.{ConfigData}
-use Rattle.farm_core.specs.World.{World, purse_in}
-use Rattle.farm_core.specs.Tills.{opening_of, opening_for, AreTillsOf, AreSeated}
+use Rattle.farm_core.specs.World.{World}
+use Rattle.farm_core.specs.Tills.{AreTillsOf, AreSeated}
 use Rattle.farm_pool.specs.Settle.{books_of, words_at, AreLoaded, first_unsettled}
 use Rattle.farm_pool.specs.Worked.{PoolView, IsClosed}
 

@@ -1,12 +1,11 @@
-use Rattle.std.proofs.Common.{◌≡◌, ◌<◌, length, get_or, refl, map, arith, sym, ap, ◌∙◌, subst}
+use Rattle.std.proofs.Common.{◌≡◌, ◌<◌, refl, map, arith, sym, ap, ◌∙◌, subst}
 use Rattle.farm_core.proofs.TillLemmas.{tills_length}
 use Rattle.farm_session.proofs.TillLemmas.{own_till, kept_tills}
-use Rattle.farm_replay.proofs.NumberLemmas.{known_number}
 use Rattle.farm_core.specs.World.{purse_in, opened}
 use Rattle.farm_core.specs.Tills.{opening_of, opening_for}
 use Rattle.farm_replay.specs.Floor.{IsFloor}
 use Rattle.farm_replay.specs.Reader.{script_rest}
-use Rattle.farm_replay.proofs.PlayLemmas.{Played, begun, play_begins, settled_on, settled_cut, asked_known, asked_on, asked_cut, asked_unsent, played_sent, play_over, play_broken, play_written, play_cut}
+use Rattle.farm_replay.proofs.PlayLemmas.{Played, begun, play_begins, settled_on, settled_cut, asked_on, asked_cut, asked_unsent, played_sent, play_over, play_broken, play_written, play_cut}
 use Rattle.farm_replay.proofs.script.play.Goals as goal
 use Rattle.farm_replay.proofs.script.play.Goals.{in-Told+in_default, in-Asked+in_default-send_before_nodes+in_default-tell}
 
@@ -82,7 +81,7 @@ loop-answered-preserved g c =
             (w.branches-is
             ∙ kept_tills c.loop-answered.branches w.purse_of-purse.result w.index-branches-purse.result w.answer-said.new.branch
             (subst (λ n. w.purse_of-purse.result < n) (sym (tills_length c.args.config.now c.loop-answered.branches inv.1)) w.purse_of-purse.ensures.known)
-            w.index-branches-purse.is w.answer-said.ensures.kept)
+            w.index-branches-purse.is (w.answer-said.ensures.kept ∙ sym w.index-branches-purse.is))
             ∙ inv.1,
         subst (λ x. IsFloor g.J.Strategy.meaning x.farm x.held.items) (sym w.floor-is) w.answer-said.ensures.floor,
         rw (w.floor-is, w.writer-is)
