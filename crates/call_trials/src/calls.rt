@@ -5,6 +5,7 @@ ghost use Rattle.turn_lock.specs.Values.{IsPassOf};
 use crate::made::Ready;
 use farm_core::{Name, Reply};
 use farm_pool::{Command, Gate, Pool, PoolPass};
+use io_watch::Watch;
 use session_lines::{Said, write_reply};
 use std::alloc::Global;
 use std::process::Abort;
@@ -58,7 +59,8 @@ impl Gate for Open {
 pub(crate) fn text_of(rt: &impl Abort, alloc: Global, reply: Reply) -> Vec<u8> {
     let mut text = Vec::new(alloc);
     assert!(rt; text.reserve(256).is_ok(), "no memory");
-    let written = write_reply(&mut text, Name::new(b"a"), &Said::Reply(reply));
+    let said = Said::Reply(reply);
+    let written = write_reply(&mut text, &mut Watch::new(), Name::new(b"a"), &said);
     assert!(rt; written.is_ok(), "a line of 256 bytes");
     text
 }

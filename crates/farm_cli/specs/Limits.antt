@@ -1,5 +1,5 @@
 -- The limits of a project and of a farm, in figures. Elsewhere definitions and clauses name each by the constant of the code.
-use Rattle.std.specs.Prelude.{◌≡◌, ◌≤◌, ℕ, List, length, Option, Some, None, nat_le, nat_lt, ◌&&◌, if◌then◌else◌}
+use Rattle.std.specs.Prelude.{◌≡◌, ◌≤◌, ℕ, Bool, List, length, Option, Some, None, nat_le, nat_lt, ◌&&◌, if◌then◌else◌}
 use Rattle.mrcpsp.specs.declared.limits.TheConstants.{MOST_ACTIVITIES, MOST_MODES, MOST_RESOURCES, MOST_DURATION, MOST_AMOUNT, MOST_HORIZON}
 use Rattle.mrcpsp.specs.declared.feasibility.TheConstants.{MOST_START}
 use Rattle.psplib_mm.specs.Text.{number_of}
@@ -77,7 +77,7 @@ pub record LineLimits : Type 0 where
 -- how many requests a script may have
 pub record ScriptLimits : Type 0 where
   -- a script that is answered whole has at most 1,000,000 of them
-  pub whole : (config : ConfigData) (script : List ℕ) (old new : Option (List ℕ)) (is : IsWritten config script old new) → length is.requests ≤ 1000000
+  pub whole : (config : ConfigData) (script : List ℕ) (refuses : Bool) (old new : Option (List ℕ)) (is : IsWritten config script refuses old new) → length is.requests ≤ 1000000
   -- one that has too many is answered to the 1,000,000th
   pub cut : (seen : Watches) (config : ConfigData) (script : List ℕ) (requests : List Marked) (rest : List Item) (part : List ℕ)
       → IsCutBy fault.Requests seen config script requests rest part → length requests ≡ 1000000

@@ -1,7 +1,7 @@
 -- With which status a replay ends that answered all requests.
-use Rattle.std.specs.Prelude.{ℕ, Bool, true, Option, Some}
+use Rattle.std.specs.Prelude.{ℕ, Bool, true}
 
--- 1 where the replay is strict and the line of a refused request is known
-abbrev pub replay_status : Bool → Option ℕ → ℕ
-replay_status true (Some line) = 1
-replay_status is_strict refused = 0
+-- 1 where the replay is strict and one of its replies is a refusal
+abbrev pub replay_status : Bool → Bool → ℕ
+replay_status true true = 1
+replay_status is_strict refuses = 0

@@ -1,11 +1,11 @@
 //! Scripts replayed under the text of a configuration, over any reader and writer.
-ghost use Rattle.std.specs.Prelude.{◌≡◌, [], OnOk, OnErr};
+ghost use Rattle.std.specs.Prelude.{◌≡◌, [], is_some, OnOk, OnErr};
 ghost use Rattle.std.specs.Io.Buffered.{writer_buffer, writer_contents, writer_inner};
 ghost use Rattle.std.specs.Process.{exit_status};
 ghost use Rattle.farm_cli.specs.Replayed.{IsReplayOf, IsReplayed, stop_status};
 
 use farm_config::{ConfigFault, place_of, read_config};
-use farm_replay::{Notes, ReplayFault, Watches, replay_noting};
+use farm_replay::{Notes, ReplayFault, Watches, replay};
 use std::alloc::Global;
 use std::io::{BufWriter, Eprint, Read, Write};
 use std::process::ExitCode;
@@ -34,7 +34,7 @@ pub fn replay_text<S: Read + Drop, W: Write + Drop>(
     notes: &mut Notes,
 ) -> Result<(), ReplayStop>
     requires { writer_buffer output.old ≡ [] }
-    ensures { IsReplayOf result text.now watches.new sends.new
+    ensures { IsReplayOf result text.now watches.new (is_some notes.new.refused) sends.new
         (S.remaining script)
         (W.contents (writer_inner output.old))
         (W.contents (writer_inner output.new)) }
@@ -43,7 +43,7 @@ pub fn replay_text<S: Read + Drop, W: Write + Drop>(
         Ok(config) => config,
         Err(fault) => return Err(ReplayStop::Config(fault)),
     };
-    let ended = replay_noting(alloc, &config, script, output, watches, notes);
+    let ended = replay(alloc, &config, script, output, watches, notes);
     match sends.flush(output) {
         Ok(()) => match ended {
             Ok(()) => Ok(()),
@@ -83,7 +83,7 @@ fn end_replay<R: AllocGlobal + Eprint>(
     notes: Notes,
     is_strict: bool,
 ) -> ExitCode
-    ensures { exit_status result ≡ stop_status ended is_strict notes.refused }
+    ensures { exit_status result ≡ stop_status ended is_strict (is_some notes.refused) }
 {
     let status = match (ended, notes.refused) {
         (Err(stop), _) => {
@@ -116,7 +116,7 @@ pub fn replay_to<R: AllocGlobal + Eprint, S: Read + Drop, W: Write + Drop>(
     notes: &mut Notes,
 ) -> ExitCode
     requires { writer_buffer output.old ≡ [] }
-    ensures { IsReplayed (exit_status result) is_strict notes.new.refused text.now watches.new sends.new
+    ensures { IsReplayed (exit_status result) is_strict (is_some notes.new.refused) text.now watches.new sends.new
         (S.remaining script)
         (W.contents (writer_inner output.old))
         (W.contents (writer_inner output.new)) }

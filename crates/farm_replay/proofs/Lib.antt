@@ -1,5 +1,6 @@
 pub mod FloorLemmas
 pub mod PlayLemmas
+pub mod HeadlineLemmas
 pub mod IsolationLemmas
 pub mod TruthLemmas
 pub mod PlannedLemmas

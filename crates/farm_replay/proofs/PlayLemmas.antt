@@ -1,10 +1,11 @@
 -- How a replay goes on from request to request.
 use Rattle.std.proofs.Common.{◌≡◌, ◌≢◌, ℕ, ◌+◌, ◌≤◌, ◌==◌, Bool, true, false, cond, List, [], ◌∷◌, ◌++◌, length, Option, Some, None, refl, sym, ap, ◌∙◌, subst, arith, ◌⊎◌, inl, inr, add-one, ⊎_elim, eq-eqb, append_assoc, append-nil, length-append, ◌<◌}
-use Rattle.std.specs.Prelude.{Result, Ok, Err, IfSome, IfErr, OnOk, ⊤, ◌&&◌, if◌then◌else◌, is_some}
+use Rattle.std.specs.Prelude.{Result, Ok, Err, IfSome, IfErr, OnOk, ⊤, ◌&&◌, ◌||◌, if◌then◌else◌, is_some}
 use Rattle.std.specs.List.{flat_map}
 use Rattle.std.specs.Io.KnownBytes.{Keeps, Appends}
 use Rattle.std.proofs.lemmas.Bool.{cases_eq, eqb-true}
 use Rattle.std.proofs.lemmas.Grind.{flat_map-append}
+use Rattle.std.proofs.lemmas.List.Folds.{list_any-append}
 use Rattle.psplib_mm.specs.declared.fault.MmFault.{MmFault}
 use Rattle.psplib_mm.specs.declared.fault.MmFault.TheVariants as file
 use Rattle.farm_core.specs.declared.reply.Reply.TheVariants as reply
@@ -28,8 +29,9 @@ use Rattle.session_lines.specs.Script.{Item, lines_of, first, first_request, req
 use Rattle.farm_replay.specs.declared.script.ReplayFault.{ReplayFault}
 use Rattle.farm_replay.specs.declared.script.ReplayFault.TheVariants as fault
 use Rattle.farm_session.specs.declared.heard.Heard.TheVariants as heard
-use Rattle.farm_replay.specs.Output.{Told, request_may_need, told_to, told_under, Parts, opening, part_of, with_tenant, Saying, Next, says, answered, who_in, Marked, next, lines_for, parts_after, line_text, output_of, items_of, IsWritten, lines_past, IsLongNext, IsCutBy, IsCutOff, unwatched}
+use Rattle.farm_replay.specs.Output.{Told, request_may_need, told_to, told_under, Parts, opening, part_of, with_tenant, Saying, Next, says, answered, who_in, Marked, next, lines_for, parts_after, line_text, output_of, items_of, has_refusal, IsWritten, lines_past, IsLongNext, IsCutBy, IsCutOff}
 use Rattle.farm_session.specs.Heard.{tenant_number, heard_for, heard_of}
+use Rattle.farm_replay.specs.Refusal.{is_refusal}
 use Rattle.farm_replay.specs.Replay.{GoesOn, end_of}
 use Rattle.farm_replay.specs.declared.watches.Watches.{Watches}
 use Rattle.farm_replay.specs.Floor.{IsTold}
@@ -76,6 +78,10 @@ appends_kept (Some us) (Some vs) (Some ws) xs h k = k ∙ h
 
 -- ---- one request more
 
+or_none : (b : Bool) → (b || false) ≡ b
+or_none true = refl
+or_none false = refl
+
 lines_more : (config : ConfigData) (parts : Parts) (ms : List Marked) (m : Marked)
     → lines_for config parts (ms ++ m ∷ []) ≡ lines_for config parts ms ++ (next config (parts_after config parts ms) m).line ∷ []
 lines_more config parts [] m = refl
@@ -97,15 +103,26 @@ output_more config ms m =
     ∙ sym (flat_map-append line_text (lines_for config (opening config) ms) (line ∷ []))
     ∙ ap (flat_map line_text) (sym (lines_more config (opening config) ms m))
 
+-- a refusal is among the replies if it was among those before, or the last one is one
+refusal_more : (config : ConfigData) (ms : List Marked) (m : Marked)
+    → (has_refusal (lines_for config (opening config) ms) || is_refusal (next config (parts_after config (opening config) ms) m).line.said) ≡ has_refusal (lines_for config (opening config) (ms ++ m ∷ []))
+refusal_more config ms m =
+    let line : Saying = (next config (parts_after config (opening config) ms) m).line in
+    let is : Saying → Bool = λ l. is_refusal l.said in
+    ap (λ b. has_refusal (lines_for config (opening config) ms) || b) (sym (or_none (is line)))
+    ∙ sym (list_any-append is (lines_for config (opening config) ms) (line ∷ []))
+    ∙ ap has_refusal (sym (lines_more config (opening config) ms m))
+
 -- ---- how far a replay has come
 
 -- these were the first requests of the script, ys are left of it, their lines were written, and the farm is where they lead
-pub record IsPlayed (config : ConfigData) (xs ys : List ℕ) (old new : Option (List ℕ)) (count : ℕ) (w : World) : Type 0 where
+pub record IsPlayed (config : ConfigData) (xs ys : List ℕ) (old new : Option (List ℕ)) (count : ℕ) (noted : Bool) (w : World) : Type 0 where
   pub requests : List Marked
   pub number : length requests ≡ count
   pub of_config : w.config ≡ config
   pub parts : (p : ℕ) → purse p w ≡ parts_after config (opening config) requests p
   pub written : Appends old new (output_of config requests)
+  pub refusal : noted ≡ has_refusal (lines_for config (opening config) requests)
   pub reads : requests_of xs ≡ items_of requests ++ requests_of ys
   pub left : lines_past count (lines_of xs) ≡ lines_of ys
 
@@ -122,23 +139,25 @@ pub record IsAnsweredBy (config : ConfigData) (parts : Parts) (m : Marked) (line
   pub of_config : w.config ≡ config
   pub leads : (p : ℕ) → purse p w ≡ (next config parts m).parts p
 
-play_on : EachInTurn → (config : ConfigData) (xs ys zs : List ℕ) (old mid new : Option (List ℕ)) (count : ℕ) (w w' : World) (line : Saying) (it : IsPlayed config xs ys old mid count w) (m : Marked)
-    → IsNext m ys zs → IsAnsweredBy config (parts_after config (opening config) it.requests) m line w' → Appends mid new (line_text line) → IsPlayed config xs zs old new (count + 1) w'
-play_on turns config xs ys zs old mid new count w w' line it m n by written = record {
+play_on : EachInTurn → (config : ConfigData) (xs ys zs : List ℕ) (old mid new : Option (List ℕ)) (count : ℕ) (noted noted' : Bool) (w w' : World) (line : Saying) (it : IsPlayed config xs ys old mid count noted w) (m : Marked)
+    → IsNext m ys zs → IsAnsweredBy config (parts_after config (opening config) it.requests) m line w' → Appends mid new (line_text line) → noted' ≡ (noted || is_refusal line.said) → IsPlayed config xs zs old new (count + 1) noted' w'
+play_on turns config xs ys zs old mid new count noted noted' w w' line it m n by written refusal = record {
   requests = it.requests ++ m ∷ [];
   number = omega (arith, it.number, length-append it.requests (m ∷ []));
   of_config = by.of_config;
   parts = λ p. by.leads p ∙ ap (λ (parts : Parts). parts p) (sym (parts_more config (opening config) it.requests m));
   written = subst (Appends old new) (ap (λ l. output_of config it.requests ++ line_text l) (sym by.says) ∙ output_more config it.requests m)
       (appends_on old mid new (output_of config it.requests) (line_text line) it.written written);
+  refusal = refusal ∙ ap (λ b. b || is_refusal line.said) it.refusal ∙ ap (λ (l : Saying). has_refusal (lines_for config (opening config) it.requests) || is_refusal l.said) (sym by.says)
+      ∙ refusal_more config it.requests m;
   reads = it.reads ∙ ap (λ l. items_of it.requests ++ l) (reads_next turns m ys zs n) ∙ items_more it.requests m (requests_of zs);
   left = ap (λ k. lines_past k (lines_of xs)) (add-one count) ∙ ap (λ l. lines_after (first None l)) it.left ∙ ap lines_after n.cut;
 }
 
 -- a part of its line was written, and no more
-cut_by_write : EachInTurn → (config : ConfigData) (xs ys zs : List ℕ) (old mid new : Option (List ℕ)) (count : ℕ) (w w' : World) (line : Saying) (it : IsPlayed config xs ys old mid count w) (m : Marked)
+cut_by_write : EachInTurn → (config : ConfigData) (xs ys zs : List ℕ) (old mid new : Option (List ℕ)) (count : ℕ) (noted : Bool) (w w' : World) (line : Saying) (it : IsPlayed config xs ys old mid count noted w) (m : Marked)
     → IsNext m ys zs → IsAnsweredBy config (parts_after config (opening config) it.requests) m line w' → AppendsPart mid new (line_text line) → (seen : Watches) → seen.writes.failed ≡ true → IsCutOff config fault.Write seen xs old new
-cut_by_write turns config xs ys zs old mid new count w w' line it m n by part seen failed = record {
+cut_by_write turns config xs ys zs old mid new count noted w w' line it m n by part seen failed = record {
   requests = it.requests;
   rest = m.item ∷ requests_of zs;
   part = part.part;
@@ -148,9 +167,9 @@ cut_by_write turns config xs ys zs old mid new count w w' line it m n by part se
 }
 
 -- nothing of its line was written
-cut_before : EachInTurn → (config : ConfigData) (xs ys zs : List ℕ) (old new : Option (List ℕ)) (count : ℕ) (w : World) (it : IsPlayed config xs ys old new count w) (m : Marked)
+cut_before : EachInTurn → (config : ConfigData) (xs ys zs : List ℕ) (old new : Option (List ℕ)) (count : ℕ) (noted : Bool) (w : World) (it : IsPlayed config xs ys old new count noted w) (m : Marked)
     → IsNext m ys zs → (seen : Watches) → seen.writes.failed ≡ true → IsCutOff config fault.Write seen xs old new
-cut_before turns config xs ys zs old new count w it m n seen failed = record {
+cut_before turns config xs ys zs old new count noted w it m n seen failed = record {
   requests = it.requests;
   rest = m.item ∷ requests_of zs;
   part = [];
@@ -169,9 +188,9 @@ cut_before turns config xs ys zs old new count w it m n seen failed = record {
   );
 }
 
-cut_between : (config : ConfigData) (xs ys : List ℕ) (old new : Option (List ℕ)) (count : ℕ) (w : World) (why : ReplayFault) (seen : Watches) (it : IsPlayed config xs ys old new count w)
+cut_between : (config : ConfigData) (xs ys : List ℕ) (old new : Option (List ℕ)) (count : ℕ) (noted : Bool) (w : World) (why : ReplayFault) (seen : Watches) (it : IsPlayed config xs ys old new count noted w)
     → IsCutBy why seen config xs it.requests (requests_of ys) [] → IsCutOff config why seen xs old new
-cut_between config xs ys old new count w why seen it cause = record {
+cut_between config xs ys old new count noted w why seen it cause = record {
   requests = it.requests;
   rest = requests_of ys;
   part = [];
@@ -180,12 +199,13 @@ cut_between config xs ys old new count w why seen it cause = record {
   cause = cause;
 }
 
-played_whole : (config : ConfigData) (xs ys : List ℕ) (old new : Option (List ℕ)) (count : ℕ) (w : World) → count ≤ 1000000 → requests_of ys ≡ [] → IsPlayed config xs ys old new count w → IsWritten config xs old new
-played_whole config xs ys old new count w most none it = record {
+played_whole : (config : ConfigData) (xs ys : List ℕ) (old new : Option (List ℕ)) (count : ℕ) (noted : Bool) (w : World) → count ≤ 1000000 → requests_of ys ≡ [] → IsPlayed config xs ys old new count noted w → IsWritten config xs noted old new
+played_whole config xs ys old new count noted w most none it = record {
   requests = it.requests;
   all = sym (it.reads ∙ ap (λ l. items_of it.requests ++ l) none ∙ append-nil (items_of it.requests));
   few = omega (arith, it.number);
   written = it.written;
+  refusal = it.refusal;
 }
 
 -- ---- what was read
@@ -308,41 +328,41 @@ over_takes turns config most old new (Err (NoMemory w)) is h = absurd (cc)
 
 -- ---- a replay, request by request
 
-abbrev pub Played : ConfigData → Option (List ℕ) → Option (List ℕ) → Option (List ℕ) → Option (List ℕ) → ℕ → World → Type 0
-Played config first now old new count w = Goes first now (λ xs ys. IsPlayed config xs ys old new count w)
+abbrev pub Played : ConfigData → Option (List ℕ) → Option (List ℕ) → Option (List ℕ) → Option (List ℕ) → ℕ → Bool → World → Type 0
+Played config first now old new count noted w = Goes first now (λ xs ys. IsPlayed config xs ys old new count noted w)
 
-pub play_begins : (config : ConfigData) (a old : Option (List ℕ)) (w : World) → w.config ≡ config → ((p : ℕ) → purse p w ≡ opening config p) → Played config a a old old 0 w
+pub play_begins : (config : ConfigData) (a old : Option (List ℕ)) (w : World) → w.config ≡ config → ((p : ℕ) → purse p w ≡ opening config p) → Played config a a old old 0 false w
 play_begins config a old w is parts =
-    goes_same a (λ xs ys. IsPlayed config xs ys old old 0 w) (λ xs. record { requests = []; number = refl; of_config = is; parts = parts; written = appends_none old; reads = refl; left = refl })
+    goes_same a (λ xs ys. IsPlayed config xs ys old old 0 false w) (λ xs. record { requests = []; number = refl; of_config = is; parts = parts; written = appends_none old; refusal = refl; reads = refl; left = refl })
 
 -- what was written is sent on its way, and the same bytes are left to be read
-pub played_sent : (config : ConfigData) (a b c old mid new : Option (List ℕ)) (count : ℕ) (w : World) → c ≡ b → Keeps mid new → Played config a b old mid count w → Played config a c old new count w
-played_sent config a b c old mid new count w same kept played =
-    subst (λ r. Played config a r old new count w) (sym same)
-    (goes_to a b (λ xs ys. IsPlayed config xs ys old mid count w) (λ xs ys. IsPlayed config xs ys old new count w) played
-    (λ xs ys it. record { requests = it.requests; number = it.number; of_config = it.of_config; parts = it.parts; written = appends_kept old mid new (output_of config it.requests) it.written kept; reads = it.reads; left = it.left }))
+pub played_sent : (config : ConfigData) (a b c old mid new : Option (List ℕ)) (count : ℕ) (noted : Bool) (w : World) → c ≡ b → Keeps mid new → Played config a b old mid count noted w → Played config a c old new count noted w
+played_sent config a b c old mid new count noted w same kept played =
+    subst (λ r. Played config a r old new count noted w) (sym same)
+    (goes_to a b (λ xs ys. IsPlayed config xs ys old mid count noted w) (λ xs ys. IsPlayed config xs ys old new count noted w) played
+    (λ xs ys it. record { requests = it.requests; number = it.number; of_config = it.of_config; parts = it.parts; written = appends_kept old mid new (output_of config it.requests) it.written kept; refusal = it.refusal; reads = it.reads; left = it.left }))
 
-answered_settled : (config : ConfigData) (xs ys zs : List ℕ) (old mid : Option (List ℕ)) (count : ℕ) (w : World) (line : Saying) (it : IsPlayed config xs ys old mid count w) (s : IsSettled config line ys zs)
+answered_settled : (config : ConfigData) (xs ys zs : List ℕ) (old mid : Option (List ℕ)) (count : ℕ) (noted : Bool) (w : World) (line : Saying) (it : IsPlayed config xs ys old mid count noted w) (s : IsSettled config line ys zs)
     → IsAnsweredBy config (parts_after config (opening config) it.requests) s.request line w
-answered_settled config xs ys zs old mid count w line it s =
+answered_settled config xs ys zs old mid count noted w line it s =
     let is = s.next_is (parts_after config (opening config) it.requests) in
     record { says = ap (λ (n : Next). n.line) is; of_config = it.of_config; leads = λ p. it.parts p ∙ ap (λ (n : Next). n.parts p) (sym is) }
 
-pub settled_on : EachInTurn → (config : ConfigData) (a b c old mid new : Option (List ℕ)) (count : ℕ) (w : World) (answer : Result Request LineFault) (who : Option (List ℕ)) (words : Said)
-    → heard.Told who words ≡ heard_of config answer → Takes 100000000 None b c answer → Played config a b old mid count w → Appends mid new (reply_line who words) → Played config a c old new (count + 1) w
-settled_on turns config a b c old mid new count w answer who words is takes played written =
-    goes_on a b c (λ xs ys. IsPlayed config xs ys old mid count w) (IsSettled config (record { who = who; said = words })) (λ xs zs. IsPlayed config xs zs old new (count + 1) w)
+pub settled_on : EachInTurn → (config : ConfigData) (a b c old mid new : Option (List ℕ)) (count : ℕ) (noted noted' : Bool) (w : World) (answer : Result Request LineFault) (who : Option (List ℕ)) (words : Said)
+    → heard.Told who words ≡ heard_of config answer → Takes 100000000 None b c answer → Played config a b old mid count noted w → Appends mid new (reply_line who words) → noted' ≡ (noted || is_refusal words) → Played config a c old new (count + 1) noted' w
+settled_on turns config a b c old mid new count noted noted' w answer who words is takes played written refusal =
+    goes_on a b c (λ xs ys. IsPlayed config xs ys old mid count noted w) (IsSettled config (record { who = who; said = words })) (λ xs zs. IsPlayed config xs zs old new (count + 1) noted' w)
     played (told_takes turns config 100000000 b c answer who words is takes)
-    (λ xs ys zs it s. play_on turns config xs ys zs old mid new count w w (record { who = who; said = words }) it s.request s.cut (answered_settled config xs ys zs old mid count w (record { who = who; said = words }) it s) written)
+    (λ xs ys zs it s. play_on turns config xs ys zs old mid new count noted noted' w w (record { who = who; said = words }) it s.request s.cut (answered_settled config xs ys zs old mid count noted w (record { who = who; said = words }) it s) written refusal)
 
-pub settled_cut : EachInTurn → (config : ConfigData) (a b c old mid new : Option (List ℕ)) (count : ℕ) (w : World) (answer : Result Request LineFault) (who : Option (List ℕ)) (words : Said)
-    → heard.Told who words ≡ heard_of config answer → Takes 100000000 None b c answer → Played config a b old mid count w → AppendsPart mid new (reply_line who words)
+pub settled_cut : EachInTurn → (config : ConfigData) (a b c old mid new : Option (List ℕ)) (count : ℕ) (noted : Bool) (w : World) (answer : Result Request LineFault) (who : Option (List ℕ)) (words : Said)
+    → heard.Told who words ≡ heard_of config answer → Takes 100000000 None b c answer → Played config a b old mid count noted w → AppendsPart mid new (reply_line who words)
     → (seen : Watches) → seen.writes.failed ≡ true → IfSome a (λ xs. IsCutOff config fault.Write seen xs old new)
-settled_cut turns config a b c old mid new count w answer who words is takes played part seen failed =
+settled_cut turns config a b c old mid new count noted w answer who words is takes played part seen failed =
     known_first a c (λ xs zs. IsCutOff config fault.Write seen xs old new) (λ xs. IsCutOff config fault.Write seen xs old new)
-    (goes_on a b c (λ xs ys. IsPlayed config xs ys old mid count w) (IsSettled config (record { who = who; said = words })) (λ xs zs. IsCutOff config fault.Write seen xs old new)
+    (goes_on a b c (λ xs ys. IsPlayed config xs ys old mid count noted w) (IsSettled config (record { who = who; said = words })) (λ xs zs. IsCutOff config fault.Write seen xs old new)
     played (told_takes turns config 100000000 b c answer who words is takes)
-    (λ xs ys zs it s. cut_by_write turns config xs ys zs old mid new count w w (record { who = who; said = words }) it s.request s.cut (answered_settled config xs ys zs old mid count w (record { who = who; said = words }) it s) part seen failed))
+    (λ xs ys zs it s. cut_by_write turns config xs ys zs old mid new count noted w w (record { who = who; said = words }) it s.request s.cut (answered_settled config xs ys zs old mid count noted w (record { who = who; said = words }) it s) part seen failed))
     (λ xs zs known it. it)
 
 -- the line of tenant t's request, where this is told to it
@@ -413,10 +433,10 @@ leads_to config parts w w' t new is own others at q =
     (λ (d : q ≡ p → ⊥). others q (λ e. d (e ∙ ap (λ (c : ConfigData). purse_in c t) is)) ∙ at q ∙ ap (λ b. cond b moved (parts q)) (sym (not_same q p d)))
     (cases_eq q p)
 
-answered_asked : (config : ConfigData) (xs ys zs : List ℕ) (old mid : Option (List ℕ)) (count : ℕ) (w w' : World) (t : ℕ) (who : List ℕ) (what : What) (words : Said) (it : IsPlayed config xs ys old mid count w)
+answered_asked : (config : ConfigData) (xs ys zs : List ℕ) (old mid : Option (List ℕ)) (count : ℕ) (noted : Bool) (w w' : World) (t : ℕ) (who : List ℕ) (what : What) (words : Said) (it : IsPlayed config xs ys old mid count noted w)
     (s : IsAsked config t who what ys zs) → IsTold w t what words w'
     → (refused : Bool) × IsAnsweredBy config (parts_after config (opening config) it.requests) (record { item = s.item; refused = refused }) (record { who = Some who; said = words }) w'
-answered_asked config xs ys zs old mid count w w' t who what words it s h =
+answered_asked config xs ys zs old mid count noted w w' t who what words it s h =
     let parts : Parts = parts_after config (opening config) it.requests in
     let led = marked config parts s.item t who what h.refused s.answer_is s.number in
     let known : t < length config.tenants = known_number who config t s.number in
@@ -430,54 +450,54 @@ answered_asked config xs ys zs old mid count w w' t who what words it s h =
       },
     )
 
-pub asked_on : EachInTurn → (config : ConfigData) (a b c old mid new : Option (List ℕ)) (count : ℕ) (w w' : World) (answer : Result Request LineFault) (t : ℕ) (who : List ℕ) (what : What) (words : Said)
-    → heard.Asked t who what ≡ heard_of config answer → Takes 100000000 None b c answer → IsTold w t what words w' → Played config a b old mid count w → Appends mid new (reply_line (Some who) words)
-    → Played config a c old new (count + 1) w'
-asked_on turns config a b c old mid new count w w' answer t who what words is takes told played written =
-    goes_on a b c (λ xs ys. IsPlayed config xs ys old mid count w) (IsAsked config t who what) (λ xs zs. IsPlayed config xs zs old new (count + 1) w')
+pub asked_on : EachInTurn → (config : ConfigData) (a b c old mid new : Option (List ℕ)) (count : ℕ) (noted noted' : Bool) (w w' : World) (answer : Result Request LineFault) (t : ℕ) (who : List ℕ) (what : What) (words : Said)
+    → heard.Asked t who what ≡ heard_of config answer → Takes 100000000 None b c answer → IsTold w t what words w' → Played config a b old mid count noted w → Appends mid new (reply_line (Some who) words) → noted' ≡ (noted || is_refusal words)
+    → Played config a c old new (count + 1) noted' w'
+asked_on turns config a b c old mid new count noted noted' w w' answer t who what words is takes told played written refusal =
+    goes_on a b c (λ xs ys. IsPlayed config xs ys old mid count noted w) (IsAsked config t who what) (λ xs zs. IsPlayed config xs zs old new (count + 1) noted' w')
     played (asked_takes config 100000000 b c answer t who what is takes)
     (λ xs ys zs it s.
-    let by = answered_asked config xs ys zs old mid count w w' t who what words it s told in
-    play_on turns config xs ys zs old mid new count w w' (record { who = Some who; said = words }) it (record { item = s.item; refused = by.0 }) (record { cut = s.cut }) by.1 written)
+    let by = answered_asked config xs ys zs old mid count noted w w' t who what words it s told in
+    play_on turns config xs ys zs old mid new count noted noted' w w' (record { who = Some who; said = words }) it (record { item = s.item; refused = by.0 }) (record { cut = s.cut }) by.1 written refusal)
 
-pub asked_cut : EachInTurn → (config : ConfigData) (a b c old mid new : Option (List ℕ)) (count : ℕ) (w w' : World) (answer : Result Request LineFault) (t : ℕ) (who : List ℕ) (what : What) (words : Said)
-    → heard.Asked t who what ≡ heard_of config answer → Takes 100000000 None b c answer → IsTold w t what words w' → Played config a b old mid count w → AppendsPart mid new (reply_line (Some who) words)
+pub asked_cut : EachInTurn → (config : ConfigData) (a b c old mid new : Option (List ℕ)) (count : ℕ) (noted : Bool) (w w' : World) (answer : Result Request LineFault) (t : ℕ) (who : List ℕ) (what : What) (words : Said)
+    → heard.Asked t who what ≡ heard_of config answer → Takes 100000000 None b c answer → IsTold w t what words w' → Played config a b old mid count noted w → AppendsPart mid new (reply_line (Some who) words)
     → (seen : Watches) → seen.writes.failed ≡ true → IfSome a (λ xs. IsCutOff config fault.Write seen xs old new)
-asked_cut turns config a b c old mid new count w w' answer t who what words is takes told played part seen failed =
+asked_cut turns config a b c old mid new count noted w w' answer t who what words is takes told played part seen failed =
     known_first a c (λ xs zs. IsCutOff config fault.Write seen xs old new) (λ xs. IsCutOff config fault.Write seen xs old new)
-    (goes_on a b c (λ xs ys. IsPlayed config xs ys old mid count w) (IsAsked config t who what) (λ xs zs. IsCutOff config fault.Write seen xs old new)
+    (goes_on a b c (λ xs ys. IsPlayed config xs ys old mid count noted w) (IsAsked config t who what) (λ xs zs. IsCutOff config fault.Write seen xs old new)
     played (asked_takes config 100000000 b c answer t who what is takes)
     (λ xs ys zs it s.
-    let by = answered_asked config xs ys zs old mid count w w' t who what words it s told in
-    cut_by_write turns config xs ys zs old mid new count w w' (record { who = Some who; said = words }) it (record { item = s.item; refused = by.0 }) (record { cut = s.cut }) by.1 part seen failed))
+    let by = answered_asked config xs ys zs old mid count noted w w' t who what words it s told in
+    cut_by_write turns config xs ys zs old mid new count noted w w' (record { who = Some who; said = words }) it (record { item = s.item; refused = by.0 }) (record { cut = s.cut }) by.1 part seen failed))
     (λ xs zs known it. it)
 
 -- nothing could be sent before it is answered
-pub asked_unsent : EachInTurn → (config : ConfigData) (a b c old new : Option (List ℕ)) (count : ℕ) (w : World) (answer : Result Request LineFault) (t : ℕ) (who : List ℕ) (what : What)
-    → heard.Asked t who what ≡ heard_of config answer → Takes 100000000 None b c answer → Played config a b old new count w → (seen : Watches) → seen.writes.failed ≡ true → IfSome a (λ xs. IsCutOff config fault.Write seen xs old new)
-asked_unsent turns config a b c old new count w answer t who what is takes played seen failed =
+pub asked_unsent : EachInTurn → (config : ConfigData) (a b c old new : Option (List ℕ)) (count : ℕ) (noted : Bool) (w : World) (answer : Result Request LineFault) (t : ℕ) (who : List ℕ) (what : What)
+    → heard.Asked t who what ≡ heard_of config answer → Takes 100000000 None b c answer → Played config a b old new count noted w → (seen : Watches) → seen.writes.failed ≡ true → IfSome a (λ xs. IsCutOff config fault.Write seen xs old new)
+asked_unsent turns config a b c old new count noted w answer t who what is takes played seen failed =
     known_first a c (λ xs zs. IsCutOff config fault.Write seen xs old new) (λ xs. IsCutOff config fault.Write seen xs old new)
-    (goes_on a b c (λ xs ys. IsPlayed config xs ys old new count w) (IsAsked config t who what) (λ xs zs. IsCutOff config fault.Write seen xs old new)
+    (goes_on a b c (λ xs ys. IsPlayed config xs ys old new count noted w) (IsAsked config t who what) (λ xs zs. IsCutOff config fault.Write seen xs old new)
     played (asked_takes config 100000000 b c answer t who what is takes)
-    (λ xs ys zs it s. cut_before turns config xs ys zs old new count w it (record { item = s.item; refused = false }) (record { cut = s.cut }) seen failed))
+    (λ xs ys zs it s. cut_before turns config xs ys zs old new count noted w it (record { item = s.item; refused = false }) (record { cut = s.cut }) seen failed))
     (λ xs zs known it. it)
 
-pub play_over : EachInTurn → (config : ConfigData) (a b c old new : Option (List ℕ)) (count : ℕ) (w : World) (answer : Result Request LineFault) → count ≤ 1000000 → heard.Over ≡ heard_of config answer
-    → Takes 100000000 None b c answer → Played config a b old new count w → IfSome a (λ xs. IsWritten config xs old new)
-play_over turns config a b c old new count w answer most is takes played =
-    known_first a c (λ xs zs. IsWritten config xs old new) (λ xs. IsWritten config xs old new)
-    (goes_on a b c (λ xs ys. IsPlayed config xs ys old new count w) (λ ys zs. requests_of ys ≡ []) (λ xs zs. IsWritten config xs old new) played (over_takes turns config 100000000 b c answer is takes)
-    (λ xs ys zs it none. played_whole config xs ys old new count w most none it))
+pub play_over : EachInTurn → (config : ConfigData) (a b c old new : Option (List ℕ)) (count : ℕ) (noted : Bool) (w : World) (answer : Result Request LineFault) → count ≤ 1000000 → heard.Over ≡ heard_of config answer
+    → Takes 100000000 None b c answer → Played config a b old new count noted w → IfSome a (λ xs. IsWritten config xs noted old new)
+play_over turns config a b c old new count noted w answer most is takes played =
+    known_first a c (λ xs zs. IsWritten config xs noted old new) (λ xs. IsWritten config xs noted old new)
+    (goes_on a b c (λ xs ys. IsPlayed config xs ys old new count noted w) (λ ys zs. requests_of ys ≡ []) (λ xs zs. IsWritten config xs noted old new) played (over_takes turns config 100000000 b c answer is takes)
+    (λ xs ys zs it none. played_whole config xs ys old new count noted w most none it))
     (λ xs zs known it. it)
 
 -- the next request is too long, as the bytes that are left tell
-long_next : (config : ConfigData) (xs ys : List ℕ) (old new : Option (List ℕ)) (count : ℕ) (w : World) (it : IsPlayed config xs ys old new count w) → IsPast 100000000 None (lines_of ys) → IsLongNext xs it.requests
-long_next config xs ys old new count w it long = subst (IsPast 100000000 None) (sym it.left ∙ ap (λ n. lines_past n (lines_of xs)) (sym it.number)) long
+long_next : (config : ConfigData) (xs ys : List ℕ) (old new : Option (List ℕ)) (count : ℕ) (noted : Bool) (w : World) (it : IsPlayed config xs ys old new count noted w) → IsPast 100000000 None (lines_of ys) → IsLongNext xs it.requests
+long_next config xs ys old new count noted w it long = subst (IsPast 100000000 None) (sym it.left ∙ ap (λ n. lines_past n (lines_of xs)) (sym it.number)) long
 
-broken_by : (config : ConfigData) (xs ys : List ℕ) (old new : Option (List ℕ)) (count : ℕ) (w : World) (failed : Bool) (it : IsPlayed config xs ys old new count w)
+broken_by : (config : ConfigData) (xs ys : List ℕ) (old new : Option (List ℕ)) (count : ℕ) (noted : Bool) (w : World) (failed : Bool) (it : IsPlayed config xs ys old new count noted w)
     → (failed ≡ true) ⊎ IsPast 100000000 None (lines_of ys) → (failed ≡ true) ⊎ IsLongNext xs it.requests
-broken_by config xs ys old new count w failed it (inl h) = inl h
-broken_by config xs ys old new count w failed it (inr h) = inr (long_next config xs ys old new count w it h)
+broken_by config xs ys old new count noted w failed it (inl h) = inl h
+broken_by config xs ys old new count noted w failed it (inr h) = inr (long_next config xs ys old new count noted w it h)
 
 -- what was heard tells that the read was given up
 given_up : (config : ConfigData) (failed : Bool) (old : Option (List ℕ)) (answer : Result Request LineFault) → heard.Broken ≡ heard_of config answer → IsReadGivenUp 100000000 None failed old answer
@@ -498,17 +518,17 @@ cause_at : (failed : Bool) (b : Option (List ℕ)) (ys : List ℕ) (P : List ℕ
 cause_at failed b ys P known (inl h) = inl h
 cause_at failed b ys P known (inr h) = inr (subst (λ o. IfSome o P) known h)
 
-pub play_broken : (config : ConfigData) (a b old new : Option (List ℕ)) (count : ℕ) (w : World) (answer : Result Request LineFault) (seen : Watches) → heard.Broken ≡ heard_of config answer
-    → IsReadGivenUp 100000000 None seen.reads.failed b answer → Played config a b old new count w → IfSome a (λ xs. IsCutOff config fault.Read seen xs old new)
-play_broken config a b old new count w answer seen is cause played =
-    known_first a b (λ xs ys. IsPlayed config xs ys old new count w) (λ xs. IsCutOff config fault.Read seen xs old new) played
-    (λ xs ys known it. cut_between config xs ys old new count w fault.Read seen it
-    (refl, broken_by config xs ys old new count w seen.reads.failed it (cause_at seen.reads.failed b ys (λ bytes. IsPast 100000000 None (lines_of bytes)) known (given_up config seen.reads.failed b answer is cause))))
+pub play_broken : (config : ConfigData) (a b old new : Option (List ℕ)) (count : ℕ) (noted : Bool) (w : World) (answer : Result Request LineFault) (seen : Watches) → heard.Broken ≡ heard_of config answer
+    → IsReadGivenUp 100000000 None seen.reads.failed b answer → Played config a b old new count noted w → IfSome a (λ xs. IsCutOff config fault.Read seen xs old new)
+play_broken config a b old new count noted w answer seen is cause played =
+    known_first a b (λ xs ys. IsPlayed config xs ys old new count noted w) (λ xs. IsCutOff config fault.Read seen xs old new) played
+    (λ xs ys known it. cut_between config xs ys old new count noted w fault.Read seen it
+    (refl, broken_by config xs ys old new count noted w seen.reads.failed it (cause_at seen.reads.failed b ys (λ bytes. IsPast 100000000 None (lines_of bytes)) known (given_up config seen.reads.failed b answer is cause))))
 
-pub play_ends : (config : ConfigData) (a b old new : Option (List ℕ)) (count : ℕ) (w : World) → count ≤ 1000000 → Played config a b old new count w → IfSome b (λ ys. requests_of ys ≡ []) → IfSome a (λ xs. IsWritten config xs old new)
-play_ends config a b old new count w most played over =
-    known_first a b (λ xs ys. IsPlayed config xs ys old new count w) (λ xs. IsWritten config xs old new) played
-    (λ xs ys known it. played_whole config xs ys old new count w most (subst (λ o. IfSome o (λ ys. requests_of ys ≡ [])) known over) it)
+pub play_ends : (config : ConfigData) (a b old new : Option (List ℕ)) (count : ℕ) (noted : Bool) (w : World) → count ≤ 1000000 → Played config a b old new count noted w → IfSome b (λ ys. requests_of ys ≡ []) → IfSome a (λ xs. IsWritten config xs noted old new)
+play_ends config a b old new count noted w most played over =
+    known_first a b (λ xs ys. IsPlayed config xs ys old new count noted w) (λ xs. IsWritten config xs noted old new) played
+    (λ xs ys known it. played_whole config xs ys old new count noted w most (subst (λ o. IfSome o (λ ys. requests_of ys ≡ [])) known over) it)
 
 -- there is one request more
 one_more : EachInTurn → (old new : Option (List ℕ)) (answer : Result Request LineFault) → Goes old new (λ xs ys. Cuts 100000000 (first None (lines_of xs)) answer xs ys) → IfSome old (λ bytes. requests_of bytes ≢ [])
@@ -516,14 +536,14 @@ one_more turns old new answer takes =
     known_first old new (λ xs ys. Cuts 100000000 (first None (lines_of xs)) answer xs ys) (λ bytes. requests_of bytes ≢ []) takes
     (λ xs ys known it none. let some : requests_of xs ≡ it.item ∷ requests_of ys = turns xs ∙ ap from_first it.cut in absurd (cc))
 
-pub play_stops : (config : ConfigData) (a b old new : Option (List ℕ)) (w : World) (why : ReplayFault) (seen : Watches) → Played config a b old new 1000000 w → IfSome b (λ ys. GoesOn why seen.reads.failed ys)
+pub play_stops : (config : ConfigData) (a b old new : Option (List ℕ)) (noted : Bool) (w : World) (why : ReplayFault) (seen : Watches) → Played config a b old new 1000000 noted w → IfSome b (λ ys. GoesOn why seen.reads.failed ys)
     → IfSome a (λ xs. IsCutOff config why seen xs old new)
-play_stops config a b old new w why seen played stops =
-    known_first a b (λ xs ys. IsPlayed config xs ys old new 1000000 w) (λ xs. IsCutOff config why seen xs old new) played
-    (λ xs ys known it. cut_between config xs ys old new 1000000 w why seen it (cause why xs ys it (subst (λ o. IfSome o (λ ys. GoesOn why seen.reads.failed ys)) known stops)))
+play_stops config a b old new noted w why seen played stops =
+    known_first a b (λ xs ys. IsPlayed config xs ys old new 1000000 noted w) (λ xs. IsCutOff config why seen xs old new) played
+    (λ xs ys known it. cut_between config xs ys old new 1000000 noted w why seen it (cause why xs ys it (subst (λ o. IfSome o (λ ys. GoesOn why seen.reads.failed ys)) known stops)))
   where
-    cause : (why : ReplayFault) (xs ys : List ℕ) (it : IsPlayed config xs ys old new 1000000 w) → GoesOn why seen.reads.failed ys → IsCutBy why seen config xs it.requests (requests_of ys) []
-    cause fault.Read xs ys it h = (refl, broken_by config xs ys old new 1000000 w seen.reads.failed it h)
+    cause : (why : ReplayFault) (xs ys : List ℕ) (it : IsPlayed config xs ys old new 1000000 noted w) → GoesOn why seen.reads.failed ys → IsCutBy why seen config xs it.requests (requests_of ys) []
+    cause fault.Read xs ys it h = (refl, broken_by config xs ys old new 1000000 noted w seen.reads.failed it h)
     cause fault.Write xs ys it h = absurd h
     cause fault.Requests xs ys it h = (refl, it.number, h)
     cause fault.NoMemory xs ys it h = absurd h
@@ -544,31 +564,15 @@ end_stops turns old new failed (Err (Syntax w)) takes cause = one_more turns old
 end_stops turns old new failed (Err (File w why)) takes cause = one_more turns old new (Err (File w why)) takes
 end_stops turns old new failed (Err (NoMemory w)) takes cause = one_more turns old new (Err (NoMemory w)) takes
 
-pub play_written : (config : ConfigData) (a b old new : Option (List ℕ)) (count : ℕ) (w : World) (result : Result ⊤ ReplayFault) → count ≤ 1000000 → Played config a b old new count w
-    → OnOk result (IfSome b (λ ys. requests_of ys ≡ [])) → OnOk result (IfSome a (λ xs. IsWritten config xs old new))
-play_written config a b old new count w (Ok u) most played over = play_ends config a b old new count w most played over
-play_written config a b old new count w (Err why) most played over = tt
+pub play_written : (config : ConfigData) (a b old new : Option (List ℕ)) (count : ℕ) (noted : Bool) (w : World) (result : Result ⊤ ReplayFault) → count ≤ 1000000 → Played config a b old new count noted w
+    → OnOk result (IfSome b (λ ys. requests_of ys ≡ [])) → OnOk result (IfSome a (λ xs. IsWritten config xs noted old new))
+play_written config a b old new count noted w (Ok u) most played over = play_ends config a b old new count noted w most played over
+play_written config a b old new count noted w (Err why) most played over = tt
 
-pub play_cut : (config : ConfigData) (a b old new : Option (List ℕ)) (w : World) (seen : Watches) (result : Result ⊤ ReplayFault) → Played config a b old new 1000000 w
+pub play_cut : (config : ConfigData) (a b old new : Option (List ℕ)) (noted : Bool) (w : World) (seen : Watches) (result : Result ⊤ ReplayFault) → Played config a b old new 1000000 noted w
     → IfErr result (λ why. IfSome b (λ ys. GoesOn why seen.reads.failed ys)) → IfErr result (λ why. IfSome a (λ xs. IsCutOff config why seen xs old new))
-play_cut config a b old new w seen (Ok u) played stops = tt
-play_cut config a b old new w seen (Err why) played stops = play_stops config a b old new w why seen played stops
-
--- where nobody asks, what was seen is not told
-unseen : (config : ConfigData) (why : ReplayFault) (seen : Watches) (xs : List ℕ) (old new : Option (List ℕ)) → IsCutOff config why seen xs old new → IsCutOff config why unwatched xs old new
-unseen config why seen xs old new it = record { requests = it.requests; rest = it.rest; part = it.part; all = it.all; written = it.written; cause = cause why it.cause }
-  where
-    cause : (why : ReplayFault) → IsCutBy why seen config xs it.requests it.rest it.part → IsCutBy why unwatched config xs it.requests it.rest it.part
-    cause fault.Read h = (h.0, inl refl)
-    cause fault.Write h = (refl, h.1)
-    cause fault.Requests h = h
-    cause fault.NoMemory h = h
-
-pub play_unseen : (config : ConfigData) (a old new : Option (List ℕ)) (seen : Watches) (result : Result ⊤ ReplayFault)
-    → IfErr result (λ why. IfSome a (λ xs. IsCutOff config why seen xs old new)) → IfErr result (λ why. IfSome a (λ xs. IsCutOff config why unwatched xs old new))
-play_unseen config a old new seen (Ok u) cut = tt
-play_unseen config None old new seen (Err why) cut = tt
-play_unseen config (Some xs) old new seen (Err why) cut = unseen config why seen xs old new cut
+play_cut config a b old new noted w seen (Ok u) played stops = tt
+play_cut config a b old new noted w seen (Err why) played stops = play_stops config a b old new noted w why seen played stops
 
 -- in a new farm no purse has done anything yet
 pub begun : (config : ConfigData) (w : World) → FarmsAreReplayed → w ≡ opened config → (p : ℕ) → purse p w ≡ opening config p

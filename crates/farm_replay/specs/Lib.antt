@@ -3,6 +3,7 @@ pub mod Output
 pub mod Floor
 pub mod Isolation
 pub mod Truth
+pub mod Headline
 pub mod Begins
 pub mod Bytes
 pub mod Reader

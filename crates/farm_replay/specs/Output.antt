@@ -1,7 +1,7 @@
 -- What a replay writes: one line for each request of its script, which the farm's steps give.
 use Rattle.std.specs.Prelude.{◌≡◌, ◌≢◌, ◌⊎◌, ℕ, zero, suc, Bool, true, false, not, cond, ◌&&◌, ◌==◌, ◌≤◌, List, [], ◌∷◌, ◌++◌, if◌then◌else◌, Option, Some, None, is_some, Result, Ok, Err, length, map}
 use Rattle.std.specs.Io.KnownBytes.{Appends}
-use Rattle.std.specs.List.{flat_map}
+use Rattle.std.specs.List.{flat_map, list_any}
 use Rattle.farm_core.specs.declared.entry.Event.TheVariants as event
 use Rattle.farm_core.specs.declared.reply.Reply.TheVariants as reply
 use Rattle.farm_core.specs.Config.{ConfigData}
@@ -25,6 +25,7 @@ use Rattle.session_lines.specs.Script.{Item, lines_of, first, requests_of}
 use Rattle.farm_session.specs.declared.heard.Heard.{Heard}
 use Rattle.farm_session.specs.declared.heard.Heard.TheVariants as heard
 use Rattle.farm_session.specs.Heard.{heard_of}
+use Rattle.farm_replay.specs.Refusal.{is_refusal}
 use Rattle.farm_replay.specs.declared.script.TheConstants.{MOST_REQUESTS}
 use Rattle.farm_replay.specs.declared.script.ReplayFault.{ReplayFault}
 use Rattle.farm_replay.specs.declared.script.ReplayFault.TheVariants as fault
@@ -166,12 +167,17 @@ output_of config ms = flat_map line_text (lines_for config (opening config) ms)
 abbrev pub items_of : List Marked → List Item
 items_of ms = map (λ (m : Marked). m.item) ms
 
--- the whole output of a script of at most 1,000,000 requests was written, whatever memory was refused
-pub record IsWritten (config : ConfigData) (script : List ℕ) (old new : Option (List ℕ)) : Type 0 where
+-- one of these replies refuses its request
+abbrev pub has_refusal : List Saying → Bool
+has_refusal lines = list_any (λ (line : Saying). is_refusal line.said) lines
+
+-- the whole output of a script of at most 1,000,000 requests was written, whatever memory was refused, and whether one of its replies is a refusal is known
+pub record IsWritten (config : ConfigData) (script : List ℕ) (refuses : Bool) (old new : Option (List ℕ)) : Type 0 where
   pub requests : List Marked
   pub all : items_of requests ≡ requests_of script
   pub few : length requests ≤ MOST_REQUESTS
   pub written : Appends old new (output_of config requests)
+  pub refusal : refuses ≡ has_refusal (lines_for config (opening config) requests)
 
 -- a part of the line of the first of these requests, from its front
 pub record IsPartOfNext (config : ConfigData) (before : List Marked) (rest : List Item) (part : List ℕ) : Type 0 where
@@ -206,7 +212,3 @@ pub record IsCutOff (config : ConfigData) (fault : ReplayFault) (seen : Watches)
   pub all : items_of requests ++ rest ≡ requests_of script
   pub written : Appends old new (output_of config requests ++ part)
   pub cause : IsCutBy fault seen config script requests rest part
-
--- where nobody asks whether a read or a write has failed, each may have
-abbrev pub unwatched : Watches
-unwatched = record { reads = record { failed = true }; writes = record { failed = true } }

@@ -221,14 +221,16 @@ impl<J: Strategy> Floor<J> {
         }
     }
 
-    /// Gives back all turns that are held, unrun, and drops the farm.
-    pub(crate) fn close(self)
+    /// The farm, after all turns that are held were given back unrun.
+    pub(crate) fn close(self) -> Farm<J>
         requires { IsFloor J.meaning self.farm self.held.items }
+        ensures unrun { (t : ℕ) → (view t result).spent ≡ (view t self.farm).spent }
+        ensures back { (t s : ℕ) → is_out_of (find_job s (view t result).jobs) ≡ false }
     {
         let mut floor = self;
         floor.give_all();
         let Floor { farm, held } = floor;
-        drop(farm);
         held.destroy_empty();
+        farm
     }
 }

@@ -22,5 +22,5 @@ mod sending;
 mod watches;
 
 pub use notes::{Notes, is_refused};
-pub use script::{ReplayFault, replay, replay_noting};
+pub use script::{ReplayFault, replay};
 pub use watches::Watches;

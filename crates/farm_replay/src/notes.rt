@@ -1,5 +1,5 @@
 //! What is noted of a script beside its replies.
-ghost use Rattle.std.specs.Prelude.{◌≡◌};
+ghost use Rattle.std.specs.Prelude.{◌≡◌, ◌||◌, is_some};
 ghost use Rattle.farm_replay.specs.Refusal.{is_refusal};
 
 use farm_core::Reply;
@@ -34,7 +34,9 @@ pub fn is_refused(said: &Said) -> bool
 
 impl Notes {
     /// Notes the request at this line, by what is said to it.
-    pub(crate) fn add(&mut self, line: u64, is_doubtful: bool, said: &Said) {
+    pub(crate) fn add(&mut self, line: u64, is_doubtful: bool, said: &Said)
+        ensures { is_some self.new.refused ≡ (is_some self.old.refused || is_refusal said.now) }
+    {
         if self.refused.is_none() && is_refused(said) {
             self.refused = Some(line);
         }

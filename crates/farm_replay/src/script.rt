@@ -1,16 +1,18 @@
 //! Scripts of requests, run one after another on a farm of one thread.
-ghost use Rattle.std.specs.Prelude.{◌≡◌, [], true, IfSome, IfErr, OnOk, OnErr};
+ghost use Rattle.std.specs.Prelude.{◌≡◌, [], true, false, is_some, IfSome, IfErr, OnOk, OnErr};
 ghost use Rattle.farm_core.specs.World.{opened};
 ghost use Rattle.session_lines.specs.Known.{Writes};
 ghost use Rattle.session_lines.specs.ReplyText.{reply_line};
 ghost use Rattle.session_lines.specs.Script.{requests_of};
 ghost use Rattle.farm_core.specs.Tills.{AreTillsOf};
 ghost use Rattle.farm_replay.specs.Floor.{IsFloor};
-ghost use Rattle.farm_replay.specs.Output.{IsWritten, IsCutOff, unwatched};
+ghost use Rattle.farm_replay.specs.Headline.{HasWritten, IsIsolated, IsTruthful};
+ghost use Rattle.farm_replay.specs.Output.{IsWritten, IsCutOff};
 ghost use Rattle.farm_replay.specs.Reader.{script_rest};
 ghost use Rattle.farm_replay.specs.Replay.{end_of, GoesOn};
 
 use crate::floor::Floor;
+use crate::laws::{each_line_is_true, outputs_are_isolated};
 use crate::notes::Notes;
 use crate::reader::Script;
 use crate::sending::{send_before_nodes, send_before_wait};
@@ -20,7 +22,7 @@ use farm_core::{Config, Name};
 use farm_session::{Branch, Heard, Ready, branches, hear, open_tills};
 use io_watch::Watch;
 use session_lines::laws::requests_come_in_turn;
-use session_lines::{LineFault, Request, Said, read_watched, write_watched};
+use session_lines::{LineFault, Request, Said, read_request, write_reply};
 use std::alloc::Global;
 use std::io::{Read, Write};
 use strategy::{Kind, Strategy};
@@ -56,7 +58,7 @@ fn tell<W: Write>(
     ensures fault { IfErr result (λ fault. fault ≡ ReplayFault.Write) }
     ensures cause { OnErr result (watch.new.failed ≡ true) }
 {
-    match write_watched(writer, watch, who, &said) {
+    match write_reply(writer, watch, who, &said) {
         Ok(()) => Ok(()),
         Err(_) => Err(ReplayFault::Write),
     }
@@ -80,7 +82,7 @@ fn end<R: Read>(alloc: Global, script: &mut R, watch: &mut Watch) -> Result<(), 
         GoesOn fault watch.new.failed bytes)) }
 {
     requests_come_in_turn();
-    ended(read_watched(alloc, script, watch))
+    ended(read_request(alloc, script, watch))
 }
 
 /// Answers the requests of a script, one line each. Replies go out before a request is waited for, and before one runs nodes.
@@ -99,8 +101,9 @@ fn play<J: Strategy, R: Read, W: Write, M: Fn(Ready) -> Option<J>>(
     requires tills { AreTillsOf config.now branches.old }
     requires make { M.IsAlwaysCallable make.now }
     requires floor { IsFloor J.meaning floor.old.farm floor.old.held.items }
+    requires notes { is_some notes.old.refused ≡ false }
     ensures written { OnOk result (IfSome (script_rest R.remaining script.old) (λ bytes.
-        IsWritten config.now bytes (W.contents writer.old) (W.contents writer.new))) }
+        IsWritten config.now bytes (is_some notes.new.refused) (W.contents writer.old) (W.contents writer.new))) }
     ensures cut_off { IfErr result (λ fault. IfSome (script_rest R.remaining script.old) (λ bytes.
         IsCutOff config.now fault watches.new bytes (W.contents writer.old) (W.contents writer.new))) }
     ensures floor { IsFloor J.meaning floor.new.farm floor.new.held.items }
@@ -110,7 +113,7 @@ fn play<J: Strategy, R: Read, W: Write, M: Fn(Ready) -> Option<J>>(
     for _answered in 0..MOST_REQUESTS {
         send_before_wait(script, writer);
         script.begin();
-        match hear(config, read_watched(alloc, script, &mut watches.reads)) {
+        match hear(config, read_request(alloc, script, &mut watches.reads)) {
             Heard::Over => return Ok(()),
             Heard::Broken => return Err(ReplayFault::Read),
             Heard::Told(who, said) => {
@@ -140,8 +143,8 @@ fn play<J: Strategy, R: Read, W: Write, M: Fn(Ready) -> Option<J>>(
 /// holds at its end are given back unrun. After a fault the lines of the requests before it stand whole; after `Write` a front part
 /// of the next line stands behind them. `Read` comes only where a read has failed or a request has more than 100,000,000 bytes, `Write`
 /// only where a write has failed or took nothing. Replies go out before the script is waited for, and before a turn is run. What a
-/// writer of scripts may want to look at is noted.
-pub fn replay_noting<R: Read + Drop, W: Write>(
+/// writer of scripts may want to look at is noted, and what was noted before is forgotten.
+pub fn replay<R: Read + Drop, W: Write>(
     alloc: Global,
     config: &Config,
     reader: R,
@@ -150,10 +153,17 @@ pub fn replay_noting<R: Read + Drop, W: Write>(
     notes: &mut Notes,
 ) -> Result<(), ReplayFault>
     ensures written { OnOk result (IfSome (R.remaining reader) (λ script.
-        IsWritten config.now script (W.contents writer.old) (W.contents writer.new))) }
+        IsWritten config.now script (is_some notes.new.refused) (W.contents writer.old) (W.contents writer.new))) }
+    ensures isolated { OnOk result (IfSome (R.remaining reader) (λ script.
+        HasWritten (IsIsolated config.now) config.now script (W.contents writer.old) (W.contents writer.new))) }
+    ensures truth { OnOk result (IfSome (R.remaining reader) (λ script.
+        HasWritten (IsTruthful config.now) config.now script (W.contents writer.old) (W.contents writer.new))) }
     ensures cut_off { IfErr result (λ fault. IfSome (R.remaining reader) (λ script.
         IsCutOff config.now fault watches.new script (W.contents writer.old) (W.contents writer.new))) }
 {
+    outputs_are_isolated();
+    each_line_is_true();
+    *notes = Notes::default();
     let Ok(mut script) = Script::new(alloc, reader) else {
         return Err(ReplayFault::NoMemory);
     };
@@ -193,23 +203,6 @@ pub fn replay_noting<R: Read + Drop, W: Write>(
         notes,
         &make,
     );
-    floor.close();
+    drop(floor.close());
     ended
-}
-
-/// The same, without notes, and where nobody asks whether a read or a write has failed.
-pub fn replay<R: Read + Drop, W: Write>(
-    alloc: Global,
-    config: &Config,
-    reader: R,
-    writer: &mut W,
-) -> Result<(), ReplayFault>
-    ensures written { OnOk result (IfSome (R.remaining reader) (λ script.
-        IsWritten config.now script (W.contents writer.old) (W.contents writer.new))) }
-    ensures cut_off { IfErr result (λ fault. IfSome (R.remaining reader) (λ script.
-        IsCutOff config.now fault unwatched script (W.contents writer.old) (W.contents writer.new))) }
-{
-    let mut notes = Notes::default();
-    let mut watches = Watches::new();
-    replay_noting(alloc, config, reader, writer, &mut watches, &mut notes)
 }

@@ -1,5 +1,5 @@
 //! One connection.
-ghost use Rattle.std.specs.Prelude.{◌≡◌, ◌<◌, length, Some, IfSome};
+ghost use Rattle.std.specs.Prelude.{◌≡◌, ◌<◌, length, true, Some, IfSome, OnErr};
 ghost use Rattle.quanta_till.specs.Lease.{empty_lease};
 ghost use Rattle.farm_core.specs.declared.entry.Event.TheVariants as event;
 ghost use Rattle.farm_session.specs.Command.{event_in};
@@ -12,6 +12,7 @@ use crate::lobby::Lobby;
 use crate::shared::{Asked, Shared};
 use farm_core::{Config, Reply};
 use farm_session::{Branch, Heard, Ready, hear};
+use io_watch::Watch;
 use session_lines::{LineFault, Request, Said, What, WriteFault, read_request, write_reply};
 use std::alloc::Global;
 use std::io::{Read, Write};
@@ -144,7 +145,7 @@ fn answer<D: Shared, R: Wait, M: Fn(Ready) -> Option<D::Search>>(
 }
 
 /// Tells what was heard of a connection in one line: of a tenant's request the reply to its call. At the input's end, and where it cannot be
-/// read, nothing is written.
+/// read, nothing is written. An error comes only where a write has failed or took nothing.
 fn reply<D: Shared, R: Wait, W: Write, M: Fn(Ready) -> Option<D::Search>>(
     rt: &R,
     alloc: Global,
@@ -154,6 +155,7 @@ fn reply<D: Shared, R: Wait, W: Write, M: Fn(Ready) -> Option<D::Search>>(
     lobby: &Lobby,
     branches: &mut [Branch<'_>],
     writer: &mut W,
+    watch: &mut Watch,
     heard: Heard,
     make: &M,
 ) -> Result<(), WriteFault>
@@ -168,15 +170,16 @@ fn reply<D: Shared, R: Wait, W: Write, M: Fn(Ready) -> Option<D::Search>>(
         (W.contents writer.old)
         (W.contents writer.new)
         token.new }
+    ensures cause { OnErr result (watch.new.failed ≡ true) }
 {
     match heard {
         Heard::Over | Heard::Broken => Ok(()),
-        Heard::Told(who, said) => write_reply(writer, who, &said),
+        Heard::Told(who, said) => write_reply(writer, watch, who, &said),
         Heard::Asked(tenant, who, asked) => {
             let purse = config.purse_of(tenant);
             let branch = &mut branches[purse as usize];
             let said = answer(rt, alloc, shared, token, lobby, branch, tenant, asked, make);
-            write_reply(writer, Some(who), &said)
+            write_reply(writer, watch, Some(who), &said)
         }
     }
 }
@@ -199,13 +202,25 @@ pub(crate) fn session<D: Shared, R: Wait, S: Read + Write, M: Fn(Ready) -> Optio
     requires make { M.IsAlwaysCallable make.now }
     ensures { D.owns shared.now token.new }
 {
+    let mut reads = Watch::new();
+    let mut writes = Watch::new();
     for _ in 0..u64::MAX {
-        let heard = heard(config, read_request(alloc, wire));
+        let heard = heard(config, read_request(alloc, wire, &mut reads));
         if matches!(&heard, Heard::Over | Heard::Broken) {
             break;
         }
         let told = reply(
-            rt, alloc, config, shared, token, lobby, branches, wire, heard, make,
+            rt,
+            alloc,
+            config,
+            shared,
+            token,
+            lobby,
+            branches,
+            wire,
+            &mut writes,
+            heard,
+            make,
         );
         if told.is_err() {
             break;

@@ -12,7 +12,8 @@ ghost use Rattle.std.specs.Io.KnownBytes.{Keeps, ReadConsumes, WriteAppends};
 use std::io;
 use std::io::{Error, ErrorKind, Read, Write};
 
-/// Whether a read or a write that was made through this watch has failed.
+/// Whether a read or a write that was made through this watch has failed. Contracts of `Read` and `Write` do not say when a call fails,
+/// so that a noted failure was the reader's or the writer's is seen in the bodies of `read`, `write` and `flush` alone.
 #[derive(Debug, Drop)]
 pub struct Watch {
     failed: bool,

@@ -1,5 +1,6 @@
 //! The trials.
 use farm_core::{Name, Reply};
+use io_watch::Watch;
 use psplib_mm::MmFault;
 use session_lines::{LineFault, Said, What, WriteFault, read_request, write_reply};
 use std::alloc::Global;
@@ -32,7 +33,7 @@ impl<'a> Read for Cut<'a> {
 
 // Whether the next request is tenant a's for its ledger.
 fn reads_ledger<R: Read>(alloc: Global, reader: &mut R) -> bool {
-    match read_request(alloc, reader) {
+    match read_request(alloc, reader, &mut Watch::new()) {
         Ok(request) => request.who.as_bytes() == b"a".as_slice()
             && matches!(&request.what, What::Ledger),
         Err(_) => false,
@@ -41,7 +42,7 @@ fn reads_ledger<R: Read>(alloc: Global, reader: &mut R) -> bool {
 
 // Whether the next answer is that the reader failed.
 fn fails<R: Read>(alloc: Global, reader: &mut R) -> bool {
-    match read_request(alloc, reader) {
+    match read_request(alloc, reader, &mut Watch::new()) {
         Err(LineFault::Read) => true,
         _ => false,
     }
@@ -105,7 +106,9 @@ fn a_writer_that_is_full(rt: HostRuntime) {
         is_ready: false,
     };
     let said = Said::Reply(Reply::Job(1));
-    assert!(rt; write_reply(&mut writer, Name::new(b"a"), &said) == Err(WriteFault));
+    assert!(rt;
+        write_reply(&mut writer, &mut Watch::new(), Name::new(b"a"), &said) == Err(WriteFault)
+    );
     assert!(rt; writer.taken.as_slice() == b"@a job".as_slice());
     assert!(rt; writer.room == 0);
 }
@@ -119,14 +122,14 @@ fn a_writer_that_is_interrupted(rt: HostRuntime) {
         is_ready: false,
     };
     let said = Said::Reply(Reply::Job(1));
-    assert!(rt; write_reply(&mut writer, Name::new(b"a"), &said) == Ok(()));
+    assert!(rt; write_reply(&mut writer, &mut Watch::new(), Name::new(b"a"), &said) == Ok(()));
     assert!(rt; writer.taken.as_slice() == b"@a job 1\n".as_slice());
 }
 
 // Whether this is the line that is written for tenant a, and the text that is printed.
 fn is_line(alloc: Global, said: &Said, line: &str) -> Result<bool, Fail> {
     let mut written = Vec::new(alloc);
-    if write_reply(&mut written, Name::new(b"a"), said).is_err() {
+    if write_reply(&mut written, &mut Watch::new(), Name::new(b"a"), said).is_err() {
         return Ok(false);
     }
     let printed = format!(in alloc; "@a {said}\n")?;

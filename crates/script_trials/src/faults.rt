@@ -1,6 +1,6 @@
 //! Replays whose reader or writer fails.
 use crate::made::{TREE, TREE_TOLD, TWO, spelled};
-use farm_cli::{ReplayFault, read_config, replay};
+use farm_cli::{Notes, ReplayFault, Watches, read_config, replay};
 use farm_core::Config;
 use std::alloc::{AllocError, Global};
 use std::io;
@@ -103,7 +103,14 @@ fn first_lines(text: &[u8], count: usize) -> &[u8] {
 fn is_cut_off(rt: &impl Abort, alloc: Global, config: &Config, bytes: &[u8]) -> Result<(), Fail> {
     let mut written = room_for_lines(alloc)?;
     let reader = Cut { rest: bytes };
-    let ended = replay(alloc, config, reader, &mut written);
+    let ended = replay(
+        alloc,
+        config,
+        reader,
+        &mut written,
+        &mut Watches::new(),
+        &mut Notes::default(),
+    );
     let expected = first_lines(TREE_TOLD.as_bytes(), line_ends(bytes).saturating_sub(19));
     assert!(rt;
         ended == Err(ReplayFault::Read),
@@ -138,7 +145,14 @@ fn written_into(
 ) -> Result<(Vec<u8>, Result<(), ReplayFault>), AllocError> {
     let taken = room_for_lines(alloc)?;
     let mut writer = Full { taken, room, fails };
-    let ended = replay(alloc, config, script.as_bytes(), &mut writer);
+    let ended = replay(
+        alloc,
+        config,
+        script.as_bytes(),
+        &mut writer,
+        &mut Watches::new(),
+        &mut Notes::default(),
+    );
     Ok((writer.taken, ended))
 }
 
@@ -180,7 +194,14 @@ fn writers_of_one_byte(rt: HostRuntime) -> Result<(), Fail> {
     for writes in 0..=expected.len() {
         let taken = room_for_lines(rt.alloc())?;
         let mut writer = Narrow { taken, writes };
-        let ended = replay(rt.alloc(), &config, script.as_bytes(), &mut writer);
+        let ended = replay(
+            rt.alloc(),
+            &config,
+            script.as_bytes(),
+            &mut writer,
+            &mut Watches::new(),
+            &mut Notes::default(),
+        );
         let is_whole = writes == expected.len();
         assert!(rt; ended.is_ok() == is_whole, "after {writes} writes");
         assert!(rt;

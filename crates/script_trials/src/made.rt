@@ -1,5 +1,5 @@
 //! The configuration, the script and the text that the trials share.
-use farm_cli::{ReplayFault, read_config, replay};
+use farm_cli::{Notes, ReplayFault, Watches, read_config, replay};
 use std::alloc::{AllocError, Global};
 use std::test::Fail;
 
@@ -55,6 +55,13 @@ pub(crate) fn replayed(
     let config = read_config(alloc, TWO.as_bytes())?;
     let mut written: Vec<u8> = Vec::new(alloc);
     written.reserve(4096)?;
-    let ended = replay(alloc, &config, script.as_bytes(), &mut written);
+    let ended = replay(
+        alloc,
+        &config,
+        script.as_bytes(),
+        &mut written,
+        &mut Watches::new(),
+        &mut Notes::default(),
+    );
     Ok((written, ended))
 }

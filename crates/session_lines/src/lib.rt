@@ -2,9 +2,9 @@
 //!
 //! [`read_request`] takes from a reader exactly the bytes of the next request and answers what the definition makes of them
 //! (`specs/Script`): a request, the named fault of its line, or the end. [`write_reply`] writes exactly the line of a reply
-//! (`specs/ReplyText`), or a front part of it where the writer fails. Reading a line and writing one take no memory; the text of
-//! a submit takes what it needs, and its want is told. [`read_watched`] and [`write_watched`] do the same through a watch, and tell a
-//! failed read or write only where one has failed (`specs/Cause`).
+//! (`specs/ReplyText`), or a front part of it where the writer fails. Both go through a watch, and tell a failed read or write only
+//! where one has failed (`specs/Cause`). Reading a line and writing one take no memory; the text of a submit takes what it needs, and
+//! its want is told.
 //!
 //! - `bytes`, `words`: lines of a reader with their first bytes; words and numbers of a line.
 //! - `line`, `text`: what one line means; the text of a submit while its lines come.
@@ -27,7 +27,7 @@ mod words;
 mod writer;
 
 pub use put::WriteFault;
-pub use reading::{MOST_REQUEST_BYTES, read_request, read_watched};
+pub use reading::{MOST_REQUEST_BYTES, read_request};
 pub use request::{LineFault, Request, What};
 pub use said::Said;
-pub use writer::{write_reply, write_watched};
+pub use writer::write_reply;

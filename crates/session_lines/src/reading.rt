@@ -92,7 +92,7 @@ pub fn read_within<R: Read>(
 /// line or a text is no request, its bytes are taken too; what is left after `LineFault::Read` is not known, and it
 /// comes only where a read failed or the request has more than 100,000,000 bytes. Only a submit takes memory. It reads
 /// byte by byte, so hand in a reader that reads ahead.
-pub fn read_watched<R: Read>(
+pub fn read_request<R: Read>(
     alloc: Global,
     reader: &mut R,
     watch: &mut Watch,
@@ -101,11 +101,4 @@ pub fn read_watched<R: Read>(
     ensures cause { IsReadGivenUp MOST_REQUEST_BYTES None watch.new.failed (R.remaining reader.old) result }
 {
     read_within(alloc, reader, watch, MOST_REQUEST_BYTES)
-}
-
-/// The same, where nobody asks whether a read failed.
-pub fn read_request<R: Read>(alloc: Global, reader: &mut R) -> Result<Request, LineFault>
-    ensures { Takes MOST_REQUEST_BYTES None (R.remaining reader.old) (R.remaining reader.new) result }
-{
-    read_watched(alloc, reader, &mut Watch::new())
 }

@@ -388,7 +388,7 @@ fn put_said<W: Write>(writer: &mut W, watch: &mut Watch, said: &Said) -> Result<
 /// text. Where no tenant is known, a question mark stands for the name. After a fault, which comes only where a write
 /// failed or took nothing, an unknown part of the line has gone out, from its front. Takes no memory; the line goes out
 /// in small pieces, so hand in a writer that gathers them.
-pub fn write_watched<W: Write>(
+pub fn write_reply<W: Write>(
     writer: &mut W,
     watch: &mut Watch,
     who: Option<Name>,
@@ -405,16 +405,4 @@ pub fn write_watched<W: Write>(
         return Err(fault);
     }
     put(writer, watch, b"\n")
-}
-
-/// The same, where nobody asks whether a write failed.
-pub fn write_reply<W: Write>(
-    writer: &mut W,
-    who: Option<Name>,
-    said: &Said,
-) -> Result<(), WriteFault>
-    ensures { Writes result (W.contents writer.old) (W.contents writer.new)
-        (reply_line who said.now) }
-{
-    write_watched(writer, &mut Watch::new(), who, said)
 }

@@ -1,4 +1,5 @@
 use Rattle.std.proofs.Common.{◌≡◌, ◌<◌, refl, map, arith, sym, ap, ◌∙◌, subst}
+use Rattle.std.specs.Prelude.{is_some}
 use Rattle.farm_core.proofs.TillLemmas.{tills_length}
 use Rattle.farm_session.proofs.TillLemmas.{own_till, kept_tills}
 use Rattle.farm_core.specs.World.{purse_in, opened}
@@ -15,49 +16,51 @@ loop-answered-init g c = (
   ap (λ w. w.config) c.requires.farm,
   c.requires.tills,
   c.requires.floor,
-  play_begins c.args.config.now (script_rest g.R.Read.remaining c.args.script.now) (g.W.Write.contents c.args.writer.now) c.args.floor.now.farm
-      (ap (λ w. w.config) c.requires.farm) (begun c.args.config.now c.args.floor.now.farm c.farms_are_replayed.ensures c.requires.farm),
+  subst (λ b. Played c.args.config.now (script_rest g.R.Read.remaining c.args.script.now) (script_rest g.R.Read.remaining c.args.script.now) (g.W.Write.contents c.args.writer.now) (g.W.Write.contents c.args.writer.now) 0 b c.args.floor.now.farm)
+      (sym c.requires.notes)
+      (play_begins c.args.config.now (script_rest g.R.Read.remaining c.args.script.now) (g.W.Write.contents c.args.writer.now) c.args.floor.now.farm
+      (ap (λ w. w.config) c.requires.farm) (begun c.args.config.now c.args.floor.now.farm c.farms_are_replayed.ensures c.requires.farm)),
 )
 
 pub returns-in-Over-clause-written : goal.returns-in-Over-clause-written
 returns-in-Over-clause-written g c =
-    play_over c.requests_come_in_turn.ensures c.args.config.now (script_rest g.R.Read.remaining c.args.script.now) (script_rest g.R.Read.remaining c.begin.new.self) (script_rest g.R.Read.remaining c.read_watched.new.reader)
-    (g.W.Write.contents c.args.writer.now) (g.W.Write.contents c.send_before_wait.new.writer) c.loop-answered._answered c.loop-answered.floor.farm c.read_watched.result (omega arith) (cc (c.in-Over.is, c.hear.ensures))
-    c.read_watched.ensures.takes (played_sent c.args.config.now (script_rest g.R.Read.remaining c.args.script.now) (script_rest g.R.Read.remaining c.loop-answered.script) (script_rest g.R.Read.remaining c.begin.new.self)
-    (g.W.Write.contents c.args.writer.now) (g.W.Write.contents c.loop-answered.writer) (g.W.Write.contents c.send_before_wait.new.writer) c.loop-answered._answered c.loop-answered.floor.farm c.begin.ensures
+    play_over c.requests_come_in_turn.ensures c.args.config.now (script_rest g.R.Read.remaining c.args.script.now) (script_rest g.R.Read.remaining c.begin.new.self) (script_rest g.R.Read.remaining c.read_request.new.reader)
+    (g.W.Write.contents c.args.writer.now) (g.W.Write.contents c.send_before_wait.new.writer) c.loop-answered._answered (is_some c.loop-answered.notes.refused) c.loop-answered.floor.farm c.read_request.result (omega arith) (cc (c.in-Over.is, c.hear.ensures))
+    c.read_request.ensures.takes (played_sent c.args.config.now (script_rest g.R.Read.remaining c.args.script.now) (script_rest g.R.Read.remaining c.loop-answered.script) (script_rest g.R.Read.remaining c.begin.new.self)
+    (g.W.Write.contents c.args.writer.now) (g.W.Write.contents c.loop-answered.writer) (g.W.Write.contents c.send_before_wait.new.writer) c.loop-answered._answered (is_some c.loop-answered.notes.refused) c.loop-answered.floor.farm c.begin.ensures
     c.send_before_wait.ensures c.loop-answered.invariant.3)
 
 pub returns-in-Err-clause-cut_off : goal.returns-in-Err-clause-cut_off
 returns-in-Err-clause-cut_off g c =
     rw c.in-Err.ensures.fault
-    (settled_cut c.requests_come_in_turn.ensures c.args.config.now (script_rest g.R.Read.remaining c.args.script.now) (script_rest g.R.Read.remaining c.begin.new.self) (script_rest g.R.Read.remaining c.read_watched.new.reader)
-    (g.W.Write.contents c.args.writer.now) (g.W.Write.contents c.send_before_wait.new.writer) (g.W.Write.contents c.tell.new.writer) c.loop-answered._answered c.loop-answered.floor.farm c.read_watched.result
-    c.in-Told.who c.in-Told.said (cc (c.in-Told.is, c.hear.ensures)) c.read_watched.ensures.takes (played_sent c.args.config.now (script_rest g.R.Read.remaining c.args.script.now) (script_rest g.R.Read.remaining c.loop-answered.script) (script_rest g.R.Read.remaining c.begin.new.self)
-    (g.W.Write.contents c.args.writer.now) (g.W.Write.contents c.loop-answered.writer) (g.W.Write.contents c.send_before_wait.new.writer) c.loop-answered._answered c.loop-answered.floor.farm c.begin.ensures
+    (settled_cut c.requests_come_in_turn.ensures c.args.config.now (script_rest g.R.Read.remaining c.args.script.now) (script_rest g.R.Read.remaining c.begin.new.self) (script_rest g.R.Read.remaining c.read_request.new.reader)
+    (g.W.Write.contents c.args.writer.now) (g.W.Write.contents c.send_before_wait.new.writer) (g.W.Write.contents c.tell.new.writer) c.loop-answered._answered (is_some c.loop-answered.notes.refused) c.loop-answered.floor.farm c.read_request.result
+    c.in-Told.who c.in-Told.said (cc (c.in-Told.is, c.hear.ensures)) c.read_request.ensures.takes (played_sent c.args.config.now (script_rest g.R.Read.remaining c.args.script.now) (script_rest g.R.Read.remaining c.loop-answered.script) (script_rest g.R.Read.remaining c.begin.new.self)
+    (g.W.Write.contents c.args.writer.now) (g.W.Write.contents c.loop-answered.writer) (g.W.Write.contents c.send_before_wait.new.writer) c.loop-answered._answered (is_some c.loop-answered.notes.refused) c.loop-answered.floor.farm c.begin.ensures
     c.send_before_wait.ensures c.loop-answered.invariant.3) c.in-Err.ensures.writes.err _ c.in-Err.ensures.cause)
 
 pub returns-in-Err-send_before_nodes-clause-cut_off : goal.returns-in-Err-send_before_nodes-clause-cut_off
 returns-in-Err-send_before_nodes-clause-cut_off g c =
     rw c.in-Err-send_before_nodes.ensures.fault
-    (asked_unsent c.requests_come_in_turn.ensures c.args.config.now (script_rest g.R.Read.remaining c.args.script.now) (script_rest g.R.Read.remaining c.begin.new.self) (script_rest g.R.Read.remaining c.read_watched.new.reader)
-    (g.W.Write.contents c.args.writer.now) (g.W.Write.contents c.send_before_nodes.new.writer) c.loop-answered._answered c.loop-answered.floor.farm c.read_watched.result
-    c.in-Asked.tenant c.in-Asked.who c.in-Asked.asked (cc (c.in-Asked.is, c.hear.ensures)) c.read_watched.ensures.takes
+    (asked_unsent c.requests_come_in_turn.ensures c.args.config.now (script_rest g.R.Read.remaining c.args.script.now) (script_rest g.R.Read.remaining c.begin.new.self) (script_rest g.R.Read.remaining c.read_request.new.reader)
+    (g.W.Write.contents c.args.writer.now) (g.W.Write.contents c.send_before_nodes.new.writer) c.loop-answered._answered (is_some c.loop-answered.notes.refused) c.loop-answered.floor.farm c.read_request.result
+    c.in-Asked.tenant c.in-Asked.who c.in-Asked.asked (cc (c.in-Asked.is, c.hear.ensures)) c.read_request.ensures.takes
     (played_sent c.args.config.now (script_rest g.R.Read.remaining c.args.script.now) (script_rest g.R.Read.remaining c.begin.new.self) (script_rest g.R.Read.remaining c.begin.new.self)
-    (g.W.Write.contents c.args.writer.now) (g.W.Write.contents c.send_before_wait.new.writer) (g.W.Write.contents c.send_before_nodes.new.writer) c.loop-answered._answered c.loop-answered.floor.farm refl
+    (g.W.Write.contents c.args.writer.now) (g.W.Write.contents c.send_before_wait.new.writer) (g.W.Write.contents c.send_before_nodes.new.writer) c.loop-answered._answered (is_some c.loop-answered.notes.refused) c.loop-answered.floor.farm refl
     c.send_before_nodes.ensures.kept (played_sent c.args.config.now (script_rest g.R.Read.remaining c.args.script.now) (script_rest g.R.Read.remaining c.loop-answered.script) (script_rest g.R.Read.remaining c.begin.new.self)
-    (g.W.Write.contents c.args.writer.now) (g.W.Write.contents c.loop-answered.writer) (g.W.Write.contents c.send_before_wait.new.writer) c.loop-answered._answered c.loop-answered.floor.farm c.begin.ensures
+    (g.W.Write.contents c.args.writer.now) (g.W.Write.contents c.loop-answered.writer) (g.W.Write.contents c.send_before_wait.new.writer) c.loop-answered._answered (is_some c.loop-answered.notes.refused) c.loop-answered.floor.farm c.begin.ensures
     c.send_before_wait.ensures c.loop-answered.invariant.3)) _ c.in-Err-send_before_nodes.ensures.cause)
 
 pub returns-in-Err-tell-clause-cut_off : goal.returns-in-Err-tell-clause-cut_off
 returns-in-Err-tell-clause-cut_off g c =
     rw c.in-Err-tell.ensures.fault
-    (asked_cut c.requests_come_in_turn.ensures c.args.config.now (script_rest g.R.Read.remaining c.args.script.now) (script_rest g.R.Read.remaining c.begin.new.self) (script_rest g.R.Read.remaining c.read_watched.new.reader)
-    (g.W.Write.contents c.args.writer.now) (g.W.Write.contents c.send_before_nodes.new.writer) (g.W.Write.contents c.tell-in-Asked.new.writer) c.loop-answered._answered c.loop-answered.floor.farm
-    c.answer-said.new.self.farm c.read_watched.result c.in-Asked.tenant c.in-Asked.who c.in-Asked.asked c.answer-said.result (cc (c.in-Asked.is, c.hear.ensures)) c.read_watched.ensures.takes
+    (asked_cut c.requests_come_in_turn.ensures c.args.config.now (script_rest g.R.Read.remaining c.args.script.now) (script_rest g.R.Read.remaining c.begin.new.self) (script_rest g.R.Read.remaining c.read_request.new.reader)
+    (g.W.Write.contents c.args.writer.now) (g.W.Write.contents c.send_before_nodes.new.writer) (g.W.Write.contents c.tell-in-Asked.new.writer) c.loop-answered._answered (is_some c.loop-answered.notes.refused) c.loop-answered.floor.farm
+    c.answer-said.new.self.farm c.read_request.result c.in-Asked.tenant c.in-Asked.who c.in-Asked.asked c.answer-said.result (cc (c.in-Asked.is, c.hear.ensures)) c.read_request.ensures.takes
     c.answer-said.ensures.told (played_sent c.args.config.now (script_rest g.R.Read.remaining c.args.script.now) (script_rest g.R.Read.remaining c.begin.new.self) (script_rest g.R.Read.remaining c.begin.new.self)
-    (g.W.Write.contents c.args.writer.now) (g.W.Write.contents c.send_before_wait.new.writer) (g.W.Write.contents c.send_before_nodes.new.writer) c.loop-answered._answered c.loop-answered.floor.farm refl
+    (g.W.Write.contents c.args.writer.now) (g.W.Write.contents c.send_before_wait.new.writer) (g.W.Write.contents c.send_before_nodes.new.writer) c.loop-answered._answered (is_some c.loop-answered.notes.refused) c.loop-answered.floor.farm refl
     c.send_before_nodes.ensures.kept (played_sent c.args.config.now (script_rest g.R.Read.remaining c.args.script.now) (script_rest g.R.Read.remaining c.loop-answered.script) (script_rest g.R.Read.remaining c.begin.new.self)
-    (g.W.Write.contents c.args.writer.now) (g.W.Write.contents c.loop-answered.writer) (g.W.Write.contents c.send_before_wait.new.writer) c.loop-answered._answered c.loop-answered.floor.farm c.begin.ensures
+    (g.W.Write.contents c.args.writer.now) (g.W.Write.contents c.loop-answered.writer) (g.W.Write.contents c.send_before_wait.new.writer) c.loop-answered._answered (is_some c.loop-answered.notes.refused) c.loop-answered.floor.farm c.begin.ensures
     c.send_before_wait.ensures c.loop-answered.invariant.3)) c.in-Err-tell.ensures.writes.err _ c.in-Err-tell.ensures.cause)
 
 pub loop-answered-preserved : goal.loop-answered-preserved
@@ -68,12 +71,12 @@ loop-answered-preserved g c =
         ap (λ x. x.farm.config) w.floor-is ∙ inv.0,
         ap (map opening_of) w.branches-is ∙ inv.1,
         subst (λ x. IsFloor g.J.Strategy.meaning x.farm x.held.items) (sym w.floor-is) inv.2,
-        rw (w.floor-is, w.writer-is)
-            (settled_on c.requests_come_in_turn.ensures c.args.config.now (script_rest g.R.Read.remaining c.args.script.now) (script_rest g.R.Read.remaining c.begin.new.self) (script_rest g.R.Read.remaining c.read_watched.new.reader)
-            (g.W.Write.contents c.args.writer.now) (g.W.Write.contents c.send_before_wait.new.writer) (g.W.Write.contents w.tell.new.writer) c.loop-answered._answered c.loop-answered.floor.farm c.read_watched.result
-            w.in-Told.who w.in-Told.said (cc (w.in-Told.is, c.hear.ensures)) c.read_watched.ensures.takes (played_sent c.args.config.now (script_rest g.R.Read.remaining c.args.script.now) (script_rest g.R.Read.remaining c.loop-answered.script) (script_rest g.R.Read.remaining c.begin.new.self)
-            (g.W.Write.contents c.args.writer.now) (g.W.Write.contents c.loop-answered.writer) (g.W.Write.contents c.send_before_wait.new.writer) c.loop-answered._answered c.loop-answered.floor.farm c.begin.ensures
-            c.send_before_wait.ensures c.loop-answered.invariant.3) w.in_default.ensures.writes.ok),
+        rw (w.floor-is, w.writer-is, w.notes-is)
+            (settled_on c.requests_come_in_turn.ensures c.args.config.now (script_rest g.R.Read.remaining c.args.script.now) (script_rest g.R.Read.remaining c.begin.new.self) (script_rest g.R.Read.remaining c.read_request.new.reader)
+            (g.W.Write.contents c.args.writer.now) (g.W.Write.contents c.send_before_wait.new.writer) (g.W.Write.contents w.tell.new.writer) c.loop-answered._answered (is_some c.loop-answered.notes.refused) (is_some w.add.new.self.refused) c.loop-answered.floor.farm c.read_request.result
+            w.in-Told.who w.in-Told.said (cc (w.in-Told.is, c.hear.ensures)) c.read_request.ensures.takes (played_sent c.args.config.now (script_rest g.R.Read.remaining c.args.script.now) (script_rest g.R.Read.remaining c.loop-answered.script) (script_rest g.R.Read.remaining c.begin.new.self)
+            (g.W.Write.contents c.args.writer.now) (g.W.Write.contents c.loop-answered.writer) (g.W.Write.contents c.send_before_wait.new.writer) c.loop-answered._answered (is_some c.loop-answered.notes.refused) c.loop-answered.floor.farm c.begin.ensures
+            c.send_before_wait.ensures c.loop-answered.invariant.3) w.in_default.ensures.writes.ok w.add.ensures),
       )
       | in-Asked+in_default-send_before_nodes+in_default-tell w ↦ (
         ap (λ x. x.farm.config) w.floor-is ∙ w.answer-said.ensures.told.config ∙ inv.0,
@@ -84,29 +87,29 @@ loop-answered-preserved g c =
             w.index-branches-purse.is (w.answer-said.ensures.kept ∙ sym w.index-branches-purse.is))
             ∙ inv.1,
         subst (λ x. IsFloor g.J.Strategy.meaning x.farm x.held.items) (sym w.floor-is) w.answer-said.ensures.floor,
-        rw (w.floor-is, w.writer-is)
-            (asked_on c.requests_come_in_turn.ensures c.args.config.now (script_rest g.R.Read.remaining c.args.script.now) (script_rest g.R.Read.remaining c.begin.new.self) (script_rest g.R.Read.remaining c.read_watched.new.reader)
-            (g.W.Write.contents c.args.writer.now) (g.W.Write.contents w.send_before_nodes.new.writer) (g.W.Write.contents w.tell-in-Asked.new.writer) c.loop-answered._answered c.loop-answered.floor.farm
-            w.answer-said.new.self.farm c.read_watched.result w.in-Asked.tenant w.in-Asked.who w.in-Asked.asked w.answer-said.result (cc (w.in-Asked.is, c.hear.ensures)) c.read_watched.ensures.takes
+        rw (w.floor-is, w.writer-is, w.notes-is)
+            (asked_on c.requests_come_in_turn.ensures c.args.config.now (script_rest g.R.Read.remaining c.args.script.now) (script_rest g.R.Read.remaining c.begin.new.self) (script_rest g.R.Read.remaining c.read_request.new.reader)
+            (g.W.Write.contents c.args.writer.now) (g.W.Write.contents w.send_before_nodes.new.writer) (g.W.Write.contents w.tell-in-Asked.new.writer) c.loop-answered._answered (is_some c.loop-answered.notes.refused) (is_some w.add-in-Asked.new.self.refused) c.loop-answered.floor.farm
+            w.answer-said.new.self.farm c.read_request.result w.in-Asked.tenant w.in-Asked.who w.in-Asked.asked w.answer-said.result (cc (w.in-Asked.is, c.hear.ensures)) c.read_request.ensures.takes
             w.answer-said.ensures.told (played_sent c.args.config.now (script_rest g.R.Read.remaining c.args.script.now) (script_rest g.R.Read.remaining c.begin.new.self) (script_rest g.R.Read.remaining c.begin.new.self)
-            (g.W.Write.contents c.args.writer.now) (g.W.Write.contents c.send_before_wait.new.writer) (g.W.Write.contents w.send_before_nodes.new.writer) c.loop-answered._answered c.loop-answered.floor.farm refl
+            (g.W.Write.contents c.args.writer.now) (g.W.Write.contents c.send_before_wait.new.writer) (g.W.Write.contents w.send_before_nodes.new.writer) c.loop-answered._answered (is_some c.loop-answered.notes.refused) c.loop-answered.floor.farm refl
             w.send_before_nodes.ensures.kept (played_sent c.args.config.now (script_rest g.R.Read.remaining c.args.script.now) (script_rest g.R.Read.remaining c.loop-answered.script) (script_rest g.R.Read.remaining c.begin.new.self)
-            (g.W.Write.contents c.args.writer.now) (g.W.Write.contents c.loop-answered.writer) (g.W.Write.contents c.send_before_wait.new.writer) c.loop-answered._answered c.loop-answered.floor.farm c.begin.ensures
-            c.send_before_wait.ensures c.loop-answered.invariant.3)) w.in_default-tell.ensures.writes.ok),
+            (g.W.Write.contents c.args.writer.now) (g.W.Write.contents c.loop-answered.writer) (g.W.Write.contents c.send_before_wait.new.writer) c.loop-answered._answered (is_some c.loop-answered.notes.refused) c.loop-answered.floor.farm c.begin.ensures
+            c.send_before_wait.ensures c.loop-answered.invariant.3)) w.in_default-tell.ensures.writes.ok w.add-in-Asked.ensures),
       )
     ]
 
 pub returns-clause-written : goal.returns-clause-written
 returns-clause-written g c =
     play_written c.args.config.now (script_rest g.R.Read.remaining c.args.script.now) (script_rest g.R.Read.remaining c.loop-answered.script) (g.W.Write.contents c.args.writer.now) (g.W.Write.contents c.loop-answered.writer)
-    c.loop-answered._answered c.loop-answered.floor.farm c.end.result (omega arith) c.loop-answered.invariant.3 c.end.ensures.over
+    c.loop-answered._answered (is_some c.loop-answered.notes.refused) c.loop-answered.floor.farm c.end.result (omega arith) c.loop-answered.invariant.3 c.end.ensures.over
 
 pub returns-clause-cut_off : goal.returns-clause-cut_off
 returns-clause-cut_off g c =
     let all : c.loop-answered._answered ≡ 1000000 = omega arith in
     play_cut c.args.config.now (script_rest g.R.Read.remaining c.args.script.now) (script_rest g.R.Read.remaining c.loop-answered.script) (g.W.Write.contents c.args.writer.now) (g.W.Write.contents c.loop-answered.writer)
-    c.loop-answered.floor.farm _ c.end.result
-    (subst (λ n. Played c.args.config.now (script_rest g.R.Read.remaining c.args.script.now) (script_rest g.R.Read.remaining c.loop-answered.script) (g.W.Write.contents c.args.writer.now) (g.W.Write.contents c.loop-answered.writer) n c.loop-answered.floor.farm)
+    (is_some c.loop-answered.notes.refused) c.loop-answered.floor.farm _ c.end.result
+    (subst (λ n. Played c.args.config.now (script_rest g.R.Read.remaining c.args.script.now) (script_rest g.R.Read.remaining c.loop-answered.script) (g.W.Write.contents c.args.writer.now) (g.W.Write.contents c.loop-answered.writer) n (is_some c.loop-answered.notes.refused) c.loop-answered.floor.farm)
     all c.loop-answered.invariant.3) c.end.ensures.fault
 
 pub bounds-branches-purse : goal.bounds-branches-purse
@@ -122,7 +125,7 @@ answer-said-requires-clause-till g c κs within =
 pub returns-in-Broken-clause-cut_off : goal.returns-in-Broken-clause-cut_off
 returns-in-Broken-clause-cut_off g c =
     play_broken c.args.config.now (script_rest g.R.Read.remaining c.args.script.now) (script_rest g.R.Read.remaining c.begin.new.self) (g.W.Write.contents c.args.writer.now) (g.W.Write.contents c.send_before_wait.new.writer)
-    c.loop-answered._answered c.loop-answered.floor.farm c.read_watched.result _ (cc (c.in-Broken.is, c.hear.ensures)) c.read_watched.ensures.cause
+    c.loop-answered._answered (is_some c.loop-answered.notes.refused) c.loop-answered.floor.farm c.read_request.result _ (cc (c.in-Broken.is, c.hear.ensures)) c.read_request.ensures.cause
     (played_sent c.args.config.now (script_rest g.R.Read.remaining c.args.script.now) (script_rest g.R.Read.remaining c.loop-answered.script) (script_rest g.R.Read.remaining c.begin.new.self)
-    (g.W.Write.contents c.args.writer.now) (g.W.Write.contents c.loop-answered.writer) (g.W.Write.contents c.send_before_wait.new.writer) c.loop-answered._answered c.loop-answered.floor.farm c.begin.ensures
+    (g.W.Write.contents c.args.writer.now) (g.W.Write.contents c.loop-answered.writer) (g.W.Write.contents c.send_before_wait.new.writer) c.loop-answered._answered (is_some c.loop-answered.notes.refused) c.loop-answered.floor.farm c.begin.ensures
     c.send_before_wait.ensures c.loop-answered.invariant.3)

@@ -1,5 +1,28 @@
-use Rattle.farm_replay.proofs.PlayLemmas.{play_unseen}
+use Rattle.std.specs.Prelude.{is_some, IfSome, OnOk, IfErr}
+use Rattle.std.proofs.Common.{subst}
+use Rattle.farm_replay.specs.Reader.{script_rest}
+use Rattle.farm_replay.specs.Output.{IsWritten, IsCutOff}
+use Rattle.farm_replay.proofs.HeadlineLemmas.{written_isolated, written_truthful}
 use Rattle.farm_replay.proofs.script.replay.Goals as goal
 
+pub returns-clause-written : goal.returns-clause-written
+returns-clause-written g c =
+    subst (λ a. OnOk c.play-ended.result (IfSome a (λ bytes. IsWritten c.args.config.now bytes (is_some c.play-ended.new.notes.refused) (g.W.Write.contents c.args.writer.now) (g.W.Write.contents c.play-ended.new.writer))))
+    c.in-Ok.ensures c.play-ended.ensures.written
+
+pub returns-clause-isolated : goal.returns-clause-isolated
+returns-clause-isolated g c =
+    written_isolated c.outputs_are_isolated.ensures c.args.config.now (script_rest g.R.Read.remaining c.in-Ok.script) (g.R.Read.remaining c.args.reader)
+    (g.W.Write.contents c.args.writer.now) (g.W.Write.contents c.play-ended.new.writer) (is_some c.play-ended.new.notes.refused) c.play-ended.result
+    c.in-Ok.ensures c.play-ended.ensures.written
+
+pub returns-clause-truth : goal.returns-clause-truth
+returns-clause-truth g c =
+    written_truthful c.each_line_is_true.ensures c.args.config.now (script_rest g.R.Read.remaining c.in-Ok.script) (g.R.Read.remaining c.args.reader)
+    (g.W.Write.contents c.args.writer.now) (g.W.Write.contents c.play-ended.new.writer) (is_some c.play-ended.new.notes.refused) c.play-ended.result
+    c.in-Ok.ensures c.play-ended.ensures.written
+
 pub returns-clause-cut_off : goal.returns-clause-cut_off
-returns-clause-cut_off g c = play_unseen c.args.config.now (g.R.Read.remaining c.args.reader) (g.W.Write.contents c.args.writer.now) (g.W.Write.contents c.replay_noting.new.writer) c.replay_noting.new.watches c.replay_noting.result c.replay_noting.ensures.cut_off
+returns-clause-cut_off g c =
+    subst (λ a. IfErr c.play-ended.result (λ fault. IfSome a (λ bytes. IsCutOff c.args.config.now fault c.play-ended.new.watches bytes (g.W.Write.contents c.args.writer.now) (g.W.Write.contents c.play-ended.new.writer))))
+    c.in-Ok.ensures c.play-ended.ensures.cut_off

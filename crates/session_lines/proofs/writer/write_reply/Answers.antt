@@ -1,5 +1,5 @@
 use Rattle.session_lines.proofs.PartLemmas.{writes_then, writes_part}
-use Rattle.session_lines.proofs.writer.write_watched.Goals as goal
+use Rattle.session_lines.proofs.writer.write_reply.Goals as goal
 
 pub returns-in-Err-clause-writes : goal.returns-in-Err-clause-writes
 returns-in-Err-clause-writes g c = writes_part _ _ _ _ _ (writes_part _ _ _ _ _ c.in-Err.ensures.writes)
