@@ -12,9 +12,13 @@ use Rattle.strategy.specs.declared.verdict.Verdict.{Verdict}
 use Rattle.strategy.specs.declared.verdict.Verdict.TheVariants.{Going, Optimal, Infeasible, Ended}
 use Rattle.strategy.proofs.OutcomeLemmas.{each_best, optimal_is_true, infeasible_is_true}
 use Rattle.solve_cli.specs.Found.{IsFound}
-use Rattle.solve_cli.specs.Several.{is_decided, stronger, joined, nothing, is_shorter, AreFound, IsFoundByEach, IsTrueOf}
+use Rattle.solve_cli.specs.Improved.{IsImproved}
+use Rattle.solve_cli.specs.Several.{is_decided, stronger, joined, nothing, is_shorter, IsFoundBy, AreFound, IsFoundByEach, IsTrueOf}
 use Rattle.solve_cli.specs.Laws.{SeveralAreTrue, OneIsItself}
+use Rattle.solve_cli.specs.declared.search_kinds.SearchKind.{SearchKind}
+use Rattle.solve_cli.specs.declared.search_kinds.SearchKind.TheVariants.{Planned, Improve}
 use Rattle.solve_cli.specs.declared.searching.Found.{Found}
+use Rattle.solve_cli.proofs.SearchLemmas.{found_few}
 
 -- the better one is the shorter one
 pub better_is : (p : ProjectData) (one other : Option ScheduleData) → better p one other ≡ cond (is_shorter (option_map (makespan p) one) (option_map (makespan p) other)) other one
@@ -85,11 +89,29 @@ found_true plan kept most found is = record {
   infeasible = λ e. infeasible_is_true plan kept found.nodes (sym is.verdict ∙ e);
 }
 
-all_true : (p : ProjectData) → IsTrue (is_project p) → (kinds : List Kind) (most : ℕ) (each : List Found) (before : Found) → IsTrueOf p before → AreFound p kinds most each → IsTrueOf p (fold (joined p) before each)
+improved_true : (p : ProjectData) (most : ℕ) (found : Found) → IsImproved p most found → IsTrueOf p found
+improved_true p most found is =
+    let open_still : found.verdict ≡ Going = is.untold in
+    record {
+      feasible = is.feasible;
+      makespan = is.makespan;
+      optimal = λ e. cc;
+      infeasible = λ e. cc;
+    }
+
+by_true : (p : ProjectData) → IsTrue (is_project p) → (kind : SearchKind) (most : ℕ) (found : Found) → IsFoundBy p kind most found → IsTrueOf p found
+by_true p kept (Planned kind) most found is = found_true (record { project = p; kind = kind }) kept most found is
+by_true p kept (Improve seed) most found is = improved_true p most found is
+
+pub by_few : (p : ProjectData) (kind : SearchKind) (most : ℕ) (f : Found) → IsFoundBy p kind most f → f.nodes ≤ most
+by_few p (Planned kind) most f is = found_few (record { project = p; kind = kind }) most f is
+by_few p (Improve seed) most f is = is.nodes
+
+all_true : (p : ProjectData) → IsTrue (is_project p) → (kinds : List SearchKind) (most : ℕ) (each : List Found) (before : Found) → IsTrueOf p before → AreFound p kinds most each → IsTrueOf p (fold (joined p) before each)
 all_true p kept [] most each before h e = rw e h
 all_true p kept (kind ∷ kinds) most [] before h e = absurd e
 all_true p kept (kind ∷ kinds) most (found ∷ rest) before h (is, next) =
-    let now = joined_true p before found h (found_true (record { project = p; kind = kind }) kept most found is) in
+    let now = joined_true p before found h (by_true p kept kind most found is) in
     ⊎_elim (λ x. rw x.1 now) (λ x. all_true p kept kinds most rest (joined p before found) now x.1) next
 
 pub several_are_true : SeveralAreTrue
@@ -110,7 +132,7 @@ joined_to_nothing p kind most f is =
       verdict = rw n is.verdict;
     }
 
-one_alone : (p : ProjectData) (kind : Kind) (most : ℕ) (each : List Found) → AreFound p (kind ∷ []) most each → IsFound (record { project = p; kind = kind }) most (fold (joined p) nothing each)
+one_alone : (p : ProjectData) (kind : Kind) (most : ℕ) (each : List Found) → AreFound p (Planned kind ∷ []) most each → IsFound (record { project = p; kind = kind }) most (fold (joined p) nothing each)
 one_alone p kind most [] h = absurd h
 one_alone p kind most (f ∷ rest) (is, next) =
     let e : rest ≡ [] = ⊎_elim (λ x. x.1) (λ x. x.1) next in
@@ -120,40 +142,38 @@ pub one_is_itself : OneIsItself
 one_is_itself p kind most found is = rw is.whole (one_alone p kind most is.each is.run)
 
 -- whatever later searches find, all have found it together with what was found
-abbrev pub IsLeading : ProjectData → List Kind → List Kind → ℕ → Found → Type 0
+abbrev pub IsLeading : ProjectData → List SearchKind → List SearchKind → ℕ → Found → Type 0
 IsLeading p kinds later most before = (rest : List Found) → AreFound p later most rest → IsFoundByEach p kinds most (fold (joined p) before rest)
 
 -- one more search, which decides the project,
-last_search : (p : ProjectData) (kinds : List Kind) (kind : Kind) (later : List Kind) (most : ℕ) (before f : Found)
-    → IsLeading p kinds (kind ∷ later) most before → IsFound (record { project = p; kind = kind }) most f → is_decided f.verdict ≡ true → IsFoundByEach p kinds most (joined p before f)
+last_search : (p : ProjectData) (kinds : List SearchKind) (kind : SearchKind) (later : List SearchKind) (most : ℕ) (before f : Found)
+    → IsLeading p kinds (kind ∷ later) most before → IsFoundBy p kind most f → is_decided f.verdict ≡ true → IsFoundByEach p kinds most (joined p before f)
 last_search p kinds kind later most before f leads is e = leads (f ∷ []) (is, inl (e, refl))
 
 -- or does not
-next_search : (p : ProjectData) (kinds : List Kind) (kind : Kind) (later : List Kind) (most : ℕ) (before f : Found)
-    → IsLeading p kinds (kind ∷ later) most before → IsFound (record { project = p; kind = kind }) most f → is_decided f.verdict ≡ false → IsLeading p kinds later most (joined p before f)
+next_search : (p : ProjectData) (kinds : List SearchKind) (kind : SearchKind) (later : List SearchKind) (most : ℕ) (before f : Found)
+    → IsLeading p kinds (kind ∷ later) most before → IsFoundBy p kind most f → is_decided f.verdict ≡ false → IsLeading p kinds later most (joined p before f)
 next_search p kinds kind later most before f leads is e = λ rest r. leads (f ∷ rest) (is, inr (e, r))
 
-cut_at : (kinds : List Kind) (i : ℕ) (d : Kind) → i < length kinds → drop i kinds ≡ get_or kinds i d ∷ drop (i + 1) kinds
+cut_at : (kinds : List SearchKind) (i : ℕ) (d : SearchKind) → i < length kinds → drop i kinds ≡ get_or kinds i d ∷ drop (i + 1) kinds
 cut_at kinds i d h = rw (add-one, drop-cons kinds i d) refl
 
 -- the search of the kind at a place, which decides the project,
-pub last_at : (p q : ProjectData) (kinds : List Kind) (i : ℕ) (d : Kind) (most : ℕ) (before f now : Found) → q ≡ p → i < length kinds → IsLeading p kinds (drop i kinds) most before
-    → IsFound (record { project = q; kind = get_or kinds i d }) most f → is_decided f.verdict ≡ true → now ≡ joined p before f → IsFoundByEach p kinds most now
-last_at p q kinds i d most before f now same small leads is e j =
-    let here = subst (λ (l : List Kind). IsLeading p kinds l most before) (cut_at kinds i d small) leads in
-    let found = subst (λ (x : ProjectData). IsFound (record { project = x; kind = get_or kinds i d }) most f) same is in
-    subst (λ (x : Found). IsFoundByEach p kinds most x) (sym j) (last_search p kinds (get_or kinds i d) (drop (i + 1) kinds) most before f here found e)
+pub last_at : (p : ProjectData) (kinds : List SearchKind) (i : ℕ) (d : SearchKind) (most : ℕ) (before f now : Found) → i < length kinds → IsLeading p kinds (drop i kinds) most before
+    → IsFoundBy p (get_or kinds i d) most f → is_decided f.verdict ≡ true → now ≡ joined p before f → IsFoundByEach p kinds most now
+last_at p kinds i d most before f now small leads is e j =
+    let here = subst (λ (l : List SearchKind). IsLeading p kinds l most before) (cut_at kinds i d small) leads in
+    subst (λ (x : Found). IsFoundByEach p kinds most x) (sym j) (last_search p kinds (get_or kinds i d) (drop (i + 1) kinds) most before f here is e)
 
 -- or does not
-pub next_at : (p q : ProjectData) (kinds : List Kind) (i : ℕ) (d : Kind) (most : ℕ) (before f now : Found) → q ≡ p → i < length kinds → IsLeading p kinds (drop i kinds) most before
-    → IsFound (record { project = q; kind = get_or kinds i d }) most f → is_decided f.verdict ≡ false → now ≡ joined p before f → IsLeading p kinds (drop (i + 1) kinds) most now
-next_at p q kinds i d most before f now same small leads is e j =
-    let here = subst (λ (l : List Kind). IsLeading p kinds l most before) (cut_at kinds i d small) leads in
-    let found = subst (λ (x : ProjectData). IsFound (record { project = x; kind = get_or kinds i d }) most f) same is in
-    subst (λ (x : Found). IsLeading p kinds (drop (i + 1) kinds) most x) (sym j) (next_search p kinds (get_or kinds i d) (drop (i + 1) kinds) most before f here found e)
+pub next_at : (p : ProjectData) (kinds : List SearchKind) (i : ℕ) (d : SearchKind) (most : ℕ) (before f now : Found) → i < length kinds → IsLeading p kinds (drop i kinds) most before
+    → IsFoundBy p (get_or kinds i d) most f → is_decided f.verdict ≡ false → now ≡ joined p before f → IsLeading p kinds (drop (i + 1) kinds) most now
+next_at p kinds i d most before f now small leads is e j =
+    let here = subst (λ (l : List SearchKind). IsLeading p kinds l most before) (cut_at kinds i d small) leads in
+    subst (λ (x : Found). IsLeading p kinds (drop (i + 1) kinds) most x) (sym j) (next_search p kinds (get_or kinds i d) (drop (i + 1) kinds) most before f here is e)
 
 -- no search is left
-pub all_at : (p : ProjectData) (kinds : List Kind) (i : ℕ) (most : ℕ) (before : Found) → length kinds ≤ i → IsLeading p kinds (drop i kinds) most before → IsFoundByEach p kinds most before
+pub all_at : (p : ProjectData) (kinds : List SearchKind) (i : ℕ) (most : ℕ) (before : Found) → length kinds ≤ i → IsLeading p kinds (drop i kinds) most before → IsFoundByEach p kinds most before
 all_at p kinds i most before h leads =
-    let here = subst (λ (l : List Kind). IsLeading p kinds l most before) (drop_all i kinds h) leads in
+    let here = subst (λ (l : List SearchKind). IsLeading p kinds l most before) (drop_all i kinds h) leads in
     here [] refl

@@ -6,7 +6,6 @@ use Rattle.std.specs.declared.alloc.Global.{Global}
 use Rattle.mrcpsp.specs.Project.{ProjectData}
 use Rattle.psplib_mm.specs.Gives.{Fails}
 use Rattle.psplib_mm.specs.Reading.{reading}
-use Rattle.strategy.specs.declared.kind.Kind.{Kind}
 use Rattle.solve_cli.specs.FoundText.{found_text, found_json}
 use Rattle.solve_cli.specs.Several.{IsFoundByEach}
 use Rattle.solve_cli.specs.Verified.{IsVerified, IsAtFault}
@@ -16,6 +15,7 @@ use Rattle.solve_cli.specs.declared.fault.CommandFault.TheVariants.{Input, NoMem
 use Rattle.solve_cli.specs.declared.fault.InputFault.{InputFault}
 use Rattle.solve_cli.specs.declared.fault.InputFault.TheVariants.{File, Text, Verify}
 use Rattle.solve_cli.specs.declared.fault.VerifyFault.TheVariants as verify
+use Rattle.solve_cli.specs.declared.search_kinds.SearchKind.{SearchKind}
 use Rattle.solve_cli.specs.declared.searching.Found.{Found}
 use Rattle.solve_cli.specs.declared.verifying.Verified.{Verified}
 use Rattle.solve_cli.specs.declared.watches.Watches.{Watches}
@@ -88,13 +88,13 @@ told_text true found = found_json found
 told_text false found = found_text found
 
 -- what these searches find of the file's project was written
-pub record IsSolved (is_json : Bool) (kinds : List Kind) (most : ℕ) (file : List ℕ) (before after : Option (List ℕ)) : Type 0 where
+pub record IsSolved (is_json : Bool) (kinds : List SearchKind) (most : ℕ) (file : List ℕ) (before after : Option (List ℕ)) : Type 0 where
   pub project : ProjectData
   pub read : reading file ≡ Ok project
   pub found : Found
   pub finds : IsFoundByEach project kinds most found
   pub wrote : Appends before after (told_text is_json found)
 
-abbrev pub IsSolveOf : Bool → List Kind → ℕ → Result ⊤ CommandFault → Watches → Option (List ℕ) → Option (List ℕ) → Option (List ℕ) → Type 0
+abbrev pub IsSolveOf : Bool → List SearchKind → ℕ → Result ⊤ CommandFault → Watches → Option (List ℕ) → Option (List ℕ) → Option (List ℕ) → Type 0
 IsSolveOf is_json kinds most ended seen file before after =
     IsEndOf (IfSome file (λ bytes. IsSolved is_json kinds most (take MOST_TEXT bytes) before after)) (λ fault. IsUnsolved fault seen file) ended seen before after

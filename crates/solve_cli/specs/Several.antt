@@ -3,10 +3,12 @@ use Rattle.std.specs.Prelude.{◌≡◌, ℕ, ◌+◌, ◌⊎◌, Bool, true, fa
 use Rattle.mrcpsp.specs.Project.{ProjectData}
 use Rattle.mrcpsp.specs.Schedule.{IsFeasible, IsOptimal, IsInfeasible, makespan}
 use Rattle.strategy.specs.Outcome.{better}
-use Rattle.strategy.specs.declared.kind.Kind.{Kind}
 use Rattle.strategy.specs.declared.verdict.Verdict.{Verdict}
 use Rattle.strategy.specs.declared.verdict.Verdict.TheVariants.{Going, Optimal, Infeasible, Ended}
 use Rattle.solve_cli.specs.Found.{IsFound}
+use Rattle.solve_cli.specs.Improved.{IsImproved}
+use Rattle.solve_cli.specs.declared.search_kinds.SearchKind.{SearchKind}
+use Rattle.solve_cli.specs.declared.search_kinds.SearchKind.TheVariants.{Planned, Improve}
 use Rattle.solve_cli.specs.declared.searching.Found.{Found}
 
 -- whether a verdict decides the project
@@ -46,16 +48,21 @@ joined p one other =
 abbrev pub nothing : Found
 nothing = record { nodes = 0; best = None; makespan = None; verdict = Ended }
 
+-- what a search of this kind finds
+abbrev pub IsFoundBy : ProjectData → SearchKind → ℕ → Found → Type 0
+IsFoundBy p (Planned kind) most f = IsFound (record { project = p; kind = kind }) most f
+IsFoundBy p (Improve seed) most f = IsImproved p most f
+
 -- a search of each kind, in order, and none after the first that decides the project
-abbrev pub AreFound : ProjectData → List Kind → ℕ → List Found → Type 0
+abbrev pub AreFound : ProjectData → List SearchKind → ℕ → List Found → Type 0
 AreFound p [] most each = each ≡ []
 AreFound p (kind ∷ kinds) most [] = ⊥
 AreFound p (kind ∷ kinds) most (found ∷ rest) =
-    IsFound (record { project = p; kind = kind }) most found
+    IsFoundBy p kind most found
     × (((is_decided found.verdict ≡ true) × (rest ≡ [])) ⊎ ((is_decided found.verdict ≡ false) × AreFound p kinds most rest))
 
 -- what these searches have found together
-pub record IsFoundByEach (p : ProjectData) (kinds : List Kind) (most : ℕ) (found : Found) : Type 0 where
+pub record IsFoundByEach (p : ProjectData) (kinds : List SearchKind) (most : ℕ) (found : Found) : Type 0 where
   pub each : List Found
   pub run : AreFound p kinds most each
   pub whole : found ≡ fold (joined p) nothing each

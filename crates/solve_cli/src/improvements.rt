@@ -2,11 +2,10 @@
 use crate::progress::Progress;
 use crate::searching::Watch;
 use crate::telling::{tell_better, tell_better_json};
-use mrcpsp::{Schedule, check};
+use mrcpsp::{Project, Schedule, check};
 use std::alloc::{AllocError, Global};
 use std::io::Print;
 use std::rt::Runtime;
-use strategy::Plan;
 
 /// How better schedules are printed.
 #[derive(Clone, Copy, Debug, PartialEq, Eq)]
@@ -65,8 +64,8 @@ impl<'a, R: Runtime + AllocGlobal> Improvements<'a, R> {
     }
 
     /// Prints a schedule that is shorter than all before it.
-    fn take(&mut self, plan: &Plan, nodes: u64, best: &Schedule) {
-        let Ok(makespan) = check(&plan.project, best) else {
+    fn take(&mut self, project: &Project, nodes: u64, best: &Schedule) {
+        let Ok(makespan) = check(project, best) else {
             return;
         };
         if !self.is_better(makespan) {
@@ -81,10 +80,10 @@ impl<'a, R: Runtime + AllocGlobal> Improvements<'a, R> {
 }
 
 impl<'a, R: Runtime + AllocGlobal> Watch for Improvements<'a, R> {
-    fn look(&mut self, plan: &Plan, nodes: u64, best: Option<&Schedule>) {
-        self.progress.look(plan, nodes, best);
+    fn look(&mut self, project: &Project, nodes: u64, best: Option<&Schedule>) {
+        self.progress.look(project, nodes, best);
         if let Some(schedule) = best {
-            self.take(plan, nodes, schedule);
+            self.take(project, nodes, schedule);
         }
     }
 

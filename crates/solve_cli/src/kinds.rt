@@ -1,6 +1,7 @@
 //! The words for kinds of search.
 ghost use Rattle.std.specs.Prelude.{◌≤◌, IfOk, vec_len};
 
+use crate::search_kinds::SearchKind;
 use crate::several::MOST_SEARCHES;
 use std::alloc::Global;
 use strategy::Kind;
@@ -20,25 +21,32 @@ pub enum SearchFault<'a> {
     NoMemory,
 }
 
-/// The kind of search that a word of a request names.
-pub(crate) fn kind_of(word: &str) -> Option<Kind> {
-    match word {
-        "tree" => Some(Kind::Tree),
-        "rule:lft" => Some(Kind::RuleLft),
-        "rule:mts" => Some(Kind::RuleMts),
-        "rule:spt" => Some(Kind::RuleSpt),
-        _ => {
-            let seed = word.strip_prefix("sample:")?;
-            if seed.len() > 18 || seed.starts_with('+') {
-                return None;
-            }
-            Some(Kind::Sample(seed.parse().ok()?))
-        }
+/// The seed that the digits behind a word name, at most 18 of them.
+fn seed_of(word: &str, front: &str) -> Option<u64> {
+    let seed = word.strip_prefix(front)?;
+    if seed.len() > 18 || seed.starts_with('+') {
+        return None;
     }
+    seed.parse().ok()
+}
+
+/// The kind of search that a word names.
+pub(crate) fn kind_of(word: &str) -> Option<SearchKind> {
+    let kind = match word {
+        "tree" => Kind::Tree,
+        "rule:lft" => Kind::RuleLft,
+        "rule:mts" => Kind::RuleMts,
+        "rule:spt" => Kind::RuleSpt,
+        _ => match seed_of(word, "improve:") {
+            Some(seed) => return Some(SearchKind::Improve(seed)),
+            None => Kind::Sample(seed_of(word, "sample:")?),
+        },
+    };
+    Some(SearchKind::Planned(kind))
 }
 
 /// The kinds of search that words with commas between them name, in their order, at most `MOST_SEARCHES`.
-pub fn kinds_of(alloc: Global, words: &str) -> Result<Vec<Kind>, SearchFault<'_>>
+pub fn kinds_of(alloc: Global, words: &str) -> Result<Vec<SearchKind>, SearchFault<'_>>
     ensures { IfOk result (λ kinds. vec_len kinds ≤ MOST_SEARCHES) }
 {
     let mut kinds = Vec::new(alloc);

@@ -9,6 +9,8 @@
 //! - `fault`: why a schedule is not feasible, and why a command writes nothing.
 //! - `verifying`: `verify`.
 //! - `searching`: `solve`, and who watches a search.
+//! - `local`: `improve`, a local search.
+//! - `search_kinds`: the kinds of search of this command.
 //! - `several`: `solve_each`, several searches one after another.
 //! - `laws`: why what they tell is true, and how long the texts may be, in figures.
 //! - `drawing`: `draw`, a feasible schedule as a picture.
@@ -31,8 +33,10 @@ mod fault;
 mod improvements;
 mod kinds;
 pub mod laws;
+mod local;
 mod program;
 mod progress;
+mod search_kinds;
 mod searching;
 mod several;
 mod showing;
@@ -45,7 +49,9 @@ pub use drawing::draw;
 pub use ending::{MOST_TEXT, Paths};
 pub use fault::{CommandFault, InputFault, VerifyFault};
 pub use kinds::{SearchFault, kinds_of};
+pub use local::improve;
 pub use program::{COMMANDS_HELP, asks_for_help, is_command, run_command};
+pub use search_kinds::SearchKind;
 pub use searching::{Found, MOST_NODES, Watch, solve};
 pub use several::{MOST_SEARCHES, solve_each};
 pub use showing::{draw_read, draw_to, verify_read, verify_to};

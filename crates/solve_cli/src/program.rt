@@ -8,6 +8,7 @@ use crate::ending::Paths;
 use crate::improvements::{Improvements, Style};
 use crate::kinds::{SearchFault, kinds_of};
 use crate::progress::Progress;
+use crate::search_kinds::SearchKind;
 use crate::searching::MOST_NODES;
 use crate::several::MOST_SEARCHES;
 use crate::showing::{draw_to, verify_to};
@@ -18,7 +19,6 @@ use std::io;
 use std::io::Eprint;
 use std::process::ExitCode;
 use std::rt::Runtime;
-use strategy::Kind;
 use watched_files::{Source, open};
 
 /// What the help on all commands says of those of this crate.
@@ -140,7 +140,7 @@ fn run_draw<R: Runtime + AllocGlobal>(rt: &R, paths: Paths<'_>) -> ExitCode
 }
 
 /// The kinds of search that are asked for. An error is the status: 1 for want of memory, and 2 for words that are refused.
-fn kinds_asked<R: Eprint + AllocGlobal>(rt: &R, search: &str) -> Result<Vec<Kind>, ExitCode>
+fn kinds_asked<R: Eprint + AllocGlobal>(rt: &R, search: &str) -> Result<Vec<SearchKind>, ExitCode>
     ensures kinds { IfOk result (λ kinds. vec_len kinds ≤ MOST_SEARCHES) }
     ensures status { IfErr result (λ status. exit_status status ≤ 2) }
 {

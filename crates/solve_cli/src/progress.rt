@@ -1,10 +1,9 @@
 //! How far a search has come, told now and then.
 use crate::searching::Watch;
-use mrcpsp::{Schedule, check};
+use mrcpsp::{Project, Schedule, check};
 use std::io::Eprint;
 use std::rt::Runtime;
 use std::time::Instant;
-use strategy::Plan;
 
 /// Tells on standard error, at most once a second, how far a search has come.
 #[derive(Drop)]
@@ -44,7 +43,7 @@ impl<'a, R: Runtime> Progress<'a, R> {
 }
 
 impl<'a, R: Runtime> Watch for Progress<'a, R> {
-    fn look(&mut self, plan: &Plan, nodes: u64, best: Option<&Schedule>) {
+    fn look(&mut self, project: &Project, nodes: u64, best: Option<&Schedule>) {
         let Some(seconds) = self.due() else {
             return;
         };
@@ -52,7 +51,7 @@ impl<'a, R: Runtime> Watch for Progress<'a, R> {
         let nodes = self.ended.saturating_add(nodes);
         let rate = nodes / seconds.max(1);
         let makespan = match best {
-            Some(schedule) => check(&plan.project, schedule).ok(),
+            Some(schedule) => check(project, schedule).ok(),
             None => None,
         };
         let _ = match makespan {

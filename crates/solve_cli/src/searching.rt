@@ -6,7 +6,7 @@ ghost use Rattle.strategy.specs.Outcome.{best_after};
 ghost use Rattle.strategy.specs.Search.{shown_closed};
 ghost use Rattle.solve_cli.specs.Found.{IsFound, IsAt, IsFresh, IsBegun, IsOver, IsShown};
 
-use mrcpsp::{Schedule, check};
+use mrcpsp::{Project, Schedule, check};
 use quanta_till::Till;
 use rule_search::RuleSearch;
 use sample_search::SampleSearch;
@@ -19,7 +19,7 @@ use tree_search::TreeSearch;
 pub const MOST_NODES: u64 = 1_000_000_000_000;
 
 /// How many nodes a search runs between two looks of its watch.
-const CHUNK: u64 = 65_536;
+pub(crate) const CHUNK: u64 = 65_536;
 
 /// What a search has found.
 #[derive(Debug, Drop)]
@@ -36,8 +36,8 @@ pub struct Found {
 
 /// Who looks at a search now and then.
 pub trait Watch {
-    /// Looks at a search that has run so many nodes and knows this best schedule.
-    fn look(&mut self, plan: &Plan, nodes: u64, best: Option<&Schedule>);
+    /// Looks at a search of a project that has run so many nodes and knows this best schedule.
+    fn look(&mut self, project: &Project, nodes: u64, best: Option<&Schedule>);
 
     /// Looks away from a search that has run so many nodes, and runs no more.
     fn end(&mut self, nodes: u64);
@@ -60,7 +60,7 @@ fn run_nodes<S: Strategy, W: Watch>(search: &mut S, watch: &mut W)
 {
     while !search.closed() && search.left() > 0 {
         run_chunk(search);
-        watch.look(search.plan(), search.nodes(), search.best());
+        watch.look(&search.plan().project, search.nodes(), search.best());
     }
 }
 

@@ -1,12 +1,14 @@
 //! Running several searches of one project, one after another.
 ghost use Rattle.std.specs.Prelude.{◌≡◌, ◌+◌, ◌<◌, ◌≤◌, ◌^◌, length, option_map, IfOk};
 ghost use Rattle.mrcpsp.specs.Schedule.{makespan};
-ghost use Rattle.solve_cli.specs.Several.{is_decided, is_shorter, stronger, joined, IsFoundByEach};
+ghost use Rattle.solve_cli.specs.Several.{is_decided, is_shorter, stronger, joined, IsFoundBy, IsFoundByEach};
 
+use crate::local::improve;
+use crate::search_kinds::SearchKind;
 use crate::searching::{Found, MOST_NODES, Watch, solve};
 use mrcpsp::Project;
 use std::alloc::{AllocError, Global};
-use strategy::{Kind, Plan, Verdict};
+use strategy::{Plan, Verdict};
 
 /// The most searches that run one after another.
 pub const MOST_SEARCHES: usize = 1_000;
@@ -65,12 +67,32 @@ fn joined(_project: &Project, one: Found, other: Found) -> Found
     }
 }
 
+/// Runs a search of this kind for at most so many nodes, and tells what it has found then. An error is want of memory.
+fn solve_by<W: Watch>(
+    alloc: Global,
+    project: &Project,
+    kind: SearchKind,
+    most: u64,
+    watch: &mut W,
+) -> Result<Found, AllocError>
+    requires { most ≤ MOST_NODES }
+    ensures { IfOk result (λ found. IsFoundBy project.now kind most found) }
+{
+    match kind {
+        SearchKind::Planned(kind) => {
+            let project = project.clone_in(alloc)?;
+            solve(alloc, Plan { project, kind }, most, watch)
+        }
+        SearchKind::Improve(seed) => improve(alloc, project, seed, most, watch),
+    }
+}
+
 /// Runs a search of each kind, one after another, each for at most so many nodes, and tells what they have found together. None
 /// runs after one that has decided the project. An error is want of memory.
 pub fn solve_each<W: Watch>(
     alloc: Global,
     project: &Project,
-    kinds: &[Kind],
+    kinds: &[SearchKind],
     most: u64,
     watch: &mut W,
 ) -> Result<Found, AllocError>
@@ -85,11 +107,7 @@ pub fn solve_each<W: Watch>(
         verdict: Verdict::Ended,
     };
     for kind in kinds {
-        let plan = Plan {
-            project: project.clone_in(alloc)?,
-            kind: *kind,
-        };
-        let next = solve(alloc, plan, most, watch)?;
+        let next = solve_by(alloc, project, *kind, most, watch)?;
         watch.end(next.nodes);
         let is_decided = is_decided(next.verdict);
         found = joined(project, found, next);

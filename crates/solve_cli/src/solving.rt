@@ -6,6 +6,7 @@ ghost use Rattle.solve_cli.specs.Commands.{IsUnsolved, IsSolveOf, Ends, told_tex
 
 use crate::ending::{MOST_TEXT, Paths, end_command};
 use crate::fault::{CommandFault, InputFault, VerifyFault};
+use crate::search_kinds::SearchKind;
 use crate::searching::{Found, MOST_NODES, Watch};
 use crate::several::{MOST_SEARCHES, solve_each};
 use crate::telling::{tell, tell_json};
@@ -15,13 +16,12 @@ use psplib_mm::read;
 use std::alloc::{AllocError, Global};
 use std::io::{Eprint, Read, Write};
 use std::process::ExitCode;
-use strategy::Kind;
 
 /// Which searches of a project are asked for, and how they are told.
 #[derive(Clone, Copy, Debug)]
 pub struct Asked<'a> {
     /// The kinds of the searches, in their order.
-    pub kinds: &'a [Kind],
+    pub kinds: &'a [SearchKind],
     /// The most nodes of each search.
     pub most: u64,
     /// Whether JSON is written.

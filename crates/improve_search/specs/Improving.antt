@@ -1,0 +1,15 @@
+-- A search that looks for better schedules.
+use Rattle.std.specs.Prelude.{◌≡◌, ℕ, ◌≤◌, Option, Some, None, option_map, IfSome}
+use Rattle.mrcpsp.specs.Project.{ProjectData}
+use Rattle.mrcpsp.specs.Schedule.{ScheduleData, IsFeasible, makespan}
+
+-- its project, the most schedules that it may generate, how many it has generated, and the best of them
+pub record ImprovingData : Type 0 where
+  pub project : ProjectData
+  pub most : ℕ
+  pub spent : ℕ
+  pub best : Option ScheduleData
+
+-- a search of the project that has generated nothing yet
+abbrev pub fresh : ProjectData → ℕ → ImprovingData
+fresh p most = record { project = p; most = most; spent = 0; best = None }

@@ -1,0 +1,124 @@
+//! The best schedule that was checked.
+ghost use Rattle.std.specs.Prelude.{◌≡◌, IfOk, None};
+ghost use Rattle.std.specs.Option.{option_copied};
+ghost use Rattle.improve_search.specs.Best.{best_in, length_in, IsKept};
+
+use crate::annealing::Annealing;
+use crate::rows::copy;
+use mrcpsp::{Project, Schedule, Sequence, check};
+use std::alloc::{AllocError, Global};
+
+/// The best schedule that was checked, and memory to write another one.
+#[derive(Drop)]
+pub(crate) enum Best {
+    /// There is none yet. Both are only memory.
+    Unknown(Schedule, Schedule),
+    /// The schedule, its makespan, and what is only memory.
+    Known(Schedule, u32, Schedule),
+}
+
+/// A schedule of so many activities that is only memory.
+fn blank(alloc: Global, size: usize) -> Result<Schedule, AllocError> {
+    let modes = vec![in alloc; 0u32; size]?;
+    let starts = vec![in alloc; 0u32; size]?;
+    Ok(Schedule {
+        modes: Sequence::from(modes),
+        starts: Sequence::from(starts),
+    })
+}
+
+/// The current schedule of a walk, in the memory of another one.
+fn written(room: Schedule, annealing: &Annealing) -> Schedule {
+    let Schedule { modes, starts } = room;
+    let mut modes = modes.into_vec();
+    let mut starts = starts.into_vec();
+    let mut activity = 0u32;
+    for mode in modes.iter_mut() {
+        *mode = annealing.mode_number(activity);
+        activity = activity.wrapping_add(1);
+    }
+    copy(&mut starts, &annealing.current().starts);
+    Schedule {
+        modes: Sequence::from(modes),
+        starts: Sequence::from(starts),
+    }
+}
+
+impl Best {
+    /// None yet, with memory for schedules of so many activities.
+    pub(crate) fn none(alloc: Global, size: usize) -> Result<Best, AllocError>
+        ensures { IfOk result (λ best. best_in best ≡ None × length_in best ≡ None) }
+    {
+        Ok(Best::Unknown(blank(alloc, size)?, blank(alloc, size)?))
+    }
+
+    /// None yet, and no memory.
+    pub(crate) fn empty(alloc: Global) -> Best
+        ensures best { best_in result ≡ None }
+        ensures length { length_in result ≡ None }
+    {
+        let room = Schedule {
+            modes: Sequence::from(Vec::new(alloc)),
+            starts: Sequence::from(Vec::new(alloc)),
+        };
+        let other = Schedule {
+            modes: Sequence::from(Vec::new(alloc)),
+            starts: Sequence::from(Vec::new(alloc)),
+        };
+        Best::Unknown(room, other)
+    }
+
+    /// The schedule.
+    pub(crate) fn schedule(&self) -> Option<&Schedule>
+        ensures { option_copied result ≡ best_in self.now }
+    {
+        match self {
+            Best::Unknown(_, _) => None,
+            Best::Known(schedule, _, _) => Some(schedule),
+        }
+    }
+
+    /// The makespan of the schedule.
+    pub(crate) fn makespan(&self) -> Option<u32>
+        ensures { result ≡ length_in self.now }
+    {
+        match self {
+            Best::Unknown(_, _) => None,
+            Best::Known(_, makespan, _) => Some(*makespan),
+        }
+    }
+
+    /// The schedule, without the memory.
+    pub(crate) fn into_schedule(self) -> Option<Schedule>
+        ensures { result ≡ best_in self }
+    {
+        match self {
+            Best::Unknown(_, _) => None,
+            Best::Known(schedule, _, _) => Some(schedule),
+        }
+    }
+}
+
+/// The best schedule after the current one of a walk is offered: that one where it is feasible and shorter than the best so far,
+/// or there is none.
+pub(crate) fn better(best: Best, project: &Project, annealing: &Annealing) -> Best
+    requires { IsKept project.now best }
+    ensures { IsKept project.now result }
+{
+    match best {
+        Best::Unknown(room, other) => {
+            let schedule = written(room, annealing);
+            match check(project, &schedule) {
+                Ok(makespan) => Best::Known(schedule, makespan, other),
+                Err(_) => Best::Unknown(schedule, other),
+            }
+        }
+        Best::Known(best, shortest, room) => {
+            let schedule = written(room, annealing);
+            match check(project, &schedule) {
+                Ok(makespan) if makespan < shortest => Best::Known(schedule, makespan, best),
+                _ => Best::Known(best, shortest, schedule),
+            }
+        }
+    }
+}

@@ -1,0 +1,45 @@
+//! How the temperature falls.
+
+/// In how many steps the temperature falls.
+const STEPS: u64 = 1_024;
+
+/// The first temperature, one period, with 32 binary places.
+const HOTTEST: u64 = 1 << 32;
+
+/// What is left of the temperature after a step, with 32 binary places: after all steps it is a twentieth.
+const RATE: u64 = 4_282_420_646;
+
+/// The temperature of a run, which falls by equal rates while schedules are generated.
+#[derive(Clone, Copy)]
+pub(crate) struct Cooling {
+    heat: u64,
+    steps: u64,
+    begin: u64,
+    length: u64,
+}
+
+impl Cooling {
+    /// The first temperature, when so many schedules were generated, of a run that generates so many.
+    pub(crate) fn new(begin: u64, schedules: u64) -> Cooling {
+        Cooling {
+            heat: HOTTEST,
+            steps: 0,
+            begin,
+            length: schedules / STEPS + 1,
+        }
+    }
+
+    /// Lets the temperature fall to what it is when so many schedules were generated.
+    pub(crate) fn cool(&mut self, spent: u64) {
+        let steps = spent.saturating_sub(self.begin) / self.length.max(1);
+        for _ in self.steps..steps.min(STEPS) {
+            self.heat = self.heat.wrapping_mul(RATE) >> 32;
+        }
+        self.steps = self.steps.max(steps);
+    }
+
+    /// The temperature in periods, with 16 binary places.
+    pub(crate) fn heat(&self) -> u64 {
+        self.heat >> 16
+    }
+}

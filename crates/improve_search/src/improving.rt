@@ -1,0 +1,194 @@
+//! A search that looks for better schedules, step by step.
+ghost use Rattle.std.specs.Prelude.{◌≡◌, ◌+◌, ◌<◌, ◌≤◌, IsTrue, IsFalse, IfOk, IfSome, option_map};
+ghost use Rattle.std.specs.Option.{option_copied};
+ghost use Rattle.mrcpsp.specs.Schedule.{IsFeasible, makespan};
+ghost use Rattle.improve_search.specs.Improving.{fresh};
+
+use crate::annealing::{Annealing, Stocks};
+use crate::best::{Best, better};
+use crate::budget::Budget;
+use mrcpsp::{Project, Schedule};
+use std::alloc::{AllocError, Global};
+use std::marker::Model;
+use std::mem;
+
+/// The most schedules that a candidate takes.
+const MOST_OF_STEP: u64 = 3;
+
+/// A search of a project that looks for better schedules by simulated annealing, within a number of schedules that it may
+/// generate. Contracts see the project, that number, how many were generated, and the best schedule.
+#[derive(Drop)]
+pub struct Improving {
+    alloc: Global,
+    project: Project,
+    annealing: Annealing,
+    budget: Budget,
+    strict: u64,
+    begun: Option<Stocks>,
+    best: Best,
+}
+
+impl Model for Improving {
+    ghost use Rattle.improve_search.specs.Improving.{ImprovingData};
+    ghost use Rattle.improve_search.specs.Best.{best_in, IsKept};
+
+    ghost Value = { ImprovingData };
+
+    ghost view = { λ s. record { project = s.project; most = s.budget.most; spent = s.budget.spent; best = best_in s.best } };
+
+    ghost invariant = { λ s. IsKept s.project s.best };
+}
+
+impl Improving {
+    /// A search that may generate so many schedules, or `None` where an activity has no mode that may run. The same seed gives
+    /// the same schedules. It takes no memory later on.
+    pub fn new(
+        alloc: Global,
+        project: &Project,
+        seed: u64,
+        most: u64,
+    ) -> Result<Option<Improving>, AllocError>
+        ensures { IfOk result (λ made. IfSome made (λ search. search ≡ fresh project.now most)) }
+    {
+        let Some(annealing) = Annealing::new(alloc, project, seed)? else {
+            return Ok(None);
+        };
+        let best = Best::none(alloc, project.size())?;
+        let strict = if annealing.has_ample_stocks() {
+            0
+        } else {
+            most / 2
+        };
+        Ok(Some(Improving {
+            alloc,
+            project: project.clone_in(alloc)?,
+            annealing,
+            budget: Budget::new(most),
+            strict,
+            begun: None,
+            best,
+        }))
+    }
+
+    /// How many schedules were generated.
+    pub fn spent(&self) -> u64
+        ensures exact { result ≡ self.now.spent }
+        ensures within { result ≤ self.now.most }
+    {
+        self.budget.spent
+    }
+
+    /// The best schedule.
+    pub fn best(&self) -> Option<&Schedule>
+        ensures best { option_copied result ≡ self.now.best }
+        ensures feasible { IfSome self.now.best (IsFeasible self.now.project) }
+    {
+        self.best.schedule()
+    }
+
+    /// The makespan of the best schedule.
+    pub fn makespan(&self) -> Option<u32>
+        ensures { result ≡ option_map (makespan self.now.project) self.now.best }
+    {
+        self.best.makespan()
+    }
+
+    /// Whether it generates nothing more: the best schedule takes no longer than the longest chain, or a candidate may not be
+    /// tried, since it takes up to three schedules.
+    pub fn is_over(&self) -> bool
+        ensures { IsFalse result → self.now.spent + MOST_OF_STEP ≤ self.now.most }
+    {
+        let is_shortest = match self.best.makespan() {
+            Some(makespan) => makespan <= self.annealing.longest_chain(),
+            None => false,
+        };
+        is_shortest || self.budget.left() < MOST_OF_STEP
+    }
+
+    /// Which of the two runs is due: the first one keeps the nonrenewable capacities.
+    fn due(&self) -> Stocks {
+        if self.budget.spent < self.strict {
+            Stocks::Kept
+        } else {
+            Stocks::Priced
+        }
+    }
+
+    /// Whether the current schedule of the walk is worth a check.
+    fn is_promising(&self) -> bool {
+        let makespan = self.annealing.current().makespan;
+        let is_shorter = match self.best.makespan() {
+            Some(shortest) => makespan < shortest,
+            None => true,
+        };
+        is_shorter && self.annealing.keeps_stocks()
+    }
+
+    /// Keeps the current schedule of the walk where it is feasible and the shortest so far.
+    fn keep(&mut self)
+        ensures project { self.new.project ≡ self.old.project }
+        ensures spent { self.new.spent ≡ self.old.spent }
+        ensures most { self.new.most ≡ self.old.most }
+    {
+        let best = mem::replace(&mut self.best, Best::empty(self.alloc));
+        self.best = better(best, &self.project, &self.annealing);
+    }
+
+    /// Tries one candidate, or the first one of a run.
+    fn walk(&mut self) -> bool
+        requires { self.old.spent + MOST_OF_STEP ≤ self.old.most }
+        ensures project { self.new.project ≡ self.old.project }
+        ensures spent { self.old.spent < self.new.spent }
+        ensures most { self.new.most ≡ self.old.most }
+    {
+        let due = self.due();
+        if self.begun == Some(due) {
+            return self.annealing.step(&mut self.budget);
+        }
+        self.begun = Some(due);
+        let schedules = match due {
+            Stocks::Kept => self.strict,
+            Stocks::Priced => self.budget.left(),
+        };
+        self.annealing.begin(due, schedules, &mut self.budget);
+        true
+    }
+
+    /// Tries one candidate, and keeps its schedule where that is the best so far.
+    fn step(&mut self)
+        requires { self.old.spent + MOST_OF_STEP ≤ self.old.most }
+        ensures project { self.new.project ≡ self.old.project }
+        ensures spent { self.old.spent < self.new.spent }
+        ensures most { self.new.most ≡ self.old.most }
+    {
+        if self.walk() && self.is_promising() {
+            self.keep();
+        }
+    }
+
+    /// Generates so many schedules more, and at most two besides; none once it is over. Tells whether it is not over then.
+    pub fn run(&mut self, schedules: u64) -> bool
+        ensures project { self.new.project ≡ self.old.project }
+        ensures spent { self.old.spent ≤ self.new.spent }
+        ensures most { self.new.most ≡ self.old.most }
+        ensures going { IsTrue result → self.old.spent < self.new.spent }
+    {
+        let begin = self.budget.spent;
+        let end = begin.saturating_add(schedules);
+        for _ in 0..schedules {
+            if self.is_over() || self.budget.spent >= end {
+                break;
+            }
+            self.step();
+        }
+        begin < self.budget.spent && !self.is_over()
+    }
+
+    /// The best schedule, at the end.
+    pub fn into_best(self) -> Option<Schedule>
+        ensures best { result ≡ self.best }
+        ensures feasible { IfSome result (IsFeasible self.project) }
+    {
+        self.best.into_schedule()
+    }
+}

@@ -1,0 +1,58 @@
+//! Running a local search of a project.
+ghost use Rattle.std.specs.Prelude.{◌≡◌, ◌≤◌, IfOk};
+ghost use Rattle.solve_cli.specs.Improved.{IsImproved};
+
+use crate::searching::{CHUNK, Found, Watch};
+use improve_search::Improving;
+use mrcpsp::Project;
+use std::alloc::{AllocError, Global};
+use strategy::Verdict;
+
+/// Runs a search to its end, and lets it be looked at.
+fn run_all<W: Watch>(search: &mut Improving, project: &Project, watch: &mut W)
+    ensures project { search.new.project ≡ search.old.project }
+    ensures most { search.new.most ≡ search.old.most }
+{
+    while search.run(CHUNK) {
+        watch.look(project, search.spent(), search.best());
+    }
+    watch.look(project, search.spent(), search.best());
+}
+
+/// What a local search has found, at its end.
+fn found_by(search: Improving) -> Found
+    ensures { IsImproved search.project search.most result }
+{
+    let nodes = search.spent();
+    let makespan = search.makespan();
+    Found {
+        nodes,
+        best: search.into_best(),
+        makespan,
+        verdict: Verdict::Going,
+    }
+}
+
+/// Runs the local search of a seed for at most so many schedules, and tells what it has found then. An error is want of memory.
+pub fn improve<W: Watch>(
+    alloc: Global,
+    project: &Project,
+    seed: u64,
+    most: u64,
+    watch: &mut W,
+) -> Result<Found, AllocError>
+    ensures { IfOk result (λ found. IsImproved project.now most found) }
+{
+    match Improving::new(alloc, project, seed, most)? {
+        Some(mut search) => {
+            run_all(&mut search, project, watch);
+            Ok(found_by(search))
+        }
+        None => Ok(Found {
+            nodes: 0,
+            best: None,
+            makespan: None,
+            verdict: Verdict::Going,
+        }),
+    }
+}
