@@ -2,6 +2,8 @@
 """The five searches, node by node, by their definitions alone: a second program to compare with.
 
     plain_searches.py KIND FILE [NODES]     what the search of a .mm file shows after each node
+    plain_searches.py nodes FILE                each node of the tree of a .mm file: activity:mode, start-finish where it can be executed, whether it was
+                                            placed or pruned, and the makespan of the incumbent after it
     plain_searches.py groups SEED GROUPS N      of each group of N small random projects, what each kind of search shows:
                                             how many nodes there were, and a sum over all that was shown after each
     plain_searches.py largest                   the same of a project at the limits, whose activities follow one another
@@ -79,29 +81,43 @@ class Project:
         return max((self.finish(p) for p in placed), default=0)
 
 
-def tree(p):
-    """Yields the incumbent (a list of places, or None) after each node."""
+def tree_nodes(p):
+    """Yields of each node its place (without a start where it cannot be executed), whether it was placed, and the incumbent (a list of places, or None) after it."""
     best = [None]
 
     def level(placed):
         bound = placed[-1][2] if placed else 0
         for j in p.eligible(placed):
             for m in range(len(p.modes[j])):
-                if p.executable(j, m) and p.affordable(placed, j, m):
-                    start = p.earliest(placed, j, m, bound)
-                    place = (j, m, start)
-                    known = best[0]
-                    if known is None or p.finish(place) + p.tail[j] < p.makespan(known):
-                        deeper = placed + [place]
-                        if len(deeper) == p.n and (known is None or p.makespan(deeper) < p.makespan(known)):
-                            best[0] = deeper
-                        yield best[0]
-                        if len(deeper) < p.n:
-                            yield from level(deeper)
-                        continue
-                yield best[0]
+                if not p.executable(j, m):
+                    yield (j, m, None), False, best[0]
+                    continue
+                place = (j, m, p.earliest(placed, j, m, bound))
+                known = best[0]
+                late = known is not None and p.finish(place) + p.tail[j] >= p.makespan(known)
+                if late or not p.affordable(placed, j, m):
+                    yield place, False, known
+                    continue
+                deeper = placed + [place]
+                if len(deeper) == p.n and (known is None or p.makespan(deeper) < p.makespan(known)):
+                    best[0] = deeper
+                yield place, True, best[0]
+                if len(deeper) < p.n:
+                    yield from level(deeper)
 
     yield from level([])
+
+
+def tree(p):
+    """Yields the incumbent after each node."""
+    for _, _, best in tree_nodes(p):
+        yield best
+
+
+def node_line(p, place, placed, best):
+    j, m, start = place
+    times = "-" if start is None else f"{start}-{p.finish(place)}"
+    return f"{j + 1}:{m + 1} {times} {'placed' if placed else 'pruned'} {'none' if best is None else p.makespan(best)}"
 
 
 def words(seed):
@@ -392,6 +408,10 @@ def main():
             print("[" + ", ".join(f"({nodes}, {h})" for nodes, h in group(drawn, int(sys.argv[4]))) + "],")
         return
     p = read(sys.argv[2])
+    if sys.argv[1] == "nodes":
+        for node in tree_nodes(p):
+            print(node_line(p, *node))
+        return
     most = int(sys.argv[3]) if len(sys.argv) > 3 else None
     for k, (best, closed, verdict) in enumerate(islice(search(p, sys.argv[1]), most), 1):
         print(k, shown(p, best), "closed" if closed else "going", verdict)

@@ -1,5 +1,0 @@
-use Rattle.turn_lock.specs.Values.{IsPassOf}
-use Rattle.call_trials.proofs.play.play_all.Given as goal
-
-abbrev pub invariant-loop-at : goal.invariant-loop-at
-invariant-loop-at g l = IsPassOf l.pool.lock l.pass

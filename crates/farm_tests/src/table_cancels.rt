@@ -1,0 +1,171 @@
+//! Cancels at every phase of a job.
+ghost use Rattle.std.specs.Prelude.{◌≡◌, false, IfSome};
+
+use crate::table_turns::{run, turn};
+use job_table::{JobTable, Phase};
+use std::process::Abort;
+use strategy::Strategy;
+
+/// What comes before the cancel.
+#[derive(Clone, Copy)]
+pub(crate) enum Before {
+    /// Nothing.
+    Nothing,
+    /// A turn of at most so many nodes, taken, run and given back.
+    Turn(u64),
+    /// A turn of at most 2 nodes is taken.
+    Out,
+    /// The same, and the job is cancelled.
+    Leaving,
+    /// The job is cancelled.
+    Cancelled,
+}
+
+/// A name for messages, a job with some quanta, what comes before the cancel, whether that is taken, where the job then stands, how many nodes a
+/// turn that is out then runs, where the job stands once that is back, and the words POOL, SPENT and GRANTED of its till
+/// in the end.
+#[derive(Clone, Copy)]
+pub(crate) struct Case {
+    pub(crate) name: &'static str,
+    pub(crate) quanta: u32,
+    before: Before,
+    cancels: bool,
+    phase: Phase,
+    runs: u64,
+    end: Phase,
+    pub(crate) words: [u64; 3],
+}
+
+/// Each phase, and turns that are given back run and unrun.
+pub(crate) const CASES: [Case; 8] = [
+    Case {
+        name: "a fresh job",
+        quanta: 6,
+        before: Before::Nothing,
+        cancels: true,
+        phase: Phase::Cancelled,
+        runs: 0,
+        end: Phase::Cancelled,
+        words: [100, 0, 100],
+    },
+    Case {
+        name: "a job after a turn",
+        quanta: 6,
+        before: Before::Turn(2),
+        cancels: true,
+        phase: Phase::Cancelled,
+        runs: 0,
+        end: Phase::Cancelled,
+        words: [98, 2, 100],
+    },
+    Case {
+        name: "a job that is out",
+        quanta: 6,
+        before: Before::Out,
+        cancels: true,
+        phase: Phase::Leaving(2),
+        runs: 2,
+        end: Phase::Cancelled,
+        words: [98, 2, 100],
+    },
+    Case {
+        name: "a turn given back unrun",
+        quanta: 6,
+        before: Before::Out,
+        cancels: true,
+        phase: Phase::Leaving(2),
+        runs: 0,
+        end: Phase::Cancelled,
+        words: [100, 0, 100],
+    },
+    Case {
+        name: "a dry job",
+        quanta: 6,
+        before: Before::Turn(10),
+        cancels: true,
+        phase: Phase::Cancelled,
+        runs: 0,
+        end: Phase::Cancelled,
+        words: [94, 6, 100],
+    },
+    Case {
+        name: "a closed job",
+        quanta: 10,
+        before: Before::Turn(10),
+        cancels: false,
+        phase: Phase::Closed,
+        runs: 0,
+        end: Phase::Closed,
+        words: [91, 9, 100],
+    },
+    Case {
+        name: "a leaving job",
+        quanta: 6,
+        before: Before::Leaving,
+        cancels: false,
+        phase: Phase::Leaving(2),
+        runs: 2,
+        end: Phase::Cancelled,
+        words: [98, 2, 100],
+    },
+    Case {
+        name: "a cancelled job",
+        quanta: 6,
+        before: Before::Cancelled,
+        cancels: false,
+        phase: Phase::Cancelled,
+        runs: 0,
+        end: Phase::Cancelled,
+        words: [100, 0, 100],
+    },
+];
+
+/// What comes before the cancel, and the search of the turn that is then out.
+fn begin<J: Strategy>(table: &mut JobTable<J>, before: Before) -> Option<J>
+    ensures { IfSome result (λ search. (J.meaning search).taken ≡ false) }
+{
+    match before {
+        Before::Nothing => {}
+        Before::Turn(slice) => {
+            let _ran = turn(table, 0, 1, slice);
+        }
+        Before::Out => return table.send(0, 1, 2),
+        Before::Leaving => {
+            let search = table.send(0, 1, 2);
+            let _told = table.cancel(0, 1);
+            return search;
+        }
+        Before::Cancelled => {
+            let _told = table.cancel(0, 1);
+        }
+    }
+    None
+}
+
+/// Runs so many nodes of a turn of at most 2 and gives it back. Tells whether it was taken.
+fn give<J: Strategy>(table: &mut JobTable<J>, mut search: J, runs: u64) -> bool
+    requires { (J.meaning search).taken ≡ false }
+{
+    let ran = run(&mut search, runs);
+    table.take_back(0, 1, 2, ran, search).is_ok()
+}
+
+/// Whether the job stands there.
+fn stands<J>(table: &JobTable<J>, phase: Phase) -> bool {
+    match table.find(0, 1) {
+        Some(job) => job.phase() == phase,
+        None => false,
+    }
+}
+
+/// Cancels the job of a case.
+pub(crate) fn cancel_in<J: Strategy>(rt: &impl Abort, table: &mut JobTable<J>, case: &Case) {
+    let name = case.name;
+    let out = begin(table, case.before);
+    assert!(rt; table.cancel(0, 1) == case.cancels, "{name}");
+    assert!(rt; stands(table, case.phase), "{name}, cancelled");
+    if let Some(search) = out {
+        assert!(rt; give(table, search, case.runs), "{name}, given back");
+    }
+    assert!(rt; stands(table, case.end), "{name}, in the end");
+}

@@ -1,5 +1,0 @@
-use Rattle.turn_lock.specs.Values.{IsPassOf}
-use Rattle.lock_trials.proofs.threads.add.Given as goal
-
-abbrev pub invariant-loop : goal.invariant-loop
-invariant-loop g l = record { own : IsPassOf l.lock l.pass }

@@ -1,7 +1,0 @@
-use Rattle.std.specs.Prelude.{All}
-use Rattle.std.proofs.Common.{◌≡◌}
-use Rattle.turn_lock.specs.Values.{IsPassOf}
-use Rattle.lock_trials.proofs.threads.gather.Given as goal
-
-abbrev pub invariant-loop : goal.invariant-loop
-invariant-loop g l = record { own : IsPassOf l.lock l.pass; all : All (λ h. h.promise.0.value ≡ l.lock) l.handles.items }

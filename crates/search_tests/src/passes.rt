@@ -1,0 +1,165 @@
+//! Passes by hand: what may come next, where it is placed, void passes and new ones.
+ghost use Rattle.std.specs.Prelude.{◌≡◌};
+ghost use Rattle.mrcpsp.specs.Project.{size};
+ghost use Rattle.serial_pass.specs.Pass.{HasRoom};
+
+use crate::fixtures::{BLOCKED, DIAMOND, project};
+use mrcpsp::Schedule;
+use serial_pass::{Candidate, Pass};
+use std::alloc::Global;
+use std::process::Abort;
+
+/// Runs a node that places this, if it is listed, and gives up otherwise.
+fn step(pass: &mut Pass, activity: usize, mode: usize)
+    ensures { pass.new.project ≡ pass.old.project }
+{
+    let known = activity < pass.project().size();
+    if known && pass.eligible().contains(&activity) {
+        let modes = pass.allowed_modes(activity);
+        if modes.as_slice().contains(&mode) {
+            pass.run(Some(Candidate { activity, mode }));
+            return;
+        }
+    }
+    pass.run(None);
+}
+
+/// Compares what a pass shows with this.
+fn shows(rt: &impl Abort, pass: &Pass, eligible: &[usize], makespan: Option<u32>) {
+    assert!(rt; pass.eligible() == eligible && pass.makespan() == makespan);
+    assert!(rt; pass.is_void() == makespan.is_none());
+}
+
+/// Runs a node that places this, and compares what the pass then shows.
+fn node(
+    rt: &impl Abort,
+    pass: &mut Pass,
+    candidate: (usize, usize),
+    eligible: &[usize],
+    makespan: Option<u32>,
+)
+    ensures { pass.new.project ≡ pass.old.project }
+{
+    step(pass, candidate.0, candidate.1);
+    shows(rt, pass, eligible, makespan);
+}
+
+/// The diamond with its third activity first, in the second mode.
+fn third_first(rt: &impl Abort, pass: &mut Pass)
+    ensures { pass.new.project ≡ pass.old.project }
+{
+    node(rt, pass, (0, 0), &[1, 2], Some(0));
+    node(rt, pass, (2, 1), &[1], Some(4));
+    node(rt, pass, (1, 0), &[3], Some(4));
+    node(rt, pass, (3, 0), &[], Some(4));
+}
+
+/// The first half of the diamond with its second activity first.
+fn second_first(rt: &impl Abort, pass: &mut Pass)
+    ensures { pass.new.project ≡ pass.old.project }
+{
+    node(rt, pass, (0, 0), &[1, 2], Some(0));
+    node(rt, pass, (1, 0), &[2], Some(3));
+}
+
+/// The other half.
+fn then_third(rt: &impl Abort, pass: &mut Pass)
+    ensures { pass.new.project ≡ pass.old.project }
+{
+    node(rt, pass, (2, 0), &[3], Some(5));
+    node(rt, pass, (3, 0), &[], Some(5));
+}
+
+/// The third activity cannot be placed, and nothing is placed from then on.
+fn blocked(rt: &impl Abort, pass: &mut Pass)
+    ensures { pass.new.project ≡ pass.old.project }
+{
+    node(rt, pass, (0, 0), &[1, 2], Some(0));
+    node(rt, pass, (1, 0), &[2], Some(1));
+    node(rt, pass, (2, 0), &[], None);
+    node(rt, pass, (1, 0), &[], None);
+}
+
+/// The schedule that a pass is, in this memory, with these modes and starts.
+fn made(rt: &impl Abort, pass: &Pass, room: Schedule, modes: &[u32], starts: &[u32]) -> Schedule
+    requires { HasRoom (size pass.now.project) room }
+    ensures { HasRoom (size pass.now.project) result }
+{
+    let made = pass.schedule(room).expect(rt, "no schedule");
+    assert!(rt; made.modes.as_slice() == modes && made.starts.as_slice() == starts);
+    made
+}
+
+/// A new pass over a project.
+fn pass_over(rt: &impl Abort, alloc: Global, text: &str, capacities: &str) -> Pass {
+    let project = project(rt, alloc, text, capacities);
+    Pass::new(alloc, &project).expect(rt, "no memory for a pass")
+}
+
+/// Memory for a schedule of a pass.
+fn room_for(rt: &impl Abort, alloc: Global, pass: &Pass) -> Schedule
+    ensures { HasRoom (size pass.now.project) result }
+{
+    pass.blank(alloc).expect(rt, "no memory for a schedule")
+}
+
+#[test]
+fn each_starts_as_early_as_it_may(rt: HostRuntime) {
+    let mut pass = pass_over(&rt, rt.alloc(), DIAMOND, "3 1");
+    let room = room_for(&rt, rt.alloc(), &pass);
+    shows(&rt, &pass, &[0], Some(0));
+    third_first(&rt, &mut pass);
+    made(&rt, &pass, room, &[1, 1, 2, 1], &[0, 0, 0, 4]);
+}
+
+/// A new pass, which is the whole diamond.
+fn anew(rt: &impl Abort, pass: &mut Pass)
+    ensures { pass.new.project ≡ pass.old.project }
+{
+    pass.restart();
+    shows(rt, pass, &[0], Some(0));
+    second_first(rt, pass);
+    then_third(rt, pass);
+}
+
+/// The first half of the diamond in some memory, and then all of it in the same.
+fn half_and_whole(rt: &impl Abort, pass: &mut Pass, room: Schedule)
+    requires { HasRoom (size pass.old.project) room }
+{
+    second_first(rt, pass);
+    let part = made(rt, pass, room, &[1, 1, 1, 1], &[0, 0, 0, 0]);
+    anew(rt, pass);
+    made(rt, pass, part, &[1, 1, 1, 1], &[0, 0, 3, 5]);
+}
+
+#[test]
+fn a_new_pass_in_the_memory_of_the_last(rt: HostRuntime) {
+    let mut pass = pass_over(&rt, rt.alloc(), DIAMOND, "3 1");
+    let room = room_for(&rt, rt.alloc(), &pass);
+    half_and_whole(&rt, &mut pass, room);
+}
+
+fn allows(rt: &impl Abort, pass: &Pass, activity: usize, modes: &[usize]) {
+    assert!(rt; activity < pass.project().size());
+    assert!(rt; pass.allowed_modes(activity).as_slice() == modes);
+}
+
+#[test]
+fn modes_within_the_stock(rt: HostRuntime) {
+    let table: [(&str, &[usize]); 2] = [("3 1", &[0, 1]), ("3 0", &[1])];
+    for (capacities, modes) in table {
+        let pass = pass_over(&rt, rt.alloc(), DIAMOND, capacities);
+        allows(&rt, &pass, 2, modes);
+    }
+}
+
+#[test]
+fn a_void_pass_stays_void(rt: HostRuntime) {
+    let mut pass = pass_over(&rt, rt.alloc(), BLOCKED, "3 1");
+    let room = room_for(&rt, rt.alloc(), &pass);
+    blocked(&rt, &mut pass);
+    let none = pass.schedule(room).is_none();
+    assert!(rt; none);
+    pass.restart();
+    shows(&rt, &pass, &[0], Some(0));
+}

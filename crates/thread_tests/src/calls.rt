@@ -1,0 +1,121 @@
+//! What is asked of a pool, and the text of what it answers.
+ghost use Rattle.std.specs.Prelude.{◌≡◌, ◌<◌, length};
+ghost use Rattle.turn_lock.specs.Values.{IsPassOf};
+
+use crate::fixtures::{A, Planned};
+use crate::gates::Open;
+use farm_core::{Name, Reply};
+use farm_pool::{Command, Pool, PoolPass};
+use io_watch::Watch;
+use session_lines::{Said, write_reply};
+use std::alloc::Global;
+use std::process::Abort;
+use std::sync::Wait;
+use strategy::Strategy;
+
+/// What is asked of a pool. Jobs are told by their numbers.
+#[derive(Clone, Copy)]
+pub(crate) enum Ask {
+    /// A job of the diamond's tree, with so many quanta.
+    Submit(u64),
+    /// So many quanta more for a job.
+    Fund(u64, u64),
+    /// What is known of a job.
+    Status(u64),
+    /// A job's best schedule.
+    Fetch(u64),
+    /// That a job be searched no more.
+    Cancel(u64),
+    /// That a job be kept no longer.
+    Forget(u64),
+    /// The ledger.
+    Ledger,
+    /// That a worker take what there is, which is one turn.
+    Work,
+}
+
+/// What is said of a worker that had one turn.
+pub(crate) const WORKED: &str = "@a worked\n";
+
+/// What is said where a growth was refused; of a worker too that took no turn.
+pub(crate) const SCARCE: &str = "@a no memory\n";
+
+/// The line of a reply.
+pub(crate) fn text_of(rt: &impl Abort, alloc: Global, reply: Reply) -> Vec<u8> {
+    let mut text = Vec::new(alloc);
+    assert!(rt; text.reserve(256).is_ok(), "no memory");
+    let said = Said::Reply(reply);
+    let written = write_reply(&mut text, &mut Watch::new(), Name::new(b"a"), &said);
+    assert!(rt; written.is_ok(), "a line of 256 bytes");
+    text
+}
+
+/// A command that needs no search: the ledger, where it is none of the others.
+pub(crate) fn command_of(ask: Ask) -> Command<Box<dyn Strategy>> {
+    match ask {
+        Ask::Fund(seq, quanta) => Command::Fund { seq, quanta },
+        Ask::Status(seq) => Command::Status(seq),
+        Ask::Fetch(seq) => Command::Fetch(seq),
+        Ask::Cancel(seq) => Command::Cancel(seq),
+        Ask::Forget(seq) => Command::Forget(seq),
+        Ask::Submit(_) | Ask::Ledger | Ask::Work => Command::Ledger,
+    }
+}
+
+/// What is said of a worker that takes what there is.
+fn work<R: Wait>(rt: &R, pool: &Pool, pass: &mut PoolPass) -> &'static str
+    requires { IsPassOf pool.now.lock pass.old }
+    ensures { IsPassOf pool.now.lock pass.new }
+{
+    let end = pool.work(rt, pass, &Open);
+    match (end.turns, end.strangers) {
+        (1, 0) => WORKED,
+        (0, 0) => SCARCE,
+        _ => "@a worked otherwise\n",
+    }
+}
+
+/// The submit of the last of the searches that are ready.
+fn submit_of<R: Abort>(
+    rt: &R,
+    ready: &mut Vec<Planned>,
+    quanta: u64,
+) -> Command<Box<dyn Strategy>> {
+    let Planned { plan, search } = ready.pop().expect(rt, "a search");
+    Command::Submit {
+        plan,
+        quanta,
+        search,
+    }
+}
+
+/// A text in a buffer.
+fn bytes_of(rt: &impl Abort, alloc: Global, said: &str) -> Vec<u8> {
+    let mut text = Vec::new(alloc);
+    assert!(rt;
+        text.extend_from_slice(said.as_bytes()).is_ok(),
+        "no memory"
+    );
+    text
+}
+
+/// Makes a call, and tells what is said of it. A submit takes the last of the searches that are ready.
+pub(crate) fn make<R: Wait + Abort>(
+    rt: &R,
+    alloc: Global,
+    pool: &Pool,
+    pass: &mut PoolPass,
+    ready: &mut Vec<Planned>,
+    ask: Ask,
+) -> Vec<u8>
+    requires own { IsPassOf pool.now.lock pass.old }
+    requires known { length pool.now.lock.opening.tenants ≡ 1 }
+    ensures own { IsPassOf pool.now.lock pass.new }
+{
+    let command = match ask {
+        Ask::Work => return bytes_of(rt, alloc, work(rt, pool, pass)),
+        Ask::Submit(quanta) => submit_of(rt, ready, quanta),
+        _ => command_of(ask),
+    };
+    text_of(rt, alloc, pool.call(rt, pass, A, command))
+}

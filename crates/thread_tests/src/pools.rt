@@ -1,0 +1,166 @@
+//! Pools with their workers in threads.
+use crate::fixtures::{A, B, patient_of, tree_of};
+use crate::gates::{Meeting, Open, Pair};
+use crate::stand::Stand;
+use farm_core::Reply;
+use farm_pool::{Command, Unsettled, WorkEnd};
+use job_table::Phase;
+use std::sync::Arc;
+use strategy::Verdict;
+
+// Whether it is the line of a job that has run all nine nodes of the diamond's tree.
+fn is_closed(reply: &Reply) -> bool {
+    match reply {
+        Reply::Line(line) => {
+            matches!(line.phase, Phase::Closed)
+                && line.nodes == 9
+                && line.left == 0
+                && line.best == Some(4)
+                && line.verdict == Verdict::Optimal
+        }
+        _ => false,
+    }
+}
+
+// Whether it is the line of a job of six quanta that has not run.
+fn is_waiting(reply: &Reply) -> bool {
+    match reply {
+        Reply::Line(line) => {
+            matches!(line.phase, Phase::Waiting)
+                && line.nodes == 0
+                && line.left == 6
+                && line.best == None
+                && line.verdict == Verdict::Going
+        }
+        _ => false,
+    }
+}
+
+// Whether a ledger has these quanta granted, free, held and spent.
+fn is_ledger(reply: &Reply, granted: u64, free: u64, held: u64, spent: u64) -> bool {
+    match reply {
+        Reply::Ledger(book) => {
+            book.granted() == granted
+                && book.free() == free
+                && book.held() == held
+                && book.spent() == spent
+        }
+        _ => false,
+    }
+}
+
+// How many turns two workers took.
+fn turns_of(ends: (WorkEnd, WorkEnd)) -> u64 {
+    ends.0.turns.saturating_add(ends.1.turns)
+}
+
+// How many turns of strangers two workers met.
+fn strangers_of(ends: (WorkEnd, WorkEnd)) -> u64 {
+    ends.0.strangers.saturating_add(ends.1.strangers)
+}
+
+// Whether a worker did nothing.
+fn is_idle(end: &WorkEnd) -> bool {
+    end.turns == 0 && end.strangers == 0
+}
+
+#[test]
+fn two_workers_of_two_tenants_settle(rt: HostRuntime) {
+    let mut stand = Stand::new(&rt, rt.alloc(), 100);
+    let tree = tree_of(&rt, rt.alloc(), stand.lease(&rt, A));
+    stand.submit(&rt, A, 16, tree);
+    let tree = tree_of(&rt, rt.alloc(), stand.lease(&rt, B));
+    stand.submit(&rt, B, 6, tree);
+    let (one, two) = stand.work_while_cancelled(&rt, &Open);
+    assert!(rt; one.strangers == 0 && two.strangers == 0);
+    assert!(rt; is_closed(&stand.ask(&rt, A, Command::Status(1))));
+    assert!(rt; matches!(stand.settle(), Some(Ok(_))));
+}
+
+// The first of the two turns goes on only once the second one has begun.
+#[test]
+fn two_turns_run_at_once(rt: HostRuntime) {
+    let mut stand = Stand::new(&rt, rt.alloc(), 100);
+    let tree = tree_of(&rt, rt.alloc(), stand.lease(&rt, A));
+    stand.submit(&rt, A, 16, tree);
+    let tree = tree_of(&rt, rt.alloc(), stand.lease(&rt, B));
+    stand.submit(&rt, B, 6, tree);
+    let gate = Pair {
+        meeting: Meeting::new(),
+    };
+    let ends = stand.work_both(&rt, &gate);
+    assert!(rt; gate.meeting.was_met());
+    assert!(rt; turns_of(ends) == 8 && strangers_of(ends) == 0);
+}
+
+// The first node of the one job goes on only once the other job's has begun: nodes run while nobody has the farm.
+#[test]
+fn two_searches_run_at_once(rt: HostRuntime) {
+    let mut stand = Stand::new(&rt, rt.alloc(), 100);
+    let meeting = Arc::new(rt.alloc(), Meeting::new()).expect(&rt, "no memory for a meeting");
+    let patient = patient_of(&rt, rt.alloc(), stand.lease(&rt, A), &meeting);
+    stand.submit(&rt, A, 4, patient);
+    let patient = patient_of(&rt, rt.alloc(), stand.lease(&rt, B), &meeting);
+    stand.submit(&rt, B, 4, patient);
+    let ends = stand.work_both(&rt, &Open);
+    assert!(rt; meeting.was_met());
+    assert!(rt; turns_of(ends) == 4 && strangers_of(ends) == 0);
+    assert!(rt; matches!(stand.settle(), Some(Ok(_))));
+}
+
+// Of the 20 quanta that a and b share, a, who brings 6, holds 16 and uses 9 in five turns; b holds 4 and uses them in two.
+#[test]
+fn four_workers_of_one_purse_settle(rt: HostRuntime) {
+    let mut stand = Stand::shared(&rt, rt.alloc());
+    let tree = tree_of(&rt, rt.alloc(), stand.lease(&rt, A));
+    stand.submit(&rt, A, 16, tree);
+    let tree = tree_of(&rt, rt.alloc(), stand.lease(&rt, B));
+    stand.submit(&rt, B, 4, tree);
+    let (one, two) = stand.work_in_fours(&rt, &Open);
+    assert!(rt; turns_of(one).saturating_add(turns_of(two)) == 7);
+    assert!(rt; is_closed(&stand.ask(&rt, A, Command::Status(1))));
+    assert!(rt; is_ledger(&stand.ask(&rt, B, Command::Ledger), 20, 7, 0, 13));
+    assert!(rt; matches!(stand.settle(), Some(Ok(_))));
+}
+
+// Nine nodes in turns of two: four whole ones and a last one of one node.
+#[test]
+fn each_turn_is_counted_once(rt: HostRuntime) {
+    let mut stand = Stand::new(&rt, rt.alloc(), 100);
+    let tree = tree_of(&rt, rt.alloc(), stand.lease(&rt, A));
+    stand.submit(&rt, A, 16, tree);
+    let end = stand.work(&rt, &Open);
+    assert!(rt; end.turns == 5 && end.strangers == 0);
+    assert!(rt; is_closed(&stand.ask(&rt, A, Command::Status(1))));
+    assert!(rt; is_idle(&stand.work(&rt, &Open)));
+}
+
+// With its one entry used for the submit, no turn of a's job can be taken.
+#[test]
+fn no_entries_for_a_turn(rt: HostRuntime) {
+    let mut stand = Stand::new(&rt, rt.alloc(), 1);
+    let tree = tree_of(&rt, rt.alloc(), stand.lease(&rt, A));
+    stand.submit(&rt, A, 6, tree);
+    assert!(rt; is_idle(&stand.work(&rt, &Open)));
+    assert!(rt; matches!(stand.settle(), Some(Err(Unsettled::Held(0, 6)))));
+}
+
+#[test]
+fn no_worker(rt: HostRuntime) {
+    let mut stand = Stand::new(&rt, rt.alloc(), 100);
+    let tree = tree_of(&rt, rt.alloc(), stand.lease(&rt, A));
+    stand.submit(&rt, A, 6, tree);
+    assert!(rt; matches!(stand.settle(), Some(Err(Unsettled::Held(0, 6)))));
+}
+
+#[test]
+fn a_second_pass_sees_the_first_ones_job(rt: HostRuntime) {
+    let mut stand = Stand::new(&rt, rt.alloc(), 100);
+    let mut second = stand.split();
+    let tree = tree_of(&rt, rt.alloc(), stand.lease(&rt, A));
+    assert!(rt; matches!(&stand.submit(&rt, A, 6, tree), Reply::Job(1)));
+    assert!(rt; is_waiting(&stand.pool.call(&rt, &mut second, A, Command::Status(1))));
+    stand.join(second);
+    assert!(rt; is_ledger(&stand.ask(&rt, A, Command::Ledger), 100, 94, 6, 0));
+    assert!(rt; matches!(stand.settle(), Some(Err(Unsettled::Held(0, 6)))));
+}
