@@ -40,12 +40,17 @@ pub(crate) const WORKED: &str = "@a worked\n";
 pub(crate) const SCARCE: &str = "@a no memory\n";
 
 /// The line of a reply.
-pub(crate) fn text_of(rt: &impl Abort, alloc: Global, reply: Reply) -> Vec<u8> {
+fn text_of(rt: &impl Abort, alloc: Global, reply: Reply) -> Vec<u8> {
     let mut text = Vec::new(alloc);
     assert!(rt; text.reserve(256).is_ok(), "no memory");
     let written = write_reply(&mut text, Name::new(b"a"), &Said::Reply(reply));
     assert!(rt; written.is_ok(), "a line of 256 bytes");
     text
+}
+
+/// Whether this is the line of a reply.
+pub(crate) fn is_line(rt: &impl Abort, alloc: Global, reply: Reply, line: &str) -> bool {
+    text_of(rt, alloc, reply).as_slice() == line.as_bytes()
 }
 
 /// A command that needs no search: the ledger, where it is none of the others.
