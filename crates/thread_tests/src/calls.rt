@@ -102,7 +102,8 @@ fn bytes_of(rt: &impl Abort, alloc: Global, said: &str) -> Vec<u8> {
     text
 }
 
-/// Makes a call, and tells what is said of it. A submit takes the last of the searches that are ready.
+/// Makes a call, and tells what is said of it. A submit takes the last of the searches that are
+/// ready.
 pub(crate) fn make<R: Wait + Abort>(
     rt: &R,
     alloc: Global,

@@ -141,7 +141,8 @@ fn cancels(rt: HostRuntime) {
     }
 }
 
-/// Cancels job 1 beside its turn of two nodes, which goes on only once the job is cancelled, and compares what is said, and then the words of the till.
+/// Cancels job 1 beside its turn of two nodes, which goes on only once the job is cancelled, and
+/// compares what is said, and then the words of the till.
 fn cancel_while_out<R: Threads + Wait + Sync + Abort>(
     rt: &R,
     alloc: Global,

@@ -73,7 +73,8 @@ fn two_turns_run_at_once(rt: HostRuntime) {
     assert!(rt; turns_of(ends) == 8 && strangers_of(ends) == 0);
 }
 
-// The first node of the one job goes on only once the other job's has begun: nodes run while nobody has the farm.
+// The first node of the one job goes on only once the other job's has begun: nodes run while nobody
+// has the farm.
 #[test]
 fn two_searches_run_at_once(rt: HostRuntime) {
     let mut stand = Stand::new(&rt, rt.alloc(), 100);
@@ -88,7 +89,8 @@ fn two_searches_run_at_once(rt: HostRuntime) {
     assert!(rt; matches!(stand.settle(), Some(Ok(_))));
 }
 
-// Of the 20 quanta that a and b share, a, who brings 6, holds 16 and uses 9 in five turns; b holds 4 and uses them in two.
+// Of the 20 quanta that a and b share, a, who brings 6, holds 16 and uses 9 in five turns; b holds
+// 4 and uses them in two.
 #[test]
 fn four_workers_of_one_purse_settle(rt: HostRuntime) {
     let mut stand = Stand::shared(&rt, rt.alloc());
