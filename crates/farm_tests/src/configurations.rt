@@ -1,6 +1,7 @@
 //! What texts are read as where that is a configuration, and the texts of faults.
-use farm_cli::{ConfigFault, ReplayFault, Task, parse_words, read_config};
+use farm_config::{ConfigFault, read_config};
 use farm_core::{Config, Name};
+use farm_replay::ReplayFault;
 use std::alloc::Global;
 use std::process::Abort;
 use std::str;
@@ -75,14 +76,5 @@ fn texts_of_want_of_memory(rt: HostRuntime) -> Result<(), Fail> {
         ConfigFault::NoMemory.to_string(rt.alloc())?.as_str(),
         "NoMemory"
     );
-    Ok(())
-}
-
-// A process may be started without its own name.
-#[test]
-fn no_words_at_all(rt: HostRuntime) -> Result<(), Fail> {
-    let words: Vec<String> = Vec::new(rt.alloc());
-    let task = parse_words(rt.alloc(), &words)?;
-    assert!(rt; task == Task::Check { file: "-" });
     Ok(())
 }

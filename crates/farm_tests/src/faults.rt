@@ -1,7 +1,8 @@
 //! Replays whose reader or writer fails.
 use crate::replays::{TREE, TREE_TOLD, TWO, spelled};
-use farm_cli::{Notes, ReplayFault, Watches, read_config, replay};
+use farm_config::read_config;
 use farm_core::Config;
+use farm_replay::{Notes, ReplayFault, Watches, replay};
 use std::alloc::{AllocError, Global};
 use std::io;
 use std::io::{Error, ErrorKind, Read, Write};

@@ -1,6 +1,6 @@
 //! Scripts of which a growth may be refused. Where none is, these tests hold too.
 use crate::replays::{TREE_TOLD, replayed, spelled};
-use farm_cli::ReplayFault;
+use farm_replay::ReplayFault;
 use std::alloc::{AllocError, Global};
 use std::process::Abort;
 use std::test::Fail;

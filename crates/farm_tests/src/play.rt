@@ -99,6 +99,11 @@ fn make<J: Strategy>(
     }
 }
 
+/// Compares the answer to a call of a script, which stands at that place, with what is wanted.
+fn compare(rt: &impl Abort, told: Answer, wanted: Answer, name: &str, at: usize) {
+    assert!(rt; told == wanted, "{name}, call {at}");
+}
+
 /// Makes the calls one after another, and compares each answer. A turn that is held in the end is given back as it is.
 pub(crate) fn play_all<J: Strategy>(
     rt: &impl Abort,
@@ -108,10 +113,9 @@ pub(crate) fn play_all<J: Strategy>(
     steps: &[Step],
 ) {
     let mut hand = None;
-    let name = stage.name;
     for (at, step) in steps.iter().enumerate() {
         let told = make(rt, farm, &mut hand, &mut ready, *step, stage.manner);
-        assert!(rt; told == step.2, "{name}, call {at}");
+        compare(rt, told, step.2, stage.name, at);
     }
     if let Some(turn) = hand {
         put_back(farm, turn);

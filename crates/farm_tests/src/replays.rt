@@ -1,6 +1,7 @@
 //! A configuration and a script as texts, and what a replay of a script writes.
 use crate::fixtures::DIAMOND;
-use farm_cli::{Notes, ReplayFault, Watches, read_config, replay};
+use farm_config::read_config;
+use farm_replay::{Notes, ReplayFault, Watches, replay};
 use std::alloc::{AllocError, Global};
 use std::test::Fail;
 

@@ -3,8 +3,8 @@ use mrcpsp::{Activity, Mode, Project, Sequence};
 use std::alloc::{AllocError, Global};
 use std::process::Abort;
 
-/// The numbers below which a project is drawn: how many more activities it has than one, how many more modes an activity has, and
-/// durations.
+/// The numbers below which a project is drawn: how many more activities it has than one, how many
+/// more modes an activity has, and durations.
 #[derive(Clone, Copy, Debug)]
 pub(crate) struct Bounds {
     activities: u32,
@@ -26,7 +26,8 @@ pub(crate) const SMALLEST: Bounds = Bounds {
     durations: 3,
 };
 
-/// Numbers for the random projects: x becomes x * 1103515245 + 12345 modulo 2^31, and gives x div 2^16.
+/// Numbers for the random projects: x becomes x * 1103515245 + 12345 modulo 2^31, and gives x div
+/// 2^16.
 #[derive(Drop)]
 pub(crate) struct Drawn {
     x: u32,
@@ -82,7 +83,8 @@ impl Drawn {
         Ok(Sequence::from(modes))
     }
 
-    /// The numbers of an activity's successors, of so many activities. The activity is told by its number.
+    /// The numbers of an activity's successors, of so many activities. The activity is told by its
+    /// number.
     fn successors(
         &mut self,
         alloc: Global,
@@ -123,7 +125,7 @@ impl Drawn {
             .expect(rt, "within the limits")
     }
 
-    /// The same, none where it is not within the limits.
+    /// The same, none if it is not within the limits.
     fn project_of(&mut self, alloc: Global, bounds: Bounds) -> Result<Option<Project>, AllocError> {
         let size = self.below(bounds.activities).saturating_add(1);
         let kinds = (self.below(3), self.below(3));

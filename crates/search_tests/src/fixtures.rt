@@ -186,7 +186,8 @@ RESOURCEAVAILABILITIES:
 h
 ";
 
-/// Three activities in any order, of which the first in its first mode leaves no mode for the second, where there are 2 of each.
+/// Three activities in any order, of which the first in its first mode leaves no mode for the
+/// second, where there are 2 of each.
 pub(crate) const SCARCE: &str = "jobs (incl. supersource/sink ): 3
 - renewable : 1 R
 - nonrenewable : 2 N

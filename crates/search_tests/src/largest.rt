@@ -26,7 +26,8 @@ fn modes(alloc: Global, count: u32) -> Result<Sequence<Mode>, AllocError> {
     Ok(Sequence::from(modes))
 }
 
-/// 202 activities, one after another, with eight resources of each sort. The last has ten modes, and each other one.
+/// 202 activities, one after another, with eight resources of each sort. The last has ten modes,
+/// and each other one.
 pub(crate) fn largest(alloc: Global) -> Result<Option<Project>, AllocError> {
     let mut activities = Vec::new(alloc);
     for number in 1..=202u32 {

@@ -32,7 +32,7 @@ fn run<S: Strategy>(rt: &impl Abort, search: &mut S) {
     assert!(rt; search.closed());
 }
 
-/// The makespan of the best schedule that is known, none where there is none.
+/// The makespan of the best schedule that is known, none if there is none.
 fn makespan_of<S: Strategy>(search: &S) -> Option<u32> {
     let best = search.best()?;
     check(&search.plan().project, best).ok()

@@ -5,8 +5,8 @@ use crate::sums::first_start;
 use serial_sgs::Board;
 use std::process::Abort;
 
-/// Adds the earliest start of an activity that is not placed, which is the one that sums tell, and places it there where it
-/// may come next.
+/// Adds the earliest start of an activity that is not placed, which is the one that sums tell, and
+/// places it there where it may come next.
 fn place(
     rt: &impl Abort,
     sum: &mut Sum,
@@ -31,7 +31,8 @@ fn place(
     }
 }
 
-/// Adds what a board tells of a random activity, which is placed where it may be; sometimes the last one is taken away.
+/// Adds what a board tells of a random activity, which is placed where it may be; sometimes the
+/// last one is taken away.
 fn add_step(rt: &impl Abort, sum: &mut Sum, board: &mut Board, drawn: &mut Drawn) {
     let size = board.project().size();
     let activity = drawn.below(size as u32) as usize;

@@ -5,7 +5,8 @@ use mrcpsp::{Breach, Project, Schedule, Sequence, check};
 use std::alloc::{AllocError, Global};
 use std::process::Abort;
 
-/// A schedule whose starts rise, so that precedence is often kept. A mode is sometimes one that is not there.
+/// A schedule whose starts rise, so that precedence is often kept. A mode is sometimes one that is
+/// not there.
 fn random_schedule(alloc: Global, drawn: &mut Drawn, size: usize) -> Result<Schedule, AllocError> {
     let mut modes = Vec::new(alloc);
     let mut starts = Vec::new(alloc);

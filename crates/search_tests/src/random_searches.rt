@@ -6,7 +6,8 @@ use std::alloc::Global;
 use std::process::Abort;
 use strategy::Kind;
 
-/// What the independent program says of each group, of each kind: how many nodes, and the sum over all that was shown.
+/// What the independent program says of each group, of each kind: how many nodes, and the sum over
+/// all that was shown.
 const TABLE: [[(u64, u32); 5]; 12] = [
     [
         (383, 3_730_078_364),
@@ -103,8 +104,8 @@ const LARGEST: [(u64, u32); 5] = [
     (202, 3_513_930_124),
 ];
 
-/// What the five kinds show of ten projects: sampling with the seeds 0 to 9 and for four passes, the others to their ends,
-/// but the tree for at most 400 nodes.
+/// What the five kinds show of ten projects: sampling with the seeds 0 to 9 and for four passes,
+/// the others to their ends, but the tree for at most 400 nodes.
 fn group(rt: &impl Abort, alloc: Global, drawn: &mut Drawn) -> [Shown; 5] {
     let mut shown = [Shown { nodes: 0, sum: 0 }; 5];
     for seed in 0..10u32 {

@@ -67,7 +67,8 @@ RESOURCEAVAILABILITIES:
 h
 3 1";
 
-/// The text with this end of each line, and words behind the end of the file that count for nothing.
+/// The text with this end of each line, and words behind the end of the file that count for
+/// nothing.
 fn with_ends(alloc: Global, text: &str, end: &str) -> Result<String, AllocError> {
     let mut ended = String::new(alloc);
     for line in text.lines() {

@@ -10,7 +10,8 @@ fn numbers(alloc: Global, items: &[u32]) -> Result<Sequence<u32>, AllocError> {
     Ok(Sequence::from(Vec::from_slice(alloc, items)?))
 }
 
-/// A project with its capacities, the modes and the starts of a schedule, and what the check tells of it.
+/// A project with its capacities, the modes and the starts of a schedule, and what the check tells
+/// of it.
 type Line = (
     &'static str,
     &'static str,

@@ -17,8 +17,8 @@ use tree_search::TreeSearch;
 /// The modes and the starts of the best schedule, none where there is none.
 type Best = (&'static [u32], &'static [u32]);
 
-/// A project with its capacities, a kind, up to which node the search has which best schedule, and the verdict after the last of
-/// these nodes. A search that is going is not closed.
+/// A project with its capacities, a kind, up to which node the search has which best schedule, and
+/// the verdict after the last of these nodes. A search that is going is not closed.
 type Walk = (
     &'static str,
     &'static str,
@@ -29,8 +29,9 @@ type Walk = (
 
 const NONE: Best = (&[], &[]);
 
-/// The precedence tree to its end, and for some of its nodes. It ends too where its best schedule is as short as the bound: in the
-/// fork that is so where two may run at once. What takes no time takes nothing, however much it asks for.
+/// The precedence tree to its end, and for some of its nodes. It ends too where its best schedule
+/// is as short as the bound: in the fork that is so where two may run at once. What takes no time
+/// takes nothing, however much it asks for.
 const TREES: [Walk; 8] = [
     (
         DIAMOND,
@@ -96,8 +97,8 @@ const TREES: [Walk; 8] = [
     ),
 ];
 
-/// A pass by each rule: a longer mode where the stock is gone, void passes, and one that is given up. That of the chain is as
-/// short as the bound.
+/// A pass by each rule: a longer mode where the stock is gone, void passes, and one that is given
+/// up. That of the chain is as short as the bound.
 const RULES: [Walk; 19] = [
     (
         DIAMOND,
@@ -210,8 +211,8 @@ const RULES: [Walk; 19] = [
     (DIAMOND, "3 1", Kind::RuleLft, &[(1, NONE)], Verdict::Going),
 ];
 
-/// Drawn passes, of which some or all are void. A later schedule that is as long as the first changes nothing, and one that is
-/// as short as the bound ends the search.
+/// Drawn passes, of which some or all are void. A later schedule that is as long as the first
+/// changes nothing, and one that is as short as the bound ends the search.
 const SAMPLES: [Walk; 10] = [
     (
         CHAIN,
@@ -353,7 +354,8 @@ fn compare(rt: &impl Abort, words: TillWords, pool: u64, spent: u64) {
     assert!(rt; words == wanted);
 }
 
-/// Funds a search that has run nothing, and settles it: it holds nothing, and the till has all of it again.
+/// Funds a search that has run nothing, and settles it: it holds nothing, and the till has all of
+/// it again.
 fn settle<S: Strategy>(rt: &impl Abort, search: &mut S, till: &Till, desk: &mut Desk)
     requires { desk.old.id ≡ till.now.id }
     ensures { desk.new.id ≡ desk.old.id }

@@ -41,13 +41,18 @@ pub(crate) const WORKED: &str = "@a worked\n";
 pub(crate) const SCARCE: &str = "@a no memory\n";
 
 /// The line of a reply.
-pub(crate) fn text_of(rt: &impl Abort, alloc: Global, reply: Reply) -> Vec<u8> {
+fn text_of(rt: &impl Abort, alloc: Global, reply: Reply) -> Vec<u8> {
     let mut text = Vec::new(alloc);
     assert!(rt; text.reserve(256).is_ok(), "no memory");
     let said = Said::Reply(reply);
     let written = write_reply(&mut text, &mut Watch::new(), Name::new(b"a"), &said);
     assert!(rt; written.is_ok(), "a line of 256 bytes");
     text
+}
+
+/// Whether this is the line of a reply.
+pub(crate) fn is_line(rt: &impl Abort, alloc: Global, reply: Reply, line: &str) -> bool {
+    text_of(rt, alloc, reply).as_slice() == line.as_bytes()
 }
 
 /// A command that needs no search: the ledger, where it is none of the others.
@@ -99,7 +104,8 @@ fn bytes_of(rt: &impl Abort, alloc: Global, said: &str) -> Vec<u8> {
     text
 }
 
-/// Makes a call, and tells what is said of it. A submit takes the last of the searches that are ready.
+/// Makes a call, and tells what is said of it. A submit takes the last of the searches that are
+/// ready.
 pub(crate) fn make<R: Wait + Abort>(
     rt: &R,
     alloc: Global,

@@ -64,7 +64,7 @@ pub(crate) struct Planned {
     pub(crate) search: Box<dyn Strategy>,
 }
 
-/// The search of a plan of a tree; none where there is no memory for it.
+/// The search of a plan of a tree; none if there is no memory for it.
 fn search_of(alloc: Global, plan: &Plan, lease: Lease) -> Option<Box<dyn Strategy>>
     requires kind { plan.now.kind ≡ Tree }
     requires lease { IsEmpty lease }
@@ -163,7 +163,8 @@ impl Purse {
     }
 }
 
-/// A tenant of a configuration: its name, that of its purse, empty where that is its own, and its quanta and entries of the journal.
+/// A tenant of a configuration: its name, that of its purse, empty where that is its own, and its
+/// quanta and entries of the journal.
 pub(crate) type Terms = (&'static str, &'static str, u64, u64);
 
 /// The line of a tenant, who may keep two jobs.

@@ -1,5 +1,6 @@
-//! What runs in several threads, and what it stands on: tills and books, the turn lock at a counter, and the pool with its workers in
-//! threads and call by call. Expected values are those of worked examples.
+//! What runs in several threads, and what it stands on: tills and books, the turn lock at a
+//! counter, and the pool with its workers in threads and call by call. Expected values are those of
+//! worked examples.
 //!
 //! - `leases`: what a till's words say of leases in one thread.
 //! - `shared_leases`: leases that are used in several threads at once, in boxes and behind a lock.
@@ -8,14 +9,15 @@
 //! - `threads`: threads that add to one counter, and passes that come back from them.
 //! - `turns`: a counter under the lock, at which many threads take turns.
 //! - `fixtures`: a project, its searches in boxes, tills, configurations and pools.
-//! - `gates`: a gate that no worker waits at, one that two turns have to pass at once, and where two meet.
+//! - `gates`: a gate that no worker waits at, one that two turns have to pass at once, and where
+//!   two meet.
 //! - `patient`: a search that waits at its first node for another one's.
 //! - `stand`: a pool of two tenants with a pass and their purses.
 //! - `crew`: workers at once, and passes that come back from them.
 //! - `pools`: pools with their workers in threads.
 //! - `calls`: what is asked of a pool, and the text of what it answers.
-//! - `play`: a script is played on a pool of its own, where growths may be refused: a call that had no memory has changed nothing and left no
-//!   entry, and is answered when it is made again.
+//! - `play`: a script is played on a pool of its own, where growths may be refused: a call that had
+//!   no memory has changed nothing and left no entry, and is answered when it is made again.
 //! - `beside`: a cancel beside a worker that has the job's turn.
 //! - `pool_calls`: a pool call by call, and cancels at every phase.
 #![tactic(auto)]

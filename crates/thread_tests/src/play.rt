@@ -45,7 +45,8 @@ fn entries_of(ask: Ask) -> usize {
     }
 }
 
-/// Makes a call, and compares what is said of it. The texts are for messages too, the second one that of the step that found no memory.
+/// Makes a call, and compares what is said of it. The texts are for messages too, the second one
+/// that of the step that found no memory.
 fn see<R: Wait + Abort>(
     rt: &R,
     alloc: Global,
@@ -67,7 +68,8 @@ fn see<R: Wait + Abort>(
     );
 }
 
-/// Makes a call. Where it finds no memory it has changed nothing, and is made again. Tells how many entries were left.
+/// Makes a call. Where it finds no memory it has changed nothing, and is made again. Tells how many
+/// entries were left.
 fn insist<R: Wait + Abort>(
     rt: &R,
     alloc: Global,
@@ -111,7 +113,8 @@ fn step_at(lead: usize, steps: &[Step], at: usize) -> Step {
     }
 }
 
-/// Makes the calls one after another, behind so many for the ledger. Tells how many entries were left.
+/// Makes the calls one after another, behind so many for the ledger. Tells how many entries were
+/// left.
 fn play_all<R: Wait + Abort>(
     rt: &R,
     alloc: Global,
@@ -136,8 +139,9 @@ fn play_all<R: Wait + Abort>(
     entries
 }
 
-/// Plays a script on a pool of its own whose turns are of so many nodes, behind so many calls for the ledger, and compares how many entries the journal
-/// has, and the words of the till once the farm is gone.
+/// Plays a script on a pool of its own whose turns are of so many nodes, behind so many calls for
+/// the ledger, and compares how many entries the journal has, and the words of the till once the
+/// farm is gone.
 pub(crate) fn play<R: Wait + Abort>(
     rt: &R,
     alloc: Global,

@@ -4,7 +4,7 @@ ghost use Rattle.turn_lock.specs.Values.{IsPassOf};
 
 use crate::beside::{Barrier, cancel_beside};
 use crate::calls::Ask::{Cancel, Fetch, Forget, Fund, Ledger, Status, Submit, Work};
-use crate::calls::{WORKED, command_of, make, text_of};
+use crate::calls::{WORKED, command_of, is_line, make};
 use crate::fixtures::{A, Purse, config_of, pool_of, trees_of};
 use crate::play::{ALONE, Known, Step, play};
 use farm_core::Reply;
@@ -141,12 +141,8 @@ fn cancels(rt: HostRuntime) {
     }
 }
 
-/// Whether this is the line of a reply.
-fn is_line(rt: &impl Abort, alloc: Global, reply: Reply, line: &str) -> bool {
-    text_of(rt, alloc, reply).as_slice() == line.as_bytes()
-}
-
-/// Cancels job 1 beside its turn of two nodes, which goes on only once the job is cancelled, and compares what is said, and then the words of the till.
+/// Cancels job 1 beside its turn of two nodes, which goes on only once the job is cancelled, and
+/// compares what is said, and then the words of the till.
 fn cancel_while_out<R: Threads + Wait + Sync + Abort>(
     rt: &R,
     alloc: Global,

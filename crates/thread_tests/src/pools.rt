@@ -1,52 +1,32 @@
 //! Pools with their workers in threads.
+ghost use Rattle.std.specs.Prelude.{◌<◌};
+
+use crate::calls::is_line;
 use crate::fixtures::{A, B, patient_of, tree_of};
 use crate::gates::{Meeting, Open, Pair};
 use crate::stand::Stand;
-use farm_core::Reply;
 use farm_pool::{Command, Unsettled, WorkEnd};
-use job_table::Phase;
-use std::sync::Arc;
-use strategy::Verdict;
+use std::alloc::Global;
+use std::process::Abort;
+use std::sync::{Arc, Wait};
+use strategy::Strategy;
 
-// Whether it is the line of a job that has run all nine nodes of the diamond's tree.
-fn is_closed(reply: &Reply) -> bool {
-    match reply {
-        Reply::Line(line) => {
-            matches!(line.phase, Phase::Closed)
-                && line.nodes == 9
-                && line.left == 0
-                && line.best == Some(4)
-                && line.verdict == Verdict::Optimal
-        }
-        _ => false,
-    }
-}
+/// The line of a job that has run all nine nodes of the diamond's tree.
+const CLOSED: &str = "@a job 1 closed nodes 9 left 0 best 4 optimal\n";
 
-// Whether it is the line of a job of six quanta that has not run.
-fn is_waiting(reply: &Reply) -> bool {
-    match reply {
-        Reply::Line(line) => {
-            matches!(line.phase, Phase::Waiting)
-                && line.nodes == 0
-                && line.left == 6
-                && line.best == None
-                && line.verdict == Verdict::Going
-        }
-        _ => false,
-    }
-}
-
-// Whether a ledger has these quanta granted, free, held and spent.
-fn is_ledger(reply: &Reply, granted: u64, free: u64, held: u64, spent: u64) -> bool {
-    match reply {
-        Reply::Ledger(book) => {
-            book.granted() == granted
-                && book.free() == free
-                && book.held() == held
-                && book.spent() == spent
-        }
-        _ => false,
-    }
+/// Makes a call of a tenant, and compares the line of its reply.
+fn tells<R: Wait + Abort>(
+    rt: &R,
+    alloc: Global,
+    stand: &mut Stand,
+    tenant: u32,
+    command: Command<Box<dyn Strategy>>,
+    line: &str,
+)
+    requires { tenant < 2 }
+{
+    let reply = stand.ask(rt, tenant, command);
+    assert!(rt; is_line(rt, alloc, reply, line), "{line}");
 }
 
 // How many turns two workers took.
@@ -73,7 +53,7 @@ fn two_workers_of_two_tenants_settle(rt: HostRuntime) {
     stand.submit(&rt, B, 6, tree);
     let (one, two) = stand.work_while_cancelled(&rt, &Open);
     assert!(rt; one.strangers == 0 && two.strangers == 0);
-    assert!(rt; is_closed(&stand.ask(&rt, A, Command::Status(1))));
+    tells(&rt, rt.alloc(), &mut stand, A, Command::Status(1), CLOSED);
     assert!(rt; matches!(stand.settle(), Some(Ok(_))));
 }
 
@@ -93,7 +73,8 @@ fn two_turns_run_at_once(rt: HostRuntime) {
     assert!(rt; turns_of(ends) == 8 && strangers_of(ends) == 0);
 }
 
-// The first node of the one job goes on only once the other job's has begun: nodes run while nobody has the farm.
+// The first node of the one job goes on only once the other job's has begun: nodes run while nobody
+// has the farm.
 #[test]
 fn two_searches_run_at_once(rt: HostRuntime) {
     let mut stand = Stand::new(&rt, rt.alloc(), 100);
@@ -108,7 +89,8 @@ fn two_searches_run_at_once(rt: HostRuntime) {
     assert!(rt; matches!(stand.settle(), Some(Ok(_))));
 }
 
-// Of the 20 quanta that a and b share, a, who brings 6, holds 16 and uses 9 in five turns; b holds 4 and uses them in two.
+// Of the 20 quanta that a and b share, a, who brings 6, holds 16 and uses 9 in five turns; b holds
+// 4 and uses them in two.
 #[test]
 fn four_workers_of_one_purse_settle(rt: HostRuntime) {
     let mut stand = Stand::shared(&rt, rt.alloc());
@@ -118,8 +100,9 @@ fn four_workers_of_one_purse_settle(rt: HostRuntime) {
     stand.submit(&rt, B, 4, tree);
     let (one, two) = stand.work_in_fours(&rt, &Open);
     assert!(rt; turns_of(one).saturating_add(turns_of(two)) == 7);
-    assert!(rt; is_closed(&stand.ask(&rt, A, Command::Status(1))));
-    assert!(rt; is_ledger(&stand.ask(&rt, B, Command::Ledger), 20, 7, 0, 13));
+    tells(&rt, rt.alloc(), &mut stand, A, Command::Status(1), CLOSED);
+    let spent = "@a ledger granted 20 free 7 held 0 spent 13\n";
+    tells(&rt, rt.alloc(), &mut stand, B, Command::Ledger, spent);
     assert!(rt; matches!(stand.settle(), Some(Ok(_))));
 }
 
@@ -131,7 +114,7 @@ fn each_turn_is_counted_once(rt: HostRuntime) {
     stand.submit(&rt, A, 16, tree);
     let end = stand.work(&rt, &Open);
     assert!(rt; end.turns == 5 && end.strangers == 0);
-    assert!(rt; is_closed(&stand.ask(&rt, A, Command::Status(1))));
+    tells(&rt, rt.alloc(), &mut stand, A, Command::Status(1), CLOSED);
     assert!(rt; is_idle(&stand.work(&rt, &Open)));
 }
 
@@ -158,9 +141,19 @@ fn a_second_pass_sees_the_first_ones_job(rt: HostRuntime) {
     let mut stand = Stand::new(&rt, rt.alloc(), 100);
     let mut second = stand.split();
     let tree = tree_of(&rt, rt.alloc(), stand.lease(&rt, A));
-    assert!(rt; matches!(&stand.submit(&rt, A, 6, tree), Reply::Job(1)));
-    assert!(rt; is_waiting(&stand.pool.call(&rt, &mut second, A, Command::Status(1))));
+    let made = stand.submit(&rt, A, 6, tree);
+    let seen = stand.pool.call(&rt, &mut second, A, Command::Status(1));
     stand.join(second);
-    assert!(rt; is_ledger(&stand.ask(&rt, A, Command::Ledger), 100, 94, 6, 0));
+    assert!(rt; is_line(&rt, rt.alloc(), made, "@a job 1\n"));
+    assert!(rt;
+        is_line(
+            &rt,
+            rt.alloc(),
+            seen,
+            "@a job 1 waiting nodes 0 left 6 best none open\n"
+        )
+    );
+    let held = "@a ledger granted 100 free 94 held 6 spent 0\n";
+    tells(&rt, rt.alloc(), &mut stand, A, Command::Ledger, held);
     assert!(rt; matches!(stand.settle(), Some(Err(Unsettled::Held(0, 6)))));
 }

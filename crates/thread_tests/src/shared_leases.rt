@@ -9,7 +9,8 @@ use std::test::Fail;
 use std::thread;
 use std::thread::Threads;
 
-// Draws 7 and uses 3 of them, `rounds` times, handing back the rest each time, by `settle` or by the drop at the end.
+// Draws 7 and uses 3 of them, `rounds` times, handing back the rest each time, by `settle` or by
+// the drop at the end.
 fn spend(mut lease: Lease, rounds: u64) {
     for round in 0..rounds {
         if lease.left() == 0 {

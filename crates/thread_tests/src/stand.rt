@@ -28,7 +28,8 @@ pub(crate) struct Stand {
 }
 
 impl Stand {
-    /// Each tenant has a purse of its own: a one of 100 quanta and so many entries of the journal, b one of 10 and 100.
+    /// Each tenant has a purse of its own: a one of 100 quanta and so many entries of the journal,
+    /// b one of 10 and 100.
     pub(crate) fn new(rt: &impl Abort, alloc: Global, entries: u64) -> Stand {
         let tenants = [("a", "", 100, entries), ("b", "", 10, 100)];
         let config = config_of(rt, alloc, &tenants, 2);
@@ -44,7 +45,8 @@ impl Stand {
         }
     }
 
-    /// Both share a purse of 20 quanta, of which a brings 6, and each has 100 entries of the journal.
+    /// Both share a purse of 20 quanta, of which a brings 6, and each has 100 entries of the
+    /// journal.
     pub(crate) fn shared(rt: &impl Abort, alloc: Global) -> Stand {
         let tenants = [("a", "p", 6, 100), ("b", "p", 14, 100)];
         let config = config_of(rt, alloc, &tenants, 2);

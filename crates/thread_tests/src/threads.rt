@@ -52,7 +52,8 @@ fn add<R: Wait>(
     Made { pass, answers }
 }
 
-/// Joins threads, takes in their passes, and gathers what they were answered, the last thread first.
+/// Joins threads, takes in their passes, and gathers what they were answered, the last thread
+/// first.
 fn gather<R: Threads>(
     rt: &R,
     lock: &TurnLock<Counter>,
@@ -78,7 +79,8 @@ fn gather<R: Threads>(
     }
 }
 
-/// Lets so many threads add so often, the first 1, the second 2 and so on. Tells what each was answered, the last thread first.
+/// Lets so many threads add so often, the first 1, the second 2 and so on. Tells what each was
+/// answered, the last thread first.
 pub fn crowd<R: Threads + Wait + Sync>(
     rt: &R,
     alloc: Global,
