@@ -15,6 +15,15 @@ use std::mem;
 /// The most schedules that a candidate takes.
 const MOST_OF_STEP: u64 = 3;
 
+/// Which share of the schedules those runs get that keep the nonrenewable capacities.
+const STRICT_SHARE: u64 = 4;
+
+/// How many schedules such a run gets, for each activity.
+const STRICT_LENGTH: u64 = 1_000;
+
+/// The number of the run that may exceed these capacities, the last one.
+const LAST_RUN: u64 = u64::MAX;
+
 /// A search of a project that looks for better schedules by simulated annealing, within a number of schedules that it may
 /// generate. Contracts see the project, that number, how many were generated, and the best schedule.
 #[derive(Drop)]
@@ -24,7 +33,8 @@ pub struct Improving {
     annealing: Annealing,
     budget: Budget,
     strict: u64,
-    begun: Option<Stocks>,
+    length: u64,
+    begun: Option<u64>,
     best: Best,
 }
 
@@ -57,7 +67,7 @@ impl Improving {
         let strict = if annealing.has_ample_stocks() {
             0
         } else {
-            most / 2
+            most / STRICT_SHARE
         };
         Ok(Some(Improving {
             alloc,
@@ -65,6 +75,7 @@ impl Improving {
             annealing,
             budget: Budget::new(most),
             strict,
+            length: STRICT_LENGTH.wrapping_mul(project.size() as u64),
             begun: None,
             best,
         }))
@@ -105,12 +116,12 @@ impl Improving {
         is_shortest || self.budget.left() < MOST_OF_STEP
     }
 
-    /// Which of the two runs is due: the first one keeps the nonrenewable capacities.
-    fn due(&self) -> Stocks {
+    /// Which run is due: first those that keep the nonrenewable capacities, one after another, and then the last one.
+    fn due(&self) -> u64 {
         if self.budget.spent < self.strict {
-            Stocks::Kept
+            self.budget.spent / self.length.max(1)
         } else {
-            Stocks::Priced
+            LAST_RUN
         }
     }
 
@@ -146,11 +157,12 @@ impl Improving {
             return self.annealing.step(&mut self.budget);
         }
         self.begun = Some(due);
-        let schedules = match due {
-            Stocks::Kept => self.strict,
-            Stocks::Priced => self.budget.left(),
+        let (stocks, schedules) = if due == LAST_RUN {
+            (Stocks::Priced, self.budget.left())
+        } else {
+            (Stocks::Kept, self.strict.min(self.length))
         };
-        self.annealing.begin(due, schedules, &mut self.budget);
+        self.annealing.begin(stocks, schedules, &mut self.budget);
         true
     }
 
