@@ -307,7 +307,8 @@ fn abandon_held<J: Strategy>(hand: &mut Option<Turn<J>>) -> Answer
     }
 }
 
-/// Makes a call for a tenant, with the turn that is held, and the searches that are ready, the next one last.
+/// Makes a call for a tenant, with the turn that is held, and the searches that are ready, the next
+/// one last.
 pub(crate) fn ask<J: Strategy>(
     farm: &mut Farm<J>,
     hand: &mut Option<Turn<J>>,

@@ -137,7 +137,8 @@ const NOTED_OF_REFUSALS: [Noted; 16] = [
     Noted::Ledger,
 ];
 
-/// A script of a's, the entries of the journal that it leaves, and the words of a's till in the end.
+/// A script of a's, the entries of the journal that it leaves, and the words of a's till in the
+/// end.
 type Journal = (&'static str, &'static [Step], &'static [Noted], [u64; 3]);
 
 const JOURNALS: [Journal; 3] = [
@@ -151,7 +152,8 @@ const JOURNALS: [Journal; 3] = [
     ("each refusal", &REFUSALS, &NOTED_OF_REFUSALS, [96, 4, 100]),
 ];
 
-/// Plays the scripts of the journals with 100 entries for a, and compares the journals and the words of the tills.
+/// Plays the scripts of the journals with 100 entries for a, and compares the journals and the
+/// words of the tills.
 fn note_down(rt: &impl Abort, alloc: Global, manner: Manner) {
     for (name, steps, noted, words) in JOURNALS.iter() {
         let stage = Stage {
@@ -186,7 +188,8 @@ const NOTED_OF_OTHER: [Noted; 8] = [
     Noted::Give(2, 0),
 ];
 
-/// Plays the scripts of two tenants, mixed in twenty ways, and compares the journal of each and the words of both tills.
+/// Plays the scripts of two tenants, mixed in twenty ways, and compares the journal of each and the
+/// words of both tills.
 fn play_mixed(
     rt: &impl Abort,
     alloc: Global,
@@ -283,7 +286,8 @@ fn tree_of(rt: &impl Abort, alloc: Global, tenant: u32, text: Text) -> Planned<B
     planned_for(rt, alloc, lease, Wanted { tenant, kind, text })
 }
 
-/// A turn of one farm at another one, whose tree is of that project and whose turn of at most so many nodes.
+/// A turn of one farm at another one, whose tree is of that project and whose turn of at most so
+/// many nodes.
 fn stray_at(rt: &impl Abort, alloc: Global, text: Text, slice: u64) {
     let own = tree_of(rt, alloc, 0, Text::Diamond);
     let other = tree_of(rt, alloc, 0, text);

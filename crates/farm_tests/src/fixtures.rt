@@ -14,15 +14,18 @@ use strategy::{Kind, Plan, Strategy};
 /// Six projects.
 #[derive(Clone, Copy)]
 pub(crate) enum Text {
-    /// A source, an activity of one mode, one of two modes, and a sink, with a resource of each sort.
+    /// A source, an activity of one mode, one of two modes, and a sink, with a resource of each
+    /// sort.
     Diamond,
-    /// The same, where the second activity has one mode, and not enough of the nonrenewable resource.
+    /// The same, where the second activity has one mode, and not enough of the nonrenewable
+    /// resource.
     Starved,
     /// Three activities in a chain.
     Chain,
     /// One activity.
     Lone,
-    /// A source, and three activities that share a renewable resource of 1; the first of them comes before the last.
+    /// A source, and three activities that share a renewable resource of 1; the first of them comes
+    /// before the last.
     Shared,
     /// The same with 2 of the resource.
     Roomy,
@@ -131,7 +134,7 @@ h
 2
 ";
 
-/// How a project is searched: a plan, none where there is no memory for it.
+/// How a project is searched: a plan, none if there is no memory for it.
 fn plan_of(alloc: Global, text: Text, kind: Kind) -> Option<Plan> {
     let lines = match text {
         Text::Diamond => DIAMOND,
@@ -147,7 +150,7 @@ fn plan_of(alloc: Global, text: Text, kind: Kind) -> Option<Plan> {
     }
 }
 
-/// The search of a plan in a box, which has run nothing; none where there is no memory for it.
+/// The search of a plan in a box, which has run nothing; none if there is no memory for it.
 fn search_of(alloc: Global, plan: &Plan, lease: Lease) -> Option<Box<dyn Strategy>>
     requires { IsEmpty lease }
 {
@@ -288,7 +291,8 @@ impl Purses {
     }
 }
 
-/// A tenant of a configuration: its name, that of its purse, empty where that is its own, and its quanta, jobs and entries of the journal.
+/// A tenant of a configuration: its name, that of its purse, empty where that is its own, and its
+/// quanta, jobs and entries of the journal.
 pub(crate) type Terms = (&'static str, &'static str, [u64; 3]);
 
 /// Tenants a with 6 quanta and b with 4 in the purse p, and c with 10 in its own.
@@ -333,7 +337,8 @@ pub(crate) fn farm_with<J>(rt: &impl Abort, alloc: Global, tenants: &[Terms]) ->
     }
 }
 
-/// A farm of a with 100 quanta and so many entries of the journal, and b with 10 quanta and 100 entries.
+/// A farm of a with 100 quanta and so many entries of the journal, and b with 10 quanta and 100
+/// entries.
 pub(crate) fn farm_of<J>(rt: &impl Abort, alloc: Global, entries: u64) -> Farm<J> {
     let tenants = [("a", "", [100, 2, entries]), ("b", "", [10, 2, 100])];
     farm_with(rt, alloc, &tenants)

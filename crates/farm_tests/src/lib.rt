@@ -1,6 +1,7 @@
-//! The table of jobs and the farm at boxed searches, call by call: worked scripts of one tenant and of two, cancels at every phase,
-//! strangers, the journal, and what is left in a till. And what no script of the program shows: readers and writers that fail, growths that
-//! are refused, and the texts of faults that no file has. Expected values are those of worked examples.
+//! The table of jobs and the farm at boxed searches, call by call: worked scripts of one tenant and
+//! of two, cancels at every phase, strangers, the journal, and what is left in a till. And what no
+//! script of the program shows: readers and writers that fail, growths that are refused, and the
+//! texts of faults that no file has. Expected values are those of worked examples.
 //!
 //! - `fixtures`: the projects' texts, plans with their searches in boxes, tills and configurations.
 //! - `table_turns`: what is told of a job, and turns of it.

@@ -55,7 +55,8 @@ fn may_want_memory(step: Step) -> bool {
     }
 }
 
-/// Makes a call. Where it finds no memory, it has changed nothing, and is made again; a submit has one search more for that.
+/// Makes a call. Where it finds no memory, it has changed nothing, and is made again; a submit has
+/// one search more for that.
 fn insist<J: Strategy>(
     rt: &impl Abort,
     farm: &mut Farm<J>,
@@ -104,7 +105,8 @@ fn compare(rt: &impl Abort, told: Answer, wanted: Answer, name: &str, at: usize)
     assert!(rt; told == wanted, "{name}, call {at}");
 }
 
-/// Makes the calls one after another, and compares each answer. A turn that is held in the end is given back as it is.
+/// Makes the calls one after another, and compares each answer. A turn that is held in the end is
+/// given back as it is.
 pub(crate) fn play_all<J: Strategy>(
     rt: &impl Abort,
     farm: &mut Farm<J>,
@@ -122,7 +124,8 @@ pub(crate) fn play_all<J: Strategy>(
     }
 }
 
-/// An entry of the journal: what was asked for, a submit by its kind and quanta, a give by the nodes that ran.
+/// An entry of the journal: what was asked for, a submit by its kind and quanta, a give by the
+/// nodes that ran.
 #[derive(Clone, Copy, PartialEq)]
 pub(crate) enum Noted {
     Submit(Kind, u64),
@@ -184,7 +187,8 @@ pub(crate) fn submits_of(
     Ok(submits)
 }
 
-/// What a script is played with: its name for messages, how many entries of the journal a has, and the manner.
+/// What a script is played with: its name for messages, how many entries of the journal a has, and
+/// the manner.
 #[derive(Clone, Copy)]
 pub(crate) struct Stage {
     pub(crate) name: &'static str,
@@ -192,8 +196,8 @@ pub(crate) struct Stage {
     pub(crate) manner: Manner,
 }
 
-/// Plays a script on a farm of its own, with searches for its submits, and compares the entries of the journal where a's and b's
-/// are told.
+/// Plays a script on a farm of its own, with searches for its submits, and compares the entries of
+/// the journal where a's and b's are told.
 fn play_with<J: Strategy>(
     rt: &impl Abort,
     alloc: Global,
@@ -212,8 +216,8 @@ fn play_with<J: Strategy>(
     }
 }
 
-/// Plays a script on a farm of its own. The entries of the journal are compared where a's and b's are told, and then the words of
-/// a's till and of b's, once the farm is gone.
+/// Plays a script on a farm of its own. The entries of the journal are compared where a's and b's
+/// are told, and then the words of a's till and of b's, once the farm is gone.
 pub(crate) fn play(
     rt: &impl Abort,
     alloc: Global,

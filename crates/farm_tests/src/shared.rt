@@ -13,8 +13,9 @@ use strategy::Kind::Tree;
 use strategy::Strategy;
 use strategy::Verdict::Going;
 
-/// Of the 10 quanta that a and b share, a, who brings 6, holds 8; b sees it in the ledger, may have the 2 that are free, and sees no job.
-/// Then a's job uses 4 and hands back 4, so that b may hold 6.
+/// Of the 10 quanta that a and b share, a, who brings 6, holds 8; b sees it in the ledger, may have
+/// the 2 that are free, and sees no job. Then a's job uses 4 and hands back 4, so that b may hold
+/// 6.
 const STEPS: [Step; 13] = [
     Step(0, Submit(Tree, 8, Diamond), Job(1)),
     Step(1, Ledger, Books([10, 2, 8, 0])),

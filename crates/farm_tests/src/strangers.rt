@@ -45,8 +45,9 @@ fn refuse<J: Strategy>(
     }
 }
 
-/// A turn of a job is of no job of another farm: not while that has none, and not while a turn of at most so many nodes is out
-/// of its own one of that number. The job's farm takes it back as it is.
+/// A turn of a job is of no job of another farm: not while that has none, and not while a turn of
+/// at most so many nodes is out of its own one of that number. The job's farm takes it back as it
+/// is.
 pub(crate) fn stray<J: Strategy>(
     rt: &impl Abort,
     home: &mut Farm<J>,
@@ -69,8 +70,8 @@ pub(crate) fn stray<J: Strategy>(
     assert!(rt; put_back(farm, there) == Answer::Ran(0, WAITING));
 }
 
-/// Turns of two jobs that agree in all that is compared serve each for the other. One of them runs, and runs no more when it is
-/// run again.
+/// Turns of two jobs that agree in all that is compared serve each for the other. One of them runs,
+/// and runs no more when it is run again.
 pub(crate) fn exchange<J: Strategy>(
     rt: &impl Abort,
     home: &mut Farm<J>,
@@ -100,8 +101,8 @@ fn next_of<J: Strategy>(farm: &mut Farm<J>, slice: u64) -> Result<(u32, u64), No
     }
 }
 
-/// A job of a, which has no entry of the journal left, and one of b wait: the next turn is b's. There is none where nothing
-/// waits, where only a's job does, or of no nodes or too many.
+/// A job of a, which has no entry of the journal left, and one of b wait: the next turn is b's.
+/// There is none where nothing waits, where only a's job does, or of no nodes or too many.
 pub(crate) fn take_any<J: Strategy>(
     rt: &impl Abort,
     farm: &mut Farm<J>,
@@ -129,9 +130,11 @@ fn follow<J: Strategy>(rt: &impl Abort, farm: &mut Farm<J>, order: &[(u32, u64)]
     }
 }
 
-/// Jobs 1 and 2 of a and job 1 of b take turns, and none stands before those that wait when it comes or comes back. Worked by hand:
-/// once they are submitted, a1 a2 b1 wait in this order; after a turn of a1, a2 b1 a1; of a2, b1 a1 a2; of b1, a1 a2 b1; and of a1
-/// again, a2 b1 a1. While b1 is out, a2 a1 wait, and after a turn of a2, a1 a2; once b1 is back, a1 a2 b1, and so a1, a2 and b1 are next.
+/// Jobs 1 and 2 of a and job 1 of b take turns, and none stands before those that wait when it
+/// comes or comes back. Worked by hand: once they are submitted, a1 a2 b1 wait in this order; after
+/// a turn of a1, a2 b1 a1; of a2, b1 a1 a2; of b1, a1 a2 b1; and of a1 again, a2 b1 a1. While b1 is
+/// out, a2 a1 wait, and after a turn of a2, a1 a2; once b1 is back, a1 a2 b1, and so a1, a2 and b1
+/// are next.
 pub(crate) fn take_turns<J: Strategy>(
     rt: &impl Abort,
     farm: &mut Farm<J>,

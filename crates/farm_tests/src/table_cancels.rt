@@ -21,9 +21,9 @@ pub(crate) enum Before {
     Cancelled,
 }
 
-/// A name for messages, a job with some quanta, what comes before the cancel, whether that is taken, where the job then stands, how many nodes a
-/// turn that is out then runs, where the job stands once that is back, and the words POOL, SPENT and GRANTED of its till
-/// in the end.
+/// A name for messages, a job with some quanta, what comes before the cancel, whether that is
+/// taken, where the job then stands, how many nodes a turn that is out then runs, where the job
+/// stands once that is back, and the words POOL, SPENT and GRANTED of its till in the end.
 #[derive(Clone, Copy)]
 pub(crate) struct Case {
     pub(crate) name: &'static str,

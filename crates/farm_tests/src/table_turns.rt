@@ -42,7 +42,8 @@ pub(crate) fn is_told<J>(table: &JobTable<J>, tenant: u32, line: Line) -> bool {
     }
 }
 
-/// Runs a search for at most so many nodes, while it holds quanta and is not over. Tells how many it ran.
+/// Runs a search for at most so many nodes, while it holds quanta and is not over. Tells how many
+/// it ran.
 pub(crate) fn run<S: Strategy>(search: &mut S, most: u64) -> u64
     requires { (S.meaning search.old).taken ≡ false }
     ensures { (S.meaning search.new).taken ≡ false }
@@ -57,7 +58,8 @@ pub(crate) fn run<S: Strategy>(search: &mut S, most: u64) -> u64
     search.nodes().saturating_sub(before)
 }
 
-/// Takes a turn of a job, runs it and gives it back. Tells how many nodes ran; `None` where the job was not sent.
+/// Takes a turn of a job, runs it and gives it back. Tells how many nodes ran; `None` where the job
+/// was not sent.
 pub(crate) fn turn<J: Strategy>(
     table: &mut JobTable<J>,
     tenant: u32,
