@@ -2,8 +2,12 @@
 //! A path `-` is standard input.
 #![tactic(auto)]
 
+ghost use Rattle.std.specs.Prelude.{◌≤◌};
+ghost use Rattle.std.specs.Process.{exit_status};
+
 use clap::{Arg, ArgMatches, Command};
 use std::alloc::{AllocError, Global};
+use std::io::ErrorKind;
 use std::process::ExitCode;
 use std::rt::Runtime;
 use std::{env, io};
@@ -41,12 +45,23 @@ fn command<'a>(alloc: Global) -> Result<Command<'a>, AllocError> {
             "PROOF",
             "A DRAT proof of the clauses without a bound",
         ))?;
+    let bound = Command::new(alloc, "bound")
+        .about("Checks a proof that no schedule is shorter than a number of periods")
+        .override_usage("farm bound <FILE> [BOUND] [PROOF]")
+        .arg(needed(alloc, "FILE", "A PSPLIB multi-mode file"))?
+        .arg(Arg::new(alloc, "BOUND").help(
+            "Periods that each schedule takes at least; none tells the longest chain of activities",
+        ))?
+        .arg(Arg::new(alloc, "PROOF").help(
+            "A DRAT proof of the clauses of one period less; none where the longest chain alone decides",
+        ))?;
     Command::new(alloc, "certify")
         .about("Certificates of schedules that anyone found")
         .subcommand_required(true)
         .subcommand(clauses)?
         .subcommand(check)?
-        .subcommand(infeasible)
+        .subcommand(infeasible)?
+        .subcommand(bound)
 }
 
 /// Runs the subcommand that was chosen.
@@ -68,6 +83,12 @@ fn run_chosen<R: Runtime + AllocGlobal>(rt: &R, matches: &ArgMatches<'_>) -> Exi
             chosen.get_str("FILE").unwrap_or("-"),
             chosen.get_str("PROOF").unwrap_or("-"),
         ),
+        Some(("bound", chosen)) => certify_cli::run_bound(
+            rt,
+            chosen.get_str("FILE").unwrap_or("-"),
+            chosen.get_str("BOUND"),
+            chosen.get_str("PROOF"),
+        ),
         _ => ExitCode::FAILURE,
     }
 }
@@ -77,10 +98,22 @@ fn words_of<R: Runtime + AllocGlobal>(rt: &R) -> io::Result<Vec<String>> {
     Ok(env::args(rt)?.collect::<Vec<String>>(rt.alloc())?)
 }
 
-fn main(rt: HostRuntime) -> ExitCode {
-    let Ok(words) = words_of(&rt) else {
-        let _ = eprintln!(rt; "farm: cannot read the command line");
+/// The status if the words of the process cannot be read: that of wrong words, or of want of memory.
+fn unread_words<R: Runtime>(rt: &R, kind: ErrorKind) -> ExitCode
+    ensures { exit_status result ≤ 2 }
+{
+    if kind == ErrorKind::OutOfMemory {
+        let _ = eprintln!(rt; "farm: no memory");
         return ExitCode::FAILURE;
+    }
+    let _ = eprintln!(rt; "farm: cannot read the command line");
+    ExitCode::from(2)
+}
+
+fn main(rt: HostRuntime) -> ExitCode {
+    let words = match words_of(&rt) {
+        Ok(words) => words,
+        Err(error) => return unread_words(&rt, error.kind()),
     };
     let Ok(command) = command(rt.alloc()) else {
         let _ = eprintln!(rt; "farm: no memory");
@@ -89,8 +122,8 @@ fn main(rt: HostRuntime) -> ExitCode {
     match command.try_get_matches_from(words.as_slice()) {
         Ok(matches) => run_chosen(&rt, &matches),
         Err(error) => match error.print(&rt) {
-            Ok(()) => ExitCode::from(2),
-            Err(_) => ExitCode::FAILURE,
+            Ok(()) if error.kind() != clap::error::ErrorKind::OutOfMemory => ExitCode::from(2),
+            _ => ExitCode::FAILURE,
         },
     }
 }

@@ -1,8 +1,9 @@
 -- What a line of a certificate says.
-use Rattle.std.specs.Prelude.{◌≡◌, ℕ, List, ◌∷◌, ◌++◌, [], Option, Ok, codes, decimal}
+use Rattle.std.specs.Prelude.{◌≡◌, ℕ, ◌≤◌, List, ◌∷◌, ◌++◌, [], Option, Ok, codes, decimal}
 use Rattle.std.specs.Io.KnownBytes.{Appends}
 use Rattle.mrcpsp.specs.Project.{ProjectData}
-use Rattle.mrcpsp.specs.Schedule.{ScheduleData, IsOptimal, IsInfeasible, makespan}
+use Rattle.mrcpsp.specs.Schedule.{ScheduleData, IsFeasible, IsOptimal, IsInfeasible, makespan}
+use Rattle.mrcpsp.specs.Values.{bound}
 use Rattle.psplib_mm.specs.Reading.{reading}
 use Rattle.schedule_text.specs.ScheduleText.{Tells}
 
@@ -24,3 +25,24 @@ pub record CertifiesInfeasible (file : List ℕ) (before after : Option (List �
   pub read : reading file ≡ Ok project
   pub infeasible : IsInfeasible project
   pub wrote : Appends before after (codes "infeasible" ++ 10 ∷ [])
+
+abbrev pub bound_line : ℕ → List ℕ
+bound_line periods = codes "at least " ++ decimal periods ++ 10 ∷ []
+
+-- no feasible schedule of the project takes fewer periods
+abbrev pub TakesAtLeast : ProjectData → ℕ → Type 0
+TakesAtLeast p periods = (s : ScheduleData) → IsFeasible p s → periods ≤ makespan p s
+
+-- the file is of a project of which no feasible schedule takes fewer periods, and `at least` with their number was written
+pub record CertifiesBound (file : List ℕ) (periods : ℕ) (before after : Option (List ℕ)) : Type 0 where
+  pub project : ProjectData
+  pub read : reading file ≡ Ok project
+  pub least : TakesAtLeast project periods
+  pub wrote : Appends before after (bound_line periods)
+
+-- the number that was written is the project's longest chain, by shortest durations
+pub record CertifiesChain (file : List ℕ) (before after : Option (List ℕ)) : Type 0 where
+  pub project : ProjectData
+  pub read : reading file ≡ Ok project
+  pub least : TakesAtLeast project (bound project)
+  pub wrote : Appends before after (bound_line (bound project))

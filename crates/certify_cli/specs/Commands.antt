@@ -1,5 +1,5 @@
 -- What the commands of certificates write of the bytes that are read, and with which status they end.
-use Rattle.std.specs.Prelude.{◌≡◌, ℕ, ◌<◌, ◌≤◌, true, List, length, ⊤, Option, Result, Ok, Err, IfSome, take}
+use Rattle.std.specs.Prelude.{◌≡◌, ℕ, ◌-◌, ◌<◌, ◌≤◌, true, List, length, ⊤, Option, Result, Ok, Err, IfSome, take}
 use Rattle.mrcpsp.specs.Project.{ProjectData}
 use Rattle.mrcpsp.specs.Schedule.{ScheduleData}
 use Rattle.psplib_mm.specs.Gives.{Fails}
@@ -7,9 +7,9 @@ use Rattle.psplib_mm.specs.Reading.{reading}
 use Rattle.schedule_text.specs.ScheduleText.{Tells}
 use Rattle.schedule_text.specs.declared.reading.TheConstants.{MOST_BYTES}
 use Rattle.schedule_clauses.specs.declared.certificate.CertificateFault.{CertificateFault}
-use Rattle.schedule_clauses.specs.Fault.{IsOfStocks, IsOfSchedule}
+use Rattle.schedule_clauses.specs.Fault.{IsOfBound, IsOfStocks, IsOfSchedule}
 use Rattle.watched_files.specs.declared.watch.FileWatch.{FileWatch}
-use Rattle.certify_cli.specs.Certified.{CertifiesOptimal, CertifiesInfeasible}
+use Rattle.certify_cli.specs.Certified.{CertifiesOptimal, CertifiesInfeasible, CertifiesBound, CertifiesChain}
 use Rattle.certify_cli.specs.declared.ending.TheConstants.{MOST_TEXT}
 use Rattle.certify_cli.specs.declared.fault.CertifyFault.{CertifyFault}
 use Rattle.certify_cli.specs.declared.fault.CertifyFault.TheVariants as why
@@ -99,6 +99,38 @@ IsJudgedAlone (Err (Certify fault)) = IsOfProofAlone fault
 abbrev pub IsInfeasibleOf : Result ⊤ CommandFault → Watches → Option (List ℕ) → Option (List ℕ) → Option (List ℕ) → Type 0
 IsInfeasibleOf ended seen file before after =
     IsEndOf (IfSome file (λ bytes. CertifiesInfeasible (take MOST_TEXT bytes) before after)) ended seen file before after × IsJudgedAlone ended
+
+-- this is why no proof shows that each feasible schedule of the file's project takes so many periods
+pub record IsUnbounded (file : List ℕ) (periods : ℕ) (fault : CertificateFault) : Type 0 where
+  pub project : ProjectData
+  pub read : reading file ≡ Ok project
+  pub of_bound : IsOfBound project (periods - 1) fault
+
+-- the fault of a bound is that of its clauses or of its proof
+abbrev pub IsOfPeriods : CertifyFault → List ℕ → ℕ → Type 0
+IsOfPeriods (why.File fault) file periods = ⊤
+IsOfPeriods why.Words file periods = ⊥
+IsOfPeriods why.TooLong file periods = ⊥
+IsOfPeriods (why.Certificate fault) file periods = IsUnbounded file periods fault
+IsOfPeriods why.NoMemory file periods = ⊤
+IsOfPeriods why.Write file periods = ⊤
+
+-- where a bound is asked for, no text is what could not be read
+abbrev pub IsJudgedBound : Result ⊤ CommandFault → Option (List ℕ) → ℕ → Type 0
+IsJudgedBound (Ok done) file periods = ⊤
+IsJudgedBound (Err (File kind)) file periods = ⊤
+IsJudgedBound (Err (Text kind)) file periods = ⊥
+IsJudgedBound (Err (Proof kind)) file periods = ⊤
+IsJudgedBound (Err (Certify fault)) file periods = IfSome file (λ bytes. IsOfPeriods fault (take MOST_TEXT bytes) periods)
+
+abbrev pub IsBoundOf : Result ⊤ CommandFault → ℕ → Watches → Option (List ℕ) → Option (List ℕ) → Option (List ℕ) → Type 0
+IsBoundOf ended periods seen file before after =
+    IsEndOf (IfSome file (λ bytes. CertifiesBound (take MOST_TEXT bytes) periods before after)) ended seen file before after × IsJudgedBound ended file periods
+
+-- of the chain, only the file can be at fault
+abbrev pub IsChainOf : Result ⊤ CommandFault → Watches → Option (List ℕ) → Option (List ℕ) → Option (List ℕ) → Type 0
+IsChainOf ended seen file before after =
+    IsEndOf (IfSome file (λ bytes. CertifiesChain (take MOST_TEXT bytes) before after)) ended seen file before after
 
 abbrev pub command_status : Result ⊤ CommandFault → ℕ
 command_status (Ok done) = 0

@@ -18,25 +18,8 @@ use watched_files::FileWatch;
 
 /// Checks a schedule of a file's project, and a proof that no schedule is shorter, and writes `optimal M` with its makespan
 /// and a line feed. An error is the first fault, in the order of the file, the text, the schedule and the proof; but for a
-/// fault of the writer nothing was written then.
+/// fault of the writer nothing was written then. `Write` comes only where the line could not be written, as the watch tells.
 pub fn certify<W: Write>(
-    alloc: Global,
-    file: &[u8],
-    text: &[u8],
-    proof: &[u8],
-    writer: &mut W,
-) -> Result<(), CertifyFault>
-    ensures ok { IfOk result (λ _. CertifiesOptimal file.now text.now (W.contents writer.old) (W.contents writer.new)) }
-    ensures file { IfErr result (λ fault. IsOfFile fault file.now) }
-    ensures judged { IfErr result (λ fault. IsOfText fault file.now text.now) }
-    ensures fault { IfErr result (λ fault.
-        (W.contents writer.new ≡ W.contents writer.old) ⊎ (fault ≡ CertifyFault.Write)) }
-{
-    certify_watched(alloc, file, text, proof, writer, &mut FileWatch::new())
-}
-
-/// The same through a watch: `Write` comes only where the line could not be written.
-pub fn certify_watched<W: Write>(
     alloc: Global,
     file: &[u8],
     text: &[u8],
@@ -66,24 +49,9 @@ pub fn certify_watched<W: Write>(
 }
 
 /// Checks a proof that no modes fit the stocks of a file's project, so that no schedule is feasible, and writes `infeasible`
-/// and a line feed. An error is the first fault; but for a fault of the writer nothing was written then.
+/// and a line feed. An error is the first fault; but for a fault of the writer nothing was written then. `Write` comes only
+/// where the line could not be written, as the watch tells.
 pub fn certify_infeasible<W: Write>(
-    alloc: Global,
-    file: &[u8],
-    proof: &[u8],
-    writer: &mut W,
-) -> Result<(), CertifyFault>
-    ensures ok { IfOk result (λ _. CertifiesInfeasible file.now (W.contents writer.old) (W.contents writer.new)) }
-    ensures file { IfErr result (λ fault. IsOfFile fault file.now) }
-    ensures judged { IfErr result (λ fault. IsOfProofAlone fault) }
-    ensures fault { IfErr result (λ fault.
-        (W.contents writer.new ≡ W.contents writer.old) ⊎ (fault ≡ CertifyFault.Write)) }
-{
-    certify_infeasible_watched(alloc, file, proof, writer, &mut FileWatch::new())
-}
-
-/// The same through a watch: `Write` comes only where the line could not be written.
-pub fn certify_infeasible_watched<W: Write>(
     alloc: Global,
     file: &[u8],
     proof: &[u8],

@@ -3,12 +3,13 @@ ghost use Rattle.std.specs.Prelude.{◌≡◌, ◌<◌};
 ghost use Rattle.std.specs.Process.{exit_status};
 ghost use Rattle.certify_cli.specs.Commands.{Ends, IsCertifyOf, IsInfeasibleOf};
 
-use crate::certifying::{certify_infeasible_watched, certify_watched};
+use crate::certifying::{certify, certify_infeasible};
 use crate::ending::{MOST_PROOF, MOST_TEXT, Paths, end_command};
 use crate::fault::CommandFault;
 use crate::watches::Watches;
 use schedule_text::MOST_BYTES;
 use std::alloc::Global;
+use std::env::Env;
 use std::io::{Eprint, Read, Write};
 use std::process::ExitCode;
 
@@ -40,7 +41,7 @@ pub fn certify_read<S: Read + Drop, T: Read + Drop, P: Read + Drop, W: Write>(
         Ok(steps) => steps,
         Err(error) => return Err(CommandFault::Proof(error.kind())),
     };
-    match certify_watched(alloc, &bytes, &words, &steps, writer, &mut watches.output) {
+    match certify(alloc, &bytes, &words, &steps, writer, &mut watches.output) {
         Ok(()) => Ok(()),
         Err(fault) => Err(CommandFault::Certify(fault)),
     }
@@ -65,7 +66,7 @@ pub fn infeasible_read<S: Read + Drop, P: Read + Drop, W: Write>(
         Ok(steps) => steps,
         Err(error) => return Err(CommandFault::Proof(error.kind())),
     };
-    match certify_infeasible_watched(alloc, &bytes, &steps, writer, &mut watches.output) {
+    match certify_infeasible(alloc, &bytes, &steps, writer, &mut watches.output) {
         Ok(()) => Ok(()),
         Err(fault) => Err(CommandFault::Certify(fault)),
     }
@@ -74,7 +75,7 @@ pub fn infeasible_read<S: Read + Drop, P: Read + Drop, W: Write>(
 /// `certify_read` with a status: 0 where the line was written, and 1 where its fault was told on standard error. The readers are of
 /// the files at the paths.
 pub fn certify_to<
-    R: AllocGlobal + Eprint,
+    R: AllocGlobal + Env + Eprint,
     S: Read + Drop,
     T: Read + Drop,
     P: Read + Drop,
@@ -99,7 +100,7 @@ pub fn certify_to<
 }
 
 /// `infeasible_read` with a status, in the same way.
-pub fn infeasible_to<R: AllocGlobal + Eprint, S: Read + Drop, P: Read + Drop, W: Write>(
+pub fn infeasible_to<R: AllocGlobal + Env + Eprint, S: Read + Drop, P: Read + Drop, W: Write>(
     rt: &R,
     paths: Paths<'_>,
     file: S,

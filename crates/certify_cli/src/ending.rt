@@ -6,6 +6,7 @@ ghost use Rattle.certify_cli.specs.Commands.{command_status};
 use crate::fault::CommandFault;
 use file_words::{reason, tell_unread};
 use schedule_text::MOST_BYTES;
+use std::env::Env;
 use std::io::Eprint;
 use std::process::ExitCode;
 
@@ -30,7 +31,7 @@ pub struct Paths<'a> {
 }
 
 /// The status of a command, with its fault on standard error.
-pub(crate) fn end_command<R: Eprint>(
+pub(crate) fn end_command<R: Env + Eprint>(
     rt: &R,
     paths: Paths<'_>,
     ended: Result<(), CommandFault>,

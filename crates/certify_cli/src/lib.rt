@@ -10,6 +10,7 @@
 //!
 //! - `dimacs`: clauses in DIMACS form.
 //! - `fault`: why nothing is certified.
+//! - `bounding`, `bound_commands`: `certify_bound`, `certify_chain`, and both over readers and a writer.
 //! - `certifying`: `certify`, `certify_infeasible`, `write_clauses`.
 //! - `commands`: `certify_to`, `infeasible_to`.
 //! - `ending`: how a command ends.
@@ -18,6 +19,8 @@
 //! - `laws`: the limits of what is read, in figures.
 #![tactic(auto)]
 
+mod bound_commands;
+mod bounding;
 mod certifying;
 mod commands;
 mod dimacs;
@@ -27,11 +30,11 @@ pub mod laws;
 mod program;
 mod watches;
 
-pub use certifying::{
-    certify, certify_infeasible, certify_infeasible_watched, certify_watched, write_clauses,
-};
+pub use bound_commands::{bound_read, bound_to, chain_read, chain_to};
+pub use bounding::{certify_bound, certify_chain};
+pub use certifying::{certify, certify_infeasible, write_clauses};
 pub use commands::{certify_read, certify_to, infeasible_read, infeasible_to};
 pub use ending::{MOST_PROOF, MOST_TEXT, Paths};
 pub use fault::{CertifyFault, CommandFault};
-pub use program::{run_certify, run_clauses, run_infeasible};
+pub use program::{run_bound, run_certify, run_clauses, run_infeasible};
 pub use watches::Watches;

@@ -3,12 +3,14 @@ ghost use Rattle.std.specs.Prelude.{◌≡◌, ◌≤◌};
 ghost use Rattle.std.specs.Process.{exit_status};
 ghost use Rattle.certify_cli.specs.Commands.{clauses_status};
 
+use crate::bound_commands::{bound_to, chain_to};
 use crate::certifying::write_clauses;
 use crate::commands::{certify_to, infeasible_to};
 use crate::ending::{MOST_TEXT, Paths};
 use crate::fault::CertifyFault;
 use crate::watches::Watches;
 use file_words::{reason, tell_unread};
+use std::env::Env;
 use std::io;
 use std::io::{BufWriter, Eprint, Write};
 use std::process::ExitCode;
@@ -30,7 +32,7 @@ fn end<R: Eprint>(rt: &R, ended: Result<(), CertifyFault>) -> ExitCode
 }
 
 /// What was opened or read of the path. `None` is told on standard error.
-fn told<R: Eprint, T: Drop>(rt: &R, path: &str, got: io::Result<T>) -> Option<T> {
+fn told<R: Env + Eprint, T: Drop>(rt: &R, path: &str, got: io::Result<T>) -> Option<T> {
     match got {
         Ok(value) => Some(value),
         Err(error) => {
@@ -100,6 +102,64 @@ pub fn run_infeasible<R: Runtime + AllocGlobal>(rt: &R, file: &str, proof: &str)
     let mut output = io::writer(rt);
     let mut watches = Watches::new();
     infeasible_to(rt, paths, project, steps, &mut output, &mut watches)
+}
+
+/// Prints `at least L` for the longest chain of the project in a file.
+fn run_chain<R: Runtime + AllocGlobal>(rt: &R, file: &str) -> ExitCode
+    ensures { exit_status result ≤ 1 }
+{
+    let paths = Paths {
+        file,
+        text: file,
+        proof: file,
+    };
+    let Some(project) = open_path(rt, file) else {
+        return ExitCode::FAILURE;
+    };
+    let mut output = io::writer(rt);
+    let mut watches = Watches::new();
+    chain_to(rt, paths, project, &mut output, &mut watches)
+}
+
+/// Prints `at least L` if the proof shows that no feasible schedule of the project takes fewer than `bound` periods;
+/// without a bound that of the longest chain of activities, which needs no proof.
+pub fn run_bound<R: Runtime + AllocGlobal>(
+    rt: &R,
+    file: &str,
+    bound: Option<&str>,
+    proof: Option<&str>,
+) -> ExitCode
+    ensures { exit_status result ≤ 1 }
+{
+    let Some(bound) = bound else {
+        return run_chain(rt, file);
+    };
+    let Ok(periods) = bound.parse::<u32>() else {
+        let _ = eprintln!(rt; "farm: no bound {bound}");
+        return ExitCode::FAILURE;
+    };
+    let paths = Paths {
+        file,
+        text: file,
+        proof: proof.unwrap_or("-"),
+    };
+    let Some(project) = open_path(rt, file) else {
+        return ExitCode::FAILURE;
+    };
+    let Some(steps) = open_proof(rt, proof) else {
+        return ExitCode::FAILURE;
+    };
+    let mut output = io::writer(rt);
+    let mut watches = Watches::new();
+    bound_to(
+        rt,
+        paths,
+        project,
+        periods,
+        steps,
+        &mut output,
+        &mut watches,
+    )
 }
 
 /// Prints the clauses of the project in a file and a bound: a number of periods, or `none`.

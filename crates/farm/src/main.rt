@@ -4,12 +4,13 @@
 ghost use Rattle.std.specs.Prelude.{◌≤◌};
 ghost use Rattle.std.specs.Process.{exit_status};
 
+use std::io::ErrorKind;
 use std::process::ExitCode;
 use std::rt::Runtime;
 use std::{env, io};
 
 /// The version of the program, and the logic in which it was proved, which kits of several revisions have.
-const VERSION: &str = "farm 0.1.0 (logic dac8208d650f15bf)";
+const VERSION: &str = "farm 0.2.0 (logic dac8208d650f15bf)";
 
 /// What the program is, for its help.
 const ABOUT: &str = "\
@@ -54,16 +55,28 @@ fn print_help<R: Runtime + AllocGlobal>(rt: &R, words: &[String]) -> ExitCode
     {
         Ok(_) => ExitCode::from(2),
         Err(error) => match error.print(rt) {
-            Ok(()) => ExitCode::from(2),
-            Err(_) => ExitCode::FAILURE,
+            Ok(()) if error.kind() != clap::error::ErrorKind::OutOfMemory => ExitCode::from(2),
+            _ => ExitCode::FAILURE,
         },
     }
 }
 
-fn main(rt: HostRuntime) -> ExitCode {
-    let Ok(words) = words_of(&rt) else {
-        let _ = eprintln!(rt; "farm: cannot read the command line");
+/// The status if the words of the process cannot be read: that of wrong words, or of want of memory.
+fn unread_words<R: Runtime>(rt: &R, kind: ErrorKind) -> ExitCode
+    ensures { exit_status result ≤ 2 }
+{
+    if kind == ErrorKind::OutOfMemory {
+        let _ = eprintln!(rt; "farm: no memory");
         return ExitCode::FAILURE;
+    }
+    let _ = eprintln!(rt; "farm: cannot read the command line");
+    ExitCode::from(2)
+}
+
+fn main(rt: HostRuntime) -> ExitCode {
+    let words = match words_of(&rt) {
+        Ok(words) => words,
+        Err(error) => return unread_words(&rt, error.kind()),
     };
     if asks_for_version(words.as_slice()) {
         print_version(&rt)

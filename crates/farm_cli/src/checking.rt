@@ -8,6 +8,7 @@ use crate::summary::summarize;
 use file_words::{reason, tell_unread};
 use psplib_mm::{MmFault, read};
 use std::alloc::Global;
+use std::env::Env;
 use std::io::{Eprint, ErrorKind, Read, Write};
 use std::process::ExitCode;
 use watched_files::FileWatch;
@@ -74,7 +75,7 @@ pub fn check<S: Read + Drop, W: Write>(
 }
 
 /// The status of a check, with its fault on standard error.
-fn end_check<R: Eprint>(rt: &R, path: &str, ended: Result<(), CheckFault>) -> ExitCode
+fn end_check<R: Env + Eprint>(rt: &R, path: &str, ended: Result<(), CheckFault>) -> ExitCode
     ensures { exit_status result ≡ check_status ended }
 {
     match ended {
@@ -90,7 +91,7 @@ fn end_check<R: Eprint>(rt: &R, path: &str, ended: Result<(), CheckFault>) -> Ex
 
 /// The same with a status: 0 where the line was written, and 1 where its fault was told on standard error. The reader is of the
 /// file at the path.
-pub fn check_to<R: AllocGlobal + Eprint, S: Read + Drop, W: Write>(
+pub fn check_to<R: AllocGlobal + Env + Eprint, S: Read + Drop, W: Write>(
     rt: &R,
     path: &str,
     reader: S,

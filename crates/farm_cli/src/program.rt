@@ -12,6 +12,7 @@ use farm_pool::Settled;
 use farm_replay::{Notes, Watches};
 use farm_service::{ServeFault, serve};
 use file_words::{reason, tell_unread};
+use std::env::Env;
 use std::io::{BufWriter, Eprint, Print, Read};
 use std::net::{Ipv4Addr, Net, SocketAddr, TcpListener, TcpStream};
 use std::process::ExitCode;
@@ -50,14 +51,14 @@ pub fn run_words<
             },
         ) => run_serve(rt, config, port, sessions),
         Err(error) => match error.print(rt) {
-            Ok(()) => ExitCode::from(2),
-            Err(_) => ExitCode::FAILURE,
+            Ok(()) if error.kind() != clap::error::ErrorKind::OutOfMemory => ExitCode::from(2),
+            _ => ExitCode::FAILURE,
         },
     }
 }
 
 /// The bytes of the file at the path. `None` is told on standard error.
-fn bytes_at<R: Files + AllocGlobal + Eprint>(rt: &R, path: &str) -> Option<Vec<u8>> {
+fn bytes_at<R: Files + AllocGlobal + Env + Eprint>(rt: &R, path: &str) -> Option<Vec<u8>> {
     let read = match fs::open(rt, path) {
         Ok(file) => read_whole(rt.alloc(), file),
         Err(error) => Err(error),
@@ -151,7 +152,7 @@ fn print_replay<R: Runtime + AllocGlobal, S: Read + Drop>(
 }
 
 /// The configuration in the file at the path. `None` is told on standard error.
-fn config_at<R: Files + AllocGlobal + Eprint>(rt: &R, path: &str) -> Option<Config> {
+fn config_at<R: Files + AllocGlobal + Env + Eprint>(rt: &R, path: &str) -> Option<Config> {
     let bytes = bytes_at(rt, path)?;
     match read_config(rt.alloc(), &bytes) {
         Ok(config) => Some(config),

@@ -6,7 +6,9 @@ ghost use Rattle.farm_cli.specs.Replayed.{IsReplayOf, IsReplayed, stop_status};
 
 use farm_config::{ConfigFault, place_of, read_config};
 use farm_replay::{Notes, ReplayFault, Watches, replay};
+use file_words::explains;
 use std::alloc::Global;
+use std::env::Env;
 use std::io::{BufWriter, Eprint, Read, Write};
 use std::process::ExitCode;
 use watched_files::FileWatch;
@@ -53,17 +55,23 @@ pub fn replay_text<S: Read + Drop, W: Write + Drop>(
     }
 }
 
-/// Tells the fault of a configuration, and on a second line where it lies and what is wanted there.
-pub(crate) fn tell_config_fault<R: AllocGlobal + Eprint>(rt: &R, bytes: &[u8], fault: ConfigFault) {
+/// Tells the fault of a configuration, and on a second line where it lies and what is wanted there, if that is asked for.
+pub(crate) fn tell_config_fault<R: AllocGlobal + Env + Eprint>(
+    rt: &R,
+    bytes: &[u8],
+    fault: ConfigFault,
+) {
     let _ = eprintln!(rt; "farm: config {fault}");
-    if let Some(place) = place_of(rt.alloc(), bytes, fault) {
+    if explains(rt)
+        && let Some(place) = place_of(rt.alloc(), bytes, fault)
+    {
         let wanted = place.wanted(fault);
         let _ = eprintln!(rt; "farm: why: {place}: {wanted}");
     }
 }
 
 /// Tells why a replay ended before its script.
-fn tell_stop<R: AllocGlobal + Eprint>(rt: &R, text: &[u8], stop: ReplayStop) {
+fn tell_stop<R: AllocGlobal + Env + Eprint>(rt: &R, text: &[u8], stop: ReplayStop) {
     match stop {
         ReplayStop::Config(fault) => tell_config_fault(rt, text, fault),
         ReplayStop::Fault(fault) => {
@@ -76,7 +84,7 @@ fn tell_stop<R: AllocGlobal + Eprint>(rt: &R, text: &[u8], stop: ReplayStop) {
 }
 
 /// The status of a replay, with its fault on standard error, and what was noted of its script.
-fn end_replay<R: AllocGlobal + Eprint>(
+fn end_replay<R: AllocGlobal + Env + Eprint>(
     rt: &R,
     text: &[u8],
     ended: Result<(), ReplayStop>,
@@ -96,7 +104,9 @@ fn end_replay<R: AllocGlobal + Eprint>(
         }
         (Ok(()), _) => ExitCode::SUCCESS,
     };
-    if let Some(line) = notes.doubtful {
+    if explains(rt)
+        && let Some(line) = notes.doubtful
+    {
         let _ = eprintln!(rt;
             "farm: line {line}: the text of this submit ends with a line that begins with '@'; is its count of lines right?"
         );
@@ -105,7 +115,7 @@ fn end_replay<R: AllocGlobal + Eprint>(
 }
 
 /// The same with a status: 1 where its fault was told on standard error, and by the rule of `specs/Strict` where it has none.
-pub fn replay_to<R: AllocGlobal + Eprint, S: Read + Drop, W: Write + Drop>(
+pub fn replay_to<R: AllocGlobal + Env + Eprint, S: Read + Drop, W: Write + Drop>(
     rt: &R,
     text: &[u8],
     script: S,

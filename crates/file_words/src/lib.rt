@@ -1,15 +1,27 @@
-//! Why a file could not be opened or read, in words for a person.
+//! What is told of a file that cannot be opened or read.
 #![tactic(auto)]
 
 ghost use Rattle.std.specs.Prelude.{◌≡◌};
 ghost use Rattle.file_words.specs.Reason.{reason_text};
 
+use std::env::Env;
 use std::io::{Eprint, ErrorKind};
 
-/// Tells on standard error that a file cannot be read, and on a second line why.
-pub fn tell_unread<R: Eprint>(rt: &R, path: &str, why: &str) {
+/// Whether a second line on standard error is to explain each fault: the variable `FARM_EXPLAIN` is `1`.
+pub fn explains<R: Env>(rt: &R) -> bool {
+    let mut value = [0u8; 2];
+    match rt.var("FARM_EXPLAIN", &mut value) {
+        Ok(length) => length == 1 && value[0] == b'1',
+        Err(_) => false,
+    }
+}
+
+/// Tells on standard error that the file at `path` cannot be read, and on a second line why, if that is asked for.
+pub fn tell_unread<R: Env + Eprint>(rt: &R, path: &str, why: &str) {
     let _ = eprintln!(rt; "farm: cannot read {path}");
-    let _ = eprintln!(rt; "farm: why: {why}");
+    if explains(rt) {
+        let _ = eprintln!(rt; "farm: why: {why}");
+    }
 }
 
 /// Why a file could not be opened or read: words that follow *cannot read PATH*.

@@ -168,6 +168,20 @@ more f k (suc j) l = ⊎_elim (λ (h : k < suc j). let g = more f k j (omega ari
 next : (f : ℕ → ℕ) (j : ℕ) → sum_below f (j + 1) ≡ sum_below f j + f j
 next f j = rw add-one refl
 
+-- a mode that takes time and requests more than there is would exceed the capacity in its first period
+pub valid-executable : (p : ProjectData) (limit : Option ℕ) (j m r : ℕ) → j < size p → r < renewables p → 0 < duration p j m → capacity p r < request p j m r → IsValid p limit (not_of (InMode j m) ∷ [])
+unfolding use_of
+valid-executable p limit j m r inside known long over = record {
+  sure = λ s short.
+      last_not (mode_of s j == m) (λ e.
+      let t = start_of s j in
+      let n = running p s j m t (eqb-true (mode_of s j) m e) (omega arith) (omega arith) in
+      let w = runs-load p s r j m t n in
+      let g = more (λ i. load p r t i (mode_of s i) (start_of s i)) (j + 1) (size p) (omega arith) in
+      let q = next (λ i. load p r t i (mode_of s i) (start_of s i)) j in
+      let f = short.feasible.renewable r t known in omega arith);
+}
+
 pub valid-use-all : (p : ProjectData) (limit : Option ℕ) (r t : ℕ) → r < renewables p → IsValid p limit (yes_of (UseWithin r t (size p) (capacity p r)) ∷ [])
 unfolding use_below use_of
 valid-use-all p limit r t inside = record { sure = λ s short. last (nat_le (use_below p s r t (size p)) (capacity p r)) (le-leb (use_below p s r t (size p)) (capacity p r) (short.feasible.renewable r t inside)) }
@@ -262,6 +276,6 @@ valid-end-none-p p bound j m project inside l = valid-end-none p (Some bound) bo
 pub valid-latest-p : (p : ProjectData) (bound j u : ℕ) → is_project p ≡ true → j < size p → bound ≤ u + shortest p j + tail p j → IsValid p (Some bound) (yes_of (StartsBy j u) ∷ [])
 valid-latest-p p bound j u project inside l = valid-latest p (Some bound) bound j u refl (kept p project) inside l
 
-pub ruleset form_rules = (valid-exclude, valid-later, valid-precedence, valid-precedence-none, valid-shortest, valid-shortest-none, valid-runs, valid-runs-early, valid-use-all, valid-use-fewer, valid-use-run, valid-use-over, valid-stock-all, valid-stock-fewer, valid-stock-mode, valid-stock-over)
+pub ruleset form_rules = (valid-exclude, valid-executable, valid-later, valid-precedence, valid-precedence-none, valid-shortest, valid-shortest-none, valid-runs, valid-runs-early, valid-use-all, valid-use-fewer, valid-use-run, valid-use-over, valid-stock-all, valid-stock-fewer, valid-stock-mode, valid-stock-over)
 
 pub ruleset end_rules = (valid-end-p, valid-end-none-p, valid-latest-p)

@@ -1,18 +1,36 @@
 //! Clauses on modes and on capacities: all of a kind, section by section. Which numbers go into which clause is a hint alone.
 ghost use Rattle.std.specs.Prelude.{◌<◌, IfOk};
-ghost use Rattle.mrcpsp.specs.Project.{size};
+ghost use Rattle.mrcpsp.specs.Project.{size, mode_count};
 ghost use Rattle.schedule_clauses.specs.Encoding.{AllGood};
 
 use crate::diagram::Part;
 use crate::encoding::{Encoding, Scope};
 use crate::formula::{Kind, Row};
-use crate::mode_forms::{exclude, modes};
+use crate::mode_forms::{exclude, executable, modes};
 use crate::rows::row_clauses;
 use crate::windows::Windows;
 use mrcpsp::Project;
 use std::alloc::{AllocError, Global};
 
-/// An activity has exactly one mode.
+/// An activity has this mode only if that can be executed.
+fn executable_clauses(
+    encoding: &mut Encoding,
+    scope: Scope<'_>,
+    activity: usize,
+    mode: usize,
+) -> Result<(), AllocError>
+    requires good { AllGood scope.project.now scope.limit encoding.old }
+    requires activity { activity < size scope.project.now }
+    requires mode { mode < mode_count scope.project.now activity }
+    ensures { IfOk result (λ _. AllGood scope.entry.project.now scope.entry.limit encoding.new) }
+{
+    for resource in 0..scope.project.renewables() {
+        executable(encoding, scope, activity, mode, resource)?;
+    }
+    Ok(())
+}
+
+/// An activity has exactly one mode, and one that can be executed.
 fn mode_clauses(
     encoding: &mut Encoding,
     scope: Scope<'_>,
@@ -24,6 +42,7 @@ fn mode_clauses(
 {
     modes(encoding, scope, activity)?;
     for mode in 0..scope.project.mode_count(activity) {
+        executable_clauses(encoding, scope, activity, mode)?;
         for other in 0..mode {
             exclude(encoding, scope, activity, mode, other)?;
         }
@@ -31,7 +50,7 @@ fn mode_clauses(
     Ok(())
 }
 
-/// Each activity has exactly one mode.
+/// Each activity has exactly one mode, and one that can be executed.
 pub(crate) fn mode_section(encoding: &mut Encoding, scope: Scope<'_>) -> Result<(), AllocError>
     requires good { AllGood scope.project.now scope.limit encoding.old }
     ensures { IfOk result (λ _. AllGood scope.entry.project.now scope.entry.limit encoding.new) }

@@ -1,7 +1,7 @@
 //! The clauses of 'there is a schedule of at most this makespan', and certificates by a proof that they cannot all be true.
 //!
 //! A variable has a meaning, as 'activity 3 starts by period 7' (the order encoding of Crawford and Baker 1994), which is true
-//! or false of a schedule. Each clause is of one of 14 forms, and each form is proved to be true of every feasible schedule
+//! or false of a schedule. Each clause is of one of 15 forms, and each form is proved to be true of every feasible schedule
 //! within the bound; which clauses there are is a hint. So where [`clause_proof::refute`] accepts a proof, no schedule is that
 //! short, and a schedule that takes one period more is optimal ([`certify`]). That there are enough clauses for a proof is
 //! tested.

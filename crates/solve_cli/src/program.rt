@@ -67,8 +67,8 @@ pub fn run_command<R: Runtime + AllocGlobal>(rt: &R, words: &[String]) -> ExitCo
             None => ExitCode::from(2),
         },
         Err(error) => match error.print(rt) {
-            Ok(()) => ExitCode::from(2),
-            Err(_) => ExitCode::FAILURE,
+            Ok(()) if error.kind() != clap::error::ErrorKind::OutOfMemory => ExitCode::from(2),
+            _ => ExitCode::FAILURE,
         },
     }
 }

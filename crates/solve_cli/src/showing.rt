@@ -11,6 +11,7 @@ use crate::verifying::{Verified, verify};
 use crate::watches::Watches;
 use schedule_text::MOST_BYTES;
 use std::alloc::{AllocError, Global};
+use std::env::Env;
 use std::io::{Eprint, Read, Write};
 use std::process::ExitCode;
 
@@ -101,7 +102,7 @@ pub fn draw_read<
 
 /// `verify_read` with a status: 0 where the line was written, and 1 where its fault was told on standard error. The readers are of
 /// the files at the paths.
-pub fn verify_to<R: AllocGlobal + Eprint, S: Read + Drop, T: Read + Drop, W: Write>(
+pub fn verify_to<R: AllocGlobal + Env + Eprint, S: Read + Drop, T: Read + Drop, W: Write>(
     rt: &R,
     paths: Paths<'_>,
     file: S,
@@ -121,7 +122,7 @@ pub fn verify_to<R: AllocGlobal + Eprint, S: Read + Drop, T: Read + Drop, W: Wri
 
 /// `draw_read` with a status, in the same way.
 pub fn draw_to<
-    R: AllocGlobal + Eprint,
+    R: AllocGlobal + Env + Eprint,
     S: Read + Drop,
     T: Read + Drop,
     W: Write,

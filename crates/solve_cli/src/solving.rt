@@ -14,6 +14,7 @@ use crate::watches::Watches;
 use mrcpsp::Project;
 use psplib_mm::read;
 use std::alloc::{AllocError, Global};
+use std::env::Env;
 use std::io::{Eprint, Read, Write};
 use std::process::ExitCode;
 
@@ -96,7 +97,7 @@ pub fn solve_read<S: Read + Drop, W: Write, L: Watch>(
 
 /// The same with a status: 0 where the text was written, and 1 where its fault was told on standard error. The reader is of the file
 /// at the path.
-pub fn solve_to<R: AllocGlobal + Eprint, S: Read + Drop, W: Write, L: Watch>(
+pub fn solve_to<R: AllocGlobal + Env + Eprint, S: Read + Drop, W: Write, L: Watch>(
     rt: &R,
     path: &str,
     file: S,

@@ -3,20 +3,20 @@ use Rattle.certify_cli.specs.Commands.{IsOfFile, IsOfText}
 use Rattle.certify_cli.proofs.CommandLemmas.{one, both}
 use Rattle.certify_cli.proofs.commands.certify_read.Goals as goal
 
-pub returns-in-Ok-certify_watched-clause-ended : goal.returns-in-Ok-certify_watched-clause-ended
-returns-in-Ok-certify_watched-clause-ended g c = (
+pub returns-in-Ok-certify-clause-ended : goal.returns-in-Ok-certify-clause-ended
+returns-in-Ok-certify-clause-ended g c = (
   both (g.S.Read.remaining c.args.file) (g.T.Read.remaining c.args.text) c.in-Ok.bytes.items c.in-Ok-read_front.words.items _ _
-      (λ bytes words. CertifiesOptimal bytes words (g.W.Write.contents c.args.writer.now) (g.W.Write.contents c.certify_watched.new.writer))
-      c.in-Ok.ensures.front c.in-Ok-read_front.ensures.front c.deref.ensures.value c.deref-2.ensures.value c.in-Ok-certify_watched.ensures.ok,
+      (λ bytes words. CertifiesOptimal bytes words (g.W.Write.contents c.args.writer.now) (g.W.Write.contents c.certify.new.writer))
+      c.in-Ok.ensures.front c.in-Ok-read_front.ensures.front c.deref.ensures.value c.deref-2.ensures.value c.in-Ok-certify.ensures.ok,
   tt,
 )
 
 pub returns-clause-ended : goal.returns-clause-ended
 returns-clause-ended g c = (
   (
-    one (g.S.Read.remaining c.args.file) c.in-Ok.bytes.items _ (λ bytes. IsOfFile c.in-Err-certify_watched.fault bytes) c.in-Ok.ensures.front c.deref.ensures.value c.in-Err-certify_watched.ensures.fault.0,
-    c.in-Err-certify_watched.ensures.fault.1,
+    one (g.S.Read.remaining c.args.file) c.in-Ok.bytes.items _ (λ bytes. IsOfFile c.in-Err-certify.fault bytes) c.in-Ok.ensures.front c.deref.ensures.value c.in-Err-certify.ensures.fault.0,
+    c.in-Err-certify.ensures.fault.1,
   ),
-  both (g.S.Read.remaining c.args.file) (g.T.Read.remaining c.args.text) c.in-Ok.bytes.items c.in-Ok-read_front.words.items _ _ (λ bytes words. IsOfText c.in-Err-certify_watched.fault bytes words)
-      c.in-Ok.ensures.front c.in-Ok-read_front.ensures.front c.deref.ensures.value c.deref-2.ensures.value c.in-Err-certify_watched.ensures.judged,
+  both (g.S.Read.remaining c.args.file) (g.T.Read.remaining c.args.text) c.in-Ok.bytes.items c.in-Ok-read_front.words.items _ _ (λ bytes words. IsOfText c.in-Err-certify.fault bytes words)
+      c.in-Ok.ensures.front c.in-Ok-read_front.ensures.front c.deref.ensures.value c.deref-2.ensures.value c.in-Err-certify.ensures.judged,
 )

@@ -1,0 +1,91 @@
+//! Bounds over any readers and writer, with a status.
+ghost use Rattle.std.specs.Process.{exit_status};
+ghost use Rattle.certify_cli.specs.Commands.{Ends, IsBoundOf, IsChainOf};
+
+use crate::bounding::{certify_bound, certify_chain};
+use crate::ending::{MOST_PROOF, MOST_TEXT, Paths, end_command};
+use crate::fault::CommandFault;
+use crate::watches::Watches;
+use std::alloc::Global;
+use std::env::Env;
+use std::io::{Eprint, Read, Write};
+use std::process::ExitCode;
+
+/// `certify_bound` of the file that the first reader gives and the proof that the second one gives.
+pub fn bound_read<S: Read + Drop, P: Read + Drop, W: Write>(
+    alloc: Global,
+    file: S,
+    periods: u32,
+    proof: P,
+    writer: &mut W,
+    watches: &mut Watches,
+) -> Result<(), CommandFault>
+    ensures { IsBoundOf result periods watches.new (S.remaining file) (W.contents writer.old) (W.contents writer.new) }
+{
+    let bytes = match watches.file.read_front(alloc, file, MOST_TEXT) {
+        Ok(bytes) => bytes,
+        Err(error) => return Err(CommandFault::File(error.kind())),
+    };
+    let steps = match watches.proof.read_front(alloc, proof, MOST_PROOF) {
+        Ok(steps) => steps,
+        Err(error) => return Err(CommandFault::Proof(error.kind())),
+    };
+    match certify_bound(alloc, &bytes, periods, &steps, writer, &mut watches.output) {
+        Ok(()) => Ok(()),
+        Err(fault) => Err(CommandFault::Certify(fault)),
+    }
+}
+
+/// `certify_chain` of the file that the reader gives.
+pub fn chain_read<S: Read + Drop, W: Write>(
+    alloc: Global,
+    file: S,
+    writer: &mut W,
+    watches: &mut Watches,
+) -> Result<(), CommandFault>
+    ensures { IsChainOf result watches.new (S.remaining file) (W.contents writer.old) (W.contents writer.new) }
+{
+    let bytes = match watches.file.read_front(alloc, file, MOST_TEXT) {
+        Ok(bytes) => bytes,
+        Err(error) => return Err(CommandFault::File(error.kind())),
+    };
+    match certify_chain(alloc, &bytes, writer, &mut watches.output) {
+        Ok(()) => Ok(()),
+        Err(fault) => Err(CommandFault::Certify(fault)),
+    }
+}
+
+/// `bound_read` with a status: 0 if the line was written, or 1 and its fault on standard error. The readers are of
+/// the files at `paths`.
+pub fn bound_to<R: AllocGlobal + Env + Eprint, S: Read + Drop, P: Read + Drop, W: Write>(
+    rt: &R,
+    paths: Paths<'_>,
+    file: S,
+    periods: u32,
+    proof: P,
+    writer: &mut W,
+    watches: &mut Watches,
+) -> ExitCode
+    ensures { Ends
+        (λ ended. IsBoundOf ended periods watches.new (S.remaining file) (W.contents writer.old) (W.contents writer.new))
+        (exit_status result) }
+{
+    let ended = bound_read(rt.alloc(), file, periods, proof, writer, watches);
+    end_command(rt, paths, ended)
+}
+
+/// `chain_read` with a status, in the same way.
+pub fn chain_to<R: AllocGlobal + Env + Eprint, S: Read + Drop, W: Write>(
+    rt: &R,
+    paths: Paths<'_>,
+    file: S,
+    writer: &mut W,
+    watches: &mut Watches,
+) -> ExitCode
+    ensures { Ends
+        (λ ended. IsChainOf ended watches.new (S.remaining file) (W.contents writer.old) (W.contents writer.new))
+        (exit_status result) }
+{
+    let ended = chain_read(rt.alloc(), file, writer, watches);
+    end_command(rt, paths, ended)
+}
