@@ -2,6 +2,7 @@
 ghost use Rattle.std.specs.Prelude.{◌≡◌, IfOk, None};
 ghost use Rattle.std.specs.Option.{option_copied};
 ghost use Rattle.improve_search.specs.Best.{best_in, length_in, IsKept};
+ghost use Rattle.improve_search.specs.Improving.{IsNoLonger};
 
 use crate::annealing::Annealing;
 use crate::rows::copy;
@@ -103,7 +104,8 @@ impl Best {
 /// or there is none.
 pub(crate) fn better(best: Best, project: &Project, annealing: &Annealing) -> Best
     requires { IsKept project.now best }
-    ensures { IsKept project.now result }
+    ensures kept { IsKept project.now result }
+    ensures no_longer { IsNoLonger project.now (best_in best) (best_in result) }
 {
     match best {
         Best::Unknown(room, other) => {

@@ -2,7 +2,7 @@
 ghost use Rattle.std.specs.Prelude.{◌≡◌, ◌+◌, ◌<◌, ◌≤◌, IsTrue, IsFalse, IfOk, IfSome, option_map};
 ghost use Rattle.std.specs.Option.{option_copied};
 ghost use Rattle.mrcpsp.specs.Schedule.{IsFeasible, makespan};
-ghost use Rattle.improve_search.specs.Improving.{fresh};
+ghost use Rattle.improve_search.specs.Improving.{fresh, IsNoLonger};
 
 use crate::annealing::{Annealing, Stocks};
 use crate::best::{Best, better};
@@ -140,6 +140,7 @@ impl Improving {
         ensures project { self.new.project ≡ self.old.project }
         ensures spent { self.new.spent ≡ self.old.spent }
         ensures most { self.new.most ≡ self.old.most }
+        ensures no_longer { IsNoLonger self.old.project self.old.best self.new.best }
     {
         let best = mem::replace(&mut self.best, Best::empty(self.alloc));
         self.best = better(best, &self.project, &self.annealing);
@@ -151,6 +152,7 @@ impl Improving {
         ensures project { self.new.project ≡ self.old.project }
         ensures spent { self.old.spent < self.new.spent }
         ensures most { self.new.most ≡ self.old.most }
+        ensures best { self.new.best ≡ self.old.best }
     {
         let due = self.due();
         if self.begun == Some(due) {
@@ -172,6 +174,7 @@ impl Improving {
         ensures project { self.new.project ≡ self.old.project }
         ensures spent { self.old.spent < self.new.spent }
         ensures most { self.new.most ≡ self.old.most }
+        ensures no_longer { IsNoLonger self.old.project self.old.best self.new.best }
     {
         if self.walk() && self.is_promising() {
             self.keep();
@@ -179,10 +182,12 @@ impl Improving {
     }
 
     /// Generates so many schedules more, and at most two besides; none once it is over. Tells whether it is not over then.
+    #[tactic(auto, using(crate::proofs::LongerLemmas::longer_self, crate::proofs::LongerLemmas::longer_then))]
     pub fn run(&mut self, schedules: u64) -> bool
         ensures project { self.new.project ≡ self.old.project }
         ensures spent { self.old.spent ≤ self.new.spent }
         ensures most { self.new.most ≡ self.old.most }
+        ensures no_longer { IsNoLonger self.old.project self.old.best self.new.best }
         ensures going { IsTrue result → self.old.spent < self.new.spent }
     {
         let begin = self.budget.spent;

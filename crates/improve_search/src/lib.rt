@@ -32,5 +32,7 @@ mod point;
 mod profile;
 mod rows;
 mod tables;
+#[cfg(test)]
+mod tests;
 
 pub use improving::Improving;

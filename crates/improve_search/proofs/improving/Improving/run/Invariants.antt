@@ -1,10 +1,12 @@
--- The project and the most schedules stay, and what was generated only grows.
+-- The project and the most schedules stay, the best gets no longer, and what was generated only grows.
 use Rattle.std.proofs.Common.{◌≡◌, ◌≤◌}
+use Rattle.improve_search.specs.Improving.{IsNoLonger}
 use Rattle.improve_search.proofs.improving.Improving.run.Given as goal
 
 abbrev pub invariant-loop : goal.invariant-loop
 invariant-loop l = record {
   project : l.self.project ≡ l.fn.self.project;
   most : l.self.most ≡ l.fn.self.most;
+  no_longer : IsNoLonger l.fn.self.project l.fn.self.best l.self.best;
   spent : l.fn.self.spent ≤ l.self.spent;
 }
