@@ -32,7 +32,5 @@ mod point;
 mod profile;
 mod rows;
 mod tables;
-#[cfg(test)]
-mod tests;
 
 pub use improving::Improving;

@@ -9,6 +9,7 @@
 //! - `values`: the values of activities, and the bounds of projects.
 //! - `boards`: partial schedules that grow and shrink.
 //! - `passes`: passes that are led by hand.
+//! - `improvements`: the local search on small projects.
 //! - `plans`: copies and equality of plans.
 //! - `walks`: the tree, the rules and sampling node by node, their quanta, and what becomes of a
 //!   best schedule that is taken.
@@ -32,6 +33,8 @@ mod boards;
 mod drawn;
 #[cfg(test)]
 mod fixtures;
+#[cfg(test)]
+mod improvements;
 #[cfg(test)]
 mod largest;
 #[cfg(test)]

@@ -78,7 +78,7 @@ fn solve_command<'a>(alloc: Global) -> Result<Command<'a>, AllocError> {
         .long("search")
         .value_name("S,..")
         .help(
-            "tree, rule:lft, rule:mts, rule:spt or sample:SEED, or several with commas, run in this order",
+            "tree, rule:lft, rule:mts, rule:spt, sample:SEED or improve:SEED, or several with commas, run in this order",
         )
         .default_value("tree");
     let nodes = Arg::new(alloc, "nodes")
@@ -171,6 +171,8 @@ const SOLVE_HELP: &str = "\
 It prints a line of the nodes that were run and a line of the best schedule: its makespan, a verdict,
 and a word J:MODE:START for each activity. The verdict is 'optimal' or 'infeasible' where that is
 shown, 'open' where the search is not over, and 'ended' where it is over and shows nothing.
+
+improve:SEED improves schedules by local search, and generates at most N of them.
 
 Several searches run one after another, each for at most N nodes, and none after one that shows
 'optimal' or 'infeasible'; the shortest of their schedules is printed. With --improvements each

@@ -1,5 +1,5 @@
-//! Small projects whose shortest schedules are known by hand.
-use crate::Improving;
+//! The local search on small projects whose shortest schedules are known by hand.
+use improve_search::Improving;
 use mrcpsp::{Activity, Mode, Project, Sequence, check};
 use std::alloc::{AllocError, Global};
 use std::process::Abort;
