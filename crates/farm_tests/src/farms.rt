@@ -14,86 +14,86 @@ use std::alloc::Global;
 use std::process::Abort;
 use strategy::{Kind, Strategy};
 
-/// A script of a's, how many entries of the journal a has, and the words of a's till in the end.
-type Ending = (&'static str, u64, &'static [Step], [u64; 3]);
-
-const WORKED: [Ending; 18] = [
-    ("a tree", 100, &TREE, [91, 9, 100]),
-    ("whole trees", 100, &WHOLE_TREES, [83, 17, 100]),
-    ("rule spt", 100, &RULE_SPT, [96, 4, 100]),
-    ("rule lft", 100, &RULE_LFT, [96, 4, 100]),
-    ("rule mts", 100, &RULE_MTS, [96, 4, 100]),
-    ("a rule in turns", 100, &RULE_IN_TURNS, [96, 4, 100]),
-    ("a dry rule", 100, &DRY_RULE, [98, 2, 100]),
-    ("a chain", 100, &CHAIN_RULE, [97, 3, 100]),
-    ("a sample of a chain", 100, &CHAIN_SAMPLE, [97, 3, 100]),
-    ("a tree to the bound", 100, &BOUNDED_TREE, [96, 4, 100]),
-    ("a sample", 100, &SAMPLE, [96, 4, 100]),
-    (
-        "a sample of another project",
-        100,
-        &SAMPLE_OF_SHARED,
-        [96, 4, 100],
-    ),
-    ("three entries", 3, &FEW_ENTRIES, [98, 2, 100]),
-    ("three commands", 3, &THREE_COMMANDS, [100, 0, 100]),
-    ("three refusals", 3, &THREE_REFUSALS, [100, 0, 100]),
-    (
-        "a tree of nothing feasible",
-        100,
-        &STARVED_TREE,
-        [99, 1, 100],
-    ),
-    (
-        "a rule of nothing feasible",
-        100,
-        &STARVED_RULE,
-        [96, 4, 100],
-    ),
-    ("one activity", 100, &LONE_TREE, [99, 1, 100]),
-];
-
-/// Each refusal, cancels at every phase, and what is answered while a turn is out.
-const REFUSED: [Ending; 12] = [
-    ("each refusal", 100, &REFUSALS, [96, 4, 100]),
-    ("a cancel while out", 100, &CANCEL_WHILE_OUT, [98, 2, 100]),
-    ("while out", 100, &WHILE_OUT, [100, 0, 100]),
-    ("an abandoned turn", 100, &ABANDONED, [98, 2, 100]),
-    ("a fresh job", 100, &cancels::FRESH, [100, 0, 100]),
-    ("a job after a turn", 100, &cancels::BEGUN, [98, 2, 100]),
-    ("a job that is out", 100, &cancels::OUT, [98, 2, 100]),
-    (
-        "a turn given back unrun",
-        100,
-        &cancels::OUT_UNRUN,
-        [100, 0, 100],
-    ),
-    ("a dry job", 100, &cancels::DRY, [94, 6, 100]),
-    ("a closed job", 100, &cancels::CLOSED, [91, 9, 100]),
-    ("a leaving job", 100, &cancels::LEAVING, [98, 2, 100]),
-    ("a cancelled job", 100, &cancels::GIVEN_UP, [100, 0, 100]),
-];
-
-/// Plays each script, and compares the words of a's till; that of b is whole.
-fn end_with(rt: &impl Abort, alloc: Global, rows: &[Ending]) {
-    for (name, entries, steps, words) in rows {
-        let stage = Stage {
-            name,
-            entries: *entries,
-            manner: Manner::Ample,
-        };
-        play(rt, alloc, stage, steps, [None, None], [*words, [10, 0, 10]]);
+/// A stage with memory and entries enough.
+fn ample(name: &'static str) -> Stage {
+    Stage {
+        name,
+        entries: 100,
+        manner: Manner::Ample,
     }
+}
+
+/// The words of both tills if a has spent so much of its 100 quanta, and b nothing.
+fn after(spent: u64) -> [[u64; 3]; 2] {
+    [[100u64.saturating_sub(spent), spent, 100], [10, 0, 10]]
+}
+
+/// Plays a script of a's, which spends so many quanta.
+fn ends(rt: &impl Abort, alloc: Global, name: &'static str, steps: &[Step], spent: u64) {
+    play(rt, alloc, ample(name), steps, [None, None], after(spent));
+}
+
+/// The same, if a has three entries of the journal.
+fn fills(rt: &impl Abort, alloc: Global, name: &'static str, steps: &[Step], spent: u64) {
+    let stage = Stage {
+        entries: 3,
+        ..ample(name)
+    };
+    play(rt, alloc, stage, steps, [None, None], after(spent));
+}
+
+fn end_trees(rt: &impl Abort, alloc: Global) {
+    ends(rt, alloc, "a tree", &TREE, 9);
+    ends(rt, alloc, "whole trees", &WHOLE_TREES, 17);
+    ends(rt, alloc, "a tree to the bound", &BOUNDED_TREE, 4);
+    ends(rt, alloc, "a tree of nothing feasible", &STARVED_TREE, 1);
+    ends(rt, alloc, "one activity", &LONE_TREE, 1);
+}
+
+fn end_rules(rt: &impl Abort, alloc: Global) {
+    ends(rt, alloc, "rule spt", &RULE_SPT, 4);
+    ends(rt, alloc, "rule lft", &RULE_LFT, 4);
+    ends(rt, alloc, "rule mts", &RULE_MTS, 4);
+    ends(rt, alloc, "a rule in turns", &RULE_IN_TURNS, 4);
+    ends(rt, alloc, "a dry rule", &DRY_RULE, 2);
+    ends(rt, alloc, "a chain", &CHAIN_RULE, 3);
+    ends(rt, alloc, "a rule of nothing feasible", &STARVED_RULE, 4);
+}
+
+fn end_samples(rt: &impl Abort, alloc: Global) {
+    ends(rt, alloc, "a sample of a chain", &CHAIN_SAMPLE, 3);
+    ends(rt, alloc, "a sample", &SAMPLE, 4);
+    ends(rt, alloc, "a sample elsewhere", &SAMPLE_OF_SHARED, 4);
 }
 
 #[test]
 fn worked_scripts(rt: HostRuntime) {
-    end_with(&rt, rt.alloc(), &WORKED);
+    end_trees(&rt, rt.alloc());
+    end_rules(&rt, rt.alloc());
+    end_samples(&rt, rt.alloc());
+    fills(&rt, rt.alloc(), "three entries", &FEW_ENTRIES, 2);
+    fills(&rt, rt.alloc(), "three commands", &THREE_COMMANDS, 0);
+    fills(&rt, rt.alloc(), "three refusals", &THREE_REFUSALS, 0);
+}
+
+fn end_cancels(rt: &impl Abort, alloc: Global) {
+    ends(rt, alloc, "a fresh job", &cancels::FRESH, 0);
+    ends(rt, alloc, "a job after a turn", &cancels::BEGUN, 2);
+    ends(rt, alloc, "a job that is out", &cancels::OUT, 2);
+    ends(rt, alloc, "a turn given back unrun", &cancels::OUT_UNRUN, 0);
+    ends(rt, alloc, "a dry job", &cancels::DRY, 6);
+    ends(rt, alloc, "a closed job", &cancels::CLOSED, 9);
+    ends(rt, alloc, "a leaving job", &cancels::LEAVING, 2);
+    ends(rt, alloc, "a cancelled job", &cancels::GIVEN_UP, 0);
 }
 
 #[test]
 fn refusals_cancels_and_turns_that_are_out(rt: HostRuntime) {
-    end_with(&rt, rt.alloc(), &REFUSED);
+    ends(&rt, rt.alloc(), "each refusal", &REFUSALS, 4);
+    ends(&rt, rt.alloc(), "a cancel while out", &CANCEL_WHILE_OUT, 2);
+    ends(&rt, rt.alloc(), "while out", &WHILE_OUT, 0);
+    ends(&rt, rt.alloc(), "an abandoned turn", &ABANDONED, 2);
+    end_cancels(&rt, rt.alloc());
 }
 
 const NOTED_OF_TREE: [Noted; 8] = [
@@ -137,33 +137,31 @@ const NOTED_OF_REFUSALS: [Noted; 16] = [
     Noted::Ledger,
 ];
 
-/// A script of a's, the entries of the journal that it leaves, and the words of a's till in the
-/// end.
-type Journal = (&'static str, &'static [Step], &'static [Noted], [u64; 3]);
+/// Plays a script of a's with 100 entries, which spends so many quanta, and compares the journals.
+/// That of b is empty.
+fn leaves(
+    rt: &impl Abort,
+    alloc: Global,
+    (name, manner): (&'static str, Manner),
+    steps: &[Step],
+    entries: &[Noted],
+    spent: u64,
+) {
+    let stage = Stage {
+        manner,
+        ..ample(name)
+    };
+    let journals = [Some(entries), Some(&[])];
+    play(rt, alloc, stage, steps, journals, after(spent));
+}
 
-const JOURNALS: [Journal; 3] = [
-    ("a tree", &TREE, &NOTED_OF_TREE, [91, 9, 100]),
-    (
-        "a cancel while out",
-        &CANCEL_WHILE_OUT,
-        &NOTED_OF_CANCEL,
-        [98, 2, 100],
-    ),
-    ("each refusal", &REFUSALS, &NOTED_OF_REFUSALS, [96, 4, 100]),
-];
-
-/// Plays the scripts of the journals with 100 entries for a, and compares the journals and the
-/// words of the tills.
+/// Plays the scripts of the journals.
 fn note_down(rt: &impl Abort, alloc: Global, manner: Manner) {
-    for (name, steps, noted, words) in JOURNALS.iter() {
-        let stage = Stage {
-            name,
-            entries: 100,
-            manner,
-        };
-        let journals = [Some(*noted), Some(&[])];
-        play(rt, alloc, stage, steps, journals, [*words, [10, 0, 10]]);
-    }
+    leaves(rt, alloc, ("a tree", manner), &TREE, &NOTED_OF_TREE, 9);
+    let cancel = ("a cancel while out", manner);
+    leaves(rt, alloc, cancel, &CANCEL_WHILE_OUT, &NOTED_OF_CANCEL, 2);
+    let refusals = ("each refusal", manner);
+    leaves(rt, alloc, refusals, &REFUSALS, &NOTED_OF_REFUSALS, 4);
 }
 
 #[test]
@@ -204,15 +202,6 @@ fn play_mixed(
         let steps = mixed(alloc, &mut coin, one, other).expect(rt, "no memory for the steps");
         assert!(rt; steps.len() == one.len().saturating_add(other.len()));
         play(rt, alloc, stage, &steps, journals, [words, [6, 4, 10]]);
-    }
-}
-
-/// A stage with memory and entries enough.
-fn ample(name: &'static str) -> Stage {
-    Stage {
-        name,
-        entries: 100,
-        manner: Manner::Ample,
     }
 }
 
