@@ -5,17 +5,24 @@ use Rattle.mrcpsp.specs.Schedule.{ScheduleData, IsFeasible, makespan}
 use Rattle.mrcpsp.specs.Breach.{IsFirstBreach}
 use Rattle.clause_proof.specs.declared.fault.ProofFault.{ProofFault}
 use Rattle.clause_proof.specs.declared.fault.ProofFault.TheVariants as of_proof
+use Rattle.schedule_clauses.specs.Size.{start_clauses}
+use Rattle.schedule_clauses.specs.declared.size.TheConstants.{MOST_START_CLAUSES}
 use Rattle.schedule_clauses.specs.declared.certificate.CertificateFault.{CertificateFault}
-use Rattle.schedule_clauses.specs.declared.certificate.CertificateFault.TheVariants.{NoMemory, Horizon, Schedule, Proof}
+use Rattle.schedule_clauses.specs.declared.certificate.CertificateFault.TheVariants.{NoMemory, Horizon, TooMany, Schedule, Proof}
 
 -- the bound is above this horizon
 abbrev pub IsBeyond : ProjectData → ℕ → ℕ → Type 0
 IsBeyond p bound h = (h ≡ horizon p.activities) × (h < bound)
 
+-- the bound makes so many clauses on starts, and that is more than are made
+abbrev pub IsTooMany : ProjectData → ℕ → ℕ → Type 0
+IsTooMany p bound n = (n ≡ start_clauses p bound) × (MOST_START_CLAUSES < n)
+
 -- there are no clauses of the bound
 abbrev pub IsOfClauses : ProjectData → ℕ → CertificateFault → Type 0
 IsOfClauses p bound NoMemory = ⊤
 IsOfClauses p bound (Horizon h) = IsBeyond p bound h
+IsOfClauses p bound (TooMany n) = IsTooMany p bound n
 IsOfClauses p bound (Schedule b) = ⊥
 IsOfClauses p bound (Proof f) = ⊥
 
@@ -30,6 +37,7 @@ IsOfProof of_proof.Unfinished = ⊤
 abbrev pub IsOfBound : ProjectData → ℕ → CertificateFault → Type 0
 IsOfBound p bound NoMemory = ⊤
 IsOfBound p bound (Horizon h) = IsBeyond p bound h
+IsOfBound p bound (TooMany n) = IsTooMany p bound n
 IsOfBound p bound (Schedule b) = ⊥
 IsOfBound p bound (Proof f) = IsOfProof f
 
@@ -37,6 +45,7 @@ IsOfBound p bound (Proof f) = IsOfProof f
 abbrev pub IsOfStocks : CertificateFault → Type 0
 IsOfStocks NoMemory = ⊤
 IsOfStocks (Horizon h) = ⊥
+IsOfStocks (TooMany n) = ⊥
 IsOfStocks (Schedule b) = ⊥
 IsOfStocks (Proof f) = IsOfProof f
 
@@ -44,5 +53,6 @@ IsOfStocks (Proof f) = IsOfProof f
 abbrev pub IsOfSchedule : ProjectData → ScheduleData → CertificateFault → Type 0
 IsOfSchedule p s NoMemory = ⊤
 IsOfSchedule p s (Horizon h) = IsFeasible p s × IsBeyond p (makespan p s - 1) h
+IsOfSchedule p s (TooMany n) = IsFeasible p s × IsTooMany p (makespan p s - 1) n
 IsOfSchedule p s (Schedule b) = IsFirstBreach p s b
 IsOfSchedule p s (Proof f) = IsFeasible p s × IsOfProof f

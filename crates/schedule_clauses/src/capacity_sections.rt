@@ -1,13 +1,13 @@
 //! Clauses on modes and on capacities: all of a kind, section by section. Which numbers go into which clause is a hint alone.
 ghost use Rattle.std.specs.Prelude.{◌<◌, IfOk};
-ghost use Rattle.mrcpsp.specs.Project.{size, mode_count};
+ghost use Rattle.mrcpsp.specs.Project.{size, mode_count, renewables};
 ghost use Rattle.schedule_clauses.specs.Encoding.{AllGood};
 
-use crate::diagram::Part;
+use crate::diagram::{Diagram, Part};
 use crate::encoding::{Encoding, Scope};
 use crate::formula::{Kind, Row};
 use crate::mode_forms::{exclude, executable, modes};
-use crate::rows::row_clauses;
+use crate::rows::{Room, row_clauses};
 use crate::windows::Windows;
 use mrcpsp::Project;
 use std::alloc::{AllocError, Global};
@@ -111,6 +111,37 @@ fn stock_parts(alloc: Global, project: &Project, resource: usize) -> Result<Vec<
     Ok(parts)
 }
 
+/// What runs before the bound fits the capacity of a renewable resource. Periods in which the same modes can run share their
+/// diagram.
+fn use_section(
+    encoding: &mut Encoding,
+    scope: Scope<'_>,
+    windows: &Windows,
+    resource: usize,
+    room: &mut Room,
+) -> Result<(), AllocError>
+    requires good { AllGood scope.project.now scope.limit encoding.old }
+    requires resource { resource < renewables scope.project.now }
+    ensures { IfOk result (λ _. AllGood scope.entry.project.now scope.entry.limit encoding.new) }
+{
+    let project = scope.project;
+    let alloc = encoding.alloc;
+    let capacity = project.capacity(resource);
+    let first = Row::Use { resource, time: 0 };
+    let mut diagram = Diagram::new(alloc, first, capacity, Vec::new(alloc), 0)?;
+    for time in 0..windows.bound {
+        let parts = use_parts(alloc, project, windows, resource, time)?;
+        let row = Row::Use { resource, time };
+        if diagram.is_of(&parts) {
+            diagram.row = row;
+        } else {
+            diagram = Diagram::new(alloc, row, capacity, parts, room.most())?;
+        }
+        row_clauses(encoding, scope, &diagram, room)?;
+    }
+    Ok(())
+}
+
 /// What runs before the bound fits the capacities of the renewable resources.
 pub(crate) fn renewable_section(
     encoding: &mut Encoding,
@@ -120,14 +151,10 @@ pub(crate) fn renewable_section(
     requires good { AllGood scope.project.now scope.limit encoding.old }
     ensures { IfOk result (λ _. AllGood scope.entry.project.now scope.entry.limit encoding.new) }
 {
-    let project = scope.project;
-    for resource in 0..project.renewables() {
-        let capacity = project.capacity(resource);
-        for time in 0..windows.bound {
-            let parts = use_parts(encoding.alloc, project, windows, resource, time)?;
-            let row = Row::Use { resource, time };
-            row_clauses(encoding, scope, row, capacity, parts)?;
-        }
+    let resources = scope.project.renewables();
+    let mut room = Room::of(resources.saturating_mul(windows.bound as usize));
+    for resource in 0..resources {
+        use_section(encoding, scope, windows, resource, &mut room)?;
     }
     encoding.end_section(Kind::Renewable)
 }
@@ -141,10 +168,13 @@ pub(crate) fn nonrenewable_section(
     ensures { IfOk result (λ _. AllGood scope.entry.project.now scope.entry.limit encoding.new) }
 {
     let project = scope.project;
+    let mut room = Room::of(project.nonrenewables());
     for resource in 0..project.nonrenewables() {
         let parts = stock_parts(encoding.alloc, project, resource)?;
         let row = Row::Stock { resource };
-        row_clauses(encoding, scope, row, project.stock(resource), parts)?;
+        let stock = project.stock(resource);
+        let diagram = Diagram::new(encoding.alloc, row, stock, parts, room.most())?;
+        row_clauses(encoding, scope, &diagram, &mut room)?;
     }
     encoding.end_section(Kind::Nonrenewable)
 }

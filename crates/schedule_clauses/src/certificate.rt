@@ -1,11 +1,13 @@
 //! Certificates: a proof that the clauses of a shorter makespan cannot all be true makes a schedule optimal.
-ghost use Rattle.std.specs.Prelude.{◌≡◌, IfOk, IfErr};
+ghost use Rattle.std.specs.Prelude.{◌≡◌, ◌≤◌, IfOk, IfErr};
 ghost use Rattle.mrcpsp.specs.Schedule.{IsOptimal, IsInfeasible, makespan};
 ghost use Rattle.schedule_clauses.specs.Fault.{IsOfClauses, IsOfBound, IsOfStocks, IsOfSchedule};
+ghost use Rattle.schedule_clauses.specs.Size.{start_clauses};
 ghost use Rattle.schedule_clauses.specs.Satisfied.{SatisfiedByShort, SatisfiedByFeasible, EachExceeds};
 
 use crate::builder::{encode, encode_stocks};
 use crate::formula::Formula;
+use crate::size::{MOST_START_CLAUSES, start_clauses_of};
 use clause_proof::{ProofFault, refute};
 use mrcpsp::{Breach, Project, Schedule, check};
 use std::alloc::{AllocError, Global};
@@ -20,6 +22,9 @@ pub enum CertificateFault {
     /// The bound is above the horizon, the sum of the longest durations, which is this.
     #[error("no bound Horizon({0})")]
     Horizon(u32),
+    /// The bound makes more clauses on starts than [`MOST_START_CLAUSES`], which is found before any is made: about so many.
+    #[error("no bound TooMany({0})")]
+    TooMany(u64),
     /// The schedule is not feasible.
     #[error("no schedule {0}")]
     Schedule(Breach),
@@ -40,15 +45,21 @@ impl From<AllocError> for CertificateFault {
 }
 
 /// Clauses that each feasible schedule of at most this makespan satisfies, under values of their variables. An error is a
-/// bound above the horizon, or want of memory, for which more than 999,999,999 variables count too.
+/// bound above the horizon, one that makes more than [`MOST_START_CLAUSES`] clauses on starts, or want of memory, for which
+/// more than 999,999,999 variables count too.
 #[tactic(auto, using(crate::proofs::EncodingLemmas::short_rules))]
 pub fn clauses(alloc: Global, project: &Project, bound: u32) -> Result<Formula, CertificateFault>
     ensures clauses { IfOk result (λ formula. SatisfiedByShort project.now bound formula.clauses.items) }
+    ensures few { IfOk result (λ _. start_clauses project.now bound ≤ MOST_START_CLAUSES) }
     ensures fault { IfErr result (λ fault. IsOfClauses project.now bound fault) }
 {
     let horizon = project.horizon();
     if horizon < bound {
         return Err(CertificateFault::Horizon(horizon));
+    }
+    let count = start_clauses_of(alloc, project, bound)?;
+    if count > MOST_START_CLAUSES {
+        return Err(CertificateFault::TooMany(count));
     }
     let encoding = encode(alloc, project, bound)?;
     Ok(encoding.formula)

@@ -3,6 +3,7 @@ ghost use Rattle.std.specs.Prelude.{◌≡◌, ◌+◌, ◌*◌, ◌<◌, ◌≤
 ghost use Rattle.schedule_clauses.specs.Meaning.{IsValid};
 ghost use Rattle.schedule_clauses.specs.Encoding.{AllGood, Extends};
 
+use crate::diagram::number_at;
 use crate::formula::{Formula, Kind, Row, Section};
 use crate::meaning::{Meaning, Term};
 use mrcpsp::Project;
@@ -104,6 +105,56 @@ impl Encoding {
         })
     }
 
+    /// The place of a meaning's chain in the index.
+    fn chain_of(&self, meaning: Meaning) -> usize {
+        let chains = self.heads.len() as u64;
+        if chains == 0 {
+            return 0;
+        }
+        (hash(meaning) % chains) as usize
+    }
+
+    /// Puts a variable at the front of its chain.
+    fn link(&mut self, meaning: Meaning, variable: usize) -> Result<(), AllocError>
+        ensures { self.new.formula ≡ self.old.formula }
+    {
+        let chain = self.chain_of(meaning);
+        if chain >= self.heads.len() || variable >= 1_000_000_000 {
+            return Ok(());
+        }
+        self.nexts.push(self.heads[chain])?;
+        self.heads[chain] = variable as u32;
+        Ok(())
+    }
+
+    /// Makes four times as many chains once there are four variables for each.
+    fn spread(&mut self) -> Result<(), AllocError>
+        ensures { self.new.formula ≡ self.old.formula }
+    {
+        let chains = self.heads.len();
+        let variables = self.formula.meanings.len();
+        if variables / 4 < chains || variables >= 1_000_000_000 {
+            return Ok(());
+        }
+        let mut heads = Vec::with_capacity(self.alloc, variables)?;
+        heads.resize(variables, NONE)?;
+        self.heads = heads;
+        self.nexts = Vec::with_capacity(self.alloc, variables)?;
+        self.nexts.push(NONE)?;
+        self.link_all()
+    }
+
+    /// Links all variables anew, but the number 0, which is no variable's.
+    fn link_all(&mut self) -> Result<(), AllocError>
+        ensures { self.new.formula ≡ self.old.formula }
+    {
+        for variable in 1..self.formula.meanings.len() {
+            let meaning = self.formula.meanings[variable];
+            self.link(meaning, variable)?;
+        }
+        Ok(())
+    }
+
     /// The variable with this meaning; it is made where there is none. No more than 1,000,000,000 are.
     fn variable(&mut self, meaning: Meaning) -> Result<u32, AllocError>
         ensures extends { IfOk result (λ _. Extends self.old.formula.meanings.items self.new.formula.meanings.items) }
@@ -111,12 +162,8 @@ impl Encoding {
         ensures same { self.new.formula.clauses ≡ self.old.formula.clauses }
         ensures few { IfOk result (λ x. x < 1000000000) }
     {
-        let head = (hash(meaning) & 0xffff) as usize;
-        let first = if head < self.heads.len() {
-            self.heads[head]
-        } else {
-            NONE
-        };
+        let chain = self.chain_of(meaning);
+        let first = number_at(&self.heads, chain);
         if let Some(found) = find(&self.formula.meanings, &self.nexts, first, meaning)
             && found < 1_000_000_000
         {
@@ -127,10 +174,8 @@ impl Encoding {
             return Err(AllocError);
         }
         self.formula.meanings.push(meaning)?;
-        self.nexts.push(first)?;
-        if head < self.heads.len() {
-            self.heads[head] = number as u32;
-        }
+        self.link(meaning, number)?;
+        self.spread()?;
         Ok(number as u32)
     }
 

@@ -10,6 +10,7 @@
 //! - `encoding`: clauses over variables whose meanings are kept, and of which schedules they are true.
 //! - `mode_forms`, `start_forms`, `amount_forms`: the forms of clauses.
 //! - `windows`: the times at which an activity can start. Hints.
+//! - `size`: how many clauses on starts there are to be, before they are made.
 //! - `diagram`, `rows`: capacity rows as decision diagrams. Hints, and their clauses.
 //! - `capacity_sections`, `start_sections`, `builder`: all clauses of a project.
 //! - `formula`: the clauses, and what each run of them says.
@@ -26,6 +27,7 @@ mod formula;
 mod meaning;
 mod mode_forms;
 mod rows;
+mod size;
 mod start_forms;
 mod start_sections;
 mod windows;
@@ -35,3 +37,4 @@ pub use certificate::{
 };
 pub use formula::{Formula, Kind, Row, Section};
 pub use meaning::Meaning;
+pub use size::MOST_START_CLAUSES;

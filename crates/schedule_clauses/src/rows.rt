@@ -9,6 +9,9 @@ use crate::formula::Row;
 use crate::meaning::Node;
 use std::alloc::AllocError;
 
+/// The most clauses of all rows together, half a gigabyte of them.
+const MOST_ROW_CLAUSES: usize = 8_000_000;
+
 /// The clauses of a part at a node: it leaves the less to the activities below it, or cannot be.
 fn part_clauses(
     encoding: &mut Encoding,
@@ -116,31 +119,72 @@ fn top_clauses(
     fewer(encoding, scope, diagram.row, from, Node { count, most })
 }
 
-/// The clauses of a row whose parts, sorted by activity, take at most the capacity. A row that would be too large is left
-/// out.
-pub(crate) fn row_clauses(
+/// How many clauses rows may have: all that are to come together, and each of them.
+#[derive(Drop)]
+pub(crate) struct Room {
+    left: usize,
+    each: usize,
+}
+
+impl Room {
+    /// Room for so many rows: for each of them four times what it has if all share alike, since most rows are smaller.
+    pub(crate) fn of(rows: usize) -> Room {
+        let shares = rows.max(1);
+        Room {
+            left: MOST_ROW_CLAUSES,
+            each: MOST_ROW_CLAUSES.saturating_mul(4) / shares,
+        }
+    }
+
+    /// The most clauses of the next row.
+    pub(crate) fn most(&self) -> usize {
+        self.each.min(self.left)
+    }
+
+    /// Takes the room of a row.
+    fn take(&mut self, clauses: usize) {
+        self.left = self.left.saturating_sub(clauses);
+    }
+}
+
+/// The clauses of all levels of a row.
+fn diagram_clauses(
     encoding: &mut Encoding,
     scope: Scope<'_>,
-    row: Row,
-    capacity: u32,
-    parts: Vec<Part>,
+    diagram: &Diagram,
 ) -> Result<(), AllocError>
     requires good { AllGood scope.project.now scope.limit encoding.old }
     ensures { IfOk result (λ _. AllGood scope.entry.project.now scope.entry.limit encoding.new) }
 {
-    let Some(diagram) = Diagram::new(encoding.alloc, row, capacity, parts)? else {
-        return encoding.leave_out(row);
-    };
     let levels = diagram.levels.len();
-    let (Some(most), Some(last)) = (diagram.greatest(levels, capacity), diagram.levels.last())
-    else {
+    let (Some(most), Some(last)) = (
+        diagram.greatest(levels, diagram.capacity),
+        diagram.levels.last(),
+    ) else {
         return Ok(());
     };
-    top_clauses(encoding, scope, &diagram, last.activity, most)?;
+    top_clauses(encoding, scope, diagram, last.activity, most)?;
     let mut amounts = Vec::new(encoding.alloc);
     amounts.push(most)?;
     for level in diagram.levels.iter().rev() {
-        amounts = level_clauses(encoding, scope, &diagram, *level, &amounts)?;
+        amounts = level_clauses(encoding, scope, diagram, *level, &amounts)?;
     }
     Ok(())
+}
+
+/// The clauses of a row by its diagram. One that is too large, or larger than the room that is left, is left out.
+pub(crate) fn row_clauses(
+    encoding: &mut Encoding,
+    scope: Scope<'_>,
+    diagram: &Diagram,
+    room: &mut Room,
+) -> Result<(), AllocError>
+    requires good { AllGood scope.project.now scope.limit encoding.old }
+    ensures { IfOk result (λ _. AllGood scope.entry.project.now scope.entry.limit encoding.new) }
+{
+    if diagram.is_too_large || diagram.most_clauses > room.most() {
+        return encoding.leave_out(diagram.row);
+    }
+    room.take(diagram.most_clauses);
+    diagram_clauses(encoding, scope, diagram)
 }

@@ -5,6 +5,7 @@ ghost use Rattle.mrcpsp.specs.Values.{tail, shortest};
 ghost use Rattle.measures.specs.Measures.{measures_of};
 
 use crate::diagram::number_at;
+use crate::size::heads_of;
 use measures::Measures;
 use mrcpsp::Project;
 use std::alloc::{AllocError, Global};
@@ -22,12 +23,6 @@ pub(crate) struct Windows {
 pub(crate) struct Window {
     pub(crate) first: u32,
     pub(crate) last: u32,
-}
-
-fn raise(numbers: &mut [u32], at: usize, least: u32) {
-    if at < numbers.len() && numbers[at] < least {
-        numbers[at] = least;
-    }
 }
 
 /// The periods that its successors take at least.
@@ -67,22 +62,12 @@ impl Windows {
     ) -> Result<Windows, AllocError>
         requires { measures.now ≡ measures_of project.now }
     {
-        let size = project.size();
-        let mut first = Vec::new(alloc);
-        first.resize(size, 0)?;
+        let first = heads_of(alloc, project, measures)?;
         let mut last = Vec::new(alloc);
-        for activity in 0..size {
+        for activity in 0..project.size() {
             let least = least_of(project, measures, activity);
             let rest = rest_of(project, measures, activity);
             last.push(bound.saturating_sub(least).saturating_sub(rest))?;
-            let ready = number_at(&first, activity).saturating_add(least);
-            for successor in project.successors(activity) {
-                raise(
-                    first.as_mut_slice(),
-                    (*successor as usize).saturating_sub(1),
-                    ready,
-                );
-            }
         }
         Ok(Windows { bound, first, last })
     }

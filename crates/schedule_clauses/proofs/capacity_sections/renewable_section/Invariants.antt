@@ -3,6 +3,3 @@ use Rattle.schedule_clauses.proofs.capacity_sections.renewable_section.Given as 
 
 abbrev pub invariant-loop-resource : goal.invariant-loop-resource
 invariant-loop-resource l = AllGood l.scope.project.now l.scope.limit l.encoding
-
-abbrev pub invariant-loop-time : goal.invariant-loop-time
-invariant-loop-time l = AllGood l.scope.project.now l.scope.limit l.encoding
