@@ -37,7 +37,7 @@ pub legal_histories_are_runs : LegalHistoriesAreRuns
 legal_histories_are_runs config log legal = run_on config [] (history.events_of log) (no_entries config) legal
 
 -- an answer other than that there is no memory is the step's
-steps_to : (config : ConfigData) (before : List Entry) (t : ℕ) (event : Event) (entry : Option Entry) (r : Reply) → r ≢ reply.NoMemory
+pub steps_to : (config : ConfigData) (before : List Entry) (t : ℕ) (event : Event) (entry : Option Entry) (r : Reply) → r ≢ reply.NoMemory
     → IsAnswered config before t event entry r → IsStep config before t event entry (Replied r)
 steps_to config before t event entry (reply.Job s) memory is = is
 steps_to config before t event entry (reply.Line line) memory is = is
@@ -70,7 +70,7 @@ own_after config t event journal true =
 own_after config t event journal false = ap (events_of config (purse_in config t)) (append-nil journal) ∙ sym (append-nil (events_of config (purse_in config t) journal))
 
 -- what a call leaves in what is seen then
-seen_after : (v w : PoolView) (t : ℕ) (event : Event) (r : Reply) (called : Called Served v (said.Asked t event) (told.Replied r) w)
+pub seen_after : (v w : PoolView) (t : ℕ) (event : Event) (r : Reply) (called : Called Served v (said.Asked t event) (told.Replied r) w)
     → history.events_of w.seen ≡ history.events_of called.before ++ listed called.event
 seen_after v w t event r called =
     ap (λ (x : PoolView). history.events_of x.seen) called.after ∙ events_of-append called.before (tagged v.number (listed called.event))

@@ -5,7 +5,7 @@ use Rattle.farm_core.specs.declared.entry.Entry.{Entry}
 use Rattle.farm_core.specs.declared.reply.Reply.{Reply}
 use Rattle.farm_core.specs.Config.{ConfigData}
 use Rattle.strategy.specs.Search.{nodes_within}
-use Rattle.farm_core.specs.World.{World}
+use Rattle.farm_core.specs.World.{World, IsOfJournal}
 use Rattle.turn_lock.specs.declared.view.View.{View}
 use Rattle.turn_lock.specs.History.{events_of, entries_of, IsLegal}
 use Rattle.turn_lock.specs.Plays.{Called}
@@ -85,7 +85,8 @@ pub record Worked (slice : ℕ) (v : PoolView) (turns strangers : ℕ) (w : Pool
   pub turns_are : turns ≡ turns_in deeds
   pub strangers_are : strangers ≡ strangers_in deeds
 
--- the farm's journal is the events of a legal history, which begins with what the pass has seen, and in which its entries are its own
+-- the farm's journal is the events of a legal history, which begins with what the pass has seen, and
+-- in which the pass's entries are its own. Each purse is where its entries of the journal lead
 pub record IsClosed (v : PoolView) (w : World) : Type 0 where
   pub log : List (ℕ × Entry)
   pub begins : IsPrefix v.seen log
@@ -93,3 +94,4 @@ pub record IsClosed (v : PoolView) (w : World) : Type 0 where
   pub own : entries_of v.number log ≡ v.mine
   pub config : v.opening ≡ Some w.config
   pub legal : IsLegal Served w.config log
+  pub replayed : IsOfJournal w

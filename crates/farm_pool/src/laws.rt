@@ -1,4 +1,5 @@
 //! Laws of a pool: each is the proved contract of a function that does nothing.
+ghost use Rattle.farm_pool.specs.Closed.{ClosedPoolsAreIsolated, RepliesAreInTheHistory};
 ghost use Rattle.farm_pool.specs.Laws.{AcceptedCancelsAreMade, EachReplyCanBeMade, EachReplyIsAlone, EachReplyIsIsolated, EachReplyIsTrue, LegalHistoriesAreRuns, NoPassIsSplitOff};
 
 /// The entries of a legal history are those of a run of the farm. So what is proved of each run is true of each history: what a pass has
@@ -17,6 +18,19 @@ pub fn each_reply_is_alone()
 /// purse's members and the same turns of their jobs, whatever the other tenants do.
 pub fn each_reply_is_isolated()
     ensures { EachReplyIsIsolated }
+{}
+
+/// Purses are isolated in pools. Take two closed pools in which a purse began alike and its members
+/// made equal calls in equal order. The members were given equal answers, and the two farms hold
+/// equal parts of the purse: ledger, jobs, numbers and entries used.
+pub fn closed_pools_are_isolated()
+    ensures { ClosedPoolsAreIsolated }
+{}
+
+/// Each reply to a tenant's call that leaves an entry is among the answers of which
+/// `closed_pools_are_isolated` speaks, at the place of that entry.
+pub fn replies_are_in_the_history()
+    ensures { RepliesAreInTheHistory }
 {}
 
 /// In a running pool what is replied about a job, to a tenant or where a worker gives a turn back, is true of a plan that its tenant has

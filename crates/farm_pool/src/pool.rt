@@ -135,8 +135,9 @@ impl Pool {
         OfLock(Snapshot::of(&self.lock))
     }
 
-    /// The farm, whose journal is a legal history that begins with what the pass has seen; or nothing where a turn of the lock was still held: then a
-    /// pass was lost in the midst of a call.
+    /// Returns the farm. Its journal is a legal history that begins with what the pass has seen, and
+    /// the farm is where the journal leads. Returns `None` if a turn of the lock is still held: then
+    /// a pass was lost in the midst of a call.
     pub fn close(self, pass: PoolPass) -> Option<Farm<Box<dyn Strategy>>>
         requires { IsPassOf self.lock pass }
         ensures closed { IfSome result (λ farm. IsClosed pass.view farm) }
@@ -144,7 +145,10 @@ impl Pool {
     {
         let Pool { lock, slice: _ } = self;
         match lock.close(pass) {
-            Some(Held { farm }) => Some(farm),
+            Some(Held { farm }) => {
+                farm.journal();
+                Some(farm)
+            }
             None => None,
         }
     }

@@ -2,6 +2,7 @@ pub mod FloorLemmas
 pub mod PlayLemmas
 pub mod HeadlineLemmas
 pub mod IsolationLemmas
+pub mod LeaseLemmas
 pub mod TruthLemmas
 pub mod PlannedLemmas
 pub mod Examples

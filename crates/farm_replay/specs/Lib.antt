@@ -2,6 +2,7 @@ pub mod Replay
 pub mod Output
 pub mod Floor
 pub mod Isolation
+pub mod Leases
 pub mod Truth
 pub mod Headline
 pub mod Begins

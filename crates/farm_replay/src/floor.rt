@@ -1,5 +1,5 @@
 //! The farm of a script, and the turns that the script holds.
-ghost use Rattle.std.specs.Prelude.{◌≡◌, ◌≢◌, ℕ, ◌<◌, ◌-◌, [], length, position, false, IfOk, IfErr, IfSome};
+ghost use Rattle.std.specs.Prelude.{◌≡◌, ◌≢◌, ℕ, ◌<◌, ◌-◌, [], length, position, false, IfOk, IfErr};
 ghost use Rattle.quanta_till.specs.Lease.{empty_lease};
 ghost use Rattle.farm_core.specs.Tenant.{find_job};
 ghost use Rattle.farm_core.specs.World.{opened, view, Follows};
@@ -7,11 +7,12 @@ ghost use Rattle.farm_core.specs.Step.{Sent};
 ghost use Rattle.farm_core.specs.Turn.{IsNotTaken};
 ghost use Rattle.farm_core.specs.Held.{is_out_of};
 ghost use Rattle.session_lines.specs.declared.request.What.TheVariants as what;
-ghost use Rattle.farm_core.specs.Tills.{IsTillOf};
+ghost use Rattle.farm_core.specs.Tills.{AreTillsOf, IsTillOf};
+ghost use Rattle.farm_session.specs.Branch.{tills_of, HasLeased, HasLeasedFor};
 ghost use Rattle.farm_replay.specs.Floor.{IsFloor, IsTold, is_turn_of, untaken};
 
 use farm_core::{Config, Event, Farm, Line, NoTurn, Reply, Stranger, Turn};
-use farm_session::{Branch, Ready, command_of};
+use farm_session::{Branch, Ready, command_of, search_of};
 use session_lines::{Said, What};
 use std::alloc::{AllocError, Global};
 use strategy::{Plan, Strategy};
@@ -41,15 +42,6 @@ fn untaken(why: NoTurn) -> Said
     }
 }
 
-/// A plan with a tenant's lease of its purse's till, of which nothing was drawn. There is nothing where there is no memory for it.
-fn ready_for(alloc: Global, branch: &mut Branch<'_>, tenant: u32, plan: &Plan) -> Option<Ready>
-    ensures kept { branch.new ≡ branch.old }
-    ensures made { IfSome result (λ ready. ready ≡ record { plan = plan.now; lease = empty_lease branch.old tenant }) }
-{
-    let lease = branch.lease(tenant).ok()?;
-    Ready::of(alloc, lease, plan)
-}
-
 impl<J: Strategy> Floor<J> {
     /// A new farm of the configuration, of which no turn is held.
     pub(crate) fn new(alloc: Global, config: &Config) -> Result<Floor<J>, AllocError>
@@ -74,17 +66,16 @@ impl<J: Strategy> Floor<J> {
         make: &M,
     ) -> Said
         requires known { tenant < length self.old.farm.config.tenants }
-        requires till { IsTillOf self.old.farm.config tenant branch.old }
+        requires till { IsTillOf self.old.farm.config tenant branch.old.till }
         requires make { M.IsAlwaysCallable make.now }
         requires floor { IsFloor J.meaning self.old.farm self.old.held.items }
-        ensures kept { branch.new ≡ branch.old }
+        ensures leased { (search : _) × HasLeased (M.post make.now) branch.old
+            (record { plan = plan; lease = empty_lease branch.old.till tenant })
+            search branch.new }
         ensures told { IsTold self.old.farm tenant (what.Submit plan.kind quanta plan.project) result self.new.farm }
         ensures floor { IsFloor J.meaning self.new.farm self.new.held.items }
     {
-        let Some(ready) = ready_for(alloc, branch, tenant, &plan) else {
-            return Said::Reply(Reply::NoMemory);
-        };
-        let Some(search) = make(ready) else {
+        let Some(search) = search_of(alloc, branch, tenant, &plan, make) else {
             return Said::Reply(Reply::NoMemory);
         };
         Said::Reply(self.farm.submit(tenant, plan, quanta, search))
@@ -157,20 +148,22 @@ impl<J: Strategy> Floor<J> {
         }
     }
 
-    /// Answers a tenant's request.
+    /// Answers a tenant's request. A submit has a lease made, at the branch of the tenant's purse, and
+    /// nothing else has one made.
     pub(crate) fn answer<M: Fn(Ready) -> Option<J>>(
         &mut self,
         alloc: Global,
-        branch: &mut Branch<'_>,
+        branches: &mut [Branch<'_>],
         tenant: u32,
         asked: What,
         make: &M,
     ) -> Said
         requires known { tenant < length self.old.farm.config.tenants }
-        requires till { IsTillOf self.old.farm.config tenant branch.old }
+        requires tills { AreTillsOf self.old.farm.config (tills_of branches.old) }
         requires make { M.IsAlwaysCallable make.now }
         requires floor { IsFloor J.meaning self.old.farm self.old.held.items }
-        ensures kept { branch.new ≡ branch.old }
+        ensures leased { HasLeasedFor (M.post make.now)
+            self.old.farm.config tenant asked branches.old branches.new }
         ensures told { IsTold self.old.farm tenant asked result self.new.farm }
         ensures floor { IsFloor J.meaning self.new.farm self.new.held.items }
     {
@@ -183,6 +176,8 @@ impl<J: Strategy> Floor<J> {
                 quanta,
                 project,
             } => {
+                let purse = self.farm.purse_of(tenant);
+                let branch = &mut branches[purse as usize];
                 let plan = Plan { project, kind };
                 self.submit(alloc, branch, tenant, plan, quanta, make)
             }

@@ -5,8 +5,10 @@ ghost use Rattle.session_lines.specs.Known.{Writes};
 ghost use Rattle.session_lines.specs.ReplyText.{reply_line};
 ghost use Rattle.session_lines.specs.Script.{requests_of};
 ghost use Rattle.farm_core.specs.Tills.{AreTillsOf};
+ghost use Rattle.farm_session.specs.Branch.{tills_of};
 ghost use Rattle.farm_replay.specs.Floor.{IsFloor};
 ghost use Rattle.farm_replay.specs.Headline.{HasWritten, IsIsolated, IsTruthful};
+ghost use Rattle.farm_replay.specs.Leases.{AreLeasesOf};
 ghost use Rattle.farm_replay.specs.Output.{IsWritten, IsCutOff};
 ghost use Rattle.farm_replay.specs.Reader.{script_rest};
 ghost use Rattle.farm_replay.specs.Replay.{end_of, GoesOn};
@@ -98,7 +100,7 @@ fn play<J: Strategy, R: Read, W: Write, M: Fn(Ready) -> Option<J>>(
     make: &M,
 ) -> Result<(), ReplayFault>
     requires farm { floor.old.farm ≡ opened config.now }
-    requires tills { AreTillsOf config.now branches.old }
+    requires tills { AreTillsOf config.now (tills_of branches.old) }
     requires make { M.IsAlwaysCallable make.now }
     requires floor { IsFloor J.meaning floor.old.farm floor.old.held.items }
     requires notes { is_some notes.old.refused ≡ false }
@@ -107,6 +109,8 @@ fn play<J: Strategy, R: Read, W: Write, M: Fn(Ready) -> Option<J>>(
     ensures cut_off { IfErr result (λ fault. IfSome (script_rest R.remaining script.old) (λ bytes.
         IsCutOff config.now fault watches.new bytes (W.contents writer.old) (W.contents writer.new))) }
     ensures floor { IsFloor J.meaning floor.new.farm floor.new.held.items }
+    ensures leased { AreLeasesOf config.now (M.post make.now)
+        (script_rest R.remaining script.old) branches.old branches.new }
 {
     requests_come_in_turn();
     farms_are_replayed();
@@ -126,9 +130,7 @@ fn play<J: Strategy, R: Read, W: Write, M: Fn(Ready) -> Option<J>>(
                 if let Err(fault) = send_before_nodes(&asked, writer, &mut watches.writes) {
                     return Err(fault);
                 }
-                let purse = config.purse_of(tenant);
-                let branch = &mut branches[purse as usize];
-                let said = floor.answer(alloc, branch, tenant, asked, make);
+                let said = floor.answer(alloc, branches, tenant, asked, make);
                 notes.add(script.line(), script.is_doubtful(), &said);
                 if let Err(fault) = tell(writer, &mut watches.writes, Some(who), said) {
                     return Err(fault);

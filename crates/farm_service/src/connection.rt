@@ -1,17 +1,20 @@
 //! One connection.
-ghost use Rattle.std.specs.Prelude.{◌≡◌, ◌<◌, length, true, Some, IfSome, OnErr};
+ghost use Rattle.std.specs.Prelude.{◌≡◌, ◌<◌, length, true, Some, OnErr};
 ghost use Rattle.quanta_till.specs.Lease.{empty_lease};
 ghost use Rattle.farm_core.specs.declared.entry.Event.TheVariants as event;
+ghost use Rattle.farm_session.specs.Branch.{tills_of, HasLeased, HasLeasedFor, HasLeasedBy};
 ghost use Rattle.farm_session.specs.Command.{event_in};
-ghost use Rattle.farm_service.specs.Asked.{IsAskedBy, IsSaidTo, IsSubmitted};
+ghost use Rattle.farm_service.specs.Asked.{IsSaidTo, IsSubmitted};
 ghost use Rattle.farm_service.specs.Known.{IsKnown};
+ghost use Rattle.farm_session.specs.declared.heard.Heard.{Heard};
+ghost use Rattle.farm_service.specs.Session.{stand, HasAnswered, IsSession};
 ghost use Rattle.farm_service.specs.Told.{heard_in, IsToldOf};
 ghost use Rattle.farm_core.specs.Tills.{AreTillsOf, IsTillOf};
 
 use crate::lobby::Lobby;
-use crate::shared::{Asked, Shared};
+use crate::shared::Shared;
 use farm_core::{Config, Reply};
-use farm_session::{Branch, Heard, Ready, hear};
+use farm_session::{Branch, Heard, Ready, hear, search_of};
 use io_watch::Watch;
 use session_lines::{LineFault, Request, Said, What, WriteFault, read_request, write_reply};
 use std::alloc::Global;
@@ -36,195 +39,201 @@ fn heard(config: &Config, read: Result<Request, LineFault>) -> Heard
     }
 }
 
-/// A job's search, made for a plan with a tenant's lease of its purse's till. There is nothing where there is no memory for it.
-fn search_of<J, M: Fn(Ready) -> Option<J>>(
-    alloc: Global,
-    branch: &mut Branch<'_>,
-    tenant: u32,
-    plan: &Plan,
-    make: &M,
-) -> Option<J>
-    requires { M.IsAlwaysCallable make.now }
-    ensures made { IfSome result (λ search.
-        M.post make.now (record { plan = plan.now; lease = empty_lease branch.old tenant }) (Some search)) }
-    ensures kept { branch.new ≡ branch.old }
-{
-    let lease = branch.lease(tenant).ok()?;
-    make(Ready::of(alloc, lease, plan)?)
+/// Whether a read or a write of a connection has failed.
+#[derive(Drop)]
+struct Watches {
+    reads: Watch,
+    writes: Watch,
 }
 
-/// Submits a tenant's job, whose lease is of the till of the tenant's purse, and rings the lobby's bell, since the job may wait.
-/// There is no memory for it where its search is not made.
+impl Watches {
+    /// Watches through which nothing has failed.
+    fn new() -> Watches {
+        Watches {
+            reads: Watch::new(),
+            writes: Watch::new(),
+        }
+    }
+}
+
+/// What answers the requests of connections: the pool, the lobby where its workers rest, and what
+/// makes searches.
+#[derive(Drop)]
+pub(crate) struct Office<'a, R, D, M> {
+    pub(crate) rt: &'a R,
+    pub(crate) alloc: Global,
+    pub(crate) config: &'a Config,
+    pub(crate) shared: &'a D,
+    pub(crate) lobby: &'a Lobby,
+    pub(crate) make: &'a M,
+}
+
+/// Submits a tenant's job, whose lease is of the till of the tenant's purse, and rings the lobby's
+/// bell, since the job may wait. There is no memory for it where its search is not made.
 fn submit<D: Shared, R: Wait, M: Fn(Ready) -> Option<D::Search>>(
-    rt: &R,
-    alloc: Global,
-    shared: &D,
+    office: &Office<'_, R, D, M>,
     token: &mut D::Token,
-    lobby: &Lobby,
     branch: &mut Branch<'_>,
     tenant: u32,
     plan: Plan,
     quanta: u64,
-    make: &M,
 ) -> Reply
-    requires own { D.owns shared.now token.old }
-    requires known { tenant < length (D.config shared.now).tenants }
-    requires till { IsTillOf (D.config shared.now) tenant branch.old }
-    requires make { M.IsAlwaysCallable make.now }
-    ensures own { D.owns shared.now token.new }
-    ensures told { IsSubmitted (D.tells shared.now token.old tenant)
+    requires own { D.owns office.now.shared.now token.old }
+    requires known { tenant < length (D.config office.now.shared.now).tenants }
+    requires till { IsTillOf (D.config office.now.shared.now) tenant branch.old.till }
+    requires make { M.IsAlwaysCallable office.now.make.now }
+    ensures own { D.owns office.now.shared.now token.new }
+    ensures told { IsSubmitted (D.tells office.now.shared.now token.old tenant)
         token.old (event.Submit plan quanta) result token.new }
-    ensures kept { branch.new ≡ branch.old }
+    ensures leased { (search : _) × HasLeased (M.post office.now.make.now) branch.old
+        (record { plan = plan; lease = empty_lease branch.old.till tenant })
+        search branch.new }
 {
-    match search_of(alloc, branch, tenant, &plan, make) {
+    match search_of(office.alloc, branch, tenant, &plan, office.make) {
         Some(search) => {
-            let reply = shared.submit(rt, token, tenant, plan, quanta, search);
-            lobby.ring(rt);
+            let reply = office
+                .shared
+                .submit(office.rt, token, tenant, plan, quanta, search);
+            office.lobby.ring(office.rt);
             reply
         }
         None => Reply::NoMemory,
     }
 }
 
-/// What a request asks for, other than that a job be submitted. A request that only a script may have is none.
-fn asked_by(asked: What) -> Option<Asked>
-    ensures { IsAskedBy asked result }
-{
-    match asked {
-        What::Fund { seq, quanta } => Some(Asked::Fund { seq, quanta }),
-        What::Status(seq) => Some(Asked::Status(seq)),
-        What::Fetch(seq) => Some(Asked::Fetch(seq)),
-        What::Cancel(seq) => Some(Asked::Cancel(seq)),
-        What::Forget(seq) => Some(Asked::Forget(seq)),
-        What::Ledger => Some(Asked::Ledger),
-        _ => None,
-    }
-}
-
-/// Makes the call that a tenant's request asks for, and says the reply to it. Where a job may wait then, the lobby's bell is rung.
+/// Makes the call that a tenant's request asks for, and says the reply to it. Where a job may wait
+/// then, the lobby's bell is rung. A request that only a script may have is none.
 fn answer<D: Shared, R: Wait, M: Fn(Ready) -> Option<D::Search>>(
-    rt: &R,
-    alloc: Global,
-    shared: &D,
+    office: &Office<'_, R, D, M>,
     token: &mut D::Token,
-    lobby: &Lobby,
-    branch: &mut Branch<'_>,
+    branches: &mut [Branch<'_>],
     tenant: u32,
     asked: What,
-    make: &M,
 ) -> Said
-    requires own { D.owns shared.now token.old }
-    requires known { tenant < length (D.config shared.now).tenants }
-    requires till { IsTillOf (D.config shared.now) tenant branch.old }
-    requires make { M.IsAlwaysCallable make.now }
-    ensures own { D.owns shared.now token.new }
-    ensures said { IsSaidTo (D.tells shared.now token.old tenant) token.old (event_in asked) result token.new }
-    ensures kept { branch.new ≡ branch.old }
+    requires own { D.owns office.now.shared.now token.old }
+    requires config { D.config office.now.shared.now ≡ office.now.config.now }
+    requires known { tenant < length office.now.config.now.tenants }
+    requires tills { AreTillsOf office.now.config.now (tills_of branches.old) }
+    requires make { M.IsAlwaysCallable office.now.make.now }
+    ensures own { D.owns office.now.shared.now token.new }
+    ensures said { IsSaidTo (D.tells office.now.shared.now token.old tenant)
+        token.old (event_in asked) result token.new }
+    ensures leased { HasLeasedFor (M.post office.now.make.now)
+        office.now.config.now tenant asked branches.old branches.new }
 {
-    if let What::Submit {
-        kind,
-        quanta,
-        project,
-    } = asked
-    {
-        let plan = Plan { project, kind };
-        let reply = submit(
-            rt, alloc, shared, token, lobby, branch, tenant, plan, quanta, make,
-        );
+    if let Some(reply) = office.shared.ask(office.rt, token, tenant, &asked) {
+        if matches!(&asked, What::Fund { .. }) {
+            office.lobby.ring(office.rt);
+        }
         return Said::Reply(reply);
     }
-    let Some(asked) = asked_by(asked) else {
-        return Said::Syntax;
-    };
-    let may_wait = matches!(&asked, Asked::Fund { .. });
-    let reply = shared.ask(rt, token, tenant, asked);
-    if may_wait {
-        lobby.ring(rt);
+    match asked {
+        What::Submit {
+            kind,
+            quanta,
+            project,
+        } => {
+            let purse = office.config.purse_of(tenant);
+            let branch = &mut branches[purse as usize];
+            let plan = Plan { project, kind };
+            Said::Reply(submit(office, token, branch, tenant, plan, quanta))
+        }
+        _ => Said::Syntax,
     }
-    Said::Reply(reply)
 }
 
-/// Tells what was heard of a connection in one line: of a tenant's request the reply to its call. At the input's end, and where it cannot be
-/// read, nothing is written. An error comes only where a write has failed or took nothing.
+/// Tells what was heard of a connection in one line: of a tenant's request the reply to its call.
+/// At the input's end, and where it cannot be read, nothing is written. An error comes only where a
+/// write has failed or took nothing.
 fn reply<D: Shared, R: Wait, W: Write, M: Fn(Ready) -> Option<D::Search>>(
-    rt: &R,
-    alloc: Global,
-    config: &Config,
-    shared: &D,
+    office: &Office<'_, R, D, M>,
     token: &mut D::Token,
-    lobby: &Lobby,
     branches: &mut [Branch<'_>],
     writer: &mut W,
     watch: &mut Watch,
     heard: Heard,
-    make: &M,
 ) -> Result<(), WriteFault>
-    requires own { D.owns shared.now token.old }
-    requires config { D.config shared.now ≡ config.now }
-    requires tills { AreTillsOf config.now branches.old }
-    requires known { IsKnown config.now heard }
-    requires make { M.IsAlwaysCallable make.now }
-    ensures own { D.owns shared.now token.new }
-    ensures tills { AreTillsOf config.now branches.new }
-    ensures told { IsToldOf (D.tells shared.now) token.old heard result
+    requires own { D.owns office.now.shared.now token.old }
+    requires config { D.config office.now.shared.now ≡ office.now.config.now }
+    requires tills { AreTillsOf office.now.config.now (tills_of branches.old) }
+    requires known { IsKnown office.now.config.now heard }
+    requires make { M.IsAlwaysCallable office.now.make.now }
+    ensures own { D.owns office.now.shared.now token.new }
+    ensures told { IsToldOf (D.tells office.now.shared.now) token.old heard result
         (W.contents writer.old)
         (W.contents writer.new)
         token.new }
+    ensures leased { HasLeasedBy (M.post office.now.make.now)
+        office.now.config.now heard branches.old branches.new }
     ensures cause { OnErr result (watch.new.failed ≡ true) }
 {
     match heard {
         Heard::Over | Heard::Broken => Ok(()),
         Heard::Told(who, said) => write_reply(writer, watch, who, &said),
         Heard::Asked(tenant, who, asked) => {
-            let purse = config.purse_of(tenant);
-            let branch = &mut branches[purse as usize];
-            let said = answer(rt, alloc, shared, token, lobby, branch, tenant, asked, make);
+            let said = answer(office, token, branches, tenant, asked);
             write_reply(writer, watch, Some(who), &said)
         }
     }
 }
 
-/// Answers the requests of a connection, one line each, until it ends, cannot be read, or a reply cannot be written.
-pub(crate) fn session<D: Shared, R: Wait, S: Read + Write, M: Fn(Ready) -> Option<D::Search>>(
-    rt: &R,
-    alloc: Global,
-    config: &Config,
-    shared: &D,
+/// Reads the next request of a connection, and tells it its line. Returns whether the session goes
+/// on: it ends if the input does, if it cannot be read, or if a line cannot be written.
+fn serve_next<D: Shared, R: Wait, I: Read, O: Write, M: Fn(Ready) -> Option<D::Search>>(
+    office: &Office<'_, R, D, M>,
     token: &mut D::Token,
-    lobby: &Lobby,
     branches: &mut [Branch<'_>],
-    wire: &mut S,
-    make: &M,
-)
-    requires own { D.owns shared.now token.old }
-    requires config { D.config shared.now ≡ config.now }
-    requires tills { AreTillsOf config.now branches.old }
-    requires make { M.IsAlwaysCallable make.now }
-    ensures { D.owns shared.now token.new }
+    reader: &mut I,
+    writer: &mut O,
+    watches: &mut Watches,
+) -> bool
+    requires own { D.owns office.now.shared.now token.old }
+    requires config { D.config office.now.shared.now ≡ office.now.config.now }
+    requires tills { AreTillsOf office.now.config.now (tills_of branches.old) }
+    requires make { M.IsAlwaysCallable office.now.make.now }
+    ensures own { D.owns office.now.shared.now token.new }
+    ensures tills { AreTillsOf office.now.config.now (tills_of branches.new) }
+    ensures answered { (heard : Heard) × HasAnswered office.now.config.now
+        (D.tells office.now.shared.now)
+        (M.post office.now.make.now)
+        (stand token.old branches.old (I.remaining reader.old) (O.contents writer.old))
+        heard
+        (stand token.new branches.new (I.remaining reader.new) (O.contents writer.new)) }
 {
-    let mut reads = Watch::new();
-    let mut writes = Watch::new();
+    let heard = heard(
+        office.config,
+        read_request(office.alloc, reader, &mut watches.reads),
+    );
+    let is_over = matches!(&heard, Heard::Over | Heard::Broken);
+    let told = reply(office, token, branches, writer, &mut watches.writes, heard);
+    !is_over && told.is_ok()
+}
+
+/// Answers the requests of a connection, one line each, until it ends, cannot be read, or a reply
+/// cannot be written. The session makes the calls for which its requests ask, in their order, and
+/// no others.
+pub(crate) fn session<D: Shared, R: Wait, I: Read, O: Write, M: Fn(Ready) -> Option<D::Search>>(
+    office: &Office<'_, R, D, M>,
+    token: &mut D::Token,
+    branches: &mut [Branch<'_>],
+    reader: &mut I,
+    writer: &mut O,
+)
+    requires own { D.owns office.now.shared.now token.old }
+    requires config { D.config office.now.shared.now ≡ office.now.config.now }
+    requires tills { AreTillsOf office.now.config.now (tills_of branches.old) }
+    requires make { M.IsAlwaysCallable office.now.make.now }
+    ensures own { D.owns office.now.shared.now token.new }
+    ensures served { IsSession office.now.config.now
+        (D.tells office.now.shared.now)
+        (M.post office.now.make.now)
+        (stand token.old branches.old (I.remaining reader.old) (O.contents writer.old))
+        (stand token.new branches.new (I.remaining reader.new) (O.contents writer.new)) }
+{
+    let mut watches = Watches::new();
     for _ in 0..u64::MAX {
-        let heard = heard(config, read_request(alloc, wire, &mut reads));
-        if matches!(&heard, Heard::Over | Heard::Broken) {
-            break;
-        }
-        let told = reply(
-            rt,
-            alloc,
-            config,
-            shared,
-            token,
-            lobby,
-            branches,
-            wire,
-            &mut writes,
-            heard,
-            make,
-        );
-        if told.is_err() {
+        if !serve_next(office, token, branches, reader, writer, &mut watches) {
             break;
         }
     }
-    let _ = wire.flush();
 }

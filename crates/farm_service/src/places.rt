@@ -1,12 +1,13 @@
 //! The desks of a service's connections.
-ghost use Rattle.std.specs.Prelude.{◌≡◌, All, IfOk};
+ghost use Rattle.std.specs.Prelude.{◌≡◌, map, All, IfOk, OnOk};
 ghost use Rattle.farm_core.specs.Tills.{AreSeated};
+ghost use Rattle.farm_session.specs.Branch.{new_branch, HaveSeated};
 
 use farm_session::{Branch, branches};
 use quanta_till::{Desk, Till};
 use std::alloc::{AllocError, Global};
 
-/// The desks of so many connections.
+/// The desks of so many connections, at which no lease was made yet.
 pub(crate) fn places<'a>(
     alloc: Global,
     tills: &'a [Till],
@@ -15,7 +16,8 @@ pub(crate) fn places<'a>(
 ) -> Result<Vec<Vec<Branch<'a>>>, AllocError>
     requires { AreSeated tills.now desks.old }
     ensures seated { AreSeated tills.entry.now desks.new }
-    ensures tills { IfOk result (λ places. All (λ own. own.items ≡ tills.entry.now) places.items) }
+    ensures unused { IfOk result (λ places. All (λ own. own.items ≡ map new_branch tills.entry.now) places.items) }
+    ensures each { OnOk result (HaveSeated count desks.old desks.new) }
 {
     let mut places = Vec::new(alloc);
     for _ in 0..count {

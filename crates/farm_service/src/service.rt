@@ -2,21 +2,24 @@
 ghost use Rattle.std.specs.Prelude.{◌≡◌, All, map, None, IfOk, OnOk};
 ghost use Rattle.farm_core.specs.Config.{ConfigData};
 ghost use Rattle.farm_core.specs.Tills.{AreSeated, AreTillsOf};
+ghost use Rattle.farm_session.specs.Branch.{tills_of};
 ghost use Rattle.farm_pool.specs.Settle.{books_of, words_at, AreLoaded, first_unsettled};
 ghost use Rattle.farm_service.specs.Part.{IsAtTills};
+ghost use Rattle.farm_service.specs.Session.{HasDonePart, IsClientServed};
 ghost use Rattle.farm_service.specs.Tills.{IsSettled};
 
-use crate::connection::session;
+use crate::connection::{Office, session};
 use crate::lobby::{Lobby, Nobody, Seat};
 use crate::places::places;
 use crate::shared::{Shared, keep, promise_of, take_in};
-use crate::wire::Wire;
+use crate::wire::{Incoming, Outgoing};
 use farm_core::{Config, Farm};
 use farm_pool::{Pool, Settled, finish};
 use farm_session::{Branch, Ready, open_tills};
 use quanta_till::{Desk, Till};
 use std::alloc::Global;
-use std::io::{BufReader, BufWriter};
+use std::cell::RefCell;
+use std::io::{BufReader, BufWriter, Write};
 use std::net::{TcpListener, TcpStream};
 use std::sync::Wait;
 use std::thread;
@@ -49,77 +52,78 @@ enum Part<'a> {
 
 /// Answers the requests of a client.
 fn welcome<D: Shared, R: Wait, M: Fn(Ready) -> Option<D::Search>>(
-    rt: &R,
-    alloc: Global,
-    config: &Config,
-    shared: &D,
+    office: &Office<'_, R, D, M>,
     token: &mut D::Token,
-    lobby: &Lobby,
     own: Vec<Branch<'_>>,
     stream: &TcpStream,
-    make: &M,
 )
-    requires own { D.owns shared.now token.old }
-    requires config { D.config shared.now ≡ config.now }
-    requires tills { AreTillsOf config.now own.items }
-    requires make { M.IsAlwaysCallable make.now }
-    ensures { D.owns shared.now token.new }
+    requires own { D.owns office.now.shared.now token.old }
+    requires config { D.config office.now.shared.now ≡ office.now.config.now }
+    requires tills { AreTillsOf office.now.config.now (tills_of own.items) }
+    requires make { M.IsAlwaysCallable office.now.make.now }
+    ensures own { D.owns office.now.shared.now token.new }
+    ensures served { IsClientServed office.now.config.now
+        (D.tells office.now.shared.now)
+        (M.post office.now.make.now)
+        token.old own.entry.items token.new }
 {
     let mut own = own;
     let _ = stream.set_nodelay(true);
-    let Ok(input) = BufReader::new(alloc, stream) else {
+    let Ok(input) = BufReader::new(office.alloc, stream) else {
         return;
     };
-    let Ok(output) = BufWriter::new(alloc, stream) else {
+    let Ok(output) = BufWriter::new(office.alloc, stream) else {
         return;
     };
-    let mut wire = Wire { input, output };
-    let branches = own.as_mut_slice();
-    session(
-        rt, alloc, config, shared, token, lobby, branches, &mut wire, make,
-    );
+    let told = RefCell::new(output);
+    let mut reader = Incoming { input, told: &told };
+    let mut writer = Outgoing { told: &told };
+    session(office, token, own.as_mut_slice(), &mut reader, &mut writer);
+    let _ = writer.flush();
 }
 
 /// Does a thread's part, and brings back its token.
 fn take_part<D: Shared, R: Wait + Clock, M: Fn(Ready) -> Option<D::Search>>(
-    rt: &R,
-    alloc: Global,
-    config: &Config,
-    shared: &D,
+    office: &Office<'_, R, D, M>,
     token: D::Token,
-    lobby: &Lobby,
     part: Part<'_>,
-    make: &M,
 ) -> D::Token
-    requires own { D.owns shared.now token }
-    requires config { D.config shared.now ≡ config.now }
-    requires tills { IsAtTills config.now part }
-    requires make { M.IsAlwaysCallable make.now }
-    ensures { D.owns shared.now result }
+    requires own { D.owns office.now.shared.now token }
+    requires config { D.config office.now.shared.now ≡ office.now.config.now }
+    requires tills { IsAtTills office.now.config.now part }
+    requires make { M.IsAlwaysCallable office.now.make.now }
+    ensures own { D.owns office.now.shared.now result }
+    ensures part { HasDonePart office.now.config.now
+        (D.tells office.now.shared.now)
+        (M.post office.now.make.now)
+        (D.works office.now.shared.now)
+        part.entry token result }
 {
     let mut token = token;
     match part {
-        Part::Worker => shared.work(rt, &mut token, &Seat::new(rt, lobby)),
+        Part::Worker => {
+            let seat = Seat::new(office.rt, office.lobby);
+            office.shared.work(office.rt, &mut token, &seat);
+            token
+        }
         Part::Client(own, stream) => {
-            welcome(
-                rt, alloc, config, shared, &mut token, lobby, own, &stream, make,
-            );
-            lobby.leave(rt, 1);
+            welcome(office, &mut token, own, &stream);
+            office.lobby.leave(office.rt, 1);
+            token
         }
     }
-    token
 }
 
-/// The next part: the workers come first, and then each client once it is accepted. A client gets one of the places, which stay tills of
-/// the configuration of which they were.
+/// The next part: the workers come first, and then each client once it is accepted. A client gets
+/// one of the places, which stay tills of the configuration of which they were.
 fn next_part<'a>(
     listener: &TcpListener,
     is_worker: bool,
     places: &mut Vec<Vec<Branch<'a>>>,
 ) -> Result<Part<'a>, ServeFault>
-    ensures left { (config : ConfigData) → All (λ own. AreTillsOf config own.items) places.old.items
-        → All (λ own. AreTillsOf config own.items) places.new.items }
-    ensures own { (config : ConfigData) → All (λ own. AreTillsOf config own.items) places.old.items
+    ensures left { (config : ConfigData) → All (λ own. AreTillsOf config (tills_of own.items)) places.old.items
+        → All (λ own. AreTillsOf config (tills_of own.items)) places.new.items }
+    ensures own { (config : ConfigData) → All (λ own. AreTillsOf config (tills_of own.items)) places.old.items
         → IfOk result (IsAtTills config) }
 {
     if is_worker {
@@ -131,8 +135,9 @@ fn next_part<'a>(
     }
 }
 
-/// Answers the requests of as many connections as there are places, in a thread each, while workers take turns of the jobs, and takes in the tokens of
-/// all threads. Tells what went wrong: then no more connections are accepted.
+/// Answers the requests of as many connections as there are places, in a thread each, while workers
+/// take turns of the jobs, and takes in the tokens of all threads. Tells what went wrong: then no
+/// more connections are accepted.
 fn attend<
     D: Shared<Token: Send + Drop + 'static> + Sync,
     R: Threads + Wait + Clock + Sync,
@@ -149,7 +154,7 @@ fn attend<
 ) -> Option<ServeFault>
     requires own { D.owns shared.now token.old }
     requires config { D.config shared.now ≡ config.now }
-    requires tills { All (λ own. AreTillsOf config.now own.items) places.items }
+    requires tills { All (λ own. AreTillsOf config.now (tills_of own.items)) places.items }
     requires make { M.IsAlwaysCallable make.now }
     ensures { D.owns shared.now token.new }
 {
@@ -164,7 +169,7 @@ fn attend<
         move |scope| -> (D::Token, Option<ServeFault>)
             requires { D.owns shared.now mine
                 × (D.config shared.now ≡ config.now)
-                × All (λ own. AreTillsOf config.now own.items) places.items
+                × All (λ own. AreTillsOf config.now (tills_of own.items)) places.items
                 × M.IsAlwaysCallable make.now }
             ensures { D.owns shared.entry.now result.0 }
         {
@@ -189,7 +194,17 @@ fn attend<
                             × IsAtTills config.now part
                             × M.IsAlwaysCallable make.now }
                         ensures { D.owns shared.entry.now result }
-                    { take_part(rt, alloc, config, shared, theirs, lobby, part, make) },
+                    {
+                        let office = Office {
+                            rt,
+                            alloc,
+                            config,
+                            shared,
+                            lobby,
+                            make,
+                        };
+                        take_part(&office, theirs, part)
+                    },
                 );
                 let Ok(handle) = spawned else {
                     fault = Some(ServeFault::Listen);
@@ -206,9 +221,10 @@ fn attend<
     fault
 }
 
-/// Answers the requests of so many connections on a new farm of the configuration, each in a thread of its own, while the configured
-/// workers advance the jobs. Once all connections and the workers have ended, what still waits is worked off, and the farm is settled
-/// with the tills. The port is closed once the last connection is accepted.
+/// Answers the requests of so many connections on a new farm of the configuration, each in a thread
+/// of its own, while the configured workers advance the jobs. Once all connections and the workers
+/// have ended, what still waits is worked off, and the farm is settled with the tills. The port is
+/// closed once the last connection is accepted.
 pub fn serve<R: Threads + Wait + Clock + Sync>(
     rt: &R,
     alloc: Global,

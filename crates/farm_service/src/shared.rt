@@ -1,43 +1,24 @@
 //! What the threads of a service share: a pool, as they see it.
 //!
-//! A pool's calls are those of a farm of boxed searches. A contract cannot be stated of a closure that makes such boxes, so what runs in threads is generic in what
-//! makes searches and in what it shares, and only `serve` names the boxes.
+//! A pool's calls are those of a farm of boxed searches. A contract cannot be stated of a closure
+//! that makes such boxes, so what runs in threads is generic in what makes searches and in what it
+//! shares, and only `serve` names the boxes.
 ghost use Rattle.std.specs.Prelude.{◌≡◌, ℕ, ◌<◌, All, length};
 ghost use Rattle.std.specs.Vec.{vec_len, vec_capacity};
 ghost use Rattle.farm_core.specs.Config.{ConfigData};
 ghost use Rattle.farm_core.specs.declared.entry.Event.{Event};
 ghost use Rattle.farm_core.specs.declared.entry.Event.TheVariants as event;
 ghost use Rattle.farm_core.specs.declared.reply.Reply.{Reply};
-ghost use Rattle.farm_service.specs.Asked.{event_for};
+ghost use Rattle.farm_service.specs.Asked.{IsAsked};
 
 use farm_core::Reply;
 use farm_pool::{Command, Gate, Pool, PoolPass};
+use farm_session::command_of;
+use session_lines::What;
 use std::snapshot::Snapshot;
 use std::sync::Wait;
 use std::thread::{Promise, PromisedHandle, Threads};
 use strategy::{Plan, Strategy};
-
-/// What a tenant may ask, other than that a job be submitted.
-#[derive(Drop)]
-pub(crate) enum Asked {
-    /// So many quanta more for the job of this number.
-    Fund {
-        /// The job's number.
-        seq: u64,
-        /// How many quanta it is given.
-        quanta: u64,
-    },
-    /// What is known of the job of this number.
-    Status(u64),
-    /// The best schedule of the job of this number.
-    Fetch(u64),
-    /// That the job of this number be searched no more.
-    Cancel(u64),
-    /// That the job of this number be kept no longer.
-    Forget(u64),
-    /// The ledger of the tenant's purse.
-    Ledger,
-}
 
 /// A pool, as its threads see it: each has a token of it, and makes its calls with that.
 pub(crate) trait Shared {
@@ -52,7 +33,7 @@ pub(crate) trait Shared {
 
     ghost tells: { Self → Self.Token → ℕ → Event → Reply → Self.Token → Type 0 };
 
-    ghost splits: { Self.Token → ℕ };
+    ghost works: { Self → Self.Token → Self.Token → Type 0 };
 
     /// Submits a tenant's job, with its search: the reply is to that call of the tenant.
     fn submit<R: Wait>(
@@ -69,18 +50,25 @@ pub(crate) trait Shared {
         ensures own { owns self.now token.new }
         ensures told { tells self.now token.old tenant (event.Submit plan quanta) result token.new };
 
-    /// Makes another call of a tenant: the reply is to that call.
-    fn ask<R: Wait>(&self, rt: &R, token: &mut Self::Token, tenant: u32, asked: Asked) -> Reply
+    /// Makes the call for which another request of a tenant asks: the reply is to that call. A
+    /// request that asks for none has no reply.
+    fn ask<R: Wait>(
+        &self,
+        rt: &R,
+        token: &mut Self::Token,
+        tenant: u32,
+        asked: &What,
+    ) -> Option<Reply>
         requires own { owns self.now token.old }
         requires known { tenant < length (config self.now).tenants }
         ensures own { owns self.now token.new }
-        ensures told { tells self.now token.old tenant (event_for asked) result token.new };
+        ensures told { IsAsked (tells self.now token.old tenant) token.old asked.now result token.new };
 
-    /// Takes turns of the jobs, as long as the gate lets it, and makes no call beside them by a token of its own.
+    /// Takes turns of the jobs, as long as the gate lets it, and makes no other call.
     fn work<R: Wait, G: Gate>(&self, rt: &R, token: &mut Self::Token, gate: &G)
         requires { owns self.now token.old }
         ensures own { owns self.now token.new }
-        ensures alone { splits token.new ≡ splits token.old };
+        ensures worked { works self.now token.old token.new };
 
     /// A token for another thread.
     fn split(&self, token: &mut Self::Token) -> Self::Token
@@ -105,6 +93,8 @@ impl Shared for Pool {
     ghost use Rattle.farm_pool.specs.declared.image.AnswerImage.TheVariants as told;
     ghost use Rattle.farm_pool.specs.declared.image.CallImage.TheVariants as said;
     ghost use Rattle.farm_pool.specs.Served.{Served};
+    ghost use Rattle.farm_pool.specs.Worked.{Worked};
+    ghost use Rattle.std.specs.Prelude.{ℕ};
 
     ghost config = { λ pool. pool.lock.opening };
 
@@ -112,7 +102,8 @@ impl Shared for Pool {
 
     ghost tells = { λ pool pass t e r new. Called Served pass.view (said.Asked t e) (told.Replied r) new.view };
 
-    ghost splits = { λ pass. pass.view.splits };
+    ghost works = { λ pool pass new.
+        (turns : ℕ) × (strangers : ℕ) × Worked pool.slice pass.view turns strangers new.view };
 
     fn submit<R: Wait>(
         &self,
@@ -131,16 +122,17 @@ impl Shared for Pool {
         self.call(rt, token, tenant, command)
     }
 
-    fn ask<R: Wait>(&self, rt: &R, token: &mut PoolPass, tenant: u32, asked: Asked) -> Reply {
-        let command = match asked {
-            Asked::Fund { seq, quanta } => Command::Fund { seq, quanta },
-            Asked::Status(seq) => Command::Status(seq),
-            Asked::Fetch(seq) => Command::Fetch(seq),
-            Asked::Cancel(seq) => Command::Cancel(seq),
-            Asked::Forget(seq) => Command::Forget(seq),
-            Asked::Ledger => Command::Ledger,
-        };
-        self.call(rt, token, tenant, command)
+    fn ask<R: Wait>(
+        &self,
+        rt: &R,
+        token: &mut PoolPass,
+        tenant: u32,
+        asked: &What,
+    ) -> Option<Reply> {
+        match command_of(asked) {
+            Some(command) => Some(self.call(rt, token, tenant, command)),
+            None => None,
+        }
     }
 
     fn work<R: Wait, G: Gate>(&self, rt: &R, token: &mut PoolPass, gate: &G) {

@@ -1,32 +1,52 @@
 //! A connection's two directions, so that no reply waits behind a read.
+use std::cell::RefCell;
 use std::io;
-use std::io::{BufReader, BufWriter, Read, Write};
+use std::io::{BufReader, BufWriter, Error, ErrorKind, Read, Write};
 
-/// What a client sends, read ahead, and what it is told, gathered. What was gathered goes out before the client is waited for, and
-/// not while there are bytes that were read ahead.
+/// The bytes that a client sends, read ahead. Before it waits for the client, it sends what the
+/// client is told; while bytes that were read ahead are left, it sends nothing.
 #[derive(Drop)]
-pub(crate) struct Wire<R, W: Write + Drop> {
+pub(crate) struct Incoming<'a, R, W: Write + Drop> {
     /// What the client sends.
     pub(crate) input: BufReader<R>,
     /// What the client is told.
-    pub(crate) output: BufWriter<W>,
+    pub(crate) told: &'a RefCell<BufWriter<W>>,
 }
 
-impl<R: Read, W: Write + Drop> Read for Wire<R, W> {
+/// The bytes that a client is told, gathered until it is waited for.
+#[derive(Drop)]
+pub(crate) struct Outgoing<'a, W: Write + Drop> {
+    /// What the client is told.
+    pub(crate) told: &'a RefCell<BufWriter<W>>,
+}
+
+impl<'a, R: Read, W: Write + Drop> Read for Incoming<'a, R, W> {
     fn read(&mut self, bytes: &mut [u8]) -> io::Result<usize> {
         if self.input.buffer().is_empty() {
-            self.output.flush()?;
+            send(self.told)?;
         }
         self.input.read(bytes)
     }
 }
 
-impl<R: Read, W: Write + Drop> Write for Wire<R, W> {
+impl<'a, W: Write + Drop> Write for Outgoing<'a, W> {
     fn write(&mut self, bytes: &[u8]) -> io::Result<usize> {
-        self.output.write(bytes)
+        match self.told.try_borrow_mut() {
+            Ok(mut told) => told.write(bytes),
+            Err(_) => Err(Error::from(ErrorKind::Other)),
+        }
     }
 
     fn flush(&mut self) -> io::Result<()> {
-        self.output.flush()
+        send(self.told)
+    }
+}
+
+/// Sends what was gathered. One thread has both directions, and neither uses the cell while the
+/// other does.
+fn send<W: Write + Drop>(told: &RefCell<BufWriter<W>>) -> io::Result<()> {
+    match told.try_borrow_mut() {
+        Ok(mut told) => told.flush(),
+        Err(_) => Err(Error::from(ErrorKind::Other)),
     }
 }

@@ -1,13 +1,25 @@
 -- The tills of purses, by their numbers.
-use Rattle.std.proofs.Common.{◌≡◌, ℕ, zero, suc, ◌+◌, ◌<◌, List, [], ◌∷◌, ◌++◌, length, map, get_or, set, sym, ap, ◌∙◌, arith}
-use Rattle.std.proofs.lemmas.List.{map-append, get_or-map}
+use Rattle.std.proofs.Common.{◌≡◌, ℕ, zero, suc, ◌+◌, ◌<◌, List, [], ◌∷◌, ◌++◌, length, map, get_or, set, Option, Some, None, refl, sym, ap, ◌∙◌, arith, ⊎_elim}
+use Rattle.std.specs.Prelude.{slice_get}
+use Rattle.std.proofs.lemmas.List.{map-append, get_or-map, length-map}
 use Rattle.std.proofs.lemmas.List.FromFn.{map-range_with_len_more, get_or-map-range_with_len}
 use Rattle.std.specs.List.{range_with_len}
+use Rattle.quanta_till.specs.Desk.{DeskValue, new_desk}
+use Rattle.quanta_till.specs.Lease.{empty_lease}
 use Rattle.quanta_till.specs.Till.{TillValue}
 use Rattle.farm_core.specs.Config.{ConfigData, member_lines, granted_by}
-use Rattle.farm_core.specs.World.{purses_in}
+use Rattle.farm_core.specs.World.{purses_in, purse_in}
 use Rattle.farm_core.proofs.TillLemmas.{tills_length}
 use Rattle.farm_core.specs.Tills.{Opening, opening_of, opening_for, AreTillsOf}
+use Rattle.mrcpsp.specs.Project.{ProjectData}
+use Rattle.strategy.specs.declared.kind.Kind.{Kind}
+use Rattle.session_lines.specs.declared.request.What.{What}
+use Rattle.session_lines.specs.declared.request.What.TheVariants.{Submit}
+use Rattle.farm_session.specs.Branch.{BranchValue, new_branch, tills_of, first_desk, HasLeased, HasLeasedFor, HasLeasedBy}
+use Rattle.farm_session.specs.Command.{IsNoSubmit}
+use Rattle.farm_session.specs.Ready.{ReadyData}
+use Rattle.farm_session.specs.declared.heard.Heard.{Heard}
+use Rattle.farm_session.specs.declared.heard.Heard.TheVariants.{Asked}
 
 -- one till more
 pub tills_on : (config : ConfigData) (p : ℕ) (till : TillValue) (old new : List TillValue) → opening_of till ≡ opening_for config p
@@ -23,18 +35,87 @@ own_till config tills p d are known =
     sym (get_or-map opening_of tills p d (opening_of d) few) ∙ ap (λ (xs : List Opening). get_or xs p (opening_of d)) are
     ∙ get_or-map-range_with_len (opening_for config) 0 (purses_in config) p p (opening_of d) known (omega arith)
 
--- a till that is written back as it was
-set_same : (xs : List TillValue) (i : ℕ) (x : TillValue) → i < length xs → x ≡ get_or xs i x → set xs i x ≡ xs
-set_same [] i x h is = absurd (omega arith)
-set_same (y ∷ xs) zero x h is = ap (λ (z : TillValue). z ∷ xs) is
-set_same (y ∷ xs) (suc i) x h is = ap (λ (zs : List TillValue). y ∷ zs) (set_same xs i x (omega arith) is)
-
-pub kept_tills : (tills : List TillValue) (p : ℕ) (d new : TillValue) → p < length tills → d ≡ get_or tills p d → new ≡ d → set tills p new ≡ tills
-kept_tills tills p d new h is same = ap (set tills p) same ∙ set_same tills p d h is
-
 -- a till that was opened for a purse with what it was granted
 pub opened_for : (config : ConfigData) (p granted : ℕ) (till : TillValue) → (till.purse ≡ p) × (till.granted ≡ granted) → granted ≡ granted_by (member_lines config.tenants p)
     → opening_of till ≡ opening_for config p
 opened_for config p granted till made exact =
     ap (λ n. let it : Opening = record { purse = n; granted = till.granted } in it) made.0
     ∙ ap (λ n. let it : Opening = record { purse = p; granted = n } in it) (made.1 ∙ exact)
+
+-- ---- branches
+
+-- branches at which no lease was made yet are at their tills
+pub tills_new : (tills : List TillValue) → tills_of (map new_branch tills) ≡ tills
+tills_new [] = refl
+tills_new (t ∷ tills) = ap (λ (ts : List TillValue). t ∷ ts) (tills_new tills)
+
+-- the till of a branch of that number is the purse's
+pub own_branch : (config : ConfigData) (branches : List BranchValue) (p : ℕ) (b : BranchValue) → AreTillsOf config (tills_of branches) → p < purses_in config
+    → b ≡ get_or branches p b → opening_of b.till ≡ opening_for config p
+own_branch config branches p b are known is =
+    let few : p < length branches = omega (arith, tills_length config (tills_of branches) are, length-map branches (λ (x : BranchValue). x.till)) in
+    ap (λ (x : BranchValue). opening_of x.till) is
+    ∙ ap opening_of (sym (get_or-map (λ (x : BranchValue). x.till) branches p b b.till few))
+    ∙ own_till config (tills_of branches) p b.till are known
+
+tills_set : (bs : List BranchValue) (p : ℕ) (here then : BranchValue) → slice_get bs p ≡ Some here → then.till ≡ here.till → tills_of (set bs p then) ≡ tills_of bs
+tills_set [] p here then found same = refl
+tills_set (b ∷ bs) zero here then found same =
+    let is : b ≡ here = cc in
+    ap (λ (t : TillValue). t ∷ tills_of bs) (same ∙ sym (ap (λ (x : BranchValue). x.till) is))
+tills_set (b ∷ bs) (suc p) here then found same = ap (λ (ts : List TillValue). b.till ∷ ts) (tills_set bs p here then found same)
+
+leased_till : {J : Type 0} (made : ReadyData → Option J → Type 0) (old new : BranchValue) (ready : ReadyData) (search : Option J)
+    → HasLeased made old ready search new → new.till ≡ old.till
+leased_till made old new ready (Some search) has = ap (λ (b : BranchValue). b.till) has.0
+leased_till made old new ready None has =
+    ⊎_elim (λ none. ap (λ (b : BranchValue). b.till) none) (λ one. ap (λ (b : BranchValue). b.till) one.0) has
+
+-- branches stay at their tills
+pub tills_kept : {J : Type 0} (made : ReadyData → Option J → Type 0) (config : ConfigData) (t : ℕ) (what : What) (old new : List BranchValue)
+    → HasLeasedFor made config t what old new → tills_of new ≡ tills_of old
+tills_kept made config t (Submit kind quanta project) old new has =
+    ap tills_of has.after
+    ∙ tills_set old (purse_in config t) has.here has.then has.found
+    (leased_till made has.here has.then (record { plan = record { project = project; kind = kind }; lease = empty_lease has.here.till t }) has.search has.leased)
+tills_kept made config t what old new has = ap tills_of has
+
+pub tills_kept_by : {J : Type 0} (made : ReadyData → Option J → Type 0) (config : ConfigData) (heard : Heard) (old new : List BranchValue)
+    → HasLeasedBy made config heard old new → tills_of new ≡ tills_of old
+tills_kept_by made config (Asked t who what) old new has = tills_kept made config t what old new has
+tills_kept_by made config heard old new has = ap tills_of has
+
+-- one first desk more
+pub desks_on : (purse granted : ℕ) (tills new : List TillValue) (desks then : List DeskValue) (till : TillValue) (desk : DeskValue)
+    → (till.purse ≡ purse) × (till.granted ≡ granted) → desk ≡ new_desk till.id 0 purse granted → desks ≡ map first_desk tills
+    → new ≡ tills ++ till ∷ [] → then ≡ desks ++ desk ∷ [] → then ≡ map first_desk new
+desks_on purse granted tills new desks then till desk made is before pushed also =
+    let first : desk ≡ first_desk till =
+    is ∙ ap (λ n. new_desk till.id 0 n granted) (sym made.0) ∙ ap (new_desk till.id 0 till.purse) (sym made.1) in
+    also ∙ ap (λ (ds : List DeskValue). ds ++ desk ∷ []) before ∙ ap (λ (d : DeskValue). map first_desk tills ++ d ∷ []) first
+    ∙ sym (map-append first_desk tills (till ∷ [])) ∙ sym (ap (map first_desk) pushed)
+
+-- a request that submits no job has no lease made
+pub none_leased : {J : Type 0} (made : ReadyData → Option J → Type 0) (config : ConfigData) (t : ℕ) (what : What) (bs : List BranchValue)
+    → IsNoSubmit what → HasLeasedFor made config t what bs bs
+none_leased made config t (Submit kind quanta project) bs other = absurd other
+none_leased made config t what bs other = refl
+
+set_found : (bs : List BranchValue) (p : ℕ) (d : BranchValue) → p < length bs → slice_get bs p ≡ Some (get_or bs p d)
+set_found [] p d few = absurd (omega arith)
+set_found (b ∷ bs) zero d few = refl
+set_found (b ∷ bs) (suc p) d few = set_found bs p d (omega arith)
+
+-- a submit has the lease made that its branch shows
+pub submit_leased : {J : Type 0} (made : ReadyData → Option J → Type 0) (config : ConfigData) (t quanta p : ℕ) (kind : Kind) (project : ProjectData)
+    (bs : List BranchValue) (here then : BranchValue) → p ≡ purse_in config t → p < length bs → here ≡ get_or bs p here
+    → (search : Option J) × HasLeased made here (record { plan = record { project = project; kind = kind }; lease = empty_lease here.till t }) search then
+    → HasLeasedFor made config t (Submit kind quanta project) bs (set bs p then)
+submit_leased made config t quanta p kind project bs here then is few at leased = record {
+  here = here;
+  then = then;
+  search = leased.0;
+  found = ap (slice_get bs) (sym is) ∙ set_found bs p here few ∙ ap Some (sym at);
+  leased = leased.1;
+  after = ap (λ n. set bs n then) is;
+}

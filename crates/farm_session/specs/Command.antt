@@ -20,8 +20,14 @@ event_in (Take seq slice) = None
 event_in (Give seq) = None
 event_in (Turn seq slice) = None
 
--- the command for which a request asks is of that event, and where there is none, a job is asked for, or nothing
+-- a request that submits no job
+abbrev pub IsNoSubmit : What → Type 0
+IsNoSubmit (Submit kind quanta project) = ⊥
+IsNoSubmit request = ⊤
+
+-- the command for which a request asks is of that event; a submit has none here, since its search
+-- is made first
 abbrev pub IsCommandOf : {J : Type 0} → What → Option (Command J) → Type 0
-IsCommandOf request (Some command) = event_in request ≡ Some (event_of command)
+IsCommandOf request (Some command) = (event_in request ≡ Some (event_of command)) × IsNoSubmit request
 IsCommandOf (Submit kind quanta project) None = ⊤
 IsCommandOf request None = event_in request ≡ None

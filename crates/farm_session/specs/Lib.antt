@@ -1,3 +1,4 @@
+pub mod Branch
 pub mod Command
 pub mod Heard
 pub mod Ready

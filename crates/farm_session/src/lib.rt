@@ -14,5 +14,5 @@ mod tills;
 
 pub use command::command_of;
 pub use heard::{Heard, hear};
-pub use ready::Ready;
+pub use ready::{Ready, search_of};
 pub use tills::{Branch, branches, open_tills};

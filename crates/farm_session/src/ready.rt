@@ -1,13 +1,15 @@
 //! The searches of submitted jobs.
 ghost use Rattle.std.specs.Prelude.{◌≡◌, IfSome};
 ghost use Rattle.strategy.specs.declared.kind.Kind.TheVariants as kind;
-ghost use Rattle.quanta_till.specs.Lease.{IsEmpty};
+ghost use Rattle.quanta_till.specs.Lease.{IsEmpty, empty_lease};
+ghost use Rattle.farm_session.specs.Branch.{HasLeased};
 ghost use Rattle.tree_search.specs.Search as tree_search;
 ghost use Rattle.rule_search.specs.Rule.{IsRule};
 ghost use Rattle.rule_search.specs.Search as rule_search;
 ghost use Rattle.sample_search.specs.Search as sample_search;
 ghost use Rattle.sample_search.specs.Search.{IsSample};
 
+use crate::tills::Branch;
 use quanta_till::Lease;
 use rule_search::RuleSearch;
 use sample_search::SampleSearch;
@@ -35,13 +37,21 @@ impl Model for Ready {
 }
 
 impl Ready {
+    /// A plan, with a lease of which nothing was drawn.
+    pub fn new(plan: Plan, lease: Lease) -> Ready
+        requires { IsEmpty lease }
+        ensures { result ≡ record { plan = plan; lease = lease } }
+    {
+        Ready { plan, lease }
+    }
+
     /// A copy of the plan, with a lease of which nothing was drawn. There is nothing where there is no memory for it.
     pub fn of(alloc: Global, lease: Lease, plan: &Plan) -> Option<Ready>
         requires { IsEmpty lease }
         ensures { IfSome result (λ ready. ready ≡ record { plan = plan.now; lease = lease }) }
     {
         let plan = plan.clone_in(alloc).ok()?;
-        Some(Ready { plan, lease })
+        Some(Ready::new(plan, lease))
     }
 
     /// How it is searched.
@@ -80,4 +90,23 @@ impl Ready {
         let search = RuleSearch::new(alloc, plan, lease).ok()?;
         Box::new(alloc, search).ok()
     }
+}
+
+/// Makes the search of a job, from a copy of its plan and a lease for its tenant. Returns `None` if
+/// there is no memory for it.
+pub fn search_of<J, M: Fn(Ready) -> Option<J>>(
+    alloc: Global,
+    branch: &mut Branch<'_>,
+    tenant: u32,
+    plan: &Plan,
+    make: &M,
+) -> Option<J>
+    requires { M.IsAlwaysCallable make.now }
+    ensures { HasLeased (M.post make.now) branch.old
+        (record { plan = plan.now; lease = empty_lease branch.old.till tenant })
+        result branch.new }
+{
+    let plan = plan.clone_in(alloc).ok()?;
+    let lease = branch.lease(tenant).ok()?;
+    make(Ready::new(plan, lease))
 }

@@ -1,14 +1,16 @@
 //! The tills of a farm's purses, and the desks at which a script's or a connection's searches get their leases.
-ghost use Rattle.std.specs.Prelude.{◌≡◌, IfOk};
+ghost use Rattle.std.specs.Prelude.{◌≡◌, map, IfOk, OnOk, OnErr};
 ghost use Rattle.quanta_till.specs.Lease.{empty_lease};
 ghost use Rattle.farm_core.specs.Tills.{AreSeated, AreTillsOf};
+ghost use Rattle.farm_session.specs.Branch.{new_branch, having_leased, first_desk, HaveSeated};
 
 use farm_core::Config;
 use quanta_till::{Desk, Lease, Till};
 use std::alloc::{AllocError, Global};
 use std::marker::Model;
 
-/// A purse's till, and a desk at which leases of it are made. Contracts see the till.
+/// A branch is a purse's till, and a desk at which leases of it are made. Contracts see the till,
+/// and how many leases were made.
 #[derive(Drop)]
 pub struct Branch<'a> {
     till: &'a Till,
@@ -17,20 +19,22 @@ pub struct Branch<'a> {
 
 impl<'a> Model for Branch<'a> {
     ghost use Rattle.std.specs.Prelude.{◌≡◌};
-    ghost use Rattle.quanta_till.specs.Till.{TillValue};
+    ghost use Rattle.farm_session.specs.Branch.{BranchValue};
 
-    ghost Value = { TillValue };
+    ghost Value = { BranchValue };
 
-    ghost view = { λ c. c.till.now };
+    ghost view = { λ c. record { till = c.till.now; seats = c.desk.seats } };
 
     ghost invariant = { λ c. c.desk.id ≡ c.till.now.id };
 }
 
 impl<'a> Branch<'a> {
-    /// A lease of this till for a tenant, of which nothing was drawn.
+    /// Makes a lease of this till for a tenant, of which nothing was drawn, and no other. An error
+    /// is want of memory; then no lease was made.
     pub fn lease(&mut self, tenant: u32) -> Result<Lease, AllocError>
-        ensures made { IfOk result (λ lease. lease ≡ empty_lease self.old tenant) }
-        ensures kept { self.new ≡ self.old }
+        ensures made { IfOk result (λ lease. lease ≡ empty_lease self.old.till tenant) }
+        ensures one { OnOk result (self.new ≡ having_leased self.old) }
+        ensures none { OnErr result (self.new ≡ self.old) }
     {
         self.till.lease(&mut self.desk, tenant)
     }
@@ -41,6 +45,7 @@ impl<'a> Branch<'a> {
 pub fn open_tills(alloc: Global, config: &Config) -> Result<(Vec<Till>, Vec<Desk>), AllocError>
     ensures tills { IfOk result (λ made. AreTillsOf config.now made.0.items) }
     ensures seated { IfOk result (λ made. AreSeated made.0.items made.1.items) }
+    ensures unused { IfOk result (λ made. made.1.items ≡ map first_desk made.0.items) }
 {
     let mut tills = Vec::new(alloc);
     let mut desks = Vec::new(alloc);
@@ -52,7 +57,7 @@ pub fn open_tills(alloc: Global, config: &Config) -> Result<(Vec<Till>, Vec<Desk
     Ok((tills, desks))
 }
 
-/// One more desk at each till. An error is want of memory.
+/// One more desk at each till, at which no lease was made yet. An error is want of memory.
 pub fn branches<'a>(
     alloc: Global,
     tills: &'a [Till],
@@ -60,7 +65,8 @@ pub fn branches<'a>(
 ) -> Result<Vec<Branch<'a>>, AllocError>
     requires { AreSeated tills.now desks.old }
     ensures seated { AreSeated tills.entry.now desks.new }
-    ensures tills { IfOk result (λ branches. branches.items ≡ tills.entry.now) }
+    ensures unused { IfOk result (λ branches. branches.items ≡ map new_branch tills.entry.now) }
+    ensures one { OnOk result (HaveSeated 1 desks.old desks.new) }
 {
     let mut branches = Vec::new(alloc);
     for (i, till) in tills.iter().enumerate() {

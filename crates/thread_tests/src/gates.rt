@@ -70,3 +70,73 @@ impl Gate for Pair {
         false
     }
 }
+
+/// A gate that looks whether each turn comes in and goes out again before the next one of its worker. It has the worker go on twice.
+#[derive(Drop)]
+pub(crate) struct Witness {
+    /// Whose turn is inside: 0 for nobody's, otherwise 1,000 for each tenant before it and the job's number.
+    inside: AtomicU64,
+    /// How many turns of the first tenant's jobs went out.
+    of_a: AtomicU64,
+    /// How many turns of the second tenant's jobs went out.
+    of_b: AtomicU64,
+    /// How many came in or went out when it was not their turn.
+    astray: AtomicU64,
+    /// How often the worker asked whether to go on.
+    asked: AtomicU64,
+}
+
+impl Witness {
+    /// A gate that nobody has passed.
+    pub(crate) fn new() -> Witness {
+        Witness {
+            inside: AtomicU64::new(0),
+            of_a: AtomicU64::new(0),
+            of_b: AtomicU64::new(0),
+            astray: AtomicU64::new(0),
+            asked: AtomicU64::new(0),
+        }
+    }
+
+    /// Whether so many turns of either tenant went through, each in its time, and the worker asked so often.
+    pub(crate) fn has_seen(&self, of_a: u64, of_b: u64, asked: u64) -> bool {
+        let turns = (
+            self.of_a.load(Ordering::SeqCst),
+            self.of_b.load(Ordering::SeqCst),
+        );
+        let rest = (
+            self.astray.load(Ordering::SeqCst),
+            self.asked.load(Ordering::SeqCst),
+        );
+        turns == (of_a, of_b) && rest == (0, asked)
+    }
+
+    /// Puts another turn inside, where this one is to be.
+    fn change(&self, from: u64, to: u64) {
+        if self.inside.load(Ordering::SeqCst) != from {
+            self.astray.fetch_add(1, Ordering::SeqCst);
+        }
+        self.inside.store(to, Ordering::SeqCst);
+    }
+}
+
+/// The number by which a witness knows a job.
+fn mark_of(tenant: u32, seq: u64) -> u64 {
+    u64::from(tenant).saturating_mul(1000).saturating_add(seq)
+}
+
+impl Gate for Witness {
+    fn before(&self, tenant: u32, seq: u64) {
+        self.change(0, mark_of(tenant, seq));
+    }
+
+    fn after(&self, tenant: u32, seq: u64) {
+        self.change(mark_of(tenant, seq), 0);
+        let count = if tenant == 0 { &self.of_a } else { &self.of_b };
+        count.fetch_add(1, Ordering::SeqCst);
+    }
+
+    fn idle(&self) -> bool {
+        self.asked.fetch_add(1, Ordering::SeqCst) < 2
+    }
+}

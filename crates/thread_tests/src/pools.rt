@@ -3,7 +3,7 @@ ghost use Rattle.std.specs.Prelude.{◌<◌};
 
 use crate::calls::is_line;
 use crate::fixtures::{A, B, patient_of, tree_of};
-use crate::gates::{Meeting, Open, Pair};
+use crate::gates::{Meeting, Open, Pair, Witness};
 use crate::stand::Stand;
 use farm_pool::{Command, Unsettled, WorkEnd};
 use std::alloc::Global;
@@ -104,6 +104,21 @@ fn four_workers_of_one_purse_settle(rt: HostRuntime) {
     let spent = "@a ledger granted 20 free 7 held 0 spent 13\n";
     tells(&rt, rt.alloc(), &mut stand, B, Command::Ledger, spent);
     assert!(rt; matches!(stand.settle(), Some(Ok(_))));
+}
+
+// Nine nodes of a's job and six of b's in turns of two, one turn after the other. The worker asks
+// at the end whether to go on, until it may not.
+#[test]
+fn each_turn_passes_the_gate(rt: HostRuntime) {
+    let mut stand = Stand::new(&rt, rt.alloc(), 100);
+    let tree = tree_of(&rt, rt.alloc(), stand.lease(&rt, A));
+    stand.submit(&rt, A, 16, tree);
+    let tree = tree_of(&rt, rt.alloc(), stand.lease(&rt, B));
+    stand.submit(&rt, B, 6, tree);
+    let gate = Witness::new();
+    let end = stand.work(&rt, &gate);
+    assert!(rt; end.turns == 8 && end.strangers == 0);
+    assert!(rt; gate.has_seen(5, 3, 3));
 }
 
 // Nine nodes in turns of two: four whole ones and a last one of one node.

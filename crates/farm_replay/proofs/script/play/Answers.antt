@@ -1,11 +1,12 @@
-use Rattle.std.proofs.Common.{◌≡◌, ◌<◌, refl, map, arith, sym, ap, ◌∙◌, subst}
+use Rattle.std.proofs.Common.{◌≡◌, refl, map, arith, sym, ap, ◌∙◌, subst}
 use Rattle.std.specs.Prelude.{is_some}
-use Rattle.farm_core.proofs.TillLemmas.{tills_length}
-use Rattle.farm_session.proofs.TillLemmas.{own_till, kept_tills}
-use Rattle.farm_core.specs.World.{purse_in, opened}
-use Rattle.farm_core.specs.Tills.{opening_of, opening_for}
+use Rattle.farm_core.specs.World.{opened}
+use Rattle.farm_core.specs.Tills.{opening_of}
+use Rattle.farm_session.specs.Branch.{tills_of, HasLeasedFor}
+use Rattle.farm_session.proofs.TillLemmas.{tills_kept}
 use Rattle.farm_replay.specs.Floor.{IsFloor}
 use Rattle.farm_replay.specs.Reader.{script_rest}
+use Rattle.farm_replay.proofs.LeaseLemmas.{LeasedTo, none_leased, leases_told, leases_asked, leases_of}
 use Rattle.farm_replay.proofs.PlayLemmas.{Played, begun, play_begins, settled_on, settled_cut, asked_on, asked_cut, asked_unsent, played_sent, play_over, play_broken, play_written, play_cut}
 use Rattle.farm_replay.proofs.script.play.Goals as goal
 use Rattle.farm_replay.proofs.script.play.Goals.{in-Told+in_default, in-Asked+in_default-send_before_nodes+in_default-tell}
@@ -20,6 +21,7 @@ loop-answered-init g c = (
       (sym c.requires.notes)
       (play_begins c.args.config.now (script_rest g.R.Read.remaining c.args.script.now) (g.W.Write.contents c.args.writer.now) c.args.floor.now.farm
       (ap (λ w. w.config) c.requires.farm) (begun c.args.config.now c.args.floor.now.farm c.farms_are_replayed.ensures c.requires.farm)),
+  none_leased c.args.config.now (goal.M-post g c.args.make.now) (script_rest g.R.Read.remaining c.args.script.now) c.args.branches.now,
 )
 
 pub returns-in-Over-clause-written : goal.returns-in-Over-clause-written
@@ -69,7 +71,7 @@ loop-answered-preserved g c =
     elim c.match-hear.branch [
       | in-Told+in_default w ↦ (
         ap (λ x. x.farm.config) w.floor-is ∙ inv.0,
-        ap (map opening_of) w.branches-is ∙ inv.1,
+        ap (map opening_of) (ap tills_of w.branches-is) ∙ inv.1,
         subst (λ x. IsFloor g.J.Strategy.meaning x.farm x.held.items) (sym w.floor-is) inv.2,
         rw (w.floor-is, w.writer-is, w.notes-is)
             (settled_on c.requests_come_in_turn.ensures c.args.config.now (script_rest g.R.Read.remaining c.args.script.now) (script_rest g.R.Read.remaining c.begin.new.self) (script_rest g.R.Read.remaining c.read_request.new.reader)
@@ -77,14 +79,15 @@ loop-answered-preserved g c =
             w.in-Told.who w.in-Told.said (cc (w.in-Told.is, c.hear.ensures)) c.read_request.ensures.takes (played_sent c.args.config.now (script_rest g.R.Read.remaining c.args.script.now) (script_rest g.R.Read.remaining c.loop-answered.script) (script_rest g.R.Read.remaining c.begin.new.self)
             (g.W.Write.contents c.args.writer.now) (g.W.Write.contents c.loop-answered.writer) (g.W.Write.contents c.send_before_wait.new.writer) c.loop-answered._answered (is_some c.loop-answered.notes.refused) c.loop-answered.floor.farm c.begin.ensures
             c.send_before_wait.ensures c.loop-answered.invariant.3) w.in_default.ensures.writes.ok w.add.ensures),
+        leases_told c.args.config.now (goal.M-post g c.args.make.now) (script_rest g.R.Read.remaining c.args.script.now) (script_rest g.R.Read.remaining c.loop-answered.script) (script_rest g.R.Read.remaining c.begin.new.self)
+            (script_rest g.R.Read.remaining c.read_request.new.reader) c.args.branches.now c.loop-answered.branches _ c.read_request.result w.in-Told.who w.in-Told.said
+            (cc (w.in-Told.is, c.hear.ensures)) c.begin.ensures c.read_request.ensures.takes w.branches-is inv.4,
       )
       | in-Asked+in_default-send_before_nodes+in_default-tell w ↦ (
         ap (λ x. x.farm.config) w.floor-is ∙ w.answer-said.ensures.told.config ∙ inv.0,
         ap (map opening_of)
-            (w.branches-is
-            ∙ kept_tills c.loop-answered.branches w.purse_of-purse.result w.index-branches-purse.result w.answer-said.new.branch
-            (subst (λ n. w.purse_of-purse.result < n) (sym (tills_length c.args.config.now c.loop-answered.branches inv.1)) w.purse_of-purse.ensures.known)
-            w.index-branches-purse.is (w.answer-said.ensures.kept ∙ sym w.index-branches-purse.is))
+            (ap tills_of w.branches-is
+            ∙ tills_kept _ c.loop-answered.floor.farm.config w.in-Asked.tenant w.in-Asked.asked c.loop-answered.branches w.answer-said.new.branches w.answer-said.ensures.leased)
             ∙ inv.1,
         subst (λ x. IsFloor g.J.Strategy.meaning x.farm x.held.items) (sym w.floor-is) w.answer-said.ensures.floor,
         rw (w.floor-is, w.writer-is, w.notes-is)
@@ -96,6 +99,11 @@ loop-answered-preserved g c =
             w.send_before_nodes.ensures.kept (played_sent c.args.config.now (script_rest g.R.Read.remaining c.args.script.now) (script_rest g.R.Read.remaining c.loop-answered.script) (script_rest g.R.Read.remaining c.begin.new.self)
             (g.W.Write.contents c.args.writer.now) (g.W.Write.contents c.loop-answered.writer) (g.W.Write.contents c.send_before_wait.new.writer) c.loop-answered._answered (is_some c.loop-answered.notes.refused) c.loop-answered.floor.farm c.begin.ensures
             c.send_before_wait.ensures c.loop-answered.invariant.3)) w.in_default-tell.ensures.writes.ok w.add-in-Asked.ensures),
+        subst (LeasedTo c.args.config.now (goal.M-post g c.args.make.now) (script_rest g.R.Read.remaining c.args.script.now) c.args.branches.now (script_rest g.R.Read.remaining c.read_request.new.reader)) (sym w.branches-is)
+            (leases_asked c.args.config.now (goal.M-post g c.args.make.now) (script_rest g.R.Read.remaining c.args.script.now) (script_rest g.R.Read.remaining c.loop-answered.script) (script_rest g.R.Read.remaining c.begin.new.self)
+            (script_rest g.R.Read.remaining c.read_request.new.reader) c.args.branches.now c.loop-answered.branches w.answer-said.new.branches c.read_request.result w.in-Asked.tenant w.in-Asked.who w.in-Asked.asked
+            (cc (w.in-Asked.is, c.hear.ensures)) c.begin.ensures c.read_request.ensures.takes
+            (subst (λ k. HasLeasedFor (goal.M-post g c.args.make.now) k w.in-Asked.tenant w.in-Asked.asked c.loop-answered.branches w.answer-said.new.branches) inv.0 w.answer-said.ensures.leased) inv.4),
       )
     ]
 
@@ -112,16 +120,6 @@ returns-clause-cut_off g c =
     (subst (λ n. Played c.args.config.now (script_rest g.R.Read.remaining c.args.script.now) (script_rest g.R.Read.remaining c.loop-answered.script) (g.W.Write.contents c.args.writer.now) (g.W.Write.contents c.loop-answered.writer) n (is_some c.loop-answered.notes.refused) c.loop-answered.floor.farm)
     all c.loop-answered.invariant.3) c.end.ensures.fault
 
-pub bounds-branches-purse : goal.bounds-branches-purse
-bounds-branches-purse g c =
-    subst (λ n. c.purse_of-purse.result < n) (sym (tills_length c.args.config.now c.loop-answered.branches c.loop-answered.invariant.1)) c.purse_of-purse.ensures.known
-
-pub answer-said-requires-clause-till : goal.answer-said-requires-clause-till
-answer-said-requires-clause-till g c κs within =
-    own_till c.args.config.now c.loop-answered.branches c.purse_of-purse.result c.index-branches-purse.result c.loop-answered.invariant.1 c.purse_of-purse.ensures.known
-    ∙ ap (opening_for c.args.config.now) c.purse_of-purse.ensures.exact
-    ∙ ap (λ k. opening_for k (purse_in k c.in-Asked.tenant)) (sym c.loop-answered.invariant.0)
-
 pub returns-in-Broken-clause-cut_off : goal.returns-in-Broken-clause-cut_off
 returns-in-Broken-clause-cut_off g c =
     play_broken c.args.config.now (script_rest g.R.Read.remaining c.args.script.now) (script_rest g.R.Read.remaining c.begin.new.self) (g.W.Write.contents c.args.writer.now) (g.W.Write.contents c.send_before_wait.new.writer)
@@ -129,3 +127,32 @@ returns-in-Broken-clause-cut_off g c =
     (played_sent c.args.config.now (script_rest g.R.Read.remaining c.args.script.now) (script_rest g.R.Read.remaining c.loop-answered.script) (script_rest g.R.Read.remaining c.begin.new.self)
     (g.W.Write.contents c.args.writer.now) (g.W.Write.contents c.loop-answered.writer) (g.W.Write.contents c.send_before_wait.new.writer) c.loop-answered._answered (is_some c.loop-answered.notes.refused) c.loop-answered.floor.farm c.begin.ensures
     c.send_before_wait.ensures c.loop-answered.invariant.3)
+
+pub returns-in-Over-clause-leased : goal.returns-in-Over-clause-leased
+returns-in-Over-clause-leased g c =
+    leases_of c.args.config.now (goal.M-post g c.args.make.now) (script_rest g.R.Read.remaining c.args.script.now) (script_rest g.R.Read.remaining c.loop-answered.script) c.args.branches.now c.loop-answered.branches c.loop-answered.invariant.4
+
+pub returns-in-Broken-clause-leased : goal.returns-in-Broken-clause-leased
+returns-in-Broken-clause-leased g c =
+    leases_of c.args.config.now (goal.M-post g c.args.make.now) (script_rest g.R.Read.remaining c.args.script.now) (script_rest g.R.Read.remaining c.loop-answered.script) c.args.branches.now c.loop-answered.branches c.loop-answered.invariant.4
+
+pub returns-in-Err-clause-leased : goal.returns-in-Err-clause-leased
+returns-in-Err-clause-leased g c =
+    leases_of c.args.config.now (goal.M-post g c.args.make.now) (script_rest g.R.Read.remaining c.args.script.now) (script_rest g.R.Read.remaining c.loop-answered.script) c.args.branches.now c.loop-answered.branches c.loop-answered.invariant.4
+
+pub returns-in-Err-send_before_nodes-clause-leased : goal.returns-in-Err-send_before_nodes-clause-leased
+returns-in-Err-send_before_nodes-clause-leased g c =
+    leases_of c.args.config.now (goal.M-post g c.args.make.now) (script_rest g.R.Read.remaining c.args.script.now) (script_rest g.R.Read.remaining c.loop-answered.script) c.args.branches.now c.loop-answered.branches c.loop-answered.invariant.4
+
+pub returns-clause-leased : goal.returns-clause-leased
+returns-clause-leased g c =
+    leases_of c.args.config.now (goal.M-post g c.args.make.now) (script_rest g.R.Read.remaining c.args.script.now) (script_rest g.R.Read.remaining c.loop-answered.script) c.args.branches.now c.loop-answered.branches c.loop-answered.invariant.4
+
+pub returns-in-Err-tell-clause-leased : goal.returns-in-Err-tell-clause-leased
+returns-in-Err-tell-clause-leased g c =
+    leases_of c.args.config.now (goal.M-post g c.args.make.now) (script_rest g.R.Read.remaining c.args.script.now) (script_rest g.R.Read.remaining c.read_request.new.reader) c.args.branches.now c.answer-said.new.branches
+    (leases_asked c.args.config.now (goal.M-post g c.args.make.now) (script_rest g.R.Read.remaining c.args.script.now) (script_rest g.R.Read.remaining c.loop-answered.script) (script_rest g.R.Read.remaining c.begin.new.self)
+    (script_rest g.R.Read.remaining c.read_request.new.reader) c.args.branches.now c.loop-answered.branches c.answer-said.new.branches c.read_request.result c.in-Asked.tenant c.in-Asked.who c.in-Asked.asked
+    (cc (c.in-Asked.is, c.hear.ensures)) c.begin.ensures c.read_request.ensures.takes
+    (subst (λ k. HasLeasedFor (goal.M-post g c.args.make.now) k c.in-Asked.tenant c.in-Asked.asked c.loop-answered.branches c.answer-said.new.branches) c.loop-answered.invariant.0 c.answer-said.ensures.leased)
+    c.loop-answered.invariant.4)

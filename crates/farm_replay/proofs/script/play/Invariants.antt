@@ -1,13 +1,16 @@
 use Rattle.std.proofs.Common.{◌≡◌}
 use Rattle.std.specs.Prelude.{is_some}
 use Rattle.farm_core.specs.Tills.{AreTillsOf}
+use Rattle.farm_session.specs.Branch.{tills_of}
 use Rattle.farm_replay.specs.Floor.{IsFloor}
 use Rattle.farm_replay.specs.Reader.{script_rest}
+use Rattle.farm_replay.proofs.LeaseLemmas.{LeasedTo}
 use Rattle.farm_replay.proofs.PlayLemmas.{Played}
 use Rattle.farm_replay.proofs.script.play.Given as goal
 
 -- so many requests are answered, the farm is where they lead and holds their turns, and it is noted whether one was refused
 abbrev pub invariant-loop-answered : goal.invariant-loop-answered
 invariant-loop-answered g l =
-    (l.floor.farm.config ≡ l.config) × AreTillsOf l.config l.branches × IsFloor g.J.Strategy.meaning l.floor.farm l.floor.held.items
+    (l.floor.farm.config ≡ l.config) × AreTillsOf l.config (tills_of l.branches) × IsFloor g.J.Strategy.meaning l.floor.farm l.floor.held.items
     × Played l.config (script_rest g.R.Read.remaining l.fn.script) (script_rest g.R.Read.remaining l.script) (g.W.Write.contents l.fn.writer) (g.W.Write.contents l.writer) l._answered (is_some l.notes.refused) l.floor.farm
+    × LeasedTo l.config (goal.M-post g l.make) (script_rest g.R.Read.remaining l.fn.script) l.fn.branches (script_rest g.R.Read.remaining l.script) l.branches

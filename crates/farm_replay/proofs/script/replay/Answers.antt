@@ -1,9 +1,17 @@
 use Rattle.std.specs.Prelude.{is_some, IfSome, OnOk, IfErr}
-use Rattle.std.proofs.Common.{subst}
+use Rattle.std.proofs.Common.{◌∙◌, map, ap, subst}
+use Rattle.farm_core.specs.Tills.{opening_of}
+use Rattle.farm_session.specs.Branch.{tills_of}
+use Rattle.farm_session.proofs.TillLemmas.{tills_new}
 use Rattle.farm_replay.specs.Reader.{script_rest}
 use Rattle.farm_replay.specs.Output.{IsWritten, IsCutOff}
 use Rattle.farm_replay.proofs.HeadlineLemmas.{written_isolated, written_truthful}
 use Rattle.farm_replay.proofs.script.replay.Goals as goal
+
+pub play-ended-requires-clause-tills : goal.play-ended-requires-clause-tills
+play-ended-requires-clause-tills g c κs within =
+    ap (map opening_of) (ap tills_of (c.deref_mut-2.ensures.value ∙ c.in-Ok-branches.ensures.unused) ∙ tills_new _ ∙ c.deref.ensures.value)
+    ∙ c.in-Ok-open_tills.ensures.tills
 
 pub returns-clause-written : goal.returns-clause-written
 returns-clause-written g c =

@@ -1,7 +1,12 @@
 use Rattle.std.specs.Prelude.{All}
-use Rattle.std.proofs.Common.{◌≡◌}
+use Rattle.std.proofs.Common.{◌≡◌, map}
 use Rattle.farm_core.specs.Tills.{AreSeated}
+use Rattle.farm_session.specs.Branch.{new_branch, HaveSeated}
 use Rattle.farm_service.proofs.places.places.Given as goal
 
 abbrev pub invariant-loop : goal.invariant-loop
-invariant-loop l = record { seated : AreSeated l.tills l.desks; tills : All (λ own. own.items ≡ l.tills) l.places.items }
+invariant-loop l = record {
+  seated : AreSeated l.tills l.desks;
+  unused : All (λ own. own.items ≡ map new_branch l.tills) l.places.items;
+  each : HaveSeated l.counter l.fn.desks l.desks;
+}

@@ -1,6 +1,14 @@
-use Rattle.std.proofs.Common.{◌≡◌, take}
+use Rattle.std.proofs.Common.{◌≡◌, ℕ, ◌<◌, ◌≤◌, get_or, map, take}
+use Rattle.quanta_till.specs.Desk.{DeskValue, after_seat}
 use Rattle.farm_core.specs.Tills.{AreSeated}
+use Rattle.farm_session.specs.Branch.{new_branch}
 use Rattle.farm_session.proofs.tills.branches.Given as goal
 
+-- the desks so far have one seat more, and those behind them are as they were
 abbrev pub invariant-loop-i : goal.invariant-loop-i
-invariant-loop-i l = record { seated : AreSeated l.tills l.desks; tills : l.branches.items ≡ take l.i l.tills }
+invariant-loop-i l = record {
+  seated : AreSeated l.tills l.desks;
+  unused : l.branches.items ≡ map new_branch (take l.i l.tills);
+  done : (k : ℕ) (d : DeskValue) → k < l.i → get_or l.desks k d ≡ after_seat (get_or l.fn.desks k d);
+  rest : (k : ℕ) (d : DeskValue) → l.i ≤ k → get_or l.desks k d ≡ get_or l.fn.desks k d;
+}

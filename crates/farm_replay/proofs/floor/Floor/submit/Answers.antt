@@ -7,9 +7,6 @@ use Rattle.farm_replay.proofs.floor.Floor.submit.Goals as goal
 pub returns-in_default-clause-told : goal.returns-in_default-clause-told
 returns-in_default-clause-told g c = unanswered c.args.self.now.farm c.args.tenant (what.Submit c.args.plan.kind c.args.quanta c.args.plan.project) c.requires.known refl
 
-pub returns-in_default-make-clause-told : goal.returns-in_default-make-clause-told
-returns-in_default-make-clause-told g c = unanswered c.args.self.now.farm c.args.tenant (what.Submit c.args.plan.kind c.args.quanta c.args.plan.project) c.requires.known refl
-
 pub returns-clause-told : goal.returns-clause-told
 returns-clause-told g c =
     replied c.args.self.now.farm c.submit.new.self c.args.tenant (what.Submit c.args.plan.kind c.args.quanta c.args.plan.project) (Submit c.args.plan c.args.quanta) c.submit.result

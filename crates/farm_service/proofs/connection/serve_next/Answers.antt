@@ -1,0 +1,44 @@
+use Rattle.std.proofs.Common.{◌∙◌, map, ap}
+use Rattle.farm_core.specs.Tills.{opening_of}
+use Rattle.farm_session.proofs.TillLemmas.{tills_kept_by}
+use Rattle.farm_service.proofs.connection.serve_next.Goals as goal
+
+pub returns-then-not-is_over-clause-tills : goal.returns-then-not-is_over-clause-tills
+returns-then-not-is_over-clause-tills g c =
+    ap (map opening_of)
+    (tills_kept_by (goal.M-post g c.args.office.now.make.now) c.args.office.now.config.now c.heard-heard.result c.args.branches.now c.reply-told.new.branches
+    c.reply-told.ensures.leased)
+    ∙ c.requires.tills
+
+pub returns-else-not-is_over-clause-tills : goal.returns-else-not-is_over-clause-tills
+returns-else-not-is_over-clause-tills g c =
+    ap (map opening_of)
+    (tills_kept_by (goal.M-post g c.args.office.now.make.now) c.args.office.now.config.now c.heard-heard.result c.args.branches.now c.reply-told.new.branches
+    c.reply-told.ensures.leased)
+    ∙ c.requires.tills
+
+pub returns-then-not-is_over-clause-answered : goal.returns-then-not-is_over-clause-answered
+returns-then-not-is_over-clause-answered g c = (
+  c.heard-heard.result,
+  record {
+    read = c.read_request.result;
+    result = c.reply-told.result;
+    takes = c.read_request.ensures.takes;
+    is = c.heard-heard.ensures.exact;
+    told = c.reply-told.ensures.told;
+    leased = c.reply-told.ensures.leased;
+  },
+)
+
+pub returns-else-not-is_over-clause-answered : goal.returns-else-not-is_over-clause-answered
+returns-else-not-is_over-clause-answered g c = (
+  c.heard-heard.result,
+  record {
+    read = c.read_request.result;
+    result = c.reply-told.result;
+    takes = c.read_request.ensures.takes;
+    is = c.heard-heard.ensures.exact;
+    told = c.reply-told.ensures.told;
+    leased = c.reply-told.ensures.leased;
+  },
+)

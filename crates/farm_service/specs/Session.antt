@@ -1,0 +1,58 @@
+-- What a session does for the requests that it hears: which calls it makes, which leases it has
+-- made, and which lines it writes.
+use Rattle.std.specs.Prelude.{◌≡◌, ℕ, ⊤, List, [], ◌∷◌, Option, None, Result}
+use Rattle.farm_core.specs.declared.entry.Event.{Event}
+use Rattle.farm_core.specs.declared.reply.Reply.{Reply}
+use Rattle.farm_core.specs.Config.{ConfigData}
+use Rattle.session_lines.specs.declared.request.Request.{Request}
+use Rattle.session_lines.specs.declared.request.LineFault.{LineFault}
+use Rattle.session_lines.specs.declared.reading.TheConstants.{MOST_REQUEST_BYTES}
+use Rattle.session_lines.specs.declared.put.WriteFault.{WriteFault}
+use Rattle.session_lines.specs.Script.{Takes}
+use Rattle.farm_session.specs.declared.heard.Heard.{Heard}
+use Rattle.farm_session.specs.Branch.{BranchValue, HasLeasedBy}
+use Rattle.farm_session.specs.Ready.{ReadyData}
+use Rattle.farm_service.specs.declared.service.Part.{Part}
+use Rattle.farm_service.specs.declared.service.Part.TheVariants.{Worker, Client}
+use Rattle.farm_service.specs.Told.{heard_in, IsToldOf}
+
+-- where a session stands: its token of the pool, its branches, the bytes that its reader has left,
+-- and those that its writer holds, where these are known
+pub record Stand (T : Type 0) : Type 0 where
+  pub token : T
+  pub branches : List BranchValue
+  pub left : Option (List ℕ)
+  pub written : Option (List ℕ)
+
+abbrev pub stand : {T : Type 0} → T → List BranchValue → Option (List ℕ) → Option (List ℕ) → Stand T
+stand token branches left written = record { token = token; branches = branches; left = left; written = written }
+
+module _ {T J : Type 0} (config : ConfigData) (tells : T → ℕ → Event → Reply → T → Type 0) (made : ReadyData → Option J → Type 0) where
+  -- one request was read and answered: the call that it asks for was made, the lease that it needs,
+  -- and its line was written; and nothing else
+  pub record HasAnswered (old : Stand T) (heard : Heard) (new : Stand T) : Type 0 where
+    pub read : Result Request LineFault
+    pub result : Result ⊤ WriteFault
+    pub takes : Takes MOST_REQUEST_BYTES None old.left new.left read
+    pub is : heard ≡ heard_in config read
+    pub told : IsToldOf tells old.token heard result old.written new.written new.token
+    pub leased : HasLeasedBy made config heard old.branches new.branches
+
+  -- requests one after another, the last first
+  abbrev pub HasServed : Stand T → List Heard → Stand T → Type 0
+  HasServed old [] new = new ≡ old
+  HasServed old (h ∷ heard) new = (mid : Stand T) × HasServed old heard mid × HasAnswered mid h new
+
+  -- a session: some requests were answered, and nothing was done beside
+  abbrev pub IsSession : Stand T → Stand T → Type 0
+  IsSession old new = (heard : List Heard) × HasServed old heard new
+
+  -- a client was served at these branches, whatever its connection tells
+  abbrev pub IsClientServed : T → List BranchValue → T → Type 0
+  IsClientServed old branches new =
+      (from : Stand T) × (to : Stand T) × (from.token ≡ old) × (from.branches ≡ branches) × (to.token ≡ new) × IsSession from to
+
+  -- what a thread of a service did: a worker took turns, and a client's thread was a session
+  abbrev pub HasDonePart : (T → T → Type 0) → Part → T → T → Type 0
+  HasDonePart works Worker old new = works old new
+  HasDonePart works (Client own stream) old new = IsClientServed old own.items new
