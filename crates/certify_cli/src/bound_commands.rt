@@ -4,6 +4,7 @@ ghost use Rattle.certify_cli.specs.Commands.{Ends, IsBoundOf, IsChainOf};
 
 use crate::bounding::{certify_bound, certify_chain};
 use crate::ending::{MOST_PROOF, MOST_TEXT, Paths, end_command};
+use crate::explaining::why_uncertified;
 use crate::fault::CommandFault;
 use crate::watches::Watches;
 use std::alloc::Global;
@@ -32,7 +33,10 @@ pub fn bound_read<S: Read + Drop, P: Read + Drop, W: Write>(
     };
     match certify_bound(alloc, &bytes, periods, &steps, writer, &mut watches.output) {
         Ok(()) => Ok(()),
-        Err(fault) => Err(CommandFault::Certify(fault)),
+        Err(fault) => {
+            watches.why = why_uncertified(alloc, &bytes, &[], fault);
+            Err(CommandFault::Certify(fault))
+        }
     }
 }
 
@@ -51,7 +55,10 @@ pub fn chain_read<S: Read + Drop, W: Write>(
     };
     match certify_chain(alloc, &bytes, writer, &mut watches.output) {
         Ok(()) => Ok(()),
-        Err(fault) => Err(CommandFault::Certify(fault)),
+        Err(fault) => {
+            watches.why = why_uncertified(alloc, &bytes, &[], fault);
+            Err(CommandFault::Certify(fault))
+        }
     }
 }
 
@@ -71,7 +78,7 @@ pub fn bound_to<R: AllocGlobal + Env + Eprint, S: Read + Drop, P: Read + Drop, W
         (exit_status result) }
 {
     let ended = bound_read(rt.alloc(), file, periods, proof, writer, watches);
-    end_command(rt, paths, ended)
+    end_command(rt, paths, ended, &watches.why)
 }
 
 /// `chain_read` with a status, in the same way.
@@ -87,5 +94,5 @@ pub fn chain_to<R: AllocGlobal + Env + Eprint, S: Read + Drop, W: Write>(
         (exit_status result) }
 {
     let ended = chain_read(rt.alloc(), file, writer, watches);
-    end_command(rt, paths, ended)
+    end_command(rt, paths, ended, &watches.why)
 }

@@ -5,6 +5,7 @@ ghost use Rattle.certify_cli.specs.Commands.{Ends, IsCertifyOf, IsInfeasibleOf};
 
 use crate::certifying::{certify, certify_infeasible};
 use crate::ending::{MOST_PROOF, MOST_TEXT, Paths, end_command};
+use crate::explaining::{why_not_infeasible, why_uncertified};
 use crate::fault::CommandFault;
 use crate::watches::Watches;
 use schedule_text::MOST_BYTES;
@@ -43,7 +44,10 @@ pub fn certify_read<S: Read + Drop, T: Read + Drop, P: Read + Drop, W: Write>(
     };
     match certify(alloc, &bytes, &words, &steps, writer, &mut watches.output) {
         Ok(()) => Ok(()),
-        Err(fault) => Err(CommandFault::Certify(fault)),
+        Err(fault) => {
+            watches.why = why_uncertified(alloc, &bytes, &words, fault);
+            Err(CommandFault::Certify(fault))
+        }
     }
 }
 
@@ -68,7 +72,10 @@ pub fn infeasible_read<S: Read + Drop, P: Read + Drop, W: Write>(
     };
     match certify_infeasible(alloc, &bytes, &steps, writer, &mut watches.output) {
         Ok(()) => Ok(()),
-        Err(fault) => Err(CommandFault::Certify(fault)),
+        Err(fault) => {
+            watches.why = why_not_infeasible(alloc, &bytes, fault);
+            Err(CommandFault::Certify(fault))
+        }
     }
 }
 
@@ -96,7 +103,7 @@ pub fn certify_to<
         (exit_status result) }
 {
     let ended = certify_read(rt.alloc(), file, text, proof, writer, watches);
-    end_command(rt, paths, ended)
+    end_command(rt, paths, ended, &watches.why)
 }
 
 /// `infeasible_read` with a status, in the same way.
@@ -113,5 +120,5 @@ pub fn infeasible_to<R: AllocGlobal + Env + Eprint, S: Read + Drop, P: Read + Dr
         (exit_status result) }
 {
     let ended = infeasible_read(rt.alloc(), file, proof, writer, watches);
-    end_command(rt, paths, ended)
+    end_command(rt, paths, ended, &watches.why)
 }

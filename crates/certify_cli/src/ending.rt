@@ -4,7 +4,7 @@ ghost use Rattle.std.specs.Process.{exit_status};
 ghost use Rattle.certify_cli.specs.Commands.{command_status};
 
 use crate::fault::CommandFault;
-use file_words::{reason, tell_unread};
+use file_words::{reason, tell_unread, tell_why};
 use schedule_text::MOST_BYTES;
 use std::env::Env;
 use std::io::Eprint;
@@ -30,11 +30,12 @@ pub struct Paths<'a> {
     pub proof: &'a str,
 }
 
-/// The status of a command, with its fault on standard error.
+/// The status of a command, with its fault on standard error, and on a second line why there is one, if that is known.
 pub(crate) fn end_command<R: Env + Eprint>(
     rt: &R,
     paths: Paths<'_>,
     ended: Result<(), CommandFault>,
+    why: &Option<String>,
 ) -> ExitCode
     ensures { exit_status result ≡ command_status ended }
 {
@@ -45,6 +46,7 @@ pub(crate) fn end_command<R: Env + Eprint>(
         Err(CommandFault::Proof(kind)) => tell_unread(rt, paths.proof, reason(kind)),
         Err(CommandFault::Certify(fault)) => {
             let _ = eprintln!(rt; "farm: {fault}");
+            tell_why(rt, why);
         }
     }
     ExitCode::FAILURE

@@ -14,6 +14,7 @@
 //! - `certifying`: `certify`, `certify_infeasible`, `write_clauses`.
 //! - `commands`: `certify_to`, `infeasible_to`.
 //! - `ending`: how a command ends.
+//! - `explaining`: what a second line says of why nothing is certified.
 //! - `watches`: whether a command could not read its inputs, or not write its line.
 //! - `program`: the commands for files, with an exit status.
 //! - `laws`: the limits of what is read, in figures.
@@ -25,6 +26,7 @@ mod certifying;
 mod commands;
 mod dimacs;
 mod ending;
+mod explaining;
 mod fault;
 pub mod laws;
 mod program;

@@ -7,9 +7,10 @@ use crate::bound_commands::{bound_to, chain_to};
 use crate::certifying::write_clauses;
 use crate::commands::{certify_to, infeasible_to};
 use crate::ending::{MOST_TEXT, Paths};
+use crate::explaining::why_uncertified;
 use crate::fault::CertifyFault;
 use crate::watches::Watches;
-use file_words::{reason, tell_unread};
+use file_words::{explains, reason, tell_unread, tell_why};
 use std::env::Env;
 use std::io;
 use std::io::{BufWriter, Eprint, Write};
@@ -29,6 +30,17 @@ fn end<R: Eprint>(rt: &R, ended: Result<(), CertifyFault>) -> ExitCode
             ExitCode::FAILURE
         }
     }
+}
+
+/// The status of a command whose bound is no number, with that on standard error, and on a second line what is wanted.
+fn end_unbounded<R: Env + Eprint>(rt: &R, bound: &str, wanted: &str) -> ExitCode
+    ensures { exit_status result ≤ 1 }
+{
+    let _ = eprintln!(rt; "farm: no bound {bound}");
+    if explains(rt) {
+        let _ = eprintln!(rt; "farm: why: {wanted}");
+    }
+    ExitCode::FAILURE
 }
 
 /// What was opened or read of the path. `None` is told on standard error.
@@ -135,8 +147,7 @@ pub fn run_bound<R: Runtime + AllocGlobal>(
         return run_chain(rt, file);
     };
     let Ok(periods) = bound.parse::<u32>() else {
-        let _ = eprintln!(rt; "farm: no bound {bound}");
-        return ExitCode::FAILURE;
+        return end_unbounded(rt, bound, "the bound is a whole number below 4294967296");
     };
     let paths = Paths {
         file,
@@ -170,8 +181,11 @@ pub fn run_clauses<R: Runtime + AllocGlobal>(rt: &R, file: &str, bound: &str) ->
         Ok(number) => Some(number),
         Err(_) if bound == "none" => None,
         Err(_) => {
-            let _ = eprintln!(rt; "farm: no bound {bound}");
-            return ExitCode::FAILURE;
+            return end_unbounded(
+                rt,
+                bound,
+                "the bound is a whole number below 4294967296, or none",
+            );
         }
     };
     let Some(source) = open_path(rt, file) else {
@@ -185,8 +199,14 @@ pub fn run_clauses<R: Runtime + AllocGlobal>(rt: &R, file: &str, bound: &str) ->
         return end(rt, Err(CertifyFault::NoMemory));
     };
     let ended = write_clauses(rt.alloc(), &project, bound, &mut output);
-    match output.flush() {
+    let why = match ended {
+        Ok(()) => None,
+        Err(fault) => why_uncertified(rt.alloc(), &project, &[], fault),
+    };
+    let status = match output.flush() {
         Ok(()) => end(rt, ended),
-        Err(_) => end(rt, Err(CertifyFault::Write)),
-    }
+        Err(_) => return end(rt, Err(CertifyFault::Write)),
+    };
+    tell_why(rt, &why);
+    status
 }

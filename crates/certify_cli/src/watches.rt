@@ -14,6 +14,8 @@ pub struct Watches {
     pub(crate) proof: FileWatch,
     /// Of what is written.
     pub(crate) output: FileWatch,
+    /// What a second line on standard error says of a fault.
+    pub(crate) why: Option<String>,
 }
 
 impl Watches {
@@ -29,6 +31,7 @@ impl Watches {
             text: FileWatch::new(),
             proof: FileWatch::new(),
             output: FileWatch::new(),
+            why: None,
         }
     }
 }

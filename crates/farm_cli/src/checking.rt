@@ -5,7 +5,8 @@ ghost use Rattle.farm_cli.specs.Checked.{IsCheckOf, IsChecked, check_status};
 
 use crate::input::MOST_READ;
 use crate::summary::summarize;
-use file_words::{reason, tell_unread};
+use explain::why_file;
+use file_words::{reason, tell_unread, tell_why};
 use psplib_mm::{MmFault, read};
 use std::alloc::Global;
 use std::env::Env;
@@ -32,6 +33,8 @@ pub struct CheckWatches {
     pub(crate) reads: FileWatch,
     /// Of the line.
     pub(crate) writes: FileWatch,
+    /// What a second line on standard error says of a fault of the file.
+    pub(crate) why: Option<String>,
 }
 
 impl CheckWatches {
@@ -43,6 +46,7 @@ impl CheckWatches {
         CheckWatches {
             reads: FileWatch::new(),
             writes: FileWatch::new(),
+            why: None,
         }
     }
 }
@@ -70,12 +74,20 @@ pub fn check<S: Read + Drop, W: Write>(
                 Err(_) => Err(CheckFault::Write),
             }
         }
-        Err(fault) => Err(CheckFault::File(fault)),
+        Err(fault) => {
+            watches.why = why_file(alloc, &text, fault);
+            Err(CheckFault::File(fault))
+        }
     }
 }
 
-/// The status of a check, with its fault on standard error.
-fn end_check<R: Env + Eprint>(rt: &R, path: &str, ended: Result<(), CheckFault>) -> ExitCode
+/// The status of a check, with its fault on standard error, and on a second line why there is one, if that is known.
+fn end_check<R: Env + Eprint>(
+    rt: &R,
+    path: &str,
+    ended: Result<(), CheckFault>,
+    why: &Option<String>,
+) -> ExitCode
     ensures { exit_status result ≡ check_status ended }
 {
     match ended {
@@ -83,6 +95,7 @@ fn end_check<R: Env + Eprint>(rt: &R, path: &str, ended: Result<(), CheckFault>)
         Err(CheckFault::Read(kind)) => tell_unread(rt, path, reason(kind)),
         Err(CheckFault::File(fault)) => {
             let _ = eprintln!(rt; "farm: no file {fault}");
+            tell_why(rt, why);
         }
         Err(CheckFault::Write) => {}
     }
@@ -103,5 +116,5 @@ pub fn check_to<R: AllocGlobal + Env + Eprint, S: Read + Drop, W: Write>(
         (W.contents writer.new) }
 {
     let ended = check(rt.alloc(), reader, writer, watches);
-    end_check(rt, path, ended)
+    end_check(rt, path, ended, &watches.why)
 }

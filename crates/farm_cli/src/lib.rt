@@ -11,12 +11,14 @@
 //! - `summary`: what a project holds, in one line.
 //! - `checking`: `check` and `check_to`, what is told of a file's project, over any reader and writer.
 //! - `replaying`: `replay_text` and `replay_to`, a replay under the text of a configuration, over any reader and writer.
+//! - `entries`: which tenants have too few entries of the journal for their quanta.
 //! - `program`: what each task does with files and standard output.
 //! - `laws`: the limits of a project and of a farm, in figures.
 #![tactic(auto)]
 
 mod arguments;
 mod checking;
+mod entries;
 mod help;
 mod input;
 pub mod laws;

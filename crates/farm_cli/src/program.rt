@@ -4,16 +4,18 @@ ghost use Rattle.std.specs.Process.{exit_status};
 
 use crate::arguments::{Task, parse_words};
 use crate::checking::{CheckWatches, check_to};
+use crate::entries::tell_scarce_entries;
 use crate::input::read_whole;
 use crate::replaying::{replay_to, tell_config_fault};
+use explain::{why_no_port, why_words};
 use farm_config::read_config;
 use farm_core::Config;
 use farm_pool::Settled;
 use farm_replay::{Notes, Watches};
 use farm_service::{ServeFault, serve};
-use file_words::{reason, tell_unread};
+use file_words::{explains, reason, tell_unread, tell_why};
 use std::env::Env;
-use std::io::{BufWriter, Eprint, Print, Read};
+use std::io::{BufWriter, Eprint, ErrorKind, Print, Read};
 use std::net::{Ipv4Addr, Net, SocketAddr, TcpListener, TcpStream};
 use std::process::ExitCode;
 use std::rt::{Files, Runtime};
@@ -51,7 +53,12 @@ pub fn run_words<
             },
         ) => run_serve(rt, config, port, sessions),
         Err(error) => match error.print(rt) {
-            Ok(()) if error.kind() != clap::error::ErrorKind::OutOfMemory => ExitCode::from(2),
+            Ok(()) if error.kind() != clap::error::ErrorKind::OutOfMemory => {
+                if error.kind() != clap::error::ErrorKind::DisplayHelp {
+                    tell_why(rt, &why_words(rt.alloc(), words));
+                }
+                ExitCode::from(2)
+            }
             _ => ExitCode::FAILURE,
         },
     }
@@ -107,9 +114,12 @@ fn run_replay<R: Runtime + AllocGlobal>(
         return ExitCode::FAILURE;
     };
     // (before the script is opened, which may wait)
-    if let Err(fault) = read_config(rt.alloc(), &text) {
-        tell_config_fault(rt, &text, fault);
-        return ExitCode::FAILURE;
+    match read_config(rt.alloc(), &text) {
+        Ok(config) => tell_scarce_entries(rt, &config),
+        Err(fault) => {
+            tell_config_fault(rt, &text, fault);
+            return ExitCode::FAILURE;
+        }
     }
     if script == "-" {
         return print_replay(rt, &text, rt.reader(), is_strict);
@@ -183,8 +193,10 @@ fn run_serve<
     let Some(config) = config_at(rt, config) else {
         return ExitCode::FAILURE;
     };
-    let Ok(listener) = TcpListener::bind(rt, SocketAddr::from((Ipv4Addr::LOCALHOST, port))) else {
-        return end_serve(rt, Err(ServeFault::Listen));
+    tell_scarce_entries(rt, &config);
+    let listener = match TcpListener::bind(rt, SocketAddr::from((Ipv4Addr::LOCALHOST, port))) {
+        Ok(listener) => listener,
+        Err(error) => return end_unbound(rt, port, error.kind()),
     };
     let Ok(address) = listener.local_addr() else {
         return end_serve(rt, Err(ServeFault::Listen));
@@ -194,6 +206,18 @@ fn run_serve<
         return ExitCode::FAILURE;
     }
     end_serve(rt, serve(rt, rt.alloc(), &config, listener, sessions))
+}
+
+/// The status of a service that cannot listen at its port, with its fault on standard error, and on a second line why.
+fn end_unbound<R: Print + Env + Eprint>(rt: &R, port: u16, kind: ErrorKind) -> ExitCode
+    ensures { exit_status result ≤ 1 }
+{
+    let status = end_serve(rt, Err(ServeFault::Listen));
+    if explains(rt) {
+        let why = why_no_port(kind);
+        let _ = eprintln!(rt; "farm: why: port {port} of 127.0.0.1: {why}");
+    }
+    status
 }
 
 /// The status of a service, with how it ended on standard output or its fault on standard error.

@@ -24,6 +24,15 @@ pub fn tell_unread<R: Env + Eprint>(rt: &R, path: &str, why: &str) {
     }
 }
 
+/// Tells on a second line of standard error why there is a fault, if that is asked for and known.
+pub fn tell_why<R: Env + Eprint>(rt: &R, why: &Option<String>) {
+    if explains(rt)
+        && let Some(text) = why
+    {
+        let _ = eprintln!(rt; "farm: why: {text}");
+    }
+}
+
 /// Why a file could not be opened or read: words that follow *cannot read PATH*.
 pub fn reason(kind: ErrorKind) -> &'static str
     ensures { result.now ≡ reason_text kind }

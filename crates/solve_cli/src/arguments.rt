@@ -3,6 +3,7 @@ use crate::ending::Paths;
 use crate::searching::MOST_NODES;
 use clap::builder::ValueParser;
 use clap::{Arg, ArgAction, ArgMatches, Command};
+use schedule_picture::Order;
 use std::alloc::{AllocError, Global};
 
 /// What the words of a command line ask for.
@@ -12,8 +13,8 @@ pub(crate) enum Task<'a> {
     Verify(Paths<'a>),
     /// Search for a schedule.
     Solve(Solving<'a>),
-    /// Draw a feasible schedule.
-    Draw(Paths<'a>),
+    /// Draw a feasible schedule, with its rows in this order.
+    Draw(Paths<'a>, Order),
 }
 
 /// What `solve` is asked for.
@@ -29,6 +30,8 @@ pub(crate) struct Solving<'a> {
     pub(crate) is_json: bool,
     /// Whether how far a search has come is told on standard error.
     pub(crate) is_telling: bool,
+    /// Whether nothing of that is told.
+    pub(crate) is_quiet: bool,
     /// Whether each better schedule is printed at the next look.
     pub(crate) is_improving: bool,
 }
@@ -66,11 +69,17 @@ fn verify_command<'a>(alloc: Global) -> Result<Command<'a>, AllocError> {
 }
 
 fn draw_command<'a>(alloc: Global) -> Result<Command<'a>, AllocError> {
+    let order = Arg::new(alloc, "order")
+        .long("order")
+        .value_name("ORDER")
+        .help("The order of the rows: number or start")
+        .default_value("number");
     Command::new(alloc, "draw")
         .about("Draws a feasible schedule as an SVG picture")
         .after_help(DRAW_HELP)
         .arg(file_arg(alloc))?
-        .arg(schedule_arg(alloc))
+        .arg(schedule_arg(alloc))?
+        .arg(order)
 }
 
 fn solve_command<'a>(alloc: Global) -> Result<Command<'a>, AllocError> {
@@ -78,7 +87,7 @@ fn solve_command<'a>(alloc: Global) -> Result<Command<'a>, AllocError> {
         .long("search")
         .value_name("S,..")
         .help(
-            "tree, rule:lft, rule:mts, rule:spt, sample:SEED or improve:SEED, or several with commas, run in this order",
+            "tree, rule:lft, rule:mts, rule:spt, sample:SEED or improve:SEED, or several with commas, run in this order; all is a good list of them",
         )
         .default_value("tree");
     let nodes = Arg::new(alloc, "nodes")
@@ -117,6 +126,14 @@ pub(crate) fn solve_commands<'a>(alloc: Global) -> Result<Command<'a>, AllocErro
         .subcommand(draw_command(alloc)?)
 }
 
+/// The order of rows that a word names; that of the numbers if there is none.
+fn order_of(word: Option<&str>) -> Order {
+    match word {
+        Some("start") => Order::Start,
+        _ => Order::Number,
+    }
+}
+
 /// What a subcommand and its arguments ask for.
 pub(crate) fn task_of<'a>(matches: &ArgMatches<'a>) -> Option<Task<'a>> {
     match matches.subcommand() {
@@ -129,13 +146,17 @@ pub(crate) fn task_of<'a>(matches: &ArgMatches<'a>) -> Option<Task<'a>> {
             search: chosen.get_str("search")?,
             nodes: chosen.get_str("nodes")?,
             is_json: chosen.get_flag("json"),
-            is_telling: chosen.get_flag("progress") && !chosen.get_flag("quiet"),
+            is_telling: chosen.get_flag("progress"),
+            is_quiet: chosen.get_flag("quiet"),
             is_improving: chosen.get_flag("improvements"),
         })),
-        Some(("draw", chosen)) => Some(Task::Draw(Paths {
-            file: chosen.get_str("FILE")?,
-            text: chosen.get_str("SCHEDULE")?,
-        })),
+        Some(("draw", chosen)) => {
+            let paths = Paths {
+                file: chosen.get_str("FILE")?,
+                text: chosen.get_str("SCHEDULE")?,
+            };
+            Some(Task::Draw(paths, order_of(chosen.get_str("order"))))
+        }
         _ => None,
     }
 }
@@ -160,7 +181,10 @@ Example:
 /// What `draw --help` says at its end.
 const DRAW_HELP: &str = "\
 A bar for each activity with its number and its mode, and under them what is used of each renewable
-resource against its capacity. A schedule that is not feasible is not drawn; it ends as in verify.
+resource against its capacity. With --order start the rows are in the order of the starts. The critical
+chain leads from the end back to the beginning: each of its activities begins when the one before it ends,
+a predecessor of it or one that uses a resource of it. A verdict in the heading is the one that the
+schedule's text tells. A schedule that is not feasible is not drawn; it ends as in verify.
 
 Example:
 
@@ -172,7 +196,9 @@ It prints a line of the nodes that were run and a line of the best schedule: its
 and a word J:MODE:START for each activity. The verdict is 'optimal' or 'infeasible' where that is
 shown, 'open' where the search is not over, and 'ended' where it is over and shows nothing.
 
-improve:SEED improves schedules by local search, and generates at most N of them.
+improve:SEED improves schedules by local search, and generates at most N of them. all stands for
+rule:lft,rule:mts,rule:spt,tree,improve:1: the tree shows that the best schedule of a small project is
+optimal, and local search finds the shortest schedules of large ones.
 
 Several searches run one after another, each for at most N nodes, and none after one that shows
 'optimal' or 'infeasible'; the shortest of their schedules is printed. With --improvements each
@@ -186,4 +212,5 @@ Examples:
   makespan 4 optimal 1:1:0 2:1:0 3:2:0 4:1:4
   $ farm solve --search sample:7 --nodes 100000 --progress examples/j30_1.mm
   $ farm solve --search rule:lft,rule:mts,tree examples/j10_1.mm
+  $ farm solve --search all --nodes 100000 examples/j30_1.mm
   $ timeout 10 farm solve --improvements --nodes 1000000000 examples/j20_1.mm | tail -n 1";

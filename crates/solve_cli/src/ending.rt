@@ -4,7 +4,7 @@ ghost use Rattle.std.specs.Process.{exit_status};
 ghost use Rattle.solve_cli.specs.Commands.{command_status};
 
 use crate::fault::{CommandFault, InputFault};
-use file_words::{reason, tell_unread};
+use file_words::{reason, tell_unread, tell_why};
 use schedule_text::MOST_BYTES;
 use std::env::Env;
 use std::io::Eprint;
@@ -25,16 +25,20 @@ pub struct Paths<'a> {
     pub text: &'a str,
 }
 
-/// The status of a command, with its fault on standard error.
+/// The status of a command, with its fault on standard error, and on a second line why it ended so, if that is known.
 pub(crate) fn end_command<R: Env + Eprint>(
     rt: &R,
     paths: Paths<'_>,
     ended: Result<(), CommandFault>,
+    why: &Option<String>,
 ) -> ExitCode
     ensures { exit_status result ≡ command_status ended }
 {
     match ended {
-        Ok(()) => return ExitCode::SUCCESS,
+        Ok(()) => {
+            tell_why(rt, why);
+            return ExitCode::SUCCESS;
+        }
         Err(CommandFault::Input(InputFault::File(kind))) => tell_unread(
             rt,
             paths.file,
@@ -47,6 +51,7 @@ pub(crate) fn end_command<R: Env + Eprint>(
         ),
         Err(CommandFault::Input(InputFault::Verify(fault))) => {
             let _ = eprintln!(rt; "farm: {fault}");
+            tell_why(rt, why);
         }
         Err(CommandFault::NoMemory) => {
             let _ = eprintln!(rt; "farm: no memory");

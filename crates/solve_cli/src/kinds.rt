@@ -45,20 +45,45 @@ pub(crate) fn kind_of(word: &str) -> Option<SearchKind> {
     Some(SearchKind::Planned(kind))
 }
 
+/// The searches that the word `all` stands for: one pass by each rule, the tree, which shows that small projects are solved, and local
+/// search, which finds the shortest schedules of large ones.
+const ALL: [SearchKind; 5] = [
+    SearchKind::Planned(Kind::RuleLft),
+    SearchKind::Planned(Kind::RuleMts),
+    SearchKind::Planned(Kind::RuleSpt),
+    SearchKind::Planned(Kind::Tree),
+    SearchKind::Improve(1),
+];
+
+/// Adds kinds of search, if there are then no more than `MOST_SEARCHES`.
+fn push_kinds(kinds: &mut Vec<SearchKind>, more: &[SearchKind]) -> Result<(), SearchFault<'static>>
+    requires { vec_len kinds.old ≤ MOST_SEARCHES }
+    ensures { vec_len kinds.new ≤ MOST_SEARCHES }
+{
+    for kind in more {
+        if kinds.len() >= MOST_SEARCHES {
+            return Err(SearchFault::TooMany);
+        }
+        if kinds.push(*kind).is_err() {
+            return Err(SearchFault::NoMemory);
+        }
+    }
+    Ok(())
+}
+
 /// The kinds of search that words with commas between them name, in their order, at most `MOST_SEARCHES`.
 pub fn kinds_of(alloc: Global, words: &str) -> Result<Vec<SearchKind>, SearchFault<'_>>
     ensures { IfOk result (λ kinds. vec_len kinds ≤ MOST_SEARCHES) }
 {
     let mut kinds = Vec::new(alloc);
     for word in words.split(',') {
-        if kinds.len() >= MOST_SEARCHES {
-            return Err(SearchFault::TooMany);
-        }
-        let Some(kind) = kind_of(word) else {
-            return Err(SearchFault::Unknown(word));
-        };
-        if kinds.push(kind).is_err() {
-            return Err(SearchFault::NoMemory);
+        if word == "all" {
+            push_kinds(&mut kinds, &ALL)?;
+        } else {
+            let Some(kind) = kind_of(word) else {
+                return Err(SearchFault::Unknown(word));
+            };
+            push_kinds(&mut kinds, &[kind])?;
         }
     }
     Ok(kinds)

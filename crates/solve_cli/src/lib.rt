@@ -13,10 +13,10 @@
 //! - `search_kinds`: the kinds of search of this command.
 //! - `several`: `solve_each`, several searches one after another.
 //! - `laws`: why what they tell is true, and how long the texts may be, in figures.
-//! - `drawing`: `draw`, a feasible schedule as a picture.
 //! - `showing`: `verify_to` and `draw_to`, the commands on a schedule over any readers and writer.
 //! - `solving`: `solve_to`, the same of a search.
 //! - `ending`: how a command ends, with its text or its fault.
+//! - `explaining`: what a second line says of how a command ended.
 //! - `watches`: whether a command could not read its inputs, or not write its text.
 //! - `telling`: what a search has found, as lines and as JSON.
 //! - `kinds`: the words for kinds of search.
@@ -27,8 +27,8 @@
 #![tactic(auto)]
 
 mod arguments;
-mod drawing;
 mod ending;
+mod explaining;
 mod fault;
 mod improvements;
 mod kinds;
@@ -45,7 +45,6 @@ mod telling;
 mod verifying;
 mod watches;
 
-pub use drawing::draw;
 pub use ending::{MOST_TEXT, Paths};
 pub use fault::{CommandFault, InputFault, VerifyFault};
 pub use kinds::{SearchFault, kinds_of};

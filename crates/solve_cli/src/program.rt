@@ -1,20 +1,27 @@
 //! The commands on files, with an exit status.
 ghost use Rattle.std.specs.Prelude.{◌≤◌, IfOk, IfErr, vec_len};
 ghost use Rattle.std.specs.Process.{exit_status};
+ghost use Rattle.mrcpsp.specs.Schedule.{IsFeasible};
 
 use crate::arguments::{Solving, Task, solve_commands, task_of};
-use crate::drawing::draw;
 use crate::ending::Paths;
+use crate::explaining::chain_of;
 use crate::improvements::{Improvements, Style};
 use crate::kinds::{SearchFault, kinds_of};
-use crate::progress::Progress;
+use crate::progress::{Progress, Telling};
 use crate::search_kinds::SearchKind;
 use crate::searching::MOST_NODES;
 use crate::several::MOST_SEARCHES;
 use crate::showing::{draw_to, verify_to};
 use crate::solving::{Asked, solve_to};
+use crate::telling::verdict_word;
+use crate::verifying::Verified;
 use crate::watches::Watches;
-use file_words::{reason, tell_unread};
+use explain::{why_no_search, why_words};
+use file_words::{explains, reason, tell_unread, tell_why};
+use schedule_picture::{Heading, Order, draw};
+use std::alloc::{AllocError, Global};
+use std::env::Env;
 use std::io;
 use std::io::Eprint;
 use std::process::ExitCode;
@@ -27,6 +34,14 @@ On one project, without a configuration (farm COMMAND --help):
   verify  Tells whether a schedule is feasible, and how long it takes
   solve   Searches for a short schedule of one project
   draw    Draws a feasible schedule as an SVG picture
+
+Of many files, and with a proof (farm COMMAND --help):
+  bench       Searches each of many files and prints a row of each
+  prove       Looks for a schedule and for a proof that none is shorter
+  clauses     Writes the clauses of a project and a bound in DIMACS form
+  certify     Checks a schedule and a proof that none is shorter
+  bound       Checks a proof that no schedule is shorter than a number of periods
+  infeasible  Checks a proof that no schedule is feasible
 
 Example:
 
@@ -67,19 +82,51 @@ pub fn run_command<R: Runtime + AllocGlobal>(rt: &R, words: &[String]) -> ExitCo
             None => ExitCode::from(2),
         },
         Err(error) => match error.print(rt) {
-            Ok(()) if error.kind() != clap::error::ErrorKind::OutOfMemory => ExitCode::from(2),
+            Ok(()) if error.kind() != clap::error::ErrorKind::OutOfMemory => {
+                if error.kind() != clap::error::ErrorKind::DisplayHelp {
+                    tell_why(rt, &why_words(rt.alloc(), words));
+                }
+                ExitCode::from(2)
+            }
             _ => ExitCode::FAILURE,
         },
     }
+}
+
+/// Whether both paths are standard input, which gives its bytes once.
+fn are_one(paths: Paths<'_>) -> bool {
+    paths.file == "-" && paths.text == "-"
+}
+
+/// The status of a command line of which both files are standard input, with that on standard error.
+fn refuse_one<R: Eprint>(rt: &R) -> ExitCode
+    ensures { exit_status result ≤ 2 }
+{
+    let _ = eprintln!(rt; "farm: FILE and SCHEDULE cannot both be standard input");
+    ExitCode::from(2)
+}
+
+/// A picture of a verified schedule.
+fn picture(alloc: Global, verified: &Verified, order: Order) -> Result<String, AllocError>
+    requires { IsFeasible verified.now.project verified.now.schedule }
+{
+    let heading = Heading {
+        makespan: verified.makespan,
+        verdict: verified.told.map(verdict_word),
+        chain: chain_of(alloc, &verified.project),
+    };
+    draw(alloc, &verified.project, &verified.schedule, heading, order)
 }
 
 fn run_task<R: Runtime + AllocGlobal>(rt: &R, task: Task<'_>) -> ExitCode
     ensures { exit_status result ≤ 2 }
 {
     match task {
+        Task::Verify(paths) if are_one(paths) => refuse_one(rt),
+        Task::Draw(paths, _) if are_one(paths) => refuse_one(rt),
         Task::Verify(paths) => run_verify(rt, paths),
         Task::Solve(solving) => run_solve(rt, solving),
-        Task::Draw(paths) => run_draw(rt, paths),
+        Task::Draw(paths, order) => run_draw(rt, paths, order),
     }
 }
 
@@ -117,7 +164,7 @@ fn run_verify<R: Runtime + AllocGlobal>(rt: &R, paths: Paths<'_>) -> ExitCode
 }
 
 /// Prints a picture of a feasible schedule.
-fn run_draw<R: Runtime + AllocGlobal>(rt: &R, paths: Paths<'_>) -> ExitCode
+fn run_draw<R: Runtime + AllocGlobal>(rt: &R, paths: Paths<'_>, order: Order) -> ExitCode
     ensures { exit_status result ≤ 1 }
 {
     let Some(file) = open_path(rt, paths.file) else {
@@ -135,12 +182,15 @@ fn run_draw<R: Runtime + AllocGlobal>(rt: &R, paths: Paths<'_>) -> ExitCode
         text,
         &mut io::writer(rt),
         &mut watches,
-        |verified| draw(alloc, &verified),
+        |verified| picture(alloc, &verified, order),
     )
 }
 
 /// The kinds of search that are asked for. An error is the status: 1 for want of memory, and 2 for words that are refused.
-fn kinds_asked<R: Eprint + AllocGlobal>(rt: &R, search: &str) -> Result<Vec<SearchKind>, ExitCode>
+fn kinds_asked<R: Env + Eprint + AllocGlobal>(
+    rt: &R,
+    search: &str,
+) -> Result<Vec<SearchKind>, ExitCode>
     ensures kinds { IfOk result (λ kinds. vec_len kinds ≤ MOST_SEARCHES) }
     ensures status { IfErr result (λ status. exit_status status ≤ 2) }
 {
@@ -149,6 +199,9 @@ fn kinds_asked<R: Eprint + AllocGlobal>(rt: &R, search: &str) -> Result<Vec<Sear
         Err(SearchFault::NoMemory) => Err(failure(rt, "no memory")),
         Err(fault) => {
             let _ = eprintln!(rt; "farm: {fault}");
+            if let SearchFault::Unknown(word) = fault {
+                tell_why(rt, &why_no_search(rt.alloc(), word));
+            }
             Err(ExitCode::from(2))
         }
     }
@@ -162,7 +215,7 @@ fn run_solve<R: Runtime + AllocGlobal>(rt: &R, solving: Solving<'_>) -> ExitCode
         Ok(kinds) => kinds,
         Err(status) => return status,
     };
-    let Ok(most) = solving.nodes.parse::<u64>() else {
+    let Ok(each) = solving.nodes.parse::<u64>() else {
         return ExitCode::from(2);
     };
     let Some(file) = open_path(rt, solving.file) else {
@@ -173,11 +226,17 @@ fn run_solve<R: Runtime + AllocGlobal>(rt: &R, solving: Solving<'_>) -> ExitCode
         (true, false) => Style::Lines,
         (true, true) => Style::Json,
     };
-    let progress = Progress::new(rt, solving.is_telling);
+    let telling = match (solving.is_quiet, explains(rt), solving.is_telling) {
+        (true, _, _) | (_, false, false) => Telling::Nothing,
+        (_, false, true) => Telling::Nodes,
+        (_, true, _) => Telling::All,
+    };
+    let most = each.saturating_mul(kinds.len() as u64);
+    let progress = Progress::new(rt, telling, most);
     let mut looks = Improvements::new(rt, style, progress);
     let asked = Asked {
         kinds: kinds.as_slice(),
-        most: most.min(MOST_NODES),
+        most: each.min(MOST_NODES),
         is_json: solving.is_json,
     };
     let mut watches = Watches::new();

@@ -1,32 +1,75 @@
 //! How far a search has come, told now and then.
+use crate::explaining::chain_of;
 use crate::searching::Watch;
 use mrcpsp::{Project, Schedule, check};
+use std::fmt;
 use std::io::Eprint;
 use std::rt::Runtime;
 use std::time::Instant;
+
+/// How far is told.
+#[derive(Clone, Copy, Debug, PartialEq, Eq)]
+pub(crate) enum Telling {
+    /// Nothing.
+    Nothing,
+    /// The nodes, the rate and the best makespan.
+    Nodes,
+    /// With them the percent of all nodes that may be run, the seconds, and the longest chain of activities.
+    All,
+}
 
 /// Tells on standard error, at most once a second, how far a search has come.
 #[derive(Drop)]
 pub(crate) struct Progress<'a, R> {
     rt: &'a R,
+    telling: Telling,
+    /// The most nodes of all searches.
+    most: u64,
     start: Option<Instant>,
     told: u64,
     ended: u64,
+    /// The longest chain of activities, once it was looked for.
+    chain: Option<u32>,
 }
 
-impl<'a, R: Runtime> Progress<'a, R> {
-    /// Tells from now on, where it is asked to and the clock can be read; else it tells nothing.
-    pub(crate) fn new(rt: &'a R, is_telling: bool) -> Progress<'a, R> {
-        let start = if is_telling {
-            Instant::now(rt).ok()
-        } else {
+/// A number of periods, or `none`.
+#[derive(Clone, Copy, Debug)]
+struct Periods(Option<u32>);
+
+impl fmt::Display for Periods {
+    fn fmt<W: fmt::Write>(&self, f: &mut fmt::Formatter<W>) -> fmt::Result {
+        match self.0 {
+            Some(periods) => write!(f, "{periods}"),
+            None => write!(f, "none"),
+        }
+    }
+}
+
+/// The makespan of the best schedule.
+fn makespan_of(project: &Project, best: Option<&Schedule>) -> Option<u32> {
+    match best {
+        Some(schedule) => check(project, schedule).ok(),
+        None => None,
+    }
+}
+
+impl<'a, R: Runtime + AllocGlobal> Progress<'a, R> {
+    /// Tells from now on, if it is asked to and the clock can be read; else it tells nothing. The searches run at most so many
+    /// nodes in all.
+    pub(crate) fn new(rt: &'a R, telling: Telling, most: u64) -> Progress<'a, R> {
+        let start = if telling == Telling::Nothing {
             None
+        } else {
+            Instant::now(rt).ok()
         };
         Progress {
             rt,
+            telling,
+            most,
             start,
             told: 0,
             ended: 0,
+            chain: None,
         }
     }
 
@@ -40,24 +83,36 @@ impl<'a, R: Runtime> Progress<'a, R> {
             None
         }
     }
+
+    /// Prints a line of all figures.
+    fn tell_all(&mut self, project: &Project, nodes: u64, seconds: u64, makespan: Option<u32>) {
+        if self.chain.is_none() {
+            self.chain = chain_of(self.rt.alloc(), project);
+        }
+        let rate = nodes / seconds.max(1);
+        let percent = nodes / (self.most / 100).max(1);
+        let (best, chain) = (Periods(makespan), Periods(self.chain));
+        let _ = eprintln!(self.rt;
+            "nodes {nodes} {percent} % seconds {seconds} rate {rate} best {best} chain {chain}"
+        );
+    }
 }
 
-impl<'a, R: Runtime> Watch for Progress<'a, R> {
+impl<'a, R: Runtime + AllocGlobal> Watch for Progress<'a, R> {
     fn look(&mut self, project: &Project, nodes: u64, best: Option<&Schedule>) {
         let Some(seconds) = self.due() else {
             return;
         };
         self.told = seconds;
         let nodes = self.ended.saturating_add(nodes);
+        let makespan = makespan_of(project, best);
+        if self.telling == Telling::All {
+            self.tell_all(project, nodes, seconds, makespan);
+            return;
+        }
         let rate = nodes / seconds.max(1);
-        let makespan = match best {
-            Some(schedule) => check(project, schedule).ok(),
-            None => None,
-        };
-        let _ = match makespan {
-            Some(makespan) => eprintln!(self.rt; "nodes {nodes} rate {rate} best {makespan}"),
-            None => eprintln!(self.rt; "nodes {nodes} rate {rate} best none"),
-        };
+        let best = Periods(makespan);
+        let _ = eprintln!(self.rt; "nodes {nodes} rate {rate} best {best}");
     }
 
     fn end(&mut self, nodes: u64) {

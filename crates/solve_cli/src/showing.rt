@@ -6,6 +6,7 @@ ghost use Rattle.solve_cli.specs.Verified.{IsVerified};
 ghost use Rattle.solve_cli.specs.Commands.{OfBoth, IsUnverified, IsShowOf, Ends, TellsMakespan, GivesText};
 
 use crate::ending::{MOST_TEXT, Paths, end_command};
+use crate::explaining::why_unverified;
 use crate::fault::{CommandFault, InputFault};
 use crate::verifying::{Verified, verify};
 use crate::watches::Watches;
@@ -39,7 +40,10 @@ fn read_verified<S: Read + Drop, T: Read + Drop>(
     };
     match verify(alloc, &bytes, &words) {
         Ok(verified) => Ok(verified),
-        Err(fault) => Err(InputFault::Verify(fault)),
+        Err(fault) => {
+            watches.why = why_unverified(alloc, &bytes, &words, fault);
+            Err(InputFault::Verify(fault))
+        }
     }
 }
 
@@ -117,7 +121,7 @@ pub fn verify_to<R: AllocGlobal + Env + Eprint, S: Read + Drop, T: Read + Drop, 
         (exit_status result) }
 {
     let ended = verify_read(rt.alloc(), file, text, writer, watches);
-    end_command(rt, paths, ended)
+    end_command(rt, paths, ended, &watches.why)
 }
 
 /// `draw_read` with a status, in the same way.
@@ -144,5 +148,5 @@ pub fn draw_to<
         (exit_status result) }
 {
     let ended = draw_read(rt.alloc(), file, text, writer, watches, draw);
-    end_command(rt, paths, ended)
+    end_command(rt, paths, ended, &watches.why)
 }

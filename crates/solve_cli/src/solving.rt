@@ -5,12 +5,14 @@ ghost use Rattle.psplib_mm.specs.Reading.{reading};
 ghost use Rattle.solve_cli.specs.Commands.{IsUnsolved, IsSolveOf, Ends, told_text};
 
 use crate::ending::{MOST_TEXT, Paths, end_command};
+use crate::explaining::next_step;
 use crate::fault::{CommandFault, InputFault, VerifyFault};
 use crate::search_kinds::SearchKind;
 use crate::searching::{Found, MOST_NODES, Watch};
 use crate::several::{MOST_SEARCHES, solve_each};
 use crate::telling::{tell, tell_json};
 use crate::watches::Watches;
+use explain::why_file;
 use mrcpsp::Project;
 use psplib_mm::read;
 use std::alloc::{AllocError, Global};
@@ -45,7 +47,10 @@ fn read_project<S: Read + Drop>(
     };
     match read(alloc, &bytes) {
         Ok(project) => Ok(project),
-        Err(fault) => Err(InputFault::Verify(VerifyFault::File(fault))),
+        Err(fault) => {
+            watches.why = why_file(alloc, &bytes, fault);
+            Err(InputFault::Verify(VerifyFault::File(fault)))
+        }
     }
 }
 
@@ -90,7 +95,10 @@ pub fn solve_read<S: Read + Drop, W: Write, L: Watch>(
         Err(_) => return Err(CommandFault::NoMemory),
     };
     match watches.output.write(writer, text) {
-        Ok(()) => Ok(()),
+        Ok(()) => {
+            watches.why = next_step(alloc, &project, &found);
+            Ok(())
+        }
         Err(_) => Err(CommandFault::Write),
     }
 }
@@ -120,5 +128,5 @@ pub fn solve_to<R: AllocGlobal + Env + Eprint, S: Read + Drop, W: Write, L: Watc
         file: path,
         text: path,
     };
-    end_command(rt, paths, ended)
+    end_command(rt, paths, ended, &watches.why)
 }

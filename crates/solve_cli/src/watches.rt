@@ -12,6 +12,8 @@ pub struct Watches {
     pub(crate) text: FileWatch,
     /// Of what is written.
     pub(crate) output: FileWatch,
+    /// What a second line on standard error says of how the command ended.
+    pub(crate) why: Option<String>,
 }
 
 impl Watches {
@@ -25,6 +27,7 @@ impl Watches {
             file: FileWatch::new(),
             text: FileWatch::new(),
             output: FileWatch::new(),
+            why: None,
         }
     }
 }

@@ -1,0 +1,102 @@
+//! The labels above the sections of a project's file, and their values.
+use crate::lines::{Piece, first_word, number, spells};
+
+/// A label that is read.
+#[derive(Clone, Copy, Debug)]
+pub(crate) struct Label {
+    /// Its bytes without blanks.
+    spelled: &'static [u8],
+    /// The label as a file has it.
+    pub(crate) name: &'static str,
+    /// Its value if no line has it.
+    missing: Option<u64>,
+}
+
+pub(crate) const PROJECTS: Label = Label {
+    spelled: b"projects",
+    name: "projects",
+    missing: Some(1),
+};
+
+pub(crate) const JOBS: Label = Label {
+    spelled: b"jobs(incl.supersource/sink)",
+    name: "jobs (incl. supersource/sink )",
+    missing: None,
+};
+
+pub(crate) const RENEWABLE: Label = Label {
+    spelled: b"-renewable",
+    name: "- renewable",
+    missing: Some(0),
+};
+
+pub(crate) const NONRENEWABLE: Label = Label {
+    spelled: b"-nonrenewable",
+    name: "- nonrenewable",
+    missing: Some(0),
+};
+
+pub(crate) const DOUBLY: Label = Label {
+    spelled: b"-doublyconstrained",
+    name: "- doubly constrained",
+    missing: Some(0),
+};
+
+/// What the head has of a label.
+#[derive(Clone, Copy, Debug)]
+pub(crate) enum Value<'a> {
+    /// No line.
+    Missing,
+    /// A line of this number without a word behind its colon.
+    Empty(usize),
+    /// A word that is no number.
+    Word(Piece<'a>),
+    /// A number, on this line.
+    Number(usize, u64),
+}
+
+/// The bytes behind the first colon, if the bytes before it are the label.
+fn behind<'a>(line: &'a [u8], label: Label) -> Option<&'a [u8]> {
+    let colon = line.iter().position(|b| *b == b':')?;
+    let (front, rest) = line.split_at_checked(colon)?;
+    if spells(front, label.spelled) {
+        rest.get(1..)
+    } else {
+        None
+    }
+}
+
+/// What the first line with this label has behind it.
+pub(crate) fn value_of<'a>(head: &[Piece<'a>], label: Label) -> Value<'a> {
+    for line in head {
+        if let Some(rest) = behind(line.bytes, label) {
+            let Some(word) = first_word(rest) else {
+                return Value::Empty(line.line);
+            };
+            return match number(word) {
+                Some(number) => Value::Number(line.line, number),
+                None => Value::Word(Piece {
+                    line: line.line,
+                    bytes: word,
+                }),
+            };
+        }
+    }
+    Value::Missing
+}
+
+/// The number that the head gives a label, or 0 if it gives none.
+pub(crate) fn count_of(head: &[Piece<'_>], label: Label) -> u64 {
+    match value_of(head, label) {
+        Value::Number(_, number) => number,
+        _ => label.missing.unwrap_or(0),
+    }
+}
+
+/// The line of a label, or 0.
+pub(crate) fn line_of(head: &[Piece<'_>], label: Label) -> usize {
+    match value_of(head, label) {
+        Value::Number(line, _) => line,
+        _ => 0,
+    }
+}

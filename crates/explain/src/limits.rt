@@ -1,0 +1,190 @@
+//! The first number of a project that is above its limit.
+use crate::head::{JOBS, NONRENEWABLE, RENEWABLE, count_of, line_of};
+use crate::lines::{Count, Piece, number};
+use crate::rows::{Row, number_at};
+use crate::sheet::Sheet;
+use psplib_mm::LimitName;
+use std::alloc::{AllocError, Global};
+
+/// A number that is not within its limit.
+#[derive(Clone, Copy, Debug)]
+struct Excess {
+    line: usize,
+    found: u64,
+}
+
+/// The line and the number of the first word among these places that is above the most.
+fn first_above(words: &[Piece<'_>], from: usize, count: usize, most: u64) -> Option<Excess> {
+    let rest = words.get(from..).unwrap_or(&[]);
+    for word in rest.iter().take(count) {
+        let found = number(word.bytes).unwrap_or(0);
+        if found > most {
+            return Some(Excess {
+                line: word.line,
+                found,
+            });
+        }
+    }
+    None
+}
+
+/// The place of the duration of a mode's row.
+fn duration_place(row: &Row) -> usize {
+    let place = row.start.saturating_add(1);
+    if row.has_job {
+        place.saturating_add(1)
+    } else {
+        place
+    }
+}
+
+/// The first duration above 1,000.
+fn long_mode(words: &[Piece<'_>], rows: &[Row]) -> Option<(Row, Excess)> {
+    for row in rows {
+        if row.mode.is_some()
+            && let Some(excess) = first_above(words, duration_place(row), 1, 1_000)
+        {
+            return Some((*row, excess));
+        }
+    }
+    None
+}
+
+/// The first request or consumption above 1,000,000.
+fn great_request(words: &[Piece<'_>], rows: &[Row], resources: usize) -> Option<(Row, Excess)> {
+    for row in rows {
+        let from = duration_place(row).saturating_add(1);
+        if row.mode.is_some()
+            && let Some(excess) = first_above(words, from, resources, 1_000_000)
+        {
+            return Some((*row, excess));
+        }
+    }
+    None
+}
+
+/// The first job with no mode, or with more than ten.
+fn odd_job(words: &[Piece<'_>], rows: &[Row]) -> Option<(Row, Excess)> {
+    for row in rows {
+        let place = row.start.saturating_add(1);
+        let found = number_at(words, place);
+        if found == 0 || found > 10 {
+            let line = words.get(place)?.line;
+            return Some((*row, Excess { line, found }));
+        }
+    }
+    None
+}
+
+/// The sum of all jobs' longest durations.
+fn horizon_of(words: &[Piece<'_>], rows: &[Row]) -> u64 {
+    let mut total = 0u64;
+    let mut longest = 0u64;
+    for row in rows {
+        if row.has_job {
+            total = total.saturating_add(longest);
+            longest = 0;
+        }
+        if row.mode.is_some() {
+            longest = longest.max(number_at(words, duration_place(row)));
+        }
+    }
+    total.saturating_add(longest)
+}
+
+/// What is said of a number of a mode.
+fn tell_mode(
+    alloc: Global,
+    told: Option<(Row, Excess)>,
+    what: &str,
+    most: u64,
+) -> Result<Option<String>, AllocError> {
+    let Some((row, excess)) = told else {
+        return Ok(None);
+    };
+    let (job, mode) = (row.job, row.mode.unwrap_or(0));
+    let (line, found) = (excess.line, Count(excess.found));
+    Ok(Some(format!(in alloc;
+        "line {line}: {what} {found} of mode {mode} of job {job} is above {most}"
+    )?))
+}
+
+/// What is said of a count of the head.
+fn tell_count(
+    alloc: Global,
+    line: usize,
+    count: u64,
+    what: &str,
+    allowed: &str,
+) -> Result<Option<String>, AllocError> {
+    let found = Count(count);
+    Ok(Some(format!(in alloc;
+        "line {line}: {what}: {found} are found, and {allowed} are allowed"
+    )?))
+}
+
+/// Where a limit is broken.
+pub(crate) fn why_limit(
+    alloc: Global,
+    sheet: &Sheet<'_>,
+    limit: LimitName,
+) -> Result<Option<String>, AllocError> {
+    let head = sheet.head.as_slice();
+    match limit {
+        LimitName::Jobs => {
+            let (line, jobs) = (line_of(head, JOBS), count_of(head, JOBS));
+            tell_count(alloc, line, jobs, "jobs", "1 to 202")
+        }
+        LimitName::Renewable => {
+            let (line, count) = (line_of(head, RENEWABLE), count_of(head, RENEWABLE));
+            tell_count(alloc, line, count, "renewable resources", "0 to 8")
+        }
+        LimitName::Nonrenewable => {
+            let (line, count) = (line_of(head, NONRENEWABLE), count_of(head, NONRENEWABLE));
+            tell_count(alloc, line, count, "nonrenewable resources", "0 to 8")
+        }
+        LimitName::Modes => match odd_job(&sheet.precedence, &sheet.jobs) {
+            Some((row, excess)) => {
+                let (job, line, found) = (row.job, excess.line, Count(excess.found));
+                Ok(Some(format!(in alloc;
+                    "line {line}: modes of job {job}: {found} are found, and 1 to 10 are allowed"
+                )?))
+            }
+            None => Ok(None),
+        },
+        _ => why_amount(alloc, sheet, limit),
+    }
+}
+
+/// Where a limit of an amount or of the horizon is broken.
+fn why_amount(
+    alloc: Global,
+    sheet: &Sheet<'_>,
+    limit: LimitName,
+) -> Result<Option<String>, AllocError> {
+    match limit {
+        LimitName::Duration => {
+            let told = long_mode(&sheet.requests, &sheet.modes);
+            tell_mode(alloc, told, "duration", 1_000)
+        }
+        LimitName::Request => {
+            let told = great_request(&sheet.requests, &sheet.modes, sheet.resources);
+            tell_mode(alloc, told, "request", 1_000_000)
+        }
+        LimitName::Capacity => {
+            match first_above(&sheet.availabilities, 0, sheet.resources, 1_000_000) {
+                Some(excess) => {
+                    let (line, found) = (excess.line, Count(excess.found));
+                    Ok(Some(format!(in alloc; "line {line}: capacity {found} is above 1000000")?))
+                }
+                None => Ok(None),
+            }
+        }
+        _ => {
+            let total = Count(horizon_of(&sheet.requests, &sheet.modes));
+            Ok(Some(format!(in alloc;
+                "the longest durations of all jobs sum to {total}, which is above 20000"
+            )?))
+        }
+    }
+}

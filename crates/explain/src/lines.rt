@@ -1,0 +1,138 @@
+//! The lines of a text, their words, and how a word is shown.
+use std::alloc::{AllocError, Global};
+use std::{fmt, str};
+
+/// A line or a word, with the number of its line, from 1.
+#[derive(Clone, Copy, Debug)]
+pub(crate) struct Piece<'a> {
+    pub(crate) line: usize,
+    pub(crate) bytes: &'a [u8],
+}
+
+/// The text before its end mark, or the whole text.
+fn shown(text: &[u8]) -> &[u8] {
+    text.split(|b| *b == 0x1A).next().unwrap_or(text)
+}
+
+fn without_return(line: &[u8]) -> &[u8] {
+    match line {
+        [front @ .., b'\r'] => front,
+        _ => line,
+    }
+}
+
+/// The lines of a text up to its end mark.
+pub(crate) fn lines_of(alloc: Global, text: &[u8]) -> Result<Vec<Piece<'_>>, AllocError> {
+    let mut lines = Vec::new(alloc);
+    let mut number = 0usize;
+    for line in shown(text).split(|b| *b == b'\n') {
+        number = number.saturating_add(1);
+        lines.push(Piece {
+            line: number,
+            bytes: without_return(line),
+        })?;
+    }
+    Ok(lines)
+}
+
+fn is_blank(b: u8) -> bool {
+    b == b' ' || b == b'\t'
+}
+
+/// Whether a line without its blanks is this text.
+pub(crate) fn spells(line: &[u8], text: &[u8]) -> bool {
+    let mut rest = text;
+    for b in line {
+        if !is_blank(*b) {
+            match rest {
+                [first, others @ ..] if first == b => rest = others,
+                _ => return false,
+            }
+        }
+    }
+    rest.is_empty()
+}
+
+/// Whether a line has no word, or only `*` or only `-` beside its blanks.
+pub(crate) fn is_rule(line: &[u8]) -> bool {
+    let mut marks = line.iter().filter(|b| !is_blank(**b));
+    match marks.next() {
+        None => true,
+        Some(first) => (*first == b'*' || *first == b'-') && marks.all(|b| b == first),
+    }
+}
+
+/// Adds the words of a line.
+pub(crate) fn push_words<'a>(
+    words: &mut Vec<Piece<'a>>,
+    line: Piece<'a>,
+) -> Result<(), AllocError> {
+    for word in line.bytes.split(|b| is_blank(*b)) {
+        if !word.is_empty() {
+            words.push(Piece {
+                line: line.line,
+                bytes: word,
+            })?;
+        }
+    }
+    Ok(())
+}
+
+/// The first word of these bytes.
+pub(crate) fn first_word(bytes: &[u8]) -> Option<&[u8]> {
+    bytes.split(|b| is_blank(*b)).find(|word| !word.is_empty())
+}
+
+/// The number that a word of digits writes, or the greatest `u64` if it is above.
+pub(crate) fn number(word: &[u8]) -> Option<u64> {
+    if word.is_empty() {
+        return None;
+    }
+    let mut value = 0u64;
+    for b in word {
+        if !b.is_ascii_digit() {
+            return None;
+        }
+        value = value
+            .saturating_mul(10)
+            .saturating_add(u64::from(*b - b'0'));
+    }
+    Some(value)
+}
+
+/// A number as it is shown: `number` gives the greatest one for all of 20 digits or more.
+#[derive(Clone, Copy, Debug)]
+pub(crate) struct Count(pub(crate) u64);
+
+impl fmt::Display for Count {
+    fn fmt<W: fmt::Write>(&self, f: &mut fmt::Formatter<W>) -> fmt::Result {
+        let number = self.0;
+        if number == u64::MAX {
+            write!(f, "a number of 20 digits or more")
+        } else {
+            write!(f, "{number}")
+        }
+    }
+}
+
+/// How many lines there are, without an empty one behind the last line feed.
+pub(crate) fn count_lines(lines: &[Piece<'_>]) -> usize {
+    match lines.last() {
+        Some(last) if last.bytes.is_empty() => lines.len().saturating_sub(1),
+        _ => lines.len(),
+    }
+}
+
+/// The most bytes of a word that are shown.
+const MOST_SHOWN: usize = 40;
+
+/// A word as it is shown: a longer one, or one that a terminal might obey, is named instead.
+pub(crate) fn shown_word(word: &[u8]) -> &str {
+    if word.len() > MOST_SHOWN {
+        return "a long word";
+    }
+    if !word.iter().all(|b| b.is_ascii_graphic()) {
+        return "a word with other signs than ASCII has";
+    }
+    str::from_utf8(word).unwrap_or("a word")
+}

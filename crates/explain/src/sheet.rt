@@ -1,0 +1,58 @@
+//! A project's file, line by line and row by row.
+use crate::head::{JOBS, NONRENEWABLE, RENEWABLE, count_of};
+use crate::lines::{Piece, lines_of};
+use crate::rows::{Row, modes_of, precedence_rows, request_rows};
+use crate::sections::{head_of, section};
+use psplib_mm::SectionName;
+use std::alloc::{AllocError, Global};
+
+/// The lines of a file, the words of its sections and their rows.
+#[derive(Drop)]
+pub(crate) struct Sheet<'a> {
+    /// All lines.
+    pub(crate) lines: Vec<Piece<'a>>,
+    /// Those above the first title.
+    pub(crate) head: Vec<Piece<'a>>,
+    /// The words of the first section.
+    pub(crate) precedence: Vec<Piece<'a>>,
+    /// The words of the second section.
+    pub(crate) requests: Vec<Piece<'a>>,
+    /// The words of the last section.
+    pub(crate) availabilities: Vec<Piece<'a>>,
+    /// The rows of the first section.
+    pub(crate) jobs: Vec<Row>,
+    /// The rows of the second section.
+    pub(crate) modes: Vec<Row>,
+    /// How many resources there are.
+    pub(crate) resources: usize,
+}
+
+/// The number of resources that the head gives.
+fn resources_of(head: &[Piece<'_>]) -> usize {
+    let count = count_of(head, RENEWABLE).saturating_add(count_of(head, NONRENEWABLE));
+    usize::try_from(count).unwrap_or(usize::MAX)
+}
+
+/// Reads a file's text as far as its titles and labels go.
+pub(crate) fn sheet_of(alloc: Global, text: &[u8]) -> Result<Sheet<'_>, AllocError> {
+    let lines = lines_of(alloc, text)?;
+    let mut head = Vec::new(alloc);
+    head.extend_from_slice(head_of(&lines))?;
+    let precedence = section(alloc, &lines, SectionName::PrecedenceRelations)?;
+    let requests = section(alloc, &lines, SectionName::RequestsDurations)?;
+    let availabilities = section(alloc, &lines, SectionName::ResourceAvailabilities)?;
+    let resources = resources_of(&head);
+    let jobs = precedence_rows(alloc, &precedence, count_of(&head, JOBS))?;
+    let counts = modes_of(alloc, &precedence, &jobs)?;
+    let modes = request_rows(alloc, &requests, &counts, resources)?;
+    Ok(Sheet {
+        lines,
+        head,
+        precedence,
+        requests,
+        availabilities,
+        jobs,
+        modes,
+        resources,
+    })
+}

@@ -1,0 +1,145 @@
+//! Why a word of a command line is refused.
+use crate::near::nearest;
+use std::alloc::Global;
+use std::io::ErrorKind;
+
+/// All commands, also those of scripts and of the program of certificates.
+const COMMANDS: [&str; 13] = [
+    "check",
+    "solve",
+    "verify",
+    "draw",
+    "bench",
+    "prove",
+    "replay",
+    "serve",
+    "clauses",
+    "certify",
+    "bound",
+    "infeasible",
+    "help",
+];
+
+/// The words of searches that have no seed, and the fronts of those that have one.
+const SEARCHES: [&str; 7] = [
+    "tree",
+    "rule:lft",
+    "rule:mts",
+    "rule:spt",
+    "sample:1",
+    "improve:1",
+    "all",
+];
+
+/// What a word that names no search could be, and which words do.
+pub fn why_no_search(alloc: Global, word: &str) -> Option<String> {
+    let mut text = String::new(alloc);
+    if let Some(near) = nearest(alloc, word, &SEARCHES) {
+        write!(text, "{near} is near; ").ok()?;
+    }
+    text.push_str(
+        "searches are tree, rule:lft, rule:mts, rule:spt, sample:SEED, improve:SEED and all, with commas between them, a SEED of 1 to 18 digits",
+    ).ok()?;
+    Some(text)
+}
+
+/// What a word that is no command could be, and which words are.
+fn why_no_command(alloc: Global, word: &str) -> Option<String> {
+    let mut text = String::new(alloc);
+    if let Some(near) = nearest(alloc, word, &COMMANDS) {
+        write!(text, "{near} is near; ").ok()?;
+    }
+    text.push_str("commands are ").ok()?;
+    for (place, command) in COMMANDS.iter().enumerate() {
+        let comma = if place == 0 { "" } else { ", " };
+        write!(text, "{comma}{command}").ok()?;
+    }
+    Some(text)
+}
+
+/// Whether a word asks for a limit of time.
+fn is_time(word: &str) -> bool {
+    word.starts_with("--time") || word.starts_with("--seconds")
+}
+
+/// The value of a long option: behind `=`, or the next word.
+fn value_of<'a>(words: &'a [String], name: &str) -> Option<&'a str> {
+    let mut is_next = false;
+    for word in words {
+        let word = word.as_str();
+        if is_next {
+            return Some(word);
+        }
+        if let Some(rest) = word.strip_prefix(name) {
+            if rest.is_empty() {
+                is_next = true;
+            } else if let Some(value) = rest.strip_prefix("=") {
+                return Some(value);
+            }
+        }
+    }
+    None
+}
+
+/// Whether a word is a whole number within these bounds.
+fn is_within(word: &str, least: u64, most: u64) -> bool {
+    match word.parse::<u64>() {
+        Ok(number) => least <= number && number <= most,
+        Err(_) => false,
+    }
+}
+
+/// Options with a number: their names, the bounds, and what they take.
+const NUMBERS: [(&str, u64, u64, &str); 3] = [
+    (
+        "--nodes",
+        1,
+        1_000_000_000_000,
+        "--nodes takes a whole number, 1 to 1000000000000, in digits alone",
+    ),
+    (
+        "--port",
+        0,
+        65_535,
+        "--port takes a whole number, 0 to 65535, and 0 for a free port",
+    ),
+    (
+        "--sessions",
+        1,
+        64,
+        "--sessions takes a whole number, 1 to 64",
+    ),
+];
+
+/// Why the words of a command line, the first of which is the program's name, are refused, as far as it is seen from them.
+pub fn why_words(alloc: Global, words: &[String]) -> Option<String> {
+    let command = words.get(1)?.as_str();
+    if !command.starts_with("-") && !COMMANDS.contains(&command) {
+        return why_no_command(alloc, command);
+    }
+    if words.iter().any(|word| is_time(word.as_str())) {
+        return String::from_str(
+            alloc,
+            "no search is limited by time: --nodes N limits its nodes, farm prove --seconds S ends after S seconds with the best, and timeout S farm solve --improvements leaves it as its last line",
+        )
+        .ok();
+    }
+    for (name, least, most, text) in NUMBERS {
+        if let Some(value) = value_of(words, name)
+            && !is_within(value, least, most)
+        {
+            return String::from_str(alloc, text).ok();
+        }
+    }
+    None
+}
+
+/// Why a port could not be listened at.
+pub fn why_no_port(kind: ErrorKind) -> &'static str {
+    match kind {
+        ErrorKind::AddrInUse => "another program listens at it",
+        ErrorKind::PermissionDenied => "ports below 1024 are kept for the system's administrator",
+        ErrorKind::OutOfMemory => "there is no memory for it",
+        _ => "the system refuses it",
+    }
+}

@@ -1,0 +1,78 @@
+//! A picture of a schedule.
+ghost use Rattle.mrcpsp.specs.Schedule.{IsFeasible};
+
+use crate::bars::{Bar, bars_of, times_of};
+use crate::chain::mark_chain;
+use crate::svg::{Picture, Size};
+use mrcpsp::{Project, Schedule};
+use std::alloc::{AllocError, Global};
+
+/// The order of the rows.
+#[derive(Clone, Copy, Debug, PartialEq, Eq)]
+pub enum Order {
+    /// By the numbers of the activities.
+    Number,
+    /// By their starts, and by their numbers among those that start together.
+    Start,
+}
+
+/// What is said of a schedule above its picture.
+#[derive(Clone, Copy, Debug)]
+pub struct Heading<'a> {
+    /// Its makespan, in periods.
+    pub makespan: u32,
+    /// The verdict that its text tells, if it tells one.
+    pub verdict: Option<&'a str>,
+    /// The longest chain of activities by shortest modes, in periods.
+    pub chain: Option<u32>,
+}
+
+/// A feasible schedule as an SVG picture: a bar for each activity with its number and its mode, and under them what is used of
+/// each renewable resource against its capacity. An error is want of memory.
+pub fn draw(
+    alloc: Global,
+    project: &Project,
+    schedule: &Schedule,
+    heading: Heading<'_>,
+    order: Order,
+) -> Result<String, AllocError>
+    requires { IsFeasible project.now schedule.now }
+{
+    let capacities = project.renewable();
+    let mut bars = bars_of(alloc, project, schedule)?;
+    mark_chain(&mut bars);
+    if order == Order::Start {
+        bars.sort_by_key(|bar| bar.start)?;
+    }
+    let times = times_of(alloc, &bars)?;
+    let size = Size {
+        rows: bars.len(),
+        profiles: capacities.len(),
+        span: heading.makespan,
+    };
+    let mut picture = Picture {
+        text: String::new(alloc),
+        size,
+    };
+    put_whole(&mut picture, project, &bars, &times, heading)?;
+    Ok(picture.text)
+}
+
+/// Adds all parts of a picture.
+fn put_whole(
+    picture: &mut Picture,
+    project: &Project,
+    bars: &[Bar<'_>],
+    times: &[u32],
+    heading: Heading<'_>,
+) -> Result<(), AllocError> {
+    picture.put_head()?;
+    picture.put_heading(heading)?;
+    picture.put_stocks(bars, project.nonrenewable())?;
+    picture.put_legend(bars)?;
+    picture.put_bands()?;
+    picture.put_marks()?;
+    picture.put_bars(bars)?;
+    picture.put_profiles(bars, times, project.renewable())?;
+    picture.text.push_str("</svg>\n")
+}

@@ -1,0 +1,21 @@
+//! The marks of the axis.
+
+/// How many periods lie between two marks, so that there are at most 20.
+pub(crate) fn step_of(span: u32) -> u32 {
+    let mut step = 1u32;
+    for _ in 0..10 {
+        for factor in [1u32, 2, 5] {
+            let next = step.saturating_mul(factor);
+            if next.saturating_mul(20) >= span {
+                return next;
+            }
+        }
+        step = step.saturating_mul(10);
+    }
+    step
+}
+
+/// A number of things, in the singular where it is 1.
+pub(crate) fn plural(count: u64, one: &'static str, more: &'static str) -> &'static str {
+    if count == 1 { one } else { more }
+}

@@ -1,0 +1,50 @@
+//! What a second line says of how a command ended: why its inputs are at fault, or what to do next.
+ghost use Rattle.std.specs.Prelude.{◌≡◌, IfSome};
+ghost use Rattle.mrcpsp.specs.Values.{bound};
+
+use crate::fault::VerifyFault;
+use crate::searching::Found;
+use explain::{why_breach_of, why_file, why_no_schedule};
+use measures::Measures;
+use mrcpsp::Project;
+use std::alloc::Global;
+use strategy::Verdict;
+
+/// Why there is no feasible schedule in these texts of a project's file and of a schedule.
+pub(crate) fn why_unverified(
+    alloc: Global,
+    file: &[u8],
+    text: &[u8],
+    fault: VerifyFault,
+) -> Option<String> {
+    match fault {
+        VerifyFault::File(fault) => why_file(alloc, file, fault),
+        VerifyFault::Words | VerifyFault::TooLong => why_no_schedule(alloc, text),
+        VerifyFault::Breach(breach) => why_breach_of(alloc, file, text, breach),
+        VerifyFault::NoMemory => None,
+    }
+}
+
+/// The length of the longest chain of activities by shortest modes, in periods. No schedule is shorter.
+pub(crate) fn chain_of(alloc: Global, project: &Project) -> Option<u32>
+    ensures { IfSome result (λ chain. chain ≡ bound project.now) }
+{
+    let measures = Measures::of(alloc, project).ok()?;
+    Some(measures.bound())
+}
+
+/// What a search that is not over leaves to do.
+pub(crate) fn next_step(alloc: Global, project: &Project, found: &Found) -> Option<String> {
+    if found.verdict != Verdict::Going {
+        return None;
+    }
+    let chain = chain_of(alloc, project)?;
+    let step = if found.makespan == Some(chain) {
+        "so this one is optimal: farm certify FILE SCHEDULE shows it"
+    } else {
+        "more --nodes or --search all may find a shorter one, and farm prove FILE looks for a proof too"
+    };
+    format!(in alloc;
+        "open: each schedule takes at least {chain} periods, by the longest chain of activities; {step}"
+    ).ok()
+}

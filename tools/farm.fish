@@ -1,0 +1,32 @@
+# Completion of farm's words in fish.
+set -l commands check solve verify draw bench prove replay serve clauses certify bound infeasible
+
+function __farm_searches
+    set -l word (commandline -ct)
+    set -l before (string replace -rf '^(--search=)?(.*,)?[^,]*$' '$2' -- $word)
+    for search in all tree rule:lft rule:mts rule:spt sample: improve:
+        echo "$before$search"
+    end
+end
+
+complete -c farm -n "not __fish_seen_subcommand_from $commands help" -f -a "$commands help"
+complete -c farm -n "not __fish_seen_subcommand_from $commands help" -l version -d 'The version'
+complete -c farm -l help -d Help
+complete -c farm -n "__fish_seen_subcommand_from help" -f -a "$commands"
+complete -c farm -n "__fish_seen_subcommand_from solve bench" -l search -x -a '(__farm_searches)' -d 'Searches with commas between them'
+complete -c farm -n "__fish_seen_subcommand_from solve bench prove" -l nodes -x -d 'The most nodes of each search'
+complete -c farm -n "__fish_seen_subcommand_from solve" -l json -d 'Print one JSON object'
+complete -c farm -n "__fish_seen_subcommand_from solve bench" -l progress -d 'Tell how far the search is'
+complete -c farm -n "__fish_seen_subcommand_from solve bench" -l quiet -d 'Tell nothing of that'
+complete -c farm -n "__fish_seen_subcommand_from solve" -l improvements -d 'Print each better schedule'
+complete -c farm -n "__fish_seen_subcommand_from draw" -l order -x -a 'number start' -d 'The order of the rows'
+complete -c farm -n "__fish_seen_subcommand_from bench prove" -l jobs -x -d 'How many processes'
+complete -c farm -n "__fish_seen_subcommand_from bench" -l optima -r -d 'Known optima'
+complete -c farm -n "__fish_seen_subcommand_from prove" -l seconds -x -d 'The most seconds'
+complete -c farm -n "__fish_seen_subcommand_from prove" -l from -r -d 'A schedule to begin with'
+complete -c farm -n "__fish_seen_subcommand_from prove" -l keep -r -d 'A folder for the proof'
+complete -c farm -n "__fish_seen_subcommand_from prove" -l solver -x -a 'cadical kissat' -d 'The solver'
+complete -c farm -n "__fish_seen_subcommand_from replay serve" -l config -r -d 'The configuration, a JSON file'
+complete -c farm -n "__fish_seen_subcommand_from replay" -l strict -d 'End with status 1 if a request is refused'
+complete -c farm -n "__fish_seen_subcommand_from serve" -l port -x -d 'The port, or 0 for a free one'
+complete -c farm -n "__fish_seen_subcommand_from serve" -l sessions -x -d 'How many connections are answered, 1 to 64'

@@ -1,0 +1,59 @@
+#compdef farm
+# Completion of farm's words in zsh. It is a file _farm in a folder of fpath.
+
+_farm_searches() {
+    compset -P '*,'
+    local -a whole begun
+    whole=(all:'a good list of searches' tree:'the precedence tree, exact' 'rule\:lft:one pass, latest finish first' 'rule\:mts:one pass, most successors first' 'rule\:spt:one pass, shortest first')
+    begun=('sample\::passes drawn from a SEED' 'improve\::local search from a SEED')
+    _describe -t searches search whole -S '' -- begun -S ''
+}
+
+_farm() {
+    local -a commands
+    commands=(
+        check:'read a project and print what it holds'
+        solve:'search for a short schedule'
+        verify:'tell whether a schedule is feasible'
+        draw:'draw a feasible schedule as SVG'
+        bench:'rows of many files'
+        prove:'look for a schedule and a proof that none is shorter'
+        replay:'replay a script of requests'
+        serve:'answer requests over connections'
+        clauses:'write the clauses of a project and a bound'
+        certify:'check a schedule and a proof'
+        bound:'check a proof of a lower bound'
+        infeasible:'check a proof that no schedule is feasible'
+        help:'help on all commands or on one'
+    )
+    if ((CURRENT == 2)); then
+        _describe -t commands command commands
+        _arguments '--help[help]' '--version[the version]'
+        return
+    fi
+    local command=$words[2]
+    shift words
+    ((CURRENT--))
+    case $command in
+    help) _describe -t commands command commands ;;
+    solve)
+        _arguments '--search[searches with commas between them]:search:_farm_searches' '--nodes[the most nodes of each search]:nodes:' '--json[print one JSON object]' \
+            '--progress[tell how far the search is]' '--quiet[tell nothing of that]' '--improvements[print each better schedule]' '--help[help]' '1:file:_files -g "*.mm"'
+        ;;
+    verify) _arguments '--help[help]' '1:file:_files -g "*.mm"' '2:schedule:_files' ;;
+    draw) _arguments '--order[the order of the rows]:order:(number start)' '--help[help]' '1:file:_files -g "*.mm"' '2:schedule:_files' ;;
+    bench)
+        _arguments '--search[searches]:search:_farm_searches' '--nodes[nodes]:nodes:' '--jobs[processes]:jobs:' '--optima[known optima]:file:_files' '--progress[tell progress]' \
+            '--quiet[tell nothing]' '--help[help]' '*:file or folder:_files'
+        ;;
+    prove)
+        _arguments '--seconds[the most seconds]:seconds:' '--jobs[processes]:jobs:' '--nodes[nodes before the solver]:nodes:' '--from[a schedule to begin with]:schedule:_files' \
+            '--keep[keep the proof in a folder]:folder:_files -/' '--solver[the solver]:solver:(cadical kissat)' '--help[help]' '1:file:_files -g "*.mm"'
+        ;;
+    replay) _arguments '--config[the configuration]:file:_files -g "*.json"' '--strict[end with 1 if a request is refused]' '--help[help]' '1:script:_files' ;;
+    serve) _arguments '--config[the configuration]:file:_files -g "*.json"' '--port[the port, or 0]:port:' '--sessions[connections, 1 to 64]:sessions:' '--help[help]' ;;
+    *) _arguments '--help[help]' '*:file:_files' ;;
+    esac
+}
+
+_farm "$@"
