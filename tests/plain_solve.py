@@ -161,12 +161,16 @@ def verified(p, text):
     return False, f"breach {name}({', '.join(str(n) for n in told[1:])})"
 
 
+def counted(number, one, many):
+    return f"{number} {one if number == 1 else many}"
+
+
 def titles(p, text):
     """The titles in a picture of a feasible schedule, in their order."""
     modes, starts = schedule_of(text)
     lasts = [start + p.modes[j][mode - 1][0] for j, (mode, start) in enumerate(zip(modes, starts))]
     return [
-        f"A schedule of {p.n} activities that takes {max(lasts)} periods",
+        f"A schedule of {counted(p.n, 'activity', 'activities')} that takes {counted(max(lasts), 'period', 'periods')}",
         *(f"Activity {j} in mode {mode}, from {start} to {last}" for j, (mode, start, last) in enumerate(zip(modes, starts, lasts), 1)),
         *(f"Use of renewable resource {k}, of which there are {capacity} in each period" for k, capacity in enumerate(p.capacities, 1)),
     ]
