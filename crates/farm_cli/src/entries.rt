@@ -10,26 +10,31 @@ fn entries_of_turns(quanta: u64, slice: u64) -> u64 {
     quanta.div_ceil(slice.max(1)).saturating_mul(2)
 }
 
-/// Tells that a tenant's entries do not last for its quanta.
-fn tell_scarce<R: Eprint>(rt: &R, line: &TenantLine, slice: u64) {
-    let needed = entries_of_turns(line.quanta, slice);
-    let (quanta, entries) = (line.quanta, line.entries);
+/// Tells that a tenant's entries do not last for the quanta that its purse was granted.
+fn tell_scarce<R: Eprint>(rt: &R, line: &TenantLine, quanta: u64, slice: u64) {
+    let (needed, entries) = (entries_of_turns(quanta, slice), line.entries);
     if needed <= entries {
         return;
     }
+    let whose = if quanta == line.quanta {
+        ""
+    } else {
+        "purse's "
+    };
     if let Ok(name) = str::from_utf8(line.name.as_bytes()) {
         let _ = eprintln!(rt;
-            "farm: tenant {name}: its {entries} entries do not last for its {quanta} quanta: turns of {slice} nodes use {needed} entries, two each, and a result needs one more"
+            "farm: tenant {name}: its {entries} entries do not last for its {whose}{quanta} quanta: turns of {slice} nodes use {needed} entries, two each, and a result needs one more"
         );
     }
 }
 
-/// Tells of each tenant whose entries do not last for its quanta, if a second line is asked for.
+/// Tells of each tenant whose entries do not last for its purse's quanta, if a second line is asked for.
 pub(crate) fn tell_scarce_entries<R: Env + Eprint>(rt: &R, config: &Config) {
     if !explains(rt) {
         return;
     }
-    for line in config.tenants() {
-        tell_scarce(rt, line, config.slice());
+    for (tenant, line) in config.tenants().iter().enumerate() {
+        let purse = config.purse_of(tenant as u32);
+        tell_scarce(rt, line, config.granted(purse), config.slice());
     }
 }
