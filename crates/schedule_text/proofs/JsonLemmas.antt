@@ -1,8 +1,9 @@
 -- The places of a schedule as JSON, and the lines of a text.
 use Rattle.std.proofs.Common.{◌≡◌, ◌⊎◌, ⊎_elim, inl, inr, ℕ, ◌+◌, ◌-◌, ◌<◌, List, [], ◌∷◌, ◌++◌, length, take, drop, drop-cons, get_or, refl, sym, ap, ◌∙◌, arith, add-one, subst}
 use Rattle.std.proofs.lemmas.List.{take-append-drop, take_more, take_rest}
-use Rattle.schedule_text.specs.ScheduleJson.{placed_from, IsEnd}
-use Rattle.schedule_text.specs.declared.json.Place.{Place}
+use Rattle.schedule_text.specs.Places.{placed_from}
+use Rattle.schedule_text.specs.ScheduleJson.{IsEnd}
+use Rattle.schedule_text.specs.declared.places.Place.{Place}
 
 -- one more activity
 pub placed_more : (j : ℕ) (modes starts : List ℕ) (place : Place) → length modes ≡ length starts → place.activity ≡ j + length modes

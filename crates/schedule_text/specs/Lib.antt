@@ -1,2 +1,4 @@
+pub mod Places
+pub mod ScheduleRows
 pub mod ScheduleText
 pub mod ScheduleJson

@@ -1,24 +1,15 @@
 -- A schedule as JSON (RFC 8259): an array with an object for each activity, in any order, or an object with such an array as `schedule`.
-use Rattle.std.specs.Prelude.{◌≡◌, ◌⊎◌, ℕ, ◌+◌, nat_le, cond, List, [], ◌∷◌, ◌++◌, length, Option, Some, None, option_and_then, codes}
-use Rattle.std.specs.List.Sorted.{IsPermutation}
+use Rattle.std.specs.Prelude.{◌≡◌, ◌⊎◌, ℕ, List, [], ◌∷◌, ◌++◌, Option, Some, None, option_and_then, option_map, codes}
 use Rattle.serde_json.specs.Data.{Data, Items, no_items, item}
 use Rattle.serde_json.specs.Read.{read}
 use Rattle.serde_json.specs.Find.{get, as_number, as_u64, as_array}
 use Rattle.mrcpsp.specs.Schedule.{ScheduleData}
-use Rattle.schedule_text.specs.declared.json.Place.{Place}
+use Rattle.schedule_text.specs.Places.{◌>>=◌, counted, ArePlaces}
+use Rattle.schedule_text.specs.declared.places.Place.{Place}
 
-infixl 10 ◌>>=◌
-abbrev pub ◌>>=◌ : {A B : Type 0} → Option A → (A → Option B) → Option B
-None >>= f = None
-(Some x) >>= f = f x
-
--- a number below 2^32
-abbrev pub small : ℕ → Option ℕ
-small n = cond (nat_le n 4294967295) (Some n) None
-
--- the natural number below 2^32 at a key
+-- the natural number at a key
 abbrev pub number_at : List ℕ → Data → Option ℕ
-number_at key value = option_and_then small (option_and_then as_u64 (option_and_then as_number (get key value)))
+number_at key value = option_map counted (option_and_then as_u64 (option_and_then as_number (get key value)))
 
 -- an activity with its mode and its start
 abbrev pub place_of : Data → Option Place
@@ -42,17 +33,6 @@ array_at value (Some at) = as_array at
 
 abbrev pub array_of : Data → Option Items
 array_of value = array_at value (get (codes "schedule") value)
-
--- the places of a schedule's activities, from number j on
-abbrev pub placed_from : ℕ → List ℕ → List ℕ → List Place
-placed_from j [] starts = []
-placed_from j (mode ∷ modes) [] = []
-placed_from j (mode ∷ modes) (start ∷ starts) = record { activity = j; mode = mode; start = start } ∷ placed_from (j + 1) modes starts
-
--- these are a mode and a start for each activity, in any order
-pub record ArePlaces (places : List Place) (s : ScheduleData) : Type 0 where
-  pub even : length s.modes ≡ length s.starts
-  pub whole : IsPermutation places (placed_from 1 s.modes s.starts)
 
 -- the whole text, or what stands behind one of its line feeds
 abbrev pub IsEnd : List ℕ → List ℕ → Type 0
