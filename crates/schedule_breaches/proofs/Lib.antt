@@ -1,0 +1,3 @@
+pub mod MoreLemmas
+pub mod BrokenLemmas
+pub mod AllLemmas
