@@ -14,7 +14,6 @@ use crate::searching::MOST_NODES;
 use crate::several::MOST_SEARCHES;
 use crate::showing::{draw_to, verify_to};
 use crate::solving::{Asked, solve_to};
-use crate::telling::verdict_word;
 use crate::verifying::Verified;
 use crate::watches::Watches;
 use explain::{why_no_search, why_words};
@@ -110,10 +109,11 @@ fn refuse_one<R: Eprint>(rt: &R) -> ExitCode
 fn picture(alloc: Global, verified: &Verified, order: Order) -> Result<String, AllocError>
     requires { IsFeasible verified.now.project verified.now.schedule }
 {
+    let chain = chain_of(alloc, &verified.project);
     let heading = Heading {
         makespan: verified.makespan,
-        verdict: verified.told.map(verdict_word),
-        chain: chain_of(alloc, &verified.project),
+        verdict: (chain == Some(verified.makespan)).then_some("optimal"),
+        chain,
     };
     draw(alloc, &verified.project, &verified.schedule, heading, order)
 }

@@ -7,7 +7,6 @@ use mrcpsp::{Project, Schedule, check};
 use psplib_mm::read;
 use schedule_text::{MOST_BYTES, read_schedule};
 use std::alloc::Global;
-use strategy::Verdict;
 
 /// A project, a feasible schedule of it, and that schedule's makespan in periods.
 #[derive(Debug, Drop)]
@@ -18,36 +17,6 @@ pub struct Verified {
     pub schedule: Schedule,
     /// The latest finish, in periods.
     pub makespan: u32,
-    /// The verdict that its text tells, if it tells one. It is not compared with anything.
-    pub told: Option<Verdict>,
-}
-
-/// Whether a text has these bytes.
-fn has(text: &[u8], bytes: &[u8]) -> bool {
-    text.windows(bytes.len().max(1)).any(|part| part == bytes)
-}
-
-/// The last line of a text that is not empty.
-fn last_line(text: &[u8]) -> &[u8] {
-    text.split(|b| *b == b'\n')
-        .filter(|line| !line.is_empty())
-        .last()
-        .unwrap_or(&[])
-}
-
-/// The verdict that the last line of a text tells, as a result line or as JSON.
-fn verdict_in(text: &[u8]) -> Option<Verdict> {
-    let line = last_line(text);
-    if has(line, b"optimal") {
-        return Some(Verdict::Optimal);
-    }
-    if has(line, b"open") {
-        return Some(Verdict::Going);
-    }
-    if has(line, b"ended") {
-        return Some(Verdict::Ended);
-    }
-    None
 }
 
 /// The project of a file and the schedule that a text tells, where that is feasible, with its makespan. An error is the first
@@ -75,7 +44,6 @@ pub fn verify(alloc: Global, file: &[u8], text: &[u8]) -> Result<Verified, Verif
             project,
             schedule,
             makespan,
-            told: verdict_in(text),
         }),
         Err(breach) => Err(VerifyFault::Breach(breach)),
     }
