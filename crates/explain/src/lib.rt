@@ -12,10 +12,12 @@
 //! - `sheet`: a file, line by line and row by row.
 //! - `files`: `why_file`.
 //! - `schedules`: why a text tells no schedule, and by how much a schedule breaks a rule.
+//! - `causes`: why no schedule of a project is feasible.
 //! - `words`: why a word of a command line is refused, and why a port is.
 //! - `near`: the nearest of several words.
 #![tactic(auto)]
 
+mod causes;
 mod files;
 mod head;
 mod limits;
@@ -27,6 +29,7 @@ mod sections;
 mod sheet;
 mod words;
 
+pub use causes::why_infeasible;
 pub use files::why_file;
 pub use near::nearest;
 pub use schedules::{why_breach, why_breach_of, why_no_schedule};

@@ -4,7 +4,7 @@ ghost use Rattle.mrcpsp.specs.Values.{bound};
 
 use crate::fault::VerifyFault;
 use crate::searching::Found;
-use explain::{why_breach_of, why_file, why_no_schedule};
+use explain::{why_breach_of, why_file, why_infeasible, why_no_schedule};
 use measures::Measures;
 use mrcpsp::Project;
 use std::alloc::Global;
@@ -33,8 +33,11 @@ pub(crate) fn chain_of(alloc: Global, project: &Project) -> Option<u32>
     Some(measures.bound())
 }
 
-/// What a search that is not over leaves to do.
+/// What a search that is not over leaves to do, and why an infeasible project is.
 pub(crate) fn next_step(alloc: Global, project: &Project, found: &Found) -> Option<String> {
+    if found.verdict == Verdict::Infeasible {
+        return why_infeasible(alloc, project);
+    }
     if found.verdict != Verdict::Going {
         return None;
     }
