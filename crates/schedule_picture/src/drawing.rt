@@ -24,7 +24,7 @@ pub struct Heading<'a> {
     /// The verdict that its text tells, if it tells one.
     pub verdict: Option<&'a str>,
     /// The longest chain of activities by shortest modes, in periods.
-    pub chain: Option<u32>,
+    pub chain: u32,
 }
 
 /// A feasible schedule as an SVG picture: a bar for each activity with its number and its mode, and under them what is used of
