@@ -445,12 +445,20 @@ def schedule_text(r, project):
     if numbers and r.random() < 0.3:
         r.choice(numbers)[r.randrange(3)] += r.choice([-1, 1, 1, 2**32, 1000000000])
     words = " ".join(":".join(str(n) for n in place) for place in numbers)
-    form = r.randrange(5)
+    form = r.randrange(7)
     if form == 0:
         return (words + r.choice(["", "\n"])).encode()
     if form == 1:
         line = f"makespan 3 open {words}\n"
         return (r.choice(["", "nodes 4 best 3 open\n", line]) + line).encode()
+    if form == 5:
+        words = "".join(":".join(str(n) for n in place) + r.choice([" ", "  ", "\n", "\t", "\r\n"]) for place in numbers)
+        return (r.choice(["", "\n", "best 3\n"]) + words + r.choice(["", "\n"])).encode()
+    if form == 6:
+        if r.random() < 0.5:
+            r.shuffle(numbers)
+        rows = [r.choice([",", ",", ", ", " ,"]).join(str(n) for n in place) for place in numbers]
+        return r.choice(["\n", "\r\n"]).join([*r.choice([[], ["activity,mode,start"]]), *rows, *r.choice([[], [""]])]).encode()
     array = [dict(zip(["activity", "mode", "start"], place)) for place in numbers]
     if r.random() < 0.5:
         r.shuffle(array)

@@ -3,15 +3,16 @@
 
     plain_solve.py solve FILE KIND[,KIND..] NODES       the two lines of several searches, one after another
     plain_solve.py verify FILE SCHEDULE                 'feasible makespan M', or what is wrong, with status 1
+    plain_solve.py scatter FILE N FOLDER                writes N random schedules, and says what `farm verify --all` says of each, with its status
     plain_solve.py rows KIND[,KIND..] NODES FILE..      the rows of a bench, with a star for the seconds
 
-Each search is that of plain_searches.py. A schedule's text is read by its last line: words J:MODE:START, or JSON.
+Each search is that of plain_searches.py. A schedule's text ends with words J:MODE:START, or is of lines J,MODE,START, or ends with JSON.
 """
 import json
 import os
 import re
 import sys
-from itertools import islice, takewhile
+from itertools import islice
 
 sys.dont_write_bytecode = True
 sys.path.insert(0, os.path.dirname(os.path.realpath(__file__)))
@@ -22,8 +23,9 @@ DECIDED = ["optimal", "infeasible"]
 MOST_START = 1_000_000_000
 # The most bytes of a schedule's text.
 MOST_TEXT = 1_048_576
-# A number of more digits than these is none of a schedule.
-WORD = re.compile(rb"(0|[1-9][0-9]{,9}):(0|[1-9][0-9]{,9}):(0|[1-9][0-9]{,9})")
+# A greater number of a schedule counts as this.
+MOST_NUMBER = 2**32 - 1
+BLANKS = b" \t\n\x0c\r"
 
 
 def found(p, kind, most):
@@ -82,19 +84,22 @@ def output(p, kinds, most, is_improving, is_json):
     return text + (told_as_json(p, *together(p, kinds, most)) if is_json else solved(p, kinds, most))
 
 
-def is_hidden(text):
-    """Whether words of a schedule stand right behind such a word, where the program does not look for them."""
-    return re.search(rb"[0-9]:[0-9]+:[0-9]+[ \t\n\x0c\r]+1:[0-9]+:[0-9]", text) is not None
-
-
 def no_number(word):
     """Python's reader takes NaN, which is no JSON."""
     raise ValueError(word)
 
 
 def whole(word):
-    """A number with a sign is no natural one, also -0, nor one of more digits than a schedule's have."""
-    return None if word.startswith("-") or len(word) > 10 else int(word)
+    """A number with a sign is no natural one, also -0, nor is one of 2^64 and more."""
+    return None if word.startswith("-") or int(word) >= 2**64 else int(word)
+
+
+def in_order(places):
+    """Modes and starts of activities, each once, or None."""
+    of = {activity: (mode, start) for activity, mode, start in places}
+    if sorted(it[0] for it in places) != list(range(1, len(places) + 1)):
+        return None
+    return [of[j][0] for j in sorted(of)], [of[j][1] for j in sorted(of)]
 
 
 def json_schedule(text):
@@ -107,41 +112,50 @@ def json_schedule(text):
         value = value.get("schedule")
     if not isinstance(value, list):
         return None
-    of = {}
+    places = []
     for place in value:
         if not isinstance(place, dict):
             return None
         numbers = [place.get(key) for key in ["activity", "mode", "start"]]
-        if any(type(n) is not int or not 0 <= n < 2**32 for n in numbers):
+        if any(type(n) is not int for n in numbers):
             return None
-        of[numbers[0]] = numbers[1:]
-    if sorted(of) != list(range(1, len(value) + 1)):
+        places.append([min(n, MOST_NUMBER) for n in numbers])
+    return in_order(places)
+
+
+def place(text, mark):
+    """The three numbers between marks, or None."""
+    parts = [it.strip(BLANKS) for it in text.split(mark)]
+    if len(parts) != 3 or not all(re.fullmatch(rb"[0-9]+", it) for it in parts):
         return None
-    return [of[j][0] for j in sorted(of)], [of[j][1] for j in sorted(of)]
+    return [min(int(it), MOST_NUMBER) for it in parts]
 
 
 def word_schedule(text):
     """Modes and starts of the words `1:MODE:START`, `2:MODE:START` and so on with which a text ends, or None."""
-    try:
-        text.decode("utf-8")
-    except ValueError:
+    words = [it for it in re.split(rb"[ \t\n\x0c\r]", text) if it]
+    # (the last activity tells how many there are)
+    last = place(words[-1], b":") if words else None
+    if last is None or not 0 < last[0] <= len(words):
         return None
-    if text.endswith(b"\n"):
-        text = text[:-1]
-    places = [[int(n) for n in word.groups()] for word in reversed([*takewhile(bool, map(WORD.fullmatch, reversed(text.split(b" "))))])]
-    # The last activity tells how many there are.
-    places = places[-places[-1][0]:] if places else []
-    if not places or [n[0] for n in places] != list(range(1, len(places) + 1)) or any(max(n) >= 2**32 for n in places):
+    places = [place(it, b":") for it in words[-last[0]:]]
+    if None in places or [it[0] for it in places] != list(range(1, last[0] + 1)):
         return None
-    return [n[1] for n in places], [n[2] for n in places]
+    return in_order(places)
+
+
+def row_schedule(text):
+    """Modes and starts of lines ACTIVITY,MODE,START in any order, or None; a line without a digit says nothing."""
+    places = [place(it, b",") for it in text.split(b"\n") if re.search(rb"[0-9]", it)]
+    return in_order(places) if places and None not in places else None
 
 
 def schedule_of(text):
     lines = text[:-1].split(b"\n")
     last = lines[-1] + text[-1:]
-    for told in [json_schedule(text), json_schedule(last), word_schedule(text)]:
+    for told in [word_schedule(text), row_schedule(text), json_schedule(text), json_schedule(last)]:
         if told is not None:
-            return told if told[0] else None
+            return told
     return None
 
 
@@ -159,6 +173,50 @@ def verified(p, text):
         return True, f"feasible makespan {told[1]}"
     name = {2: "Mode", 3: "Precedence", 4: "Renewable", 5: "Nonrenewable"}[told[0]]
     return False, f"breach {name}({', '.join(str(n) for n in told[1:])})"
+
+
+def precedences(p, starts, lasts):
+    for i, after in enumerate(p.successors):
+        for j in sorted(after):
+            if starts[j] < lasts[i]:
+                yield f"Precedence({i + 1}, {j + 1}): activity {j + 1} starts in period {starts[j]}, before activity {i + 1} ends at {lasts[i]}"
+
+
+def overuses(p, chosen, starts, lasts):
+    for k, capacity in enumerate(p.capacities):
+        for t in sorted(set(starts)):
+            users = [j for j in range(p.n) if starts[j] <= t < lasts[j] and chosen[j][1][k] > 0]
+            total = sum(chosen[j][1][k] for j in users)
+            if total > capacity:
+                yield f"Renewable({k + 1}, {t}): needs {total} of {capacity} in period {t}: activities {', '.join(str(j + 1) for j in users)}"
+
+
+def breaches(p, text):
+    """The lines of all breaches of a schedule of the right shape: modes alone, or else all others."""
+    modes, starts = schedule_of(text)
+    told = [f"Mode({j}): activity {j} is in mode {m}, and has modes 1 to {len(p.modes[j - 1])}" for j, m in enumerate(modes, 1) if not 1 <= m <= len(p.modes[j - 1])]
+    if not told:
+        chosen = [p.modes[j][m - 1] for j, m in enumerate(modes)]
+        lasts = [start + mode[0] for start, mode in zip(starts, chosen)]
+        told = [*precedences(p, starts, lasts), *overuses(p, chosen, starts, lasts)]
+        for k, stock in enumerate(p.stocks):
+            total = sum(mode[2][k] for mode in chosen)
+            if total > stock:
+                told.append(f"Nonrenewable({k + 1}): needs {total} of {stock}")
+    return "".join(f"farm: breach {it}\n" for it in told)
+
+
+def scatter(p, count, folder):
+    """Random schedules, as words and as lines by turns, and what is said of each."""
+    drawn = plain_searches.Drawn(7)
+    for number in range(1, count + 1):
+        modes, starts = plain_searches.random_schedule(p, drawn)
+        mark, between = (":", " ") if number % 2 else (",", "\n")
+        text = between.join(f"{j}{mark}{mode}{mark}{start}" for j, (mode, start) in enumerate(zip(modes, starts), 1)).encode()
+        with open(f"{folder}/{number}", "wb") as file:
+            file.write(text)
+        holds, line = verified(p, text)
+        print(f"{line}\nstatus 0" if holds else f"farm: {line}\n{breaches(p, text)}status 1")
 
 
 def counted(number, one, many):
@@ -192,6 +250,8 @@ def main():
             holds, line = verified(plain_searches.read(sys.argv[2]), file.read())
         print(line if holds else f"farm: {line}")
         sys.exit(0 if holds else 1)
+    elif task == "scatter":
+        scatter(plain_searches.read(sys.argv[2]), int(sys.argv[3]), sys.argv[4])
     else:
         for path in sorted(sys.argv[4:]):
             print(row(os.path.basename(path), plain_searches.read(path), sys.argv[2], int(sys.argv[3])), end="")

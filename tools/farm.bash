@@ -51,6 +51,7 @@ _farm() {
     elif [[ $word == -* ]]; then
         case ${COMP_WORDS[1]} in
         solve) words="--search --nodes --json --progress --quiet --improvements --help" ;;
+        verify) words="--all --help" ;;
         draw) words="--order --help" ;;
         prove) words="--seconds --jobs --nodes --from --keep --solver --help" ;;
         bench) words="--search --nodes --jobs --optima --progress --quiet --help" ;;

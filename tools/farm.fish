@@ -19,6 +19,7 @@ complete -c farm -n "__fish_seen_subcommand_from solve" -l json -d 'Print one JS
 complete -c farm -n "__fish_seen_subcommand_from solve bench" -l progress -d 'Tell how far the search is'
 complete -c farm -n "__fish_seen_subcommand_from solve bench" -l quiet -d 'Tell nothing of that'
 complete -c farm -n "__fish_seen_subcommand_from solve" -l improvements -d 'Print each better schedule'
+complete -c farm -n "__fish_seen_subcommand_from verify" -l all -d 'Tell each breach of the schedule'
 complete -c farm -n "__fish_seen_subcommand_from draw" -l order -x -a 'number start' -d 'The order of the rows'
 complete -c farm -n "__fish_seen_subcommand_from bench prove" -l jobs -x -d 'How many processes'
 complete -c farm -n "__fish_seen_subcommand_from bench" -l optima -r -d 'Known optima'

@@ -40,7 +40,7 @@ _farm() {
         _arguments '--search[searches with commas between them]:search:_farm_searches' '--nodes[the most nodes of each search]:nodes:' '--json[print one JSON object]' \
             '--progress[tell how far the search is]' '--quiet[tell nothing of that]' '--improvements[print each better schedule]' '--help[help]' '1:file:_files -g "*.mm"'
         ;;
-    verify) _arguments '--help[help]' '1:file:_files -g "*.mm"' '2:schedule:_files' ;;
+    verify) _arguments '--all[tell each breach]' '--help[help]' '1:file:_files -g "*.mm"' '2:schedule:_files' ;;
     draw) _arguments '--order[the order of the rows]:order:(number start)' '--help[help]' '1:file:_files -g "*.mm"' '2:schedule:_files' ;;
     bench)
         _arguments '--search[searches]:search:_farm_searches' '--nodes[nodes]:nodes:' '--jobs[processes]:jobs:' '--optima[known optima]:file:_files' '--progress[tell progress]' \

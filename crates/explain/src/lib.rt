@@ -11,12 +11,14 @@
 //! - `limits`: the first number of a project that is above its limit.
 //! - `sheet`: a file, line by line and row by row.
 //! - `files`: `why_file`.
-//! - `schedules`: why a text tells no schedule, and by how much a schedule breaks a rule.
+//! - `schedules`: why a text tells no schedule.
+//! - `amounts`: by how much a schedule breaks what it breaks.
 //! - `causes`: why no schedule of a project is feasible.
 //! - `words`: why a word of a command line is refused, and why a port is.
 //! - `near`: the nearest of several words.
 #![tactic(auto)]
 
+mod amounts;
 mod causes;
 mod files;
 mod head;
@@ -29,8 +31,9 @@ mod sections;
 mod sheet;
 mod words;
 
+pub use amounts::{all_breaches, why_breach, why_breach_of};
 pub use causes::why_infeasible;
 pub use files::why_file;
 pub use near::nearest;
-pub use schedules::{why_breach, why_breach_of, why_no_schedule};
+pub use schedules::why_no_schedule;
 pub use words::{why_no_port, why_no_search, why_words};

@@ -1,13 +1,12 @@
-//! Why a text tells no schedule, or one that is not feasible.
-use crate::lines::{Piece, shown_word};
-use mrcpsp::{Breach, Mode, Project, Schedule};
-use schedule_text::{MOST_BYTES, read_schedule};
+//! Why a text tells no schedule.
+use crate::lines::{Piece, number, shown_word};
+use schedule_text::MOST_BYTES;
 use serde_json::Value;
 use std::alloc::{AllocError, Global};
 
-/// The form of a schedule's text, as it is said behind a place of it.
+/// The forms of a schedule's text, as they are said behind a place of it.
 const FORM: &str =
-    "wanted is a word J:MODE:START for each activity, in the order of their numbers and with one blank between them, or JSON as solve --json prints it";
+    "wanted is for each activity a word J:MODE:START, in the order of their numbers, or a line J,MODE,START; or JSON as solve --json prints it";
 
 /// Where a text stops to tell a schedule, and what is found there.
 #[derive(Clone, Copy, Debug)]
@@ -64,13 +63,13 @@ fn stops_of(alloc: Global, text: &[u8]) -> Result<Vec<Stop<'_>>, AllocError> {
 /// The number of the activity whose place a word is.
 fn activity_of(word: &[u8]) -> Option<usize> {
     let mut parts = word.split(|b| *b == b':');
-    let number = crate::lines::number(parts.next()?)?;
-    crate::lines::number(parts.next()?)?;
-    crate::lines::number(parts.next()?)?;
+    let activity = number(parts.next()?)?;
+    number(parts.next()?)?;
+    number(parts.next()?)?;
     if parts.next().is_some() {
         return None;
     }
-    usize::try_from(number).ok()
+    usize::try_from(activity).ok()
 }
 
 /// Adds what is found at a place, and what is wanted there.
@@ -106,8 +105,7 @@ fn tell_words(alloc: Global, stops: &[Stop<'_>]) -> Result<String, AllocError> {
     tell_missing(alloc, *last, count, wanted)
 }
 
-/// What is said of words of which each is the place of its activity: there is an activity 0, the first ones are missing, or they are
-/// not parted and written as they have to be.
+/// What is said of words of which each is the place of its activity: there is an activity 0, or the first ones are missing.
 fn tell_missing(
     alloc: Global,
     last: Stop<'_>,
@@ -118,14 +116,70 @@ fn tell_missing(
     if count == 0 {
         return format!(in alloc; "{word} is found for activity 0; {FORM}");
     }
-    if wanted == 0 {
-        return format!(in alloc;
-            "the words have to stand at the end of the text, with one blank and no tab or line end between them, and without leading zeros; {FORM}"
-        );
-    }
     format!(in alloc;
         "no place {wanted}:MODE:START is found before those that end with {word}; {FORM}"
     )
+}
+
+/// Whether a line has a digit, so that it is a row if it has commas.
+fn has_digit(line: &[u8]) -> bool {
+    line.iter().any(|b| b.is_ascii_digit())
+}
+
+/// Whether the first line with a digit has a comma.
+fn has_rows(text: &[u8]) -> bool {
+    match text.split(|b| *b == b'\n').find(|line| has_digit(line)) {
+        Some(line) => line.contains(&b','),
+        None => false,
+    }
+}
+
+/// The number of the activity whose row a line is.
+fn row_of(line: &[u8]) -> Option<u64> {
+    let mut parts = line.split(|b| *b == b',');
+    let activity = number(parts.next()?.trim_ascii())?;
+    number(parts.next()?.trim_ascii())?;
+    number(parts.next()?.trim_ascii())?;
+    if parts.next().is_some() {
+        None
+    } else {
+        Some(activity)
+    }
+}
+
+/// What is said of rows whose activities, in the order of their numbers, are these.
+fn tell_numbers(alloc: Global, numbers: &[u64]) -> Result<String, AllocError> {
+    let mut wanted = 0u64;
+    for found in numbers {
+        wanted = wanted.saturating_add(1);
+        if *found == 0 {
+            return format!(in alloc; "a line is of activity 0; {FORM}");
+        }
+        if *found < wanted {
+            return format!(in alloc; "activity {found} has two lines; {FORM}");
+        }
+        if *found > wanted {
+            return format!(in alloc; "activity {wanted} has no line, and activity {found} has one; {FORM}");
+        }
+    }
+    format!(in alloc; "{FORM}")
+}
+
+/// Why rows are of no schedule.
+fn tell_rows(alloc: Global, text: &[u8]) -> Result<String, AllocError> {
+    let mut numbers = Vec::new(alloc);
+    let mut line = 0usize;
+    for row in text.split(|b| *b == b'\n') {
+        line = line.saturating_add(1);
+        if has_digit(row) {
+            let Some(activity) = row_of(row) else {
+                return format!(in alloc; "line {line} is not three numbers with commas between them; {FORM}");
+            };
+            numbers.push(activity)?;
+        }
+    }
+    numbers.sort()?;
+    tell_numbers(alloc, numbers.as_slice())
 }
 
 /// Why a text that begins as JSON tells no schedule.
@@ -161,163 +215,9 @@ pub fn why_no_schedule(alloc: Global, text: &[u8]) -> Option<String> {
     if begins_json(text) {
         return tell_json(alloc, text).ok();
     }
+    if has_rows(text) {
+        return tell_rows(alloc, text).ok();
+    }
     let stops = stops_of(alloc, text).ok()?;
     tell_words(alloc, &stops).ok()
-}
-
-/// The mode in which a schedule runs the activity at this place.
-fn mode_at<'a>(project: &'a Project, schedule: &Schedule, place: usize) -> Option<&'a Mode> {
-    let activity = project.activities().get(place)?;
-    let number = *schedule.modes.as_slice().get(place)?;
-    activity
-        .modes
-        .as_slice()
-        .get((number as usize).checked_sub(1)?)
-}
-
-/// The start of the activity at this place, or 0.
-fn start_at(schedule: &Schedule, place: usize) -> u32 {
-    schedule.starts.as_slice().get(place).copied().unwrap_or(0)
-}
-
-/// Why a schedule has not the shape of a project.
-fn tell_shape(alloc: Global, project: &Project, schedule: &Schedule) -> Result<String, AllocError> {
-    let (found, wanted) = (schedule.modes.as_slice().len(), project.activities().len());
-    if found != wanted {
-        return format!(in alloc;
-            "activities of the schedule: {found}, and of the project: {wanted}"
-        );
-    }
-    let mut number = 0usize;
-    for start in schedule.starts.as_slice() {
-        number = number.saturating_add(1);
-        if *start > 1_000_000_000 {
-            return format!(in alloc; "activity {number} starts above period 1000000000");
-        }
-    }
-    format!(in alloc; "activities of the project: {wanted}")
-}
-
-/// How an activity starts before another one ends.
-fn tell_precedence(
-    alloc: Global,
-    project: &Project,
-    schedule: &Schedule,
-    before: u32,
-    after: u32,
-) -> Result<String, AllocError> {
-    let place = (before as usize).saturating_sub(1);
-    let duration = mode_at(project, schedule, place).map_or(0, |mode| mode.duration);
-    let end = start_at(schedule, place).saturating_add(duration);
-    let start = start_at(schedule, (after as usize).saturating_sub(1));
-    format!(in alloc; "activity {after} starts at {start}, and activity {before} ends at {end}")
-}
-
-/// What an activity uses of a resource in a period, or 0.
-fn load_at(
-    project: &Project,
-    schedule: &Schedule,
-    place: usize,
-    resource: usize,
-    period: u32,
-) -> u32 {
-    let Some(mode) = mode_at(project, schedule, place) else {
-        return 0;
-    };
-    let start = start_at(schedule, place);
-    if start <= period && period < start.saturating_add(mode.duration) {
-        mode.renewable
-            .as_slice()
-            .get(resource)
-            .copied()
-            .unwrap_or(0)
-    } else {
-        0
-    }
-}
-
-/// What a schedule uses of a renewable resource in a period, and by which activities.
-fn tell_renewable(
-    alloc: Global,
-    project: &Project,
-    schedule: &Schedule,
-    number: u32,
-    period: u32,
-) -> Result<String, AllocError> {
-    let resource = (number as usize).saturating_sub(1);
-    let mut total = 0u64;
-    let mut users = String::new(alloc);
-    for place in 0..project.activities().len() {
-        let load = load_at(project, schedule, place, resource, period);
-        if load > 0 {
-            total = total.saturating_add(u64::from(load));
-            let activity = place.saturating_add(1);
-            let comma = if users.is_empty() { "" } else { "," };
-            write!(users, "{comma} {activity}")?;
-        }
-    }
-    let capacity = project.renewable().get(resource).copied().unwrap_or(0);
-    format!(in alloc; "needs {total} of {capacity} in period {period}: activities{users}")
-}
-
-/// What a schedule consumes of a nonrenewable resource.
-fn tell_nonrenewable(
-    alloc: Global,
-    project: &Project,
-    schedule: &Schedule,
-    number: u32,
-) -> Result<String, AllocError> {
-    let resource = (number as usize).saturating_sub(1);
-    let mut total = 0u64;
-    for place in 0..project.activities().len() {
-        if let Some(mode) = mode_at(project, schedule, place) {
-            let amount = mode.nonrenewable.as_slice().get(resource).copied();
-            total = total.saturating_add(u64::from(amount.unwrap_or(0)));
-        }
-    }
-    let stock = project.nonrenewable().get(resource).copied().unwrap_or(0);
-    format!(in alloc; "consumes {total} of {stock}")
-}
-
-/// How many modes an activity has, and which one is given.
-fn tell_mode(
-    alloc: Global,
-    project: &Project,
-    schedule: &Schedule,
-    number: u32,
-) -> Result<String, AllocError> {
-    let place = (number as usize).saturating_sub(1);
-    let given = schedule.modes.as_slice().get(place).copied().unwrap_or(0);
-    let count = match project.activities().get(place) {
-        Some(activity) => activity.modes.as_slice().len(),
-        None => 0,
-    };
-    format!(in alloc; "activity {number} is in mode {given}, and has modes 1 to {count}")
-}
-
-/// By how much a schedule breaks what it is said to break.
-pub fn why_breach(
-    alloc: Global,
-    project: &Project,
-    schedule: &Schedule,
-    breach: Breach,
-) -> Result<String, AllocError> {
-    match breach {
-        Breach::Shape => tell_shape(alloc, project, schedule),
-        Breach::Mode(number) => tell_mode(alloc, project, schedule, number),
-        Breach::Precedence(before, after) => {
-            tell_precedence(alloc, project, schedule, before, after)
-        }
-        Breach::Renewable(number, period) => {
-            tell_renewable(alloc, project, schedule, number, period)
-        }
-        Breach::Nonrenewable(number) => tell_nonrenewable(alloc, project, schedule, number),
-    }
-}
-
-/// The same of the texts of a project's file and of a schedule.
-pub fn why_breach_of(alloc: Global, file: &[u8], text: &[u8], breach: Breach) -> Option<String> {
-    let project = psplib_mm::read(alloc, file).ok()?;
-    let schedule = read_schedule(alloc, text).ok()??;
-    why_breach(alloc, &project, &schedule, breach).ok()
 }

@@ -18,13 +18,11 @@ pub enum Order {
 
 /// What is said of a schedule above its picture.
 #[derive(Clone, Copy, Debug)]
-pub struct Heading<'a> {
+pub struct Heading {
     /// Its makespan, in periods.
     pub makespan: u32,
-    /// The verdict that its text tells, if it tells one.
-    pub verdict: Option<&'a str>,
     /// The longest chain of activities by shortest modes, in periods.
-    pub chain: Option<u32>,
+    pub chain: u32,
 }
 
 /// A feasible schedule as an SVG picture: a bar for each activity with its number and its mode, and under them what is used of
@@ -33,7 +31,7 @@ pub fn draw(
     alloc: Global,
     project: &Project,
     schedule: &Schedule,
-    heading: Heading<'_>,
+    heading: Heading,
     order: Order,
 ) -> Result<String, AllocError>
     requires { IsFeasible project.now schedule.now }
@@ -64,7 +62,7 @@ fn put_whole(
     project: &Project,
     bars: &[Bar<'_>],
     times: &[u32],
-    heading: Heading<'_>,
+    heading: Heading,
 ) -> Result<(), AllocError> {
     picture.put_head()?;
     picture.put_heading(heading)?;

@@ -87,12 +87,12 @@ impl Picture {
         let (rows, span) = (self.size.rows, self.size.span);
         let width = LEFT.saturating_add(WIDTH).saturating_add(RIGHT);
         let height = self.size.bottom().saturating_add(BOTTOM);
-        let most = width / 10;
+        let (most, least) = (width / 10, width / 14);
         let activities = plural(rows as u64, "activity", "activities");
         let periods = plural(u64::from(span), "period", "periods");
         write!(
             self.text,
-            "<svg xmlns=\"http://www.w3.org/2000/svg\" role=\"img\" aria-labelledby=\"title\" width=\"100%\" style=\"max-width:{most}px\" "
+            "<svg xmlns=\"http://www.w3.org/2000/svg\" role=\"img\" aria-labelledby=\"title\" width=\"100%\" style=\"max-width:{most}px;min-width:{least}px\" "
         )?;
         write!(
             self.text,
@@ -109,17 +109,17 @@ impl Picture {
     }
 
     /// The heading: how many activities, the makespan, and what is known of it.
-    pub(crate) fn put_heading(&mut self, heading: Heading<'_>) -> Result<(), AllocError> {
+    pub(crate) fn put_heading(&mut self, heading: Heading) -> Result<(), AllocError> {
         let (rows, makespan) = (self.size.rows, heading.makespan);
         let activities = plural(rows as u64, "activity", "activities");
         write!(
             self.text,
             "<text x=\"{LEFT}\" y=\"260\" font-size=\"180\">{rows} {activities}, makespan {makespan}"
         )?;
-        if let Some(verdict) = heading.verdict {
-            write!(self.text, ", {verdict}")?;
-        }
-        if let Some(chain) = heading.chain {
+        if makespan == heading.chain {
+            self.text.push_str(", optimal by the longest chain")?;
+        } else {
+            let chain = heading.chain;
             write!(self.text, " (at least {chain} by the longest chain)")?;
         }
         self.text.push_str("</text>\n")
@@ -263,7 +263,8 @@ impl Picture {
             top.saturating_add(130),
             LEFT.saturating_sub(120),
         );
-        let behind = self.size.at(finish).saturating_add(90);
+        let gap = if start == finish { 140 } else { 90 };
+        let behind = self.size.at(finish).saturating_add(gap);
         write!(
             self.text,
             "<g><title>Activity {number} in mode {mode}, from {start} to {finish}</title>"

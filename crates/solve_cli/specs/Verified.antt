@@ -2,7 +2,7 @@
 use Rattle.std.specs.Prelude.{◌≡◌, ℕ, ◌<◌, ◌≤◌, ⊤, List, length, Ok}
 use Rattle.mrcpsp.specs.Project.{ProjectData}
 use Rattle.mrcpsp.specs.Schedule.{ScheduleData, IsFeasible, makespan}
-use Rattle.mrcpsp.specs.Breach.{IsFirstBreach}
+use Rattle.mrcpsp.specs.Breach.{HasShape, IsFirstBreach}
 use Rattle.mrcpsp.specs.declared.breach.Breach.{Breach}
 use Rattle.psplib_mm.specs.Gives.{Fails}
 use Rattle.psplib_mm.specs.Reading.{reading}
@@ -12,10 +12,12 @@ use Rattle.solve_cli.specs.declared.verifying.Verified.{Verified}
 use Rattle.solve_cli.specs.declared.fault.VerifyFault.{VerifyFault}
 use Rattle.solve_cli.specs.declared.fault.VerifyFault.TheVariants as fault
 
--- the project is the file's, the text tells the schedule, which is feasible, and the makespan is the schedule's
+-- the project is the file's, the text tells the schedule, which is feasible and starts nothing above period 1,000,000,000, and the
+-- makespan is the schedule's
 pub record IsVerified (file text : List ℕ) (v : Verified) : Type 0 where
   pub read : reading file ≡ Ok v.project
   pub told : Tells text v.schedule
+  pub shape : HasShape v.project v.schedule
   pub feasible : IsFeasible v.project v.schedule
   pub length : v.makespan ≡ makespan v.project v.schedule
 

@@ -9,12 +9,21 @@ use std::alloc::{AllocError, Global};
 /// What the words of a command line ask for.
 #[derive(Clone, Copy, Debug, PartialEq, Eq)]
 pub(crate) enum Task<'a> {
-    /// Tell whether a schedule is feasible.
-    Verify(Paths<'a>),
+    /// Tell whether a schedule is feasible, and which breaches it has.
+    Verify(Paths<'a>, Told),
     /// Search for a schedule.
     Solve(Solving<'a>),
     /// Draw a feasible schedule, with its rows in this order.
     Draw(Paths<'a>, Order),
+}
+
+/// Which breaches of a schedule are told.
+#[derive(Clone, Copy, Debug, PartialEq, Eq)]
+pub(crate) enum Told {
+    /// The first one.
+    First,
+    /// Each one, with its amount.
+    All,
 }
 
 /// What `solve` is asked for.
@@ -47,7 +56,7 @@ fn file_arg<'a>(alloc: Global) -> Arg<'a> {
 fn schedule_arg<'a>(alloc: Global) -> Arg<'a> {
     Arg::new(alloc, "SCHEDULE")
         .help(
-            "What solve prints, as lines or as JSON, or words J:MODE:START, or - for standard input",
+            "What solve prints, as lines or as JSON, or words J:MODE:START, or lines J,MODE,START, or - for standard input",
         )
         .required(true)
 }
@@ -65,7 +74,12 @@ fn verify_command<'a>(alloc: Global) -> Result<Command<'a>, AllocError> {
         .about("Tells whether a schedule is feasible, and how long it takes")
         .after_help(VERIFY_HELP)
         .arg(file_arg(alloc))?
-        .arg(schedule_arg(alloc))
+        .arg(schedule_arg(alloc))?
+        .arg(flag(
+            alloc,
+            "all",
+            "Tell each breach of the schedule, with its amount",
+        ))
 }
 
 fn draw_command<'a>(alloc: Global) -> Result<Command<'a>, AllocError> {
@@ -137,10 +151,18 @@ fn order_of(word: Option<&str>) -> Order {
 /// What a subcommand and its arguments ask for.
 pub(crate) fn task_of<'a>(matches: &ArgMatches<'a>) -> Option<Task<'a>> {
     match matches.subcommand() {
-        Some(("verify", chosen)) => Some(Task::Verify(Paths {
-            file: chosen.get_str("FILE")?,
-            text: chosen.get_str("SCHEDULE")?,
-        })),
+        Some(("verify", chosen)) => {
+            let paths = Paths {
+                file: chosen.get_str("FILE")?,
+                text: chosen.get_str("SCHEDULE")?,
+            };
+            let told = if chosen.get_flag("all") {
+                Told::All
+            } else {
+                Told::First
+            };
+            Some(Task::Verify(paths, told))
+        }
         Some(("solve", chosen)) => Some(Task::Solve(Solving {
             file: chosen.get_str("FILE")?,
             search: chosen.get_str("search")?,
@@ -173,10 +195,17 @@ error, with status 1:
   breach Renewable(R, T)     renewable resource R is used above its capacity in period T
   breach Nonrenewable(R)     nonrenewable resource R is consumed above its capacity
 
-Example:
+With --all a line of each breach follows, with its amount: the shape alone, or else modes alone, or
+else all others; of a renewable resource in each period in which an activity starts.
+
+Examples:
 
   $ farm solve examples/first.mm | farm verify examples/first.mm -
-  feasible makespan 4";
+  feasible makespan 4
+  $ echo 1:1:0 2:1:0 3:2:0 4:1:2 | farm verify --all examples/first.mm -
+  farm: breach Precedence(2, 4)
+  farm: breach Precedence(2, 4): activity 4 starts in period 2, before activity 2 ends at 3
+  farm: breach Precedence(3, 4): activity 4 starts in period 2, before activity 3 ends at 4";
 
 /// What `draw --help` says at its end.
 const DRAW_HELP: &str = "\

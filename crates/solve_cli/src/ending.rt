@@ -4,6 +4,7 @@ ghost use Rattle.std.specs.Process.{exit_status};
 ghost use Rattle.solve_cli.specs.Commands.{command_status};
 
 use crate::fault::{CommandFault, InputFault};
+use crate::watches::Watches;
 use file_words::{reason, tell_unread, tell_why};
 use schedule_text::MOST_BYTES;
 use std::env::Env;
@@ -25,18 +26,31 @@ pub struct Paths<'a> {
     pub text: &'a str,
 }
 
-/// The status of a command, with its fault on standard error, and on a second line why it ended so, if that is known.
+/// Tells of a fault all breaches, if they were asked for, or else why it is one.
+fn tell_more<R: Env + Eprint>(rt: &R, watches: &Watches) {
+    match &watches.list {
+        Ok(Some(list)) => {
+            let _ = eprint!(rt; "{list}");
+        }
+        Ok(None) => tell_why(rt, &watches.why),
+        Err(_) => {
+            let _ = eprintln!(rt; "farm: no memory");
+        }
+    }
+}
+
+/// The status of a command, with its fault on standard error, and behind it why it ended so, if that is known, or all breaches.
 pub(crate) fn end_command<R: Env + Eprint>(
     rt: &R,
     paths: Paths<'_>,
     ended: Result<(), CommandFault>,
-    why: &Option<String>,
+    watches: &Watches,
 ) -> ExitCode
     ensures { exit_status result ≡ command_status ended }
 {
     match ended {
         Ok(()) => {
-            tell_why(rt, why);
+            tell_why(rt, &watches.why);
             return ExitCode::SUCCESS;
         }
         Err(CommandFault::Input(InputFault::File(kind))) => tell_unread(
@@ -51,7 +65,7 @@ pub(crate) fn end_command<R: Env + Eprint>(
         ),
         Err(CommandFault::Input(InputFault::Verify(fault))) => {
             let _ = eprintln!(rt; "farm: {fault}");
-            tell_why(rt, why);
+            tell_more(rt, watches);
         }
         Err(CommandFault::NoMemory) => {
             let _ = eprintln!(rt; "farm: no memory");

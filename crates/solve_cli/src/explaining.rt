@@ -1,13 +1,13 @@
 //! What a second line says of how a command ended: why its inputs are at fault, or what to do next.
-ghost use Rattle.std.specs.Prelude.{◌≡◌, IfSome};
+ghost use Rattle.std.specs.Prelude.{◌≡◌, IfOk};
 ghost use Rattle.mrcpsp.specs.Values.{bound};
 
 use crate::fault::VerifyFault;
 use crate::searching::Found;
-use explain::{why_breach_of, why_file, why_infeasible, why_no_schedule};
+use explain::{all_breaches, why_breach_of, why_file, why_infeasible, why_no_schedule};
 use measures::Measures;
 use mrcpsp::Project;
-use std::alloc::Global;
+use std::alloc::{AllocError, Global};
 use strategy::Verdict;
 
 /// Why there is no feasible schedule in these texts of a project's file and of a schedule.
@@ -25,12 +25,25 @@ pub(crate) fn why_unverified(
     }
 }
 
-/// The length of the longest chain of activities by shortest modes, in periods. No schedule is shorter.
-pub(crate) fn chain_of(alloc: Global, project: &Project) -> Option<u32>
-    ensures { IfSome result (λ chain. chain ≡ bound project.now) }
+/// A line of each breach, if the fault is one.
+pub(crate) fn list_of(
+    alloc: Global,
+    file: &[u8],
+    text: &[u8],
+    fault: VerifyFault,
+) -> Result<Option<String>, AllocError> {
+    match fault {
+        VerifyFault::Breach(_) => Ok(Some(all_breaches(alloc, file, text)?)),
+        _ => Ok(None),
+    }
+}
+
+/// The length of the longest chain of activities by shortest modes, in periods. No schedule is shorter. An error is want of memory.
+pub(crate) fn chain_of(alloc: Global, project: &Project) -> Result<u32, AllocError>
+    ensures { IfOk result (λ chain. chain ≡ bound project.now) }
 {
-    let measures = Measures::of(alloc, project).ok()?;
-    Some(measures.bound())
+    let measures = Measures::of(alloc, project)?;
+    Ok(measures.bound())
 }
 
 /// What a search that is not over leaves to do, and why an infeasible project is.
@@ -41,7 +54,7 @@ pub(crate) fn next_step(alloc: Global, project: &Project, found: &Found) -> Opti
     if found.verdict != Verdict::Going {
         return None;
     }
-    let chain = chain_of(alloc, project)?;
+    let chain = chain_of(alloc, project).ok()?;
     let step = if found.makespan == Some(chain) {
         "so this one is optimal: farm certify FILE SCHEDULE shows it"
     } else {

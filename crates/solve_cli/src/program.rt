@@ -3,7 +3,7 @@ ghost use Rattle.std.specs.Prelude.{◌≤◌, IfOk, IfErr, vec_len};
 ghost use Rattle.std.specs.Process.{exit_status};
 ghost use Rattle.mrcpsp.specs.Schedule.{IsFeasible};
 
-use crate::arguments::{Solving, Task, solve_commands, task_of};
+use crate::arguments::{Solving, Task, Told, solve_commands, task_of};
 use crate::ending::Paths;
 use crate::explaining::chain_of;
 use crate::improvements::{Improvements, Style};
@@ -109,11 +109,9 @@ fn refuse_one<R: Eprint>(rt: &R) -> ExitCode
 fn picture(alloc: Global, verified: &Verified, order: Order) -> Result<String, AllocError>
     requires { IsFeasible verified.now.project verified.now.schedule }
 {
-    let chain = chain_of(alloc, &verified.project);
     let heading = Heading {
         makespan: verified.makespan,
-        verdict: (chain == Some(verified.makespan)).then_some("optimal"),
-        chain,
+        chain: chain_of(alloc, &verified.project)?,
     };
     draw(alloc, &verified.project, &verified.schedule, heading, order)
 }
@@ -122,9 +120,9 @@ fn run_task<R: Runtime + AllocGlobal>(rt: &R, task: Task<'_>) -> ExitCode
     ensures { exit_status result ≤ 2 }
 {
     match task {
-        Task::Verify(paths) if are_one(paths) => refuse_one(rt),
+        Task::Verify(paths, _) if are_one(paths) => refuse_one(rt),
         Task::Draw(paths, _) if are_one(paths) => refuse_one(rt),
-        Task::Verify(paths) => run_verify(rt, paths),
+        Task::Verify(paths, told) => run_verify(rt, paths, told),
         Task::Solve(solving) => run_solve(rt, solving),
         Task::Draw(paths, order) => run_draw(rt, paths, order),
     }
@@ -150,7 +148,7 @@ fn open_path<R: Runtime>(rt: &R, path: &str) -> Option<Source<R::Reader, R::File
 }
 
 /// Prints whether a schedule is feasible.
-fn run_verify<R: Runtime + AllocGlobal>(rt: &R, paths: Paths<'_>) -> ExitCode
+fn run_verify<R: Runtime + AllocGlobal>(rt: &R, paths: Paths<'_>, told: Told) -> ExitCode
     ensures { exit_status result ≤ 1 }
 {
     let Some(file) = open_path(rt, paths.file) else {
@@ -160,6 +158,7 @@ fn run_verify<R: Runtime + AllocGlobal>(rt: &R, paths: Paths<'_>) -> ExitCode
         return ExitCode::FAILURE;
     };
     let mut watches = Watches::new();
+    watches.lists_all = told == Told::All;
     verify_to(rt, paths, file, text, &mut io::writer(rt), &mut watches)
 }
 

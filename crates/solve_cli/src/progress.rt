@@ -87,7 +87,7 @@ impl<'a, R: Runtime + AllocGlobal> Progress<'a, R> {
     /// Prints a line of all figures.
     fn tell_all(&mut self, project: &Project, nodes: u64, seconds: u64, makespan: Option<u32>) {
         if self.chain.is_none() {
-            self.chain = chain_of(self.rt.alloc(), project);
+            self.chain = chain_of(self.rt.alloc(), project).ok();
         }
         let rate = nodes / seconds.max(1);
         let percent = nodes / (self.most / 100).max(1);

@@ -6,7 +6,7 @@ ghost use Rattle.solve_cli.specs.Verified.{IsVerified};
 ghost use Rattle.solve_cli.specs.Commands.{OfBoth, IsUnverified, IsShowOf, Ends, TellsMakespan, GivesText};
 
 use crate::ending::{MOST_TEXT, Paths, end_command};
-use crate::explaining::why_unverified;
+use crate::explaining::{list_of, why_unverified};
 use crate::fault::{CommandFault, InputFault};
 use crate::verifying::{Verified, verify};
 use crate::watches::Watches;
@@ -42,6 +42,9 @@ fn read_verified<S: Read + Drop, T: Read + Drop>(
         Ok(verified) => Ok(verified),
         Err(fault) => {
             watches.why = why_unverified(alloc, &bytes, &words, fault);
+            if watches.lists_all {
+                watches.list = list_of(alloc, &bytes, &words, fault);
+            }
             Err(InputFault::Verify(fault))
         }
     }
@@ -121,7 +124,7 @@ pub fn verify_to<R: AllocGlobal + Env + Eprint, S: Read + Drop, T: Read + Drop, 
         (exit_status result) }
 {
     let ended = verify_read(rt.alloc(), file, text, writer, watches);
-    end_command(rt, paths, ended, &watches.why)
+    end_command(rt, paths, ended, watches)
 }
 
 /// `draw_read` with a status, in the same way.
@@ -148,5 +151,5 @@ pub fn draw_to<
         (exit_status result) }
 {
     let ended = draw_read(rt.alloc(), file, text, writer, watches, draw);
-    end_command(rt, paths, ended, &watches.why)
+    end_command(rt, paths, ended, watches)
 }

@@ -128,5 +128,5 @@ pub fn solve_to<R: AllocGlobal + Env + Eprint, S: Read + Drop, W: Write, L: Watc
         file: path,
         text: path,
     };
-    end_command(rt, paths, ended, &watches.why)
+    end_command(rt, paths, ended, watches)
 }
