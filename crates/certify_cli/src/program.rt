@@ -34,7 +34,7 @@ fn end<R: Eprint>(rt: &R, ended: Result<(), CertifyFault>) -> ExitCode
 
 /// The status of a command whose bound is no number, with that on standard error, and on a second line what is wanted.
 fn end_unbounded<R: Env + Eprint>(rt: &R, bound: &str, wanted: &str) -> ExitCode
-    ensures { exit_status result ≤ 1 }
+    ensures { exit_status result ≡ 1 }
 {
     let _ = eprintln!(rt; "farm: no bound {bound}");
     if explains(rt) {

@@ -210,7 +210,7 @@ fn run_serve<
 
 /// The status of a service that cannot listen at its port, with its fault on standard error, and on a second line why.
 fn end_unbound<R: Print + Env + Eprint>(rt: &R, port: u16, kind: ErrorKind) -> ExitCode
-    ensures { exit_status result ≤ 1 }
+    ensures { exit_status result ≡ 1 }
 {
     let status = end_serve(rt, Err(ServeFault::Listen));
     if explains(rt) {

@@ -1,5 +1,5 @@
 //! The commands on files, with an exit status.
-ghost use Rattle.std.specs.Prelude.{◌≤◌, IfOk, IfErr, vec_len};
+ghost use Rattle.std.specs.Prelude.{◌≡◌, ◌≤◌, IfOk, IfErr, vec_len};
 ghost use Rattle.std.specs.Process.{exit_status};
 ghost use Rattle.mrcpsp.specs.Schedule.{IsFeasible};
 
@@ -99,7 +99,7 @@ fn are_one(paths: Paths<'_>) -> bool {
 
 /// The status of a command line of which both files are standard input, with that on standard error.
 fn refuse_one<R: Eprint>(rt: &R) -> ExitCode
-    ensures { exit_status result ≤ 2 }
+    ensures { exit_status result ≡ 2 }
 {
     let _ = eprintln!(rt; "farm: FILE and SCHEDULE cannot both be standard input");
     ExitCode::from(2)
@@ -130,7 +130,7 @@ fn run_task<R: Runtime + AllocGlobal>(rt: &R, task: Task<'_>) -> ExitCode
 
 /// The status 1, with its cause on standard error.
 fn failure<R: Eprint>(rt: &R, why: &str) -> ExitCode
-    ensures { exit_status result ≤ 1 }
+    ensures { exit_status result ≡ 1 }
 {
     let _ = eprintln!(rt; "farm: {why}");
     ExitCode::FAILURE
