@@ -9,6 +9,7 @@
 Each search is that of plain_searches.py. A schedule's text ends with words J:MODE:START, or is of lines J,MODE,START, or ends with JSON.
 """
 import json
+import math
 import os
 import re
 import sys
@@ -91,6 +92,8 @@ def no_number(word):
 
 def whole(word):
     """A number with a sign is no natural one, also -0, nor is one of 2^64 and more."""
+    if float(word) in (math.inf, -math.inf):
+        raise ValueError("a number above all floats is no JSON text to the program")
     return None if word.startswith("-") or len(word) > 20 or int(word) >= 2**64 else int(word)
 
 
