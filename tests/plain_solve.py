@@ -9,6 +9,7 @@
 Each search is that of plain_searches.py. A schedule's text ends with words J:MODE:START, or is of lines J,MODE,START, or ends with JSON.
 """
 import json
+import math
 import os
 import re
 import sys
@@ -91,7 +92,9 @@ def no_number(word):
 
 def whole(word):
     """A number with a sign is no natural one, also -0, nor is one of 2^64 and more."""
-    return None if word.startswith("-") or int(word) >= 2**64 else int(word)
+    if float(word) in (math.inf, -math.inf):
+        raise ValueError("a number above all floats is no JSON text to the program")
+    return None if word.startswith("-") or len(word) > 20 or int(word) >= 2**64 else int(word)
 
 
 def in_order(places):
@@ -123,12 +126,18 @@ def json_schedule(text):
     return in_order(places)
 
 
+def counts_as(digits):
+    """The number that digits write, which may be thousands; a great one counts as the greatest."""
+    digits = digits.lstrip(b"0")
+    return MOST_NUMBER if len(digits) > 10 else min(int(digits or b"0"), MOST_NUMBER)
+
+
 def place(text, mark):
     """The three numbers between marks, or None."""
     parts = [it.strip(BLANKS) for it in text.split(mark)]
     if len(parts) != 3 or not all(re.fullmatch(rb"[0-9]+", it) for it in parts):
         return None
-    return [min(int(it), MOST_NUMBER) for it in parts]
+    return [counts_as(it) for it in parts]
 
 
 def word_schedule(text):
