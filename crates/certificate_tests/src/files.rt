@@ -49,8 +49,8 @@ const TEXTS: [(&[u8], Result<(), CertifyFault>); 8] = [
         Err(Certificate(Schedule(Breach::Shape))),
     ),
     (b"", Err(Words)),
-    (b"1:1:0  2:1:0 3:2:0 4:1:4", Err(Words)),
-    (b"1:1:0 2:1:0 3:2:0 4:1:04", Err(Words)),
+    (b"1:1:0  2:1:0\n3:2:0 4:1:04\r\n", Ok(())),
+    (b"1:1:0 3:2:0 4:1:4", Err(Words)),
 ];
 
 #[test]
