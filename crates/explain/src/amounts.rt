@@ -49,7 +49,9 @@ fn tell_precedence(
     let duration = mode_at(project, schedule, place).map_or(0, |mode| mode.duration);
     let end = start_at(schedule, place).saturating_add(duration);
     let start = start_at(schedule, (after as usize).saturating_sub(1));
-    format!(in alloc; "activity {after} starts in period {start}, before activity {before} ends at {end}")
+    format!(in alloc;
+        "activity {after} starts in period {start}, before activity {before} ends at {end}"
+    )
 }
 
 /// What an activity uses of a resource in a period, or 0.

@@ -159,7 +159,9 @@ fn tell_numbers(alloc: Global, numbers: &[u64]) -> Result<String, AllocError> {
             return format!(in alloc; "activity {found} has two lines; {FORM}");
         }
         if *found > wanted {
-            return format!(in alloc; "activity {wanted} has no line, and activity {found} has one; {FORM}");
+            return format!(in alloc;
+                "activity {wanted} has no line, and activity {found} has one; {FORM}"
+            );
         }
     }
     format!(in alloc; "{FORM}")
@@ -173,7 +175,9 @@ fn tell_rows(alloc: Global, text: &[u8]) -> Result<String, AllocError> {
         line = line.saturating_add(1);
         if has_digit(row) {
             let Some(activity) = row_of(row) else {
-                return format!(in alloc; "line {line} is not three numbers with commas between them; {FORM}");
+                return format!(in alloc;
+                    "line {line} is not three numbers with commas between them; {FORM}"
+                );
             };
             numbers.push(activity)?;
         }

@@ -12,10 +12,10 @@ loop-activity-preserved c =
     let old = c.args.told.now.items in
     let now = c.loop-activity.told.items in
     elim c.if-is_modeless.branch [
-      then-is_modeless+in_ok-push w ↦
+      | then-is_modeless+in_ok-push w ↦
           let more : c.if-is_modeless.told.items ≡ now ++ Mode (c.loop-activity.activity + 1) ∷ [] = ap (λ v. v.items) w.told-is ∙ w.in_ok-push.ensures.items in
           rw more (mode_pushed p s old now c.loop-activity.activity (omega (arith, c.loop-activity-test.true, c.loop-activity.auto.activity-end, c.size-activity-end.ensures.exact)) (w.if-is_modeless.ensures.0 refl) c.loop-activity.invariant)
-    | else-is_modeless w ↦
+      | else-is_modeless w ↦
           let same : c.if-is_modeless.told.items ≡ now = ap (λ v. v.items) w.told-is in
           rw same (mode_passed p s old now c.loop-activity.activity (λ h. false≢true (w.if-is_modeless.ensures.1 h)) c.loop-activity.invariant)
     ]

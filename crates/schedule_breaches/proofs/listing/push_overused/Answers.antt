@@ -12,10 +12,10 @@ loop-period-preserved c =
     let old = c.args.told.now.items in
     let now = c.loop-period.told.items in
     elim c.if-is_overused.branch [
-      then-is_overused+in_ok-push w ↦
+      | then-is_overused+in_ok-push w ↦
           let more : c.if-is_overused.told.items ≡ now ++ Renewable (c.args.resource + 1) (get_or c.args.periods.now c.loop-period.period-index 0) ∷ [] = ap (λ v. v.items) w.told-is ∙ w.in_ok-push.ensures.items in
           rw more (use_pushed p s old now c.args.resource c.args.periods.now c.loop-period.period-index c.requires.resource (w.if-is_overused.ensures.0 refl) c.loop-period.invariant)
-    | else-is_overused w ↦
+      | else-is_overused w ↦
           let same : c.if-is_overused.told.items ≡ now = ap (λ v. v.items) w.told-is in
           rw same (use_passed p s old now c.args.resource c.args.periods.now c.loop-period.period-index (λ h. false≢true (w.if-is_overused.ensures.1 h)) c.loop-period.invariant)
     ]

@@ -12,10 +12,10 @@ loop-resource-preserved c =
     let old = c.args.told.now.items in
     let now = c.loop-resource.told.items in
     elim c.if-is_short.branch [
-      then-is_short+in_ok-push w ↦
+      | then-is_short+in_ok-push w ↦
           let more : c.if-is_short.told.items ≡ now ++ Nonrenewable (c.loop-resource.resource + 1) ∷ [] = ap (λ v. v.items) w.told-is ∙ w.in_ok-push.ensures.items in
           rw more (stock_pushed p s old now c.loop-resource.resource (omega (arith, c.loop-resource-test.true, c.loop-resource.auto.resource-end, c.nonrenewables-resource-end.ensures.exact)) (w.if-is_short.ensures.0 refl) c.loop-resource.invariant)
-    | else-is_short w ↦
+      | else-is_short w ↦
           let same : c.if-is_short.told.items ≡ now = ap (λ v. v.items) w.told-is in
           rw same (stock_passed p s old now c.loop-resource.resource (λ h. false≢true (w.if-is_short.ensures.1 h)) c.loop-resource.invariant)
     ]
