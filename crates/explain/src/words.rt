@@ -34,7 +34,9 @@ const SEARCHES: [&str; 7] = [
 /// What a word that names no search could be, and which words do.
 pub fn why_no_search(alloc: Global, word: &str) -> Option<String> {
     let mut text = String::new(alloc);
-    if let Some(near) = nearest(alloc, word, &SEARCHES) {
+    if word.is_empty() {
+        text.push_str("a word is empty; ").ok()?;
+    } else if let Some(near) = nearest(alloc, word, &SEARCHES) {
         write!(text, "{near} is near; ").ok()?;
     }
     text.push_str(

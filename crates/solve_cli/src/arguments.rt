@@ -86,7 +86,8 @@ fn draw_command<'a>(alloc: Global) -> Result<Command<'a>, AllocError> {
     let order = Arg::new(alloc, "order")
         .long("order")
         .value_name("ORDER")
-        .help("The order of the rows: number or start")
+        .help("The order of the rows")
+        .value_parser(ValueParser::Names(&ORDERS))
         .default_value("number");
     Command::new(alloc, "draw")
         .about("Draws a feasible schedule as an SVG picture")
@@ -139,6 +140,9 @@ pub(crate) fn solve_commands<'a>(alloc: Global) -> Result<Command<'a>, AllocErro
         .subcommand(solve_command(alloc)?)?
         .subcommand(draw_command(alloc)?)
 }
+
+/// The words for orders of rows.
+const ORDERS: [&str; 2] = ["number", "start"];
 
 /// The order of rows that a word names; that of the numbers if there is none.
 fn order_of(word: Option<&str>) -> Order {
