@@ -55,12 +55,20 @@ pub fn run_words<
         Err(error) => match error.print(rt) {
             Ok(()) if error.kind() != clap::error::ErrorKind::OutOfMemory => {
                 if error.kind() != clap::error::ErrorKind::DisplayHelp {
-                    tell_why(rt, &why_words(rt.alloc(), words));
+                    tell_why(rt, &why_words(rt.alloc(), without_help(words)));
                 }
                 ExitCode::from(2)
             }
             _ => ExitCode::FAILURE,
         },
+    }
+}
+
+/// The words of a command line, without the first `help` if a command is named behind it.
+fn without_help(words: &[String]) -> &[String] {
+    match words.get(1) {
+        Some(word) if word.as_str() == "help" && 2 < words.len() => &words[1..],
+        _ => words,
     }
 }
 
