@@ -55,7 +55,12 @@ fn print_help<R: Runtime + AllocGlobal>(rt: &R, words: &[String]) -> ExitCode
     {
         Ok(_) => ExitCode::from(2),
         Err(error) => match error.print(rt) {
-            Ok(()) if error.kind() != clap::error::ErrorKind::OutOfMemory => ExitCode::from(2),
+            Ok(()) if error.kind() != clap::error::ErrorKind::OutOfMemory => {
+                if error.kind() != clap::error::ErrorKind::DisplayHelp {
+                    farm_cli::tell_refused(rt, words);
+                }
+                ExitCode::from(2)
+            }
             _ => ExitCode::FAILURE,
         },
     }

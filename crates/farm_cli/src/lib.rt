@@ -32,6 +32,6 @@ pub use farm_config::{ConfigFault, Key, read_config};
 pub use farm_replay::{Notes, ReplayFault, Watches, replay};
 pub use farm_service::{ServeFault, serve};
 pub use input::{MOST_READ, read_front, read_whole};
-pub use program::run_words;
+pub use program::{run_words, tell_refused};
 pub use replaying::{ReplayStop, replay_text, replay_to};
 pub use summary::{Summary, summarize};

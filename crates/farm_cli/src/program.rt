@@ -55,7 +55,7 @@ pub fn run_words<
         Err(error) => match error.print(rt) {
             Ok(()) if error.kind() != clap::error::ErrorKind::OutOfMemory => {
                 if error.kind() != clap::error::ErrorKind::DisplayHelp {
-                    tell_why(rt, &why_words(rt.alloc(), without_help(words)));
+                    tell_refused(rt, words);
                 }
                 ExitCode::from(2)
             }
@@ -70,6 +70,11 @@ fn without_help(words: &[String]) -> &[String] {
         Some(word) if word.as_str() == "help" && 2 < words.len() => &words[1..],
         _ => words,
     }
+}
+
+/// Tells on a second line of standard error why a command line is refused, if that is asked for and known.
+pub fn tell_refused<R: AllocGlobal + Env + Eprint>(rt: &R, words: &[String]) {
+    tell_why(rt, &why_words(rt.alloc(), without_help(words)));
 }
 
 /// The bytes of the file at the path. `None` is told on standard error.
