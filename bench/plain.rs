@@ -1,51 +1,90 @@
-//! The searches of docs/METHODS.md as a plain Rust program would have them, with no proofs, to measure against:
-//! `plain SEARCH FILE NODES` prints `nodes N best B VERDICT`, as `search_bench` does. SEARCH is `tree` or `sample:SEED`.
+//! The searches of docs/METHODS.md as a good plain Rust program would have them, with no proofs, to
+//! measure against: `plain SEARCH FILE NODES` prints `nodes N best B VERDICT`, as `search_bench`
+//! does. SEARCH is `tree` or `sample:SEED`.
 //!
-//! The duties are the same: a search is in a box behind a trait, advances one node a call, and each node is paid with one atomic addition.
+//! The duties are the same: a search is in a box behind a trait, stops after any number of nodes,
+//! pays each node with one atomic addition, and takes no memory in a node.
 //! Nothing here is shared with the service: no code, no tables.
+//!
+//! Searches are compiled for sets of one word and of four, and for amounts in one to three words.
+//! That is enough for the limits of docs/FORMAT.md.
+use std::array;
 use std::sync::Arc;
 use std::sync::atomic::{AtomicU64, Ordering};
 
-const MOST: usize = 8;
-type Amounts = [u32; MOST];
+/// A time after all others. It stands for the makespan if there is no schedule.
+const NEVER: u32 = u32::MAX;
+
+/// What runs the nodes of a search.
+trait Nodes {
+    fn node(&mut self);
+    fn is_over(&self) -> bool;
+    /// The least makespan so far.
+    fn best(&self) -> u32;
+}
+
+trait Search {
+    /// Runs nodes until the search is over, `most` at the most.
+    fn run(&mut self, most: u64);
+    fn best(&self) -> Option<u32>;
+    fn verdict(&self) -> &'static str;
+}
+
+/// A search that pays each node with a quantum.
+struct Paid<T: Nodes> {
+    nodes: T,
+    quanta: Arc<AtomicU64>,
+}
+
+impl<T: Nodes> Search for Paid<T> {
+    fn run(&mut self, most: u64) {
+        for _ in 0..most {
+            if self.nodes.is_over() {
+                return;
+            }
+            self.quanta.fetch_add(1, Ordering::Relaxed);
+            self.nodes.node();
+        }
+    }
+
+    fn best(&self) -> Option<u32> {
+        Some(self.nodes.best()).filter(|&it| it < NEVER)
+    }
+
+    fn verdict(&self) -> &'static str {
+        match (self.nodes.is_over(), self.best()) {
+            (false, _) => "Going",
+            (true, None) => "Infeasible",
+            (true, Some(_)) => "Optimal",
+        }
+    }
+}
+
+// The file
 
 struct Mode {
     duration: u32,
-    request: Amounts,
-    /// What it consumes more than the least of its activity.
-    extra: Amounts,
-    executable: bool,
+    request: Vec<u32>,
+    /// The consumption beyond the least of the activity.
+    extra: Vec<u32>,
 }
 
 struct Activity {
     modes: Vec<Mode>,
-    successors: Vec<usize>,
-    predecessors: Vec<usize>,
+    successors: Vec<u8>,
+    predecessors: Vec<u8>,
     tail: u32,
     lft: u32,
 }
 
 struct Project {
     activities: Vec<Activity>,
-    capacity: Amounts,
-    /// What is left of each nonrenewable resource where every activity consumes its least; below 0 where that is too much.
-    slack: [i64; MOST],
-    renewables: usize,
-    nonrenewables: usize,
-    /// No feasible schedule is shorter: the longest chain of successors, each in its shortest mode.
+    capacities: Vec<u32>,
+    /// What is left of each stock if each activity consumes its least. Below 0 if that is too much.
+    slacks: Vec<i64>,
+    /// The longest chain of successors, each in its shortest mode. No feasible schedule is shorter.
     bound: u32,
 }
-
-/// One step of a search is one node.
-trait Search {
-    fn advance(&mut self);
-    fn nodes(&self) -> u64;
-    fn closed(&self) -> bool;
-    fn best(&self) -> Option<u32>;
-    fn verdict(&self) -> &'static str;
-}
-
-// The file
 
 fn numbers(line: &str) -> Vec<u32> {
     line.split_whitespace().filter_map(|word| word.parse().ok()).collect()
@@ -56,439 +95,704 @@ fn size(text: &str, label: &str) -> usize {
     numbers(line.split(':').nth(1).unwrap_or("")).first().map_or(0, |&it| it as usize)
 }
 
-fn section<'a>(text: &'a str, name: &str) -> impl Iterator<Item = &'a str> {
-    text.lines().skip_while({ let name = name.to_string(); move |line| !line.starts_with(&name) }).skip(2)
-}
-
-fn amounts(given: &[u32]) -> Amounts {
-    let mut all = [0; MOST];
-    all[..given.len()].copy_from_slice(given);
-    all
+fn section<'a>(text: &'a str, name: &'a str) -> impl Iterator<Item = u32> + 'a {
+    text.lines().skip_while(move |line| !line.starts_with(name)).skip(2).flat_map(numbers)
 }
 
 fn read(text: &str) -> Project {
     let jobs = size(text, "jobs (incl. supersource/sink )");
     let (renewables, nonrenewables) = (size(text, "- renewable"), size(text, "- nonrenewable"));
-    let words = |name| section(text, name).flat_map(numbers);
-    let (mut precedence, mut duration) = (words("PRECEDENCE RELATIONS"), words("REQUESTS/DURATIONS"));
-    let mut available = words("RESOURCEAVAILABILITIES");
-    let capacity = amounts(&available.by_ref().take(renewables).collect::<Vec<_>>());
-    let stock = amounts(&available.take(nonrenewables).collect::<Vec<_>>());
+    let (mut precedence, mut rows) = (section(text, "PRECEDENCE RELATIONS"), section(text, "REQUESTS/DURATIONS"));
+    let mut available = section(text, "RESOURCEAVAILABILITIES");
+    let capacities = available.by_ref().take(renewables).collect();
+    let slacks = available.take(nonrenewables).map(i64::from).collect();
     let mut activities = Vec::new();
     for _ in 0..jobs {
         let head: Vec<u32> = precedence.by_ref().take(3).collect();
-        let successors = precedence.by_ref().take(head[2] as usize).map(|it| it as usize - 1).collect();
-        duration.next();
-        let mut modes = Vec::new();
-        for _ in 0..head[1] {
-            let row: Vec<u32> = duration.by_ref().take(2 + renewables + nonrenewables).collect();
-            let request = amounts(&row[2..2 + renewables]);
-            let executable = row[1] == 0 || (0..MOST).all(|r| request[r] <= capacity[r]);
-            modes.push(Mode { duration: row[1], request, extra: amounts(&row[2 + renewables..]), executable });
-        }
+        let successors = precedence.by_ref().take(head[2] as usize).map(|s| (s - 1) as u8).collect();
+        rows.next();
+        let mut mode = |_| {
+            let row: Vec<u32> = rows.by_ref().take(2 + renewables + nonrenewables).collect();
+            let (request, consumption) = row[2..].split_at(renewables);
+            Mode { duration: row[1], request: request.to_vec(), extra: consumption.to_vec() }
+        };
+        let modes = (0..head[1]).map(&mut mode).collect();
         activities.push(Activity { modes, successors, predecessors: Vec::new(), tail: 0, lft: 0 });
     }
-    finished(Project { activities, capacity, slack: stock.map(i64::from), renewables, nonrenewables, bound: 0 })
+    finished(Project { activities, capacities, slacks, bound: 0 })
 }
 
-/// The project with predecessors, tails, latest finish times, least consumptions and slacks.
+/// The project with predecessors, tails, latest finish times and the bound, and with the least
+/// consumptions taken away.
 fn finished(mut project: Project) -> Project {
     let all = &mut project.activities;
-    let horizon = all.iter().map(|it| it.modes.iter().map(|mode| mode.duration).max().unwrap_or(0)).sum();
+    let durations = |it: &Activity| it.modes.iter().map(|mode| mode.duration).collect::<Vec<_>>();
+    let horizon = all.iter().map(|it| durations(it).into_iter().max().unwrap_or(0)).sum();
+    let shortest: Vec<u32> = all.iter().map(|it| durations(it).into_iter().min().unwrap_or(0)).collect();
     for j in (0..all.len()).rev() {
-        let shortest = |at: usize| all[at].modes.iter().map(|mode| mode.duration).min().unwrap_or(0);
-        let tail = all[j].successors.iter().map(|&s| shortest(s) + all[s].tail).max().unwrap_or(0);
-        let lft = all[j].successors.iter().map(|&s| all[s].lft - shortest(s)).min().unwrap_or(horizon);
-        project.bound = project.bound.max(shortest(j) + tail);
+        let successors: Vec<usize> = all[j].successors.iter().map(|&s| usize::from(s)).collect();
+        let tail = successors.iter().map(|&s| shortest[s] + all[s].tail).max().unwrap_or(0);
+        let lft = successors.iter().map(|&s| all[s].lft - shortest[s]).min().unwrap_or(horizon);
+        project.bound = project.bound.max(shortest[j] + tail);
         (all[j].tail, all[j].lft) = (tail, lft);
-        for s in all[j].successors.clone() {
-            all[s].predecessors.push(j);
+        for s in successors {
+            all[s].predecessors.push(j as u8);
         }
-        for r in 0..MOST {
-            let least = all[j].modes.iter().map(|mode| mode.extra[r]).min().unwrap_or(0);
-            project.slack[r] -= i64::from(least);
-            all[j].modes.iter_mut().for_each(|mode| mode.extra[r] -= least);
+        for (k, slack) in project.slacks.iter_mut().enumerate() {
+            let least = all[j].modes.iter().map(|mode| mode.extra[k]).min().unwrap_or(0);
+            *slack -= i64::from(least);
+            all[j].modes.iter_mut().for_each(|mode| mode.extra[k] -= least);
         }
     }
     project
 }
 
-impl Project {
-    fn allows(&self, mode: &Mode, slack: &[i64; MOST]) -> bool {
-        mode.executable && (0..self.nonrenewables).all(|r| i64::from(mode.extra[r]) <= slack[r])
+// Amounts in words
+
+/// Amounts of several resources: a field for each, as wide as its limit, below a guard bit.
+/// Free amounts have all guard bits set, and taken amounts have none.
+type Amounts<const N: usize> = [u64; N];
+
+/// The fields of resources: the word, the lowest bit and the width of each.
+struct Fields(Vec<(usize, u32, u32)>);
+
+impl Fields {
+    fn of(limits: &[u32]) -> Fields {
+        let (mut word, mut end, mut fields) = (0, 0, Vec::new());
+        for limit in limits {
+            let width = u32::BITS - limit.leading_zeros();
+            if end + width + 1 > u64::BITS {
+                (word, end) = (word + 1, 0);
+            }
+            fields.push((word, end, width));
+            end += width + 1;
+        }
+        Fields(fields)
     }
+
+    fn words(&self) -> usize {
+        self.0.last().map_or(1, |it| it.0 + 1)
+    }
+
+    fn packed<const N: usize>(&self, amounts: &[u32]) -> Amounts<N> {
+        let mut words = [0; N];
+        for (&amount, &(word, bit, _)) in amounts.iter().zip(&self.0) {
+            words[word] |= u64::from(amount) << bit;
+        }
+        words
+    }
+
+    fn guards<const N: usize>(&self) -> Amounts<N> {
+        self.packed(&self.0.iter().map(|it| 1 << it.2).collect::<Vec<_>>())
+    }
+}
+
+fn plus<const N: usize>(free: &Amounts<N>, back: &Amounts<N>) -> Amounts<N> {
+    array::from_fn(|word| free[word].wrapping_add(back[word]))
+}
+
+fn minus<const N: usize>(free: &Amounts<N>, taken: &Amounts<N>) -> Amounts<N> {
+    array::from_fn(|word| free[word].wrapping_sub(taken[word]))
+}
+
+/// Whether `taken` is within `free` in each field: no field has borrowed from its guard bit.
+fn fits<const N: usize>(taken: &Amounts<N>, free: &Amounts<N>, guards: &Amounts<N>) -> bool {
+    let left = minus(free, taken);
+    (0..N).all(|word| left[word] & guards[word] == guards[word])
+}
+
+// The table of modes
+
+/// What a mode takes.
+struct Row<const N: usize> {
+    /// Nothing if the duration is 0.
+    request: Amounts<N>,
+    extra: Amounts<N>,
+    duration: u32,
+    /// The duration and the tail of the activity.
+    reach: u32,
+    activity: u8,
+    is_last: bool,
+}
+
+/// The rows of all modes, activity by activity, and what is free at first.
+struct Table<const N: usize> {
+    rows: Vec<Row<N>>,
+    /// The first row of each activity, and at last the number of rows.
+    first: Vec<u32>,
+    free: Amounts<N>,
+    free_guards: Amounts<N>,
+    slack: Amounts<N>,
+    slack_guards: Amounts<N>,
+}
+
+/// The limits of the fields of `extra`. One field more, of limit 0, has a 1 in an impossible mode.
+fn slack_limits(project: &Project) -> Vec<u32> {
+    project.slacks.iter().map(|&it| it.max(0) as u32).chain([0]).collect()
+}
+
+fn is_possible(project: &Project, mode: &Mode) -> bool {
+    let runs = mode.duration == 0 || mode.request.iter().zip(&project.capacities).all(|(it, most)| it <= most);
+    runs && mode.extra.iter().zip(&project.slacks).all(|(&it, &most)| i64::from(it) <= most)
+}
+
+/// How many words the amounts of a project take.
+fn words(project: &Project) -> usize {
+    Fields::of(&project.capacities).words().max(Fields::of(&slack_limits(project)).words())
+}
+
+impl<const N: usize> Table<N> {
+    fn of(project: &Project) -> Table<N> {
+        let limits = slack_limits(project);
+        let (renewable, nonrenewable) = (Fields::of(&project.capacities), Fields::of(&limits));
+        let (free_guards, slack_guards) = (renewable.guards(), nonrenewable.guards());
+        let (mut rows, mut first) = (Vec::new(), vec![0]);
+        for (j, activity) in project.activities.iter().enumerate() {
+            for mode in &activity.modes {
+                let is_possible = is_possible(project, mode);
+                let extra = mode.extra.iter().map(|&it| if is_possible { it } else { 0 }).chain([u32::from(!is_possible)]);
+                rows.push(Row {
+                    request: if is_possible && mode.duration > 0 { renewable.packed(&mode.request) } else { [0; N] },
+                    extra: nonrenewable.packed(&extra.collect::<Vec<_>>()),
+                    duration: mode.duration,
+                    reach: mode.duration + activity.tail,
+                    activity: j as u8,
+                    is_last: false,
+                });
+            }
+            rows.last_mut().expect("a mode").is_last = true;
+            first.push(rows.len() as u32);
+        }
+        let free = plus(&renewable.packed(&project.capacities), &free_guards);
+        let slack = plus(&nonrenewable.packed(&limits), &slack_guards);
+        Table { rows, first, free, free_guards, slack, slack_guards }
+    }
+}
+
+// Sets of activities
+
+/// A set of activities, a bit for each.
+type Set<const S: usize> = [u64; S];
+
+fn word_of<const S: usize>(activity: u8) -> usize {
+    usize::from(activity) / 64 % S
+}
+
+fn put_in<const S: usize>(set: &mut Set<S>, activity: u8) {
+    set[word_of::<S>(activity)] |= 1 << (activity % 64);
+}
+
+fn take_out<const S: usize>(set: &mut Set<S>, activity: u8) {
+    set[word_of::<S>(activity)] &= !(1 << (activity % 64));
+}
+
+fn take_least<const S: usize>(set: &mut Set<S>) -> Option<u8> {
+    for word in 0..S {
+        if set[word] != 0 {
+            let bit = set[word].trailing_zeros();
+            set[word] &= set[word] - 1;
+            return Some((word * 64) as u8 + bit as u8);
+        }
+    }
+    None
+}
+
+fn is_within<const S: usize>(set: &Set<S>, other: &Set<S>) -> bool {
+    (0..S).all(|word| set[word] & !other[word] == 0)
+}
+
+fn set_of<const S: usize>(activities: impl Iterator<Item = u8>) -> Set<S> {
+    let mut set = [0; S];
+    activities.for_each(|it| put_in(&mut set, it));
+    set
+}
+
+/// The activities without predecessors.
+fn sources(project: &Project) -> impl Iterator<Item = u8> + '_ {
+    let all = project.activities.iter().enumerate();
+    all.filter(|it| it.1.predecessors.is_empty()).map(|it| it.0 as u8)
 }
 
 // The precedence tree
 
-type Set = [u64; 4];
-
-fn next_in(set: &Set, from: usize) -> Option<usize> {
-    let mut word = from / 64;
-    let mut bits = set.get(word)? & (u64::MAX << (from % 64));
-    while bits == 0 {
-        word += 1;
-        bits = *set.get(word)?;
-    }
-    Some(word * 64 + bits.trailing_zeros() as usize)
+/// An activity that runs beyond `Level::from`, in a list by rising finish.
+#[derive(Clone, Copy)]
+struct Running<const N: usize> {
+    request: Amounts<N>,
+    finish: u32,
+    next: u32,
 }
 
-/// A level of the tree: who is eligible, what of nonrenewable resources is left, the start that was chosen above, and the candidate.
-#[derive(Clone)]
-struct Level {
-    eligible: Set,
-    slack: [i64; MOST],
+/// A level of the tree. A new level is a changed copy, so that going up takes nothing back.
+///
+/// Starts never fall on the way down. From the last start on activities only finish, and what is
+/// free only rises. So `free` and the list of `running` are the whole profile.
+#[derive(Clone, Copy)]
+struct Level<const S: usize, const N: usize> {
+    placed: Set<S>,
+    eligible: Set<S>,
+    /// The eligible activities behind the candidate's.
+    rest: Set<S>,
+    /// What is left of the stocks if all activities that are not placed consume their least.
+    slack: Amounts<N>,
+    /// What is free at `from`.
+    free: Amounts<N>,
+    /// The start of the activity placed last, or 0.
     from: u32,
-    latest: u32,
-    activity: usize,
-    mode: usize,
+    /// The row of the candidate.
+    row: u32,
+    /// The first of those that run beyond `from`.
+    running: u32,
+    /// The first entry of `Tree::running` that neither this level nor one above it uses.
+    end: u32,
 }
 
-/// Starts never fall from level to level, so that from the last start on use only falls: who still runs there is all that counts.
-struct Tree {
+impl<const S: usize, const N: usize> Level<S, N> {
+    /// Moves the candidate to the next activity. Returns whether there is one.
+    fn turn(&mut self, first: &[u32]) -> bool {
+        let next = take_least(&mut self.rest);
+        self.row = next.map_or(self.row, |it| first[usize::from(it)]);
+        next.is_some()
+    }
+}
+
+struct Tree<const S: usize, const N: usize> {
     project: Project,
-    quanta: Arc<AtomicU64>,
-    levels: Vec<Level>,
+    table: Table<N>,
+    /// The predecessors of each activity.
+    before: Vec<Set<S>>,
+    level: Level<S, N>,
+    above: Vec<Level<S, N>>,
     depth: usize,
-    left: Vec<u32>,
-    finish: Vec<u32>,
-    /// The finish and the request of each placed activity that takes time, by rising finish.
-    front: Vec<(u32, Amounts)>,
-    nodes: u64,
+    /// The lists of all levels. Each list ends with entry 0, which never finishes.
+    running: Vec<Running<N>>,
+    finish: [u32; 256],
+    /// The latest finish of the predecessors, of each eligible activity.
+    ready: [u32; 256],
+    /// The makespan of the incumbent.
+    best: u32,
     closed: bool,
-    best: Option<u32>,
 }
 
-impl Tree {
-    fn new(project: Project, quanta: Arc<AtomicU64>) -> Tree {
+impl<const S: usize, const N: usize> Tree<S, N> {
+    fn new(project: Project) -> Tree<S, N> {
         let n = project.activities.len();
-        let left: Vec<u32> = project.activities.iter().map(|it| it.predecessors.len() as u32).collect();
-        let mut eligible = [0; 4];
-        (0..n).filter(|&j| left[j] == 0).for_each(|j| eligible[j / 64] |= 1 << (j % 64));
-        let activity = next_in(&eligible, 0).unwrap_or(0);
-        let first = Level { eligible, slack: project.slack, from: 0, latest: 0, activity, mode: 0 };
-        let levels = vec![first; n];
-        Tree { project, quanta, levels, depth: 0, left, finish: vec![0; n], front: Vec::with_capacity(n), nodes: 0, closed: false, best: None }
+        let table = Table::of(&project);
+        let before = project.activities.iter().map(|it| set_of(it.predecessors.iter().copied())).collect();
+        let eligible = set_of(sources(&project));
+        let (slack, free) = (table.slack, table.free);
+        let level = Level { placed: [0; S], eligible, rest: eligible, slack, free, from: 0, row: 0, running: 0, end: 1 };
+        let running = vec![Running { request: [0; N], finish: NEVER, next: 0 }; 1 + n * (n + 1) / 2];
+        let mut tree = Tree {
+            project, table, before, level, above: vec![level; n], depth: 0, running,
+            finish: [0; 256], ready: [0; 256], best: NEVER, closed: false,
+        };
+        tree.level.turn(&tree.table.first);
+        tree
     }
 
-    fn earliest(&self, from: u32, request: &Amounts) -> u32 {
-        let mut used = [0; MOST];
-        for (finish, more) in self.front.iter().rev() {
-            if *finish <= from {
-                break;
-            }
-            for r in 0..self.project.renewables {
-                used[r] += more[r];
-                if used[r] + request[r] > self.project.capacity[r] {
-                    return *finish;
-                }
-            }
+    /// The start of the candidate, or none if it is pruned.
+    fn start(&self) -> Option<u32> {
+        let Tree { level, table, best, .. } = self;
+        let row = &table.rows[level.row as usize];
+        if !fits(&row.extra, &level.slack, &table.slack_guards) {
+            return None;
         }
-        from
+        let ready = level.from.max(self.ready[usize::from(row.activity)]);
+        if ready + row.reach >= *best {
+            return None;
+        }
+        let start = self.earliest(ready, row);
+        (start + row.reach < *best).then_some(start)
     }
 
+    /// The least start, `ready` or later, at which the row fits.
+    fn earliest(&self, ready: u32, row: &Row<N>) -> u32 {
+        let Level { mut free, running: mut at, .. } = self.level;
+        let mut from = 0;
+        while !fits(&row.request, &free, &self.table.free_guards) {
+            let it = &self.running[at as usize];
+            free = plus(&free, &it.request);
+            (from, at) = (it.finish, it.next);
+        }
+        ready.max(from)
+    }
+
+    fn complete(&mut self, start: u32) {
+        let mut latest = start + self.table.rows[self.level.row as usize].duration;
+        let mut at = self.level.running;
+        while at > 0 {
+            latest = latest.max(self.running[at as usize].finish);
+            at = self.running[at as usize].next;
+        }
+        self.best = self.best.min(latest);
+        self.closed = self.best <= self.project.bound;
+    }
+
+    /// Places the candidate, and goes to the first one of the next level.
     fn place(&mut self, start: u32) {
-        let depth = self.depth;
-        let (j, m) = (self.levels[depth].activity, self.levels[depth].mode);
-        let mode = &self.project.activities[j].modes[m];
-        let finish = start + mode.duration;
-        self.finish[j] = finish;
-        if mode.duration > 0 {
-            let at = self.front.iter().rposition(|it| it.0 <= finish).map_or(0, |it| it + 1);
-            self.front.insert(at, (finish, mode.request));
-        }
-        let mut next = self.levels[depth].clone();
-        next.eligible[j / 64] &= !(1 << (j % 64));
-        for &s in &self.project.activities[j].successors {
-            self.left[s] -= 1;
-            if self.left[s] == 0 {
-                next.eligible[s / 64] |= 1 << (s % 64);
-            }
-        }
-        for r in 0..self.project.nonrenewables {
-            next.slack[r] -= i64::from(mode.extra[r]);
-        }
-        (next.from, next.latest, next.mode) = (start, next.latest.max(finish), 0);
-        next.activity = next_in(&next.eligible, 0).unwrap_or(0);
+        self.above[self.depth] = self.level;
         self.depth += 1;
-        self.levels[self.depth] = next;
-    }
-
-    fn unplace(&mut self) {
-        self.depth -= 1;
-        let (j, m) = (self.levels[self.depth].activity, self.levels[self.depth].mode);
-        let mode = &self.project.activities[j].modes[m];
-        if mode.duration > 0 {
-            let finish = self.finish[j];
-            let at = self.front.iter().rposition(|it| it.0 == finish && it.1 == mode.request);
-            self.front.remove(at.expect("it is placed"));
-        }
-        for &s in &self.project.activities[j].successors {
-            self.left[s] += 1;
-        }
-    }
-
-    /// Goes to the next candidate, up where a level has no more.
-    fn step(&mut self) {
-        loop {
-            let level = &mut self.levels[self.depth];
-            level.mode += 1;
-            if level.mode < self.project.activities[level.activity].modes.len() {
-                return;
+        let Tree { project, level, table, ready, finish: finishes, .. } = self;
+        let row = &table.rows[level.row as usize];
+        let finish = start + row.duration;
+        finishes[usize::from(row.activity)] = finish;
+        put_in(&mut level.placed, row.activity);
+        take_out(&mut level.eligible, row.activity);
+        for &s in &project.activities[usize::from(row.activity)].successors {
+            if is_within(&self.before[usize::from(s)], &level.placed) {
+                put_in(&mut level.eligible, s);
+                let ends = project.activities[usize::from(s)].predecessors.iter().map(|&it| finishes[usize::from(it)]);
+                ready[usize::from(s)] = ends.fold(0, u32::max);
             }
-            if let Some(next) = next_in(&level.eligible, level.activity + 1) {
-                (level.activity, level.mode) = (next, 0);
+        }
+        level.slack = minus(&level.slack, &row.extra);
+        level.from = start;
+        run_until(level, &mut self.running, finish, row);
+        level.rest = level.eligible;
+        level.turn(&table.first);
+    }
+
+    /// Goes to the next candidate, up if a level has no more.
+    fn step(&mut self) {
+        while self.table.rows[self.level.row as usize].is_last {
+            if self.level.turn(&self.table.first) {
                 return;
             }
             if self.depth == 0 {
                 self.closed = true;
                 return;
             }
-            self.unplace();
+            self.depth -= 1;
+            self.level = self.above[self.depth];
         }
-    }
-
-    fn try_candidate(&mut self) -> bool {
-        let level = &self.levels[self.depth];
-        let activity = &self.project.activities[level.activity];
-        let mode = &activity.modes[level.mode];
-        if !self.project.allows(mode, &level.slack) {
-            return false;
-        }
-        let ready = activity.predecessors.iter().map(|&p| self.finish[p]).fold(level.from, u32::max);
-        let start = if mode.duration == 0 { ready } else { self.earliest(ready, &mode.request) };
-        let finish = start + mode.duration;
-        if self.best.is_some_and(|best| finish + activity.tail >= best) {
-            return false;
-        }
-        if self.depth + 1 < self.levels.len() {
-            self.place(start);
-            return true;
-        }
-        let makespan = level.latest.max(finish);
-        if self.best.is_none_or(|best| makespan < best) {
-            self.best = Some(makespan);
-        }
-        false
+        self.level.row += 1;
     }
 }
 
-impl Search for Tree {
-    fn advance(&mut self) {
-        self.quanta.fetch_add(1, Ordering::Relaxed);
-        self.nodes += 1;
-        if !self.try_candidate() {
-            self.step();
+/// Removes from the list what has finished at `level.from`, and adds a request until `finish`.
+fn run_until<const S: usize, const N: usize>(level: &mut Level<S, N>, list: &mut [Running<N>], finish: u32, row: &Row<N>) {
+    let (mut free, mut at, mut end) = (level.free, level.running, level.end);
+    while list[at as usize].finish <= level.from {
+        free = plus(&free, &list[at as usize].request);
+        at = list[at as usize].next;
+    }
+    (level.free, level.running) = (free, at);
+    if finish == level.from {
+        return;
+    }
+    level.free = minus(&free, &row.request);
+    level.running = end;
+    while list[at as usize].finish < finish {
+        list[end as usize] = Running { next: end + 1, ..list[at as usize] };
+        (at, end) = (list[at as usize].next, end + 1);
+    }
+    list[end as usize] = Running { request: row.request, finish, next: at };
+    level.end = end + 1;
+}
+
+impl<const S: usize, const N: usize> Nodes for Tree<S, N> {
+    /// Examines the candidate, and goes to the next one.
+    fn node(&mut self) {
+        if let Some(start) = self.start() {
+            if self.depth + 1 < self.above.len() {
+                self.place(start);
+                return;
+            }
+            self.complete(start);
         }
-        self.closed |= self.best == Some(self.project.bound);
+        self.step();
     }
 
-    fn nodes(&self) -> u64 {
-        self.nodes
-    }
-
-    fn closed(&self) -> bool {
+    fn is_over(&self) -> bool {
         self.closed
     }
 
-    fn best(&self) -> Option<u32> {
+    fn best(&self) -> u32 {
         self.best
-    }
-
-    fn verdict(&self) -> &'static str {
-        match (self.closed, self.best) {
-            (false, _) => "Going",
-            (true, Some(_)) => "Optimal",
-            (true, None) => "Infeasible",
-        }
     }
 }
 
 // Sampling
 
-/// A pass of the serial scheme: its profile is the use of each renewable resource from each point of time on.
-struct Sample {
-    project: Project,
-    quanta: Arc<AtomicU64>,
+const MULTIPLIER: u64 = 6364136223846793005;
+const INCREMENT: u64 = 109;
+
+/// The words of a seed: PCG XSH RR (O'Neill 2014).
+struct Words {
     state: u64,
-    placed: usize,
-    is_void: bool,
-    left: Vec<u32>,
-    finish: Vec<u32>,
-    eligible: Vec<usize>,
-    slack: [i64; MOST],
-    points: Vec<(u32, Amounts)>,
-    makespan: u32,
-    nodes: u64,
-    best: Option<u32>,
 }
 
-const MULTIPLIER: u64 = 6364136223846793005;
+impl Words {
+    fn of(seed: u64) -> Words {
+        Words { state: seed.wrapping_add(INCREMENT).wrapping_mul(MULTIPLIER).wrapping_add(INCREMENT) }
+    }
 
-impl Sample {
-    fn new(project: Project, quanta: Arc<AtomicU64>, seed: u64) -> Sample {
-        let n = project.activities.len();
-        let state = seed.wrapping_add(109).wrapping_mul(MULTIPLIER).wrapping_add(109);
-        let (left, finish, eligible) = (vec![0; n], vec![0; n], Vec::with_capacity(n));
+    fn next(&mut self) -> u32 {
+        let x = self.state;
+        self.state = x.wrapping_mul(MULTIPLIER).wrapping_add(INCREMENT);
+        ((((x >> 18) ^ x) >> 27) as u32).rotate_right((x >> 59) as u32)
+    }
+}
+
+/// The eligible activities, and the numbers of which the sum of their weights is made.
+#[derive(Clone, Copy)]
+struct Eligible<const S: usize> {
+    set: Set<S>,
+    count: u32,
+    /// The sum of their latest finish times, and the greatest of these.
+    sum: u32,
+    greatest: u32,
+}
+
+impl<const S: usize> Eligible<S> {
+    fn add(&mut self, activity: u8, lft: &[u32; 256]) {
+        let own = lft[usize::from(activity)];
+        put_in(&mut self.set, activity);
+        self.count += 1;
+        self.sum += own;
+        self.greatest = self.greatest.max(own);
+    }
+
+    fn remove(&mut self, activity: u8, lft: &[u32; 256]) {
+        let own = lft[usize::from(activity)];
+        take_out(&mut self.set, activity);
+        self.count -= 1;
+        self.sum -= own;
+        if own == self.greatest {
+            self.greatest = 0;
+            let mut rest = self.set;
+            while let Some(it) = take_least(&mut rest) {
+                self.greatest = self.greatest.max(lft[usize::from(it)]);
+            }
+        }
+    }
+
+    /// The activity that a word draws, of at least one.
+    fn drawn(&self, word: u32, lft: &[u32; 256]) -> u8 {
+        let most = self.greatest + 1;
+        let mut left = word % (self.count * most - self.sum);
+        let mut rest = self.set;
+        while let Some(activity) = take_least(&mut rest) {
+            let weight = most - lft[usize::from(activity)];
+            if left < weight {
+                return activity;
+            }
+            left -= weight;
+        }
+        unreachable!("the word is below the sum of the weights")
+    }
+}
+
+/// What is free from `time` on, until the time of the next point.
+#[derive(Clone, Copy)]
+struct Point<const N: usize> {
+    free: Amounts<N>,
+    time: u32,
+    next: u8,
+}
+
+/// What is free in a pass, as points by rising time: point 0 at time 0 is the first, and point 1 at
+/// `NEVER` the last. Each finish has a point. So each start has one, and none is searched for.
+struct Profile<const N: usize> {
+    points: [Point<N>; 256],
+    end: u8,
+}
+
+impl<const N: usize> Profile<N> {
+    fn begin(&mut self, free: Amounts<N>) {
+        self.points[0] = Point { free, time: 0, next: 1 };
+        self.points[1].time = NEVER;
+        self.end = 2;
+    }
+
+    fn at(&self, point: u8) -> &Point<N> {
+        &self.points[usize::from(point)]
+    }
+
+    /// The first point, `ready` or later, at which the row fits.
+    fn earliest(&self, ready: u8, row: &Row<N>, guards: &Amounts<N>) -> u8 {
+        let (mut start, mut at) = (ready, ready);
+        let mut finish = self.at(start).time + row.duration;
+        while self.at(at).time < finish {
+            let has_room = fits(&row.request, &self.at(at).free, guards);
+            at = self.at(at).next;
+            if !has_room {
+                start = at;
+                finish = self.at(at).time + row.duration;
+            }
+        }
+        start
+    }
+
+    /// Takes the request of a row from `start` on. Returns the point of the finish.
+    fn occupy(&mut self, start: u8, row: &Row<N>) -> u8 {
+        let finish = self.at(start).time + row.duration;
+        let (mut before, mut at) = (start, start);
+        let mut free = [0; N];
+        while self.at(at).time < finish {
+            let point = &mut self.points[usize::from(at)];
+            free = point.free;
+            point.free = minus(&free, &row.request);
+            (before, at) = (at, point.next);
+        }
+        if self.at(at).time == finish {
+            return at;
+        }
+        let new = self.end;
+        self.points[usize::from(new)] = Point { free, time: finish, next: at };
+        self.points[usize::from(before)].next = new;
+        self.end += 1;
+        new
+    }
+}
+
+/// The predecessors of an activity: the latest finish of those that are placed, and its point, and
+/// how many are not placed.
+#[derive(Clone, Copy)]
+struct Waiting {
+    ready: u32,
+    point: u8,
+    missing: u8,
+}
+
+/// Passes of the serial scheme that are drawn from the words of a seed.
+struct Sample<const S: usize, const N: usize> {
+    project: Project,
+    table: Table<N>,
+    lft: [u32; 256],
+    /// `waiting` and `eligible` before a pass.
+    first: Vec<Waiting>,
+    sources: Eligible<S>,
+    words: Words,
+    waiting: [Waiting; 256],
+    eligible: Eligible<S>,
+    slack: Amounts<N>,
+    profile: Profile<N>,
+    makespan: u32,
+    /// The nodes that the pass has left.
+    left: usize,
+    is_void: bool,
+    /// The makespan of the best pass.
+    best: u32,
+}
+
+impl<const S: usize, const N: usize> Sample<S, N> {
+    fn new(project: Project, seed: u64) -> Sample<S, N> {
+        let all = &project.activities;
+        let table: Table<N> = Table::of(&project);
+        let waiting = |it: &Activity| Waiting { ready: 0, point: 0, missing: it.predecessors.len() as u8 };
+        let (first, mut lft) = (all.iter().map(waiting).collect::<Vec<_>>(), [0; 256]);
+        all.iter().zip(&mut lft).for_each(|(activity, it)| *it = activity.lft);
+        let profile = Profile { points: [Point { free: table.free, time: 0, next: 0 }; 256], end: 0 };
+        let mut eligible = Eligible { set: [0; S], count: 0, sum: 0, greatest: 0 };
+        sources(&project).for_each(|it| eligible.add(it, &lft));
         let mut search = Sample {
-            project, quanta, state, placed: 0, is_void: false, left, finish, eligible, slack: [0; MOST], points: Vec::with_capacity(2 * n + 1),
-            makespan: 0, nodes: 0, best: None,
+            words: Words::of(seed), waiting: [first[0]; 256], first, lft, sources: eligible, eligible,
+            slack: table.slack, profile, makespan: 0, left: 0, is_void: false, best: NEVER, table, project,
         };
         search.begin();
         search
     }
 
     fn begin(&mut self) {
-        let all = &self.project.activities;
-        (self.placed, self.is_void, self.slack, self.makespan) = (0, false, self.project.slack, 0);
-        for (j, activity) in all.iter().enumerate() {
-            self.left[j] = activity.predecessors.len() as u32;
+        self.waiting[..self.first.len()].copy_from_slice(&self.first);
+        self.eligible = self.sources;
+        self.slack = self.table.slack;
+        self.profile.begin(self.table.free);
+        (self.makespan, self.left, self.is_void) = (0, self.first.len(), false);
+    }
+
+    /// The row of the allowed mode that a word draws, if there is one.
+    fn drawn_row(&self, activity: u8, word: u32) -> Option<usize> {
+        let Table { rows, first, slack_guards, .. } = &self.table;
+        let [from, to] = [0, 1].map(|more| first[usize::from(activity) + more] as usize);
+        let mut allowed = 0u32;
+        for row in rows[from..to].iter().rev() {
+            allowed = allowed << 1 | u32::from(fits(&row.extra, &self.slack, slack_guards));
         }
-        self.eligible.clear();
-        self.eligible.extend((0..all.len()).filter(|&j| all[j].predecessors.is_empty()));
-        self.points.clear();
-        self.points.push((0, [0; MOST]));
+        if allowed == 0 {
+            return None;
+        }
+        for _ in 0..word % allowed.count_ones() {
+            allowed &= allowed - 1;
+        }
+        Some(from + allowed.trailing_zeros() as usize)
     }
 
-    fn word(&mut self) -> u32 {
-        let x = self.state;
-        self.state = x.wrapping_mul(MULTIPLIER).wrapping_add(109);
-        ((((x >> 18) ^ x) >> 27) as u32).rotate_right((x >> 59) as u32)
-    }
-
-    /// The place in `eligible` of the activity that a word picks.
-    fn picked(&self, word: u32) -> usize {
-        let lft = |at: &usize| u64::from(self.project.activities[*at].lft);
-        let greatest = self.eligible.iter().map(lft).max().unwrap_or(0);
-        let weights = self.eligible.iter().map(|at| greatest - lft(at) + 1);
-        let mut rest = u64::from(word) % weights.clone().sum::<u64>();
-        for (place, weight) in weights.enumerate() {
-            if rest < weight {
-                return place;
+    fn place(&mut self, activity: u8, row: usize) {
+        let Sample { table, profile, eligible, waiting, lft, .. } = self;
+        let row = &table.rows[row];
+        self.slack = minus(&self.slack, &row.extra);
+        let start = profile.earliest(waiting[usize::from(activity)].point, row, &table.free_guards);
+        let point = profile.occupy(start, row);
+        let finish = profile.at(point).time;
+        self.makespan = self.makespan.max(finish);
+        eligible.remove(activity, lft);
+        for &s in &self.project.activities[usize::from(activity)].successors {
+            let it = &mut waiting[usize::from(s)];
+            if it.ready < finish {
+                (it.ready, it.point) = (finish, point);
             }
-            rest -= weight;
-        }
-        0
-    }
-
-    fn earliest(&self, ready: u32, mode: &Mode) -> u32 {
-        if mode.duration == 0 {
-            return ready;
-        }
-        let kinds = 0..self.project.renewables;
-        let mut start = ready;
-        let first = self.points.iter().rposition(|it| it.0 <= ready).unwrap_or(0);
-        for (at, (time, used)) in self.points.iter().enumerate().skip(first) {
-            if *time >= start + mode.duration {
-                break;
-            }
-            if kinds.clone().any(|r| used[r] + mode.request[r] > self.project.capacity[r]) {
-                start = self.points[at + 1].0;
+            it.missing -= 1;
+            if it.missing == 0 {
+                eligible.add(s, lft);
             }
         }
-        start
-    }
-
-    fn open(&mut self, time: u32) -> usize {
-        let at = self.points.iter().rposition(|it| it.0 <= time).unwrap_or(0);
-        if self.points[at].0 == time {
-            return at;
-        }
-        let used = self.points[at].1;
-        self.points.insert(at + 1, (time, used));
-        at + 1
-    }
-
-    fn place(&mut self, place: usize, m: usize) {
-        let j = self.eligible.remove(place);
-        let ready = self.project.activities[j].predecessors.iter().map(|&p| self.finish[p]).max().unwrap_or(0);
-        let start = self.earliest(ready, &self.project.activities[j].modes[m]);
-        let (duration, request) = (self.project.activities[j].modes[m].duration, self.project.activities[j].modes[m].request);
-        self.finish[j] = start + duration;
-        self.makespan = self.makespan.max(self.finish[j]);
-        if duration > 0 {
-            let (from, to) = (self.open(start), self.open(start + duration));
-            for point in &mut self.points[from..to] {
-                (0..self.project.renewables).for_each(|r| point.1[r] += request[r]);
-            }
-        }
-        for r in 0..self.project.nonrenewables {
-            self.slack[r] -= i64::from(self.project.activities[j].modes[m].extra[r]);
-        }
-        for at in 0..self.project.activities[j].successors.len() {
-            let s = self.project.activities[j].successors[at];
-            self.left[s] -= 1;
-            if self.left[s] == 0 {
-                let to = self.eligible.partition_point(|&it| it < s);
-                self.eligible.insert(to, s);
-            }
-        }
-    }
-
-    fn try_node(&mut self) {
-        let (first, second) = (self.word(), self.word());
-        if self.is_void {
-            return;
-        }
-        let place = self.picked(first);
-        let activity = &self.project.activities[self.eligible[place]];
-        let allowed = |mode: &&Mode| self.project.allows(mode, &self.slack);
-        let count = activity.modes.iter().filter(allowed).count();
-        if count == 0 {
-            self.is_void = true;
-            return;
-        }
-        let wanted = second as usize % count;
-        let modes = activity.modes.iter().enumerate().filter(|it| allowed(&it.1));
-        let m = modes.map(|it| it.0).nth(wanted).expect("it is below the count");
-        self.place(place, m);
     }
 }
 
-impl Search for Sample {
-    fn advance(&mut self) {
-        self.quanta.fetch_add(1, Ordering::Relaxed);
-        self.nodes += 1;
-        self.try_node();
-        self.placed += 1;
-        if self.placed == self.project.activities.len() {
-            if !self.is_void && self.best.is_none_or(|best| self.makespan < best) {
-                self.best = Some(self.makespan);
+impl<const S: usize, const N: usize> Nodes for Sample<S, N> {
+    /// Places an activity in a mode that the next two words draw. A void pass draws them too.
+    fn node(&mut self) {
+        let (first, second) = (self.words.next(), self.words.next());
+        if !self.is_void {
+            let activity = self.eligible.drawn(first, &self.lft);
+            match self.drawn_row(activity, second) {
+                Some(row) => self.place(activity, row),
+                None => self.is_void = true,
             }
+        }
+        self.left -= 1;
+        if self.left == 0 {
+            self.best = if self.is_void { self.best } else { self.best.min(self.makespan) };
             self.begin();
         }
     }
 
-    fn nodes(&self) -> u64 {
-        self.nodes
+    fn is_over(&self) -> bool {
+        self.best <= self.project.bound
     }
 
-    fn closed(&self) -> bool {
-        self.best == Some(self.project.bound)
-    }
-
-    fn best(&self) -> Option<u32> {
+    fn best(&self) -> u32 {
         self.best
     }
+}
 
-    fn verdict(&self) -> &'static str {
-        if self.closed() { "Optimal" } else { "Going" }
+// The program
+
+fn search<const S: usize, const N: usize>(kind: &str, project: Project, quanta: Arc<AtomicU64>) -> Box<dyn Search> {
+    match kind.strip_prefix("sample:") {
+        None => Box::new(Paid { nodes: Tree::<S, N>::new(project), quanta }),
+        Some(seed) => Box::new(Paid { nodes: Sample::<S, N>::new(project, seed.parse().expect("a seed")), quanta }),
     }
 }
 
 fn main() {
-    let words: Vec<String> = std::env::args().collect();
-    let [_, kind, path, most] = &words[..] else { panic!("usage: plain SEARCH FILE NODES") };
+    let arguments: Vec<String> = std::env::args().collect();
+    let [_, kind, path, most] = &arguments[..] else { panic!("usage: plain SEARCH FILE NODES") };
     let project = read(&std::fs::read_to_string(path).expect("the file"));
     let quanta = Arc::new(AtomicU64::new(0));
-    let mut search: Box<dyn Search> = match kind.strip_prefix("sample:") {
-        None => Box::new(Tree::new(project, quanta.clone())),
-        Some(seed) => Box::new(Sample::new(project, quanta.clone(), seed.parse().expect("a seed"))),
+    let make = match (project.activities.len() <= 64, words(&project)) {
+        (true, 1) => search::<1, 1>,
+        (true, 2) => search::<1, 2>,
+        (true, _) => search::<1, 3>,
+        (false, 1) => search::<4, 1>,
+        (false, 2) => search::<4, 2>,
+        (false, _) => search::<4, 3>,
     };
-    let most = most.parse().expect("a number of nodes");
-    while search.nodes() < most && !search.closed() {
-        search.advance();
-    }
+    let mut search = make(kind, project, quanta.clone());
+    search.run(most.parse().expect("a number of nodes"));
     let best = search.best().map_or("none".to_string(), |it| it.to_string());
     println!("nodes {} best {} {}", quanta.load(Ordering::Relaxed), best, search.verdict());
 }
