@@ -17,11 +17,15 @@
 #![tactic(auto)]
 
 mod assignment;
-mod checker;
+mod clause_list;
+mod derivations;
 mod fault;
+mod history;
 mod index;
+mod propagator;
 mod reader;
 mod refutation;
+mod replay;
 mod watches;
 
 pub use fault::ProofFault;
