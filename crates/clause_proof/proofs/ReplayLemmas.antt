@@ -153,15 +153,6 @@ satisfies-fewer v clauses before after at keeps all = record { each = λ k d bel
 pub derives-first : (clauses : List (Vec ℕ Global)) (used : List Bool) (at : ℕ) (clause values : List ℕ) (mark : ℕ) → Assumes clause (length clause) values mark → Derives clauses used at clause values mark
 derives-first clauses used at clause values mark assumes = record { sound = λ v all e. assumes.sound v (λ k d inside. literal_false v clause k d inside e) }
 
-pub derives-more : (clauses : List (Vec ℕ Global)) (used later : List Bool) (at hint : ℕ) (clause before after : List ℕ) (mark : ℕ) (conflict : Bool) (d : Vec ℕ Global) → hint < at → Keeps used later → get_or later hint false ≡ true → Infers (get_or clauses hint d).items before after mark conflict → Derives clauses used at clause before mark → Derives clauses later at clause after mark
-derives-more clauses used later at hint clause before after mark conflict d below keeps is_used infers derives = record {
-  sound = λ v all e. infers.sound v (all.each hint d below is_used) (derives.sound v (satisfies-fewer v clauses used later at keeps all) e);
-}
-
-pub derives-follows : (clauses : List (Vec ℕ Global)) (used later : List Bool) (at hint : ℕ) (clause before after : List ℕ) (mark : ℕ) (conflict : Bool) (d : Vec ℕ Global) → hint < at → Keeps used later → get_or later hint false ≡ true → Infers (get_or clauses hint d).items before after mark conflict → conflict ≡ true → Derives clauses used at clause before mark → (v : ℕ → Bool) → SatisfiesUsed v clauses later at → clause_true v clause ≡ true
-derives-follows clauses used later at hint clause before after mark conflict d below keeps is_used infers so derives v all =
-    true_by v clause (λ e. infers.none so v (all.each hint d below is_used) (derives.sound v (satisfies-fewer v clauses used later at keeps all) e))
-
 pub ruleset infer_rules = (infers-nothing, infers-conflict, infers-unit)
 
 pub ruleset assume_rules = (assumes-zero, assumes-true, assumes-more, fresh-later, assumed-fresh)

@@ -208,8 +208,9 @@ impl History {
         Ok(None)
     }
 
-    /// Begins to take back steps.
+    /// Begins to take back steps. No clause is looked for from now on.
     pub(crate) fn turn(&mut self) -> Result<(), AllocError> {
+        self.index = Index::new(self.alloc, 0)?;
         self.derivations.propagator.watch_all()
     }
 

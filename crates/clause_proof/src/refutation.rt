@@ -1,4 +1,4 @@
-//! Whole proofs.
+//! Whole proofs, from the last step to the first.
 ghost use Rattle.std.specs.Prelude.{◌≡◌, ℕ, ◌+◌, ◌<◌, IfOk, OnOk, length, true, slice_index};
 ghost use Rattle.clause_proof.specs.Clauses.{IsUnsatisfiable};
 ghost use Rattle.clause_proof.specs.Propagation.{IsFresh, Extends, IsRefuted};
@@ -114,10 +114,10 @@ fn check(
     ensures { IfOk result (λ well. well ≡ true → IsUnsatisfiable clauses.old.items) }
 {
     let originals = clauses.len();
+    history.turn()?;
     extend(alloc, clauses, history)?;
     let mut used = aim(alloc, clauses)?;
     let mut values = no_marks(alloc, literals)?;
-    history.turn()?;
     let well = check_backwards(clauses, originals, &mut used, &mut values, history)?;
     Ok(well)
 }
@@ -148,10 +148,12 @@ fn first_fault(
     Ok(fault.unwrap_or(ProofFault::Unfinished))
 }
 
-/// Checks a proof that no values of the variables make all clauses true, in either form. Where the clauses alone conflict
-/// by unit propagation, the proof is not read. It is proved that each call ends, and that the clauses cannot all be true
-/// where a proof is accepted. That an error is the first fault, with its line, is tested. No clause says how long a call
-/// takes: each step of the proof is at least one of its bytes.
+/// Checks a proof that no values of the variables make all clauses true, in either form. If the clauses alone conflict by
+/// unit propagation, the proof is not read. Of an accepted proof, steps that no checked step uses are not checked. A refused
+/// one is checked again from its first step on, all steps of it, for the first fault.
+///
+/// It is proved that each call ends, and that the clauses cannot all be true if a proof is accepted. That an error is the
+/// first fault, with its line, is tested. No clause says how long a call takes: each step is at least one byte.
 pub fn refute(alloc: Global, clauses: Vec<Vec<u32>>, proof: &[u8]) -> Result<(), ProofFault>
     ensures { IfOk result (λ _. IsUnsatisfiable clauses.items) }
 {
