@@ -1,14 +1,11 @@
-//! Whole proofs.
-ghost use Rattle.std.specs.Prelude.{◌≡◌, ℕ, ◌+◌, ◌<◌, IfOk, slice_index};
+//! Whole proofs, from the last step to the first.
+ghost use Rattle.std.specs.Prelude.{◌≡◌, ℕ, ◌+◌, ◌<◌, IfOk, OnOk, length, true, slice_index};
 ghost use Rattle.clause_proof.specs.Clauses.{IsUnsatisfiable};
-ghost use Rattle.clause_proof.specs.Propagation.{IsSettled, Propagates, Steps};
+ghost use Rattle.clause_proof.specs.Propagation.{IsFresh, Extends, IsRefuted};
 
-use crate::assignment::{ALWAYS, Assignment};
-use crate::checker::{attach, does_follow, learn};
 use crate::fault::ProofFault;
-use crate::index::{Index, signature};
-use crate::reader::{Reader, Step};
-use crate::watches::{UNWATCHED, Watches, propagate};
+use crate::history::History;
+use crate::replay::{is_used, replay};
 use std::alloc::{AllocError, Global};
 
 /// The greatest literal of the clauses.
@@ -22,157 +19,150 @@ fn greatest_literal(clauses: &[Vec<u32>]) -> u32 {
     greatest
 }
 
-/// The hints of a check: who watches what, and which clause is where.
-#[derive(Drop)]
-struct Hints {
-    watches: Watches,
-    index: Index,
-}
-
-fn new_hints(alloc: Global, literals: usize, size: usize) -> Result<Hints, AllocError> {
-    let mut lists = Vec::with_capacity(alloc, literals)?;
-    for _ in 0..literals {
-        lists.push(Vec::new(alloc))?;
-    }
-    let watches = Watches {
-        lists,
-        pairs: Vec::new(alloc),
-    };
-    let index = Index::new(alloc, size)?;
-    Ok(Hints { watches, index })
-}
-
-fn new_assignment(alloc: Global, literals: usize) -> Result<Assignment, AllocError>
-    ensures { IfOk result (λ assignment. (k : ℕ) → slice_index assignment.values.items k ≡ 0) }
+/// No literal has a mark.
+fn no_marks(alloc: Global, literals: usize) -> Result<Vec<u32>, AllocError>
+    ensures { IfOk result (λ values. IsFresh values.items 1) }
 {
     let mut values = Vec::with_capacity(alloc, literals)?;
     values.resize(literals, 0)?;
-    Ok(Assignment {
-        values,
-        trail: Vec::new(alloc),
-    })
+    Ok(values)
 }
 
-/// Watches all clauses, and infers what follows from them alone. Answers whether they conflict.
-#[tactic(auto, using(crate::proofs::PropagationLemmas::step_rules))]
-fn attach_all(
-    alloc: Global,
-    clauses: &[Vec<u32>],
-    hints: &mut Hints,
-    assignment: &mut Assignment,
-) -> Result<bool, AllocError>
-    ensures { IfOk result (λ conflict.
-        Propagates clauses.now assignment.old.values.items assignment.new.values.items 4294967295 conflict) }
+/// Adds the clauses that a proof added.
+#[tactic(auto, using(crate::proofs::RefutationLemmas::extend_rules))]
+fn extend(alloc: Global, clauses: &mut Vec<Vec<u32>>, history: &History) -> Result<(), AllocError>
+    ensures { IfOk result (λ _. Extends clauses.old.items clauses.new.items) }
 {
-    for at in 0..clauses.len() {
-        hints.index.add(signature(clauses[at].as_slice()))?;
-        if attach(clauses, at, &mut hints.watches, assignment)? {
+    for clause in history.originals()..history.count() {
+        clauses.push(Vec::from_slice(alloc, history.clause(clause))?)?;
+    }
+    Ok(())
+}
+
+/// Adds the empty clause, which alone is used.
+#[tactic(auto, using(crate::proofs::RefutationLemmas::aim_rules))]
+fn aim(alloc: Global, clauses: &mut Vec<Vec<u32>>) -> Result<Vec<bool>, AllocError>
+    ensures extends { OnOk result (Extends clauses.old.items clauses.new.items) }
+    ensures refuted { IfOk result (λ used. IsRefuted clauses.new.items used.items (length clauses.new.items)) }
+{
+    let mut used = Vec::new(alloc);
+    used.resize(clauses.len(), false)?;
+    used.push(true)?;
+    clauses.push(Vec::new(alloc))?;
+    Ok(used)
+}
+
+/// Whether the clause `at` is not used or follows from clauses before it, which are used from now on.
+#[tactic(auto, using(crate::proofs::RefutationLemmas::step_rules))]
+fn check_one(
+    clauses: &[Vec<u32>],
+    at: usize,
+    used: &mut [bool],
+    values: &mut [u32],
+    history: &mut History,
+    mark: u32,
+) -> Result<bool, AllocError>
+    requires inside { at < length clauses.now }
+    requires refuted { IsRefuted clauses.now used.old (at + 1) }
+    requires fresh { IsFresh values.old mark }
+    ensures refuted { IfOk result (λ well. well ≡ true → IsRefuted clauses.now used.new at) }
+    ensures fresh { IfOk result (λ _. IsFresh values.new (mark + 1)) }
+{
+    let is_used = is_used(used, at);
+    history.take_back(at, is_used)?;
+    if !is_used {
+        return Ok(true);
+    }
+    let well = replay(clauses, at, history.hints(), used, values, mark);
+    Ok(well)
+}
+
+/// Checks the used clauses from the last one back to those that stood there at first.
+#[tactic(auto, using(crate::proofs::RefutationLemmas::back_rules))]
+fn check_backwards(
+    clauses: &[Vec<u32>],
+    originals: usize,
+    used: &mut [bool],
+    values: &mut [u32],
+    history: &mut History,
+) -> Result<bool, AllocError>
+    requires refuted { IsRefuted clauses.now used.old (length clauses.now) }
+    requires fresh { IsFresh values.old 1 }
+    ensures { IfOk result (λ well. well ≡ true → IsRefuted clauses.now used.new originals) }
+{
+    let mut count = clauses.len();
+    for mark in 1..u32::MAX {
+        if count <= originals {
             return Ok(true);
         }
-    }
-    let conflict = propagate(alloc, clauses, &mut hints.watches, assignment, ALWAYS)?;
-    Ok(conflict)
-}
-
-/// No longer looks at a clause.
-fn forget(hints: &mut Hints, clause: &[u32]) {
-    if let Some(at) = hints.index.remove(signature(clause))
-        && at < hints.watches.pairs.len()
-    {
-        hints.watches.pairs[at] = UNWATCHED;
-    }
-}
-
-/// Adds a clause that follows from the others. Answers whether they conflict now.
-fn add_clause(
-    alloc: Global,
-    clauses: &mut Vec<Vec<u32>>,
-    hints: &mut Hints,
-    assignment: &mut Assignment,
-    literals: &[u32],
-    mark: u32,
-    line: u32,
-) -> Result<bool, ProofFault>
-    requires settled { IsSettled clauses.old.items assignment.old.values.items mark }
-    requires mark { mark < 4294967295 }
-    ensures { IfOk result (λ over.
-        Steps clauses.old.items clauses.new.items assignment.new.values.items (mark + 1) over) }
-{
-    if !does_follow(
-        alloc,
-        clauses,
-        &mut hints.watches,
-        assignment,
-        literals,
-        mark,
-    )? {
-        return Err(ProofFault::Unproved(line));
-    }
-    hints.index.add(signature(literals))?;
-    let clause = Vec::from_slice(alloc, literals)?;
-    let over = learn(
-        alloc,
-        clauses,
-        &mut hints.watches,
-        assignment,
-        clause,
-        mark + 1,
-    )?;
-    Ok(over)
-}
-
-/// Checks a proof from its first step on, up to a conflict.
-#[tactic(auto, using(crate::proofs::RefutationLemmas::run_rules))]
-fn run(
-    alloc: Global,
-    clauses: &mut Vec<Vec<u32>>,
-    hints: &mut Hints,
-    assignment: &mut Assignment,
-    proof: &[u8],
-) -> Result<(), ProofFault>
-    requires { IsSettled clauses.old.items assignment.old.values.items 1 }
-    ensures { IfOk result (λ _. IsUnsatisfiable clauses.old.items) }
-{
-    let mut reader = Reader::new(proof);
-    let mut literals = Vec::new(alloc);
-    for mark in 1..ALWAYS {
-        match reader.step(&mut literals)? {
-            Step::Add => {
-                if add_clause(
-                    alloc,
-                    clauses,
-                    hints,
-                    assignment,
-                    &literals,
-                    mark,
-                    reader.line(),
-                )? {
-                    return Ok(());
-                }
-            }
-            Step::Delete => forget(hints, &literals),
-            Step::Unreadable => return Err(ProofFault::Word(reader.line())),
-            Step::End => return Err(ProofFault::Unfinished),
+        count -= 1;
+        if !check_one(clauses, count, used, values, history, mark)? {
+            return Ok(false);
         }
     }
-    Err(ProofFault::Unfinished)
+    Ok(false)
 }
 
-/// Checks a proof that no values of the variables make all clauses true, in either form. Where the clauses alone conflict
-/// by unit propagation, the proof is not read. It is proved that each call ends, and that the clauses cannot all be true
-/// where a proof is accepted. That an error is the first fault, with its line, is tested. No clause says how long a call
-/// takes: each step of the proof is at least one of its bytes.
-#[tactic(auto, using(crate::proofs::RefutationLemmas::refute_rules))]
+/// Checks what a proof added, and that the empty clause follows.
+#[tactic(auto, using(crate::proofs::RefutationLemmas::check_rules))]
+fn check(
+    alloc: Global,
+    clauses: &mut Vec<Vec<u32>>,
+    literals: usize,
+    history: &mut History,
+) -> Result<bool, AllocError>
+    ensures { IfOk result (λ well. well ≡ true → IsUnsatisfiable clauses.old.items) }
+{
+    let originals = clauses.len();
+    history.turn()?;
+    extend(alloc, clauses, history)?;
+    let mut used = aim(alloc, clauses)?;
+    let mut values = no_marks(alloc, literals)?;
+    let well = check_backwards(clauses, originals, &mut used, &mut values, history)?;
+    Ok(well)
+}
+
+/// Whether the clauses cannot all be true, by a proof of which unused steps are not checked.
+fn is_refuted(alloc: Global, clauses: &mut Vec<Vec<u32>>, proof: &[u8]) -> Result<bool, AllocError>
+    ensures { IfOk result (λ well. well ≡ true → IsUnsatisfiable clauses.old.items) }
+{
+    let literals = greatest_literal(clauses) as usize + 2;
+    let mut history = History::new(alloc, clauses, literals)?;
+    let fault = history.read(proof, false)?;
+    if fault.is_some() {
+        return Ok(false);
+    }
+    let well = check(alloc, clauses, literals, &mut history)?;
+    Ok(well)
+}
+
+/// The first fault of a proof that does not refute the clauses.
+fn first_fault(
+    alloc: Global,
+    clauses: &[Vec<u32>],
+    proof: &[u8],
+) -> Result<ProofFault, AllocError> {
+    let literals = greatest_literal(clauses) as usize + 2;
+    let mut history = History::new(alloc, clauses, literals)?;
+    let fault = history.read(proof, true)?;
+    Ok(fault.unwrap_or(ProofFault::Unfinished))
+}
+
+/// Checks a proof that no values of the variables make all clauses true, in either form. If the clauses alone conflict by
+/// unit propagation, the proof is not read. Of an accepted proof, steps that no checked step uses are not checked. A refused
+/// one is checked again from its first step on, all steps of it, for the first fault.
+///
+/// It is proved that each call ends, and that the clauses cannot all be true if a proof is accepted. That an error is the
+/// first fault, with its line, is tested. No clause says how long a call takes: each step is at least one byte.
 pub fn refute(alloc: Global, clauses: Vec<Vec<u32>>, proof: &[u8]) -> Result<(), ProofFault>
     ensures { IfOk result (λ _. IsUnsatisfiable clauses.items) }
 {
     let mut clauses = clauses;
-    let literals = greatest_literal(&clauses) as usize + 2;
-    let size = 2 * clauses.len().min(1_000_000_000) + 1;
-    let mut hints = new_hints(alloc, literals, size)?;
-    let mut assignment = new_assignment(alloc, literals)?;
-    if attach_all(alloc, &clauses, &mut hints, &mut assignment)? {
+    let originals = clauses.len();
+    if is_refuted(alloc, &mut clauses, proof)? {
         return Ok(());
     }
-    run(alloc, &mut clauses, &mut hints, &mut assignment, proof)
+    clauses.truncate(originals);
+    let fault = first_fault(alloc, &clauses, proof)?;
+    Err(fault)
 }

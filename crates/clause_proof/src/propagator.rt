@@ -1,0 +1,302 @@
+//! Unit propagation over two watched literals (Moskewicz, Madigan, Zhao, Zhang and Malik 2001), clauses of the core first
+//! (Wetzler, Heule and Hunt 2014). No proof rests on what it finds.
+use crate::assignment::Assignment;
+use crate::clause_list::{ClauseList, NO_CLAUSE, NO_LITERAL, Span};
+use crate::replay::negated;
+use crate::watches::{Watch, WatchLists};
+use std::alloc::{AllocError, Global};
+
+/// Whether a clause takes part in propagation.
+#[derive(Clone, Copy, PartialEq, Eq)]
+pub(crate) enum State {
+    /// It is watched by no literals.
+    Idle,
+    Watched,
+    /// It is watched, and a step of the proof rests on it.
+    Core,
+    Deleted,
+}
+
+/// What becomes of a watch whose literal is false now.
+#[derive(Clone, Copy)]
+enum Visit {
+    Stays { blocker: u32 },
+    Gone,
+    Conflict { blocker: u32 },
+}
+
+/// What a clause that watches a false literal comes to.
+#[derive(Clone, Copy)]
+enum Look {
+    /// This literal is true.
+    IsTrue(u32),
+    /// `literal` is watched from now on, which is not false.
+    Moves { literal: u32, other: u32 },
+    /// All literals but this one are false.
+    Forces(u32),
+}
+
+/// Clauses, and which literals are true. The two watched literals of a clause come first in it.
+#[derive(Drop)]
+pub(crate) struct Propagator {
+    alloc: Global,
+    pub(crate) clauses: ClauseList,
+    pub(crate) states: Vec<State>,
+    pub(crate) assignment: Assignment,
+    core: WatchLists,
+    others: WatchLists,
+}
+
+impl Propagator {
+    /// No clauses. Literals from `size` on are never true.
+    pub(crate) fn new(alloc: Global, size: usize) -> Result<Propagator, AllocError> {
+        Ok(Propagator {
+            alloc,
+            clauses: ClauseList::new(alloc)?,
+            states: Vec::new(alloc),
+            assignment: Assignment::new(alloc, size)?,
+            core: WatchLists::new(alloc, size)?,
+            others: WatchLists::new(alloc, size)?,
+        })
+    }
+
+    /// Adds a clause that takes no part yet, and returns its number.
+    pub(crate) fn push(&mut self, clause: &[u32]) -> Result<u32, AllocError> {
+        let number = self.clauses.count();
+        self.clauses.push(clause)?;
+        self.states.push(State::Idle)?;
+        Ok(number)
+    }
+
+    pub(crate) fn state(&self, clause: u32) -> State {
+        match self.states.get(clause as usize) {
+            Some(state) => *state,
+            None => State::Idle,
+        }
+    }
+
+    pub(crate) fn set_state(&mut self, clause: u32, state: State) {
+        let at = clause as usize;
+        if at < self.states.len() {
+            self.states[at] = state;
+        }
+    }
+
+    /// The first place from `from` on whose literal is not false and not `other`.
+    fn open_place(&self, from: usize, end: usize, other: u32) -> Option<usize> {
+        for place in from..end {
+            let literal = self.clauses.literal(place);
+            if literal != other && !self.assignment.is_false(literal) {
+                return Some(place);
+            }
+        }
+        None
+    }
+
+    /// Lets a clause take part: it watches two literals that are not false. If there is but one, that one is true. Returns
+    /// whether all are false.
+    pub(crate) fn attach(&mut self, clause: u32) -> Result<bool, AllocError> {
+        let Span { start, end } = self.clauses.span(clause);
+        if end <= start {
+            return Ok(true);
+        }
+        let Some(place) = self.open_place(start, end, NO_LITERAL) else {
+            return Ok(true);
+        };
+        self.clauses.swap(start, place);
+        let first = self.clauses.literal(start);
+        let Some(place) = self.open_place(start + 1, end, first) else {
+            if !self.assignment.is_true(first) {
+                self.assignment.assign(first, clause)?;
+            }
+            return Ok(false);
+        };
+        self.clauses.swap(start + 1, place);
+        self.set_state(clause, State::Watched);
+        self.watch(clause)?;
+        Ok(false)
+    }
+
+    /// The first two literals of a clause are watched.
+    pub(crate) fn watch(&mut self, clause: u32) -> Result<(), AllocError> {
+        let Span { start, end } = self.clauses.span(clause);
+        if end < 2 || end - 2 < start || NO_CLAUSE / 2 <= clause {
+            return Ok(());
+        }
+        let (one, other) = (self.clauses.literal(start), self.clauses.literal(start + 1));
+        let code = 2 * clause + (end - start == 2) as u32;
+        self.others.add(
+            one,
+            Watch {
+                code,
+                blocker: other,
+            },
+        )?;
+        self.others.add(other, Watch { code, blocker: one })?;
+        Ok(())
+    }
+
+    /// Watches the clauses anew that take part and are not of the core.
+    pub(crate) fn watch_all(&mut self) -> Result<(), AllocError> {
+        self.others.clear();
+        for clause in 0..self.clauses.count() {
+            if self.state(clause) == State::Watched {
+                self.watch(clause)?;
+            }
+        }
+        Ok(())
+    }
+
+    /// Looks at a clause of three or more literals which watches `falsified`.
+    fn look(&mut self, clause: u32, falsified: u32) -> Look {
+        let Span { start, end } = self.clauses.span(clause);
+        if end < 2 || end - 2 < start {
+            return Look::IsTrue(NO_LITERAL);
+        }
+        if self.clauses.literal(start) == falsified {
+            self.clauses.swap(start, start + 1);
+        }
+        let other = self.clauses.literal(start);
+        if self.assignment.is_true(other) {
+            return Look::IsTrue(other);
+        }
+        match self.open_place(start + 2, end, NO_LITERAL) {
+            None => Look::Forces(other),
+            Some(place) => {
+                let literal = self.clauses.literal(place);
+                self.clauses.swap(start + 1, place);
+                Look::Moves { literal, other }
+            }
+        }
+    }
+
+    /// Keeps the watch of a false literal, among those of the core if the clause has come to be of it.
+    fn keep(
+        &mut self,
+        code: u32,
+        blocker: u32,
+        falsified: u32,
+        moves_to_core: bool,
+    ) -> Result<Visit, AllocError> {
+        if !moves_to_core {
+            return Ok(Visit::Stays { blocker });
+        }
+        self.core.add(falsified, Watch { code, blocker })?;
+        Ok(Visit::Gone)
+    }
+
+    /// Visits a clause whose watched literal `falsified` is false and whose blocker is not true.
+    fn visit(&mut self, watch: Watch, falsified: u32, is_core: bool) -> Result<Visit, AllocError> {
+        let Watch { code, blocker } = watch;
+        let clause = code / 2;
+        let state = self.state(clause);
+        if state == State::Idle || state == State::Deleted {
+            return Ok(Visit::Gone);
+        }
+        let moves_to_core = !is_core && state == State::Core;
+        let look = if code % 2 == 1 {
+            Look::Forces(blocker)
+        } else {
+            self.look(clause, falsified)
+        };
+        match look {
+            Look::IsTrue(other) => self.keep(code, other, falsified, moves_to_core),
+            Look::Moves { literal, other } => {
+                let watch = Watch {
+                    code,
+                    blocker: other,
+                };
+                if state == State::Core {
+                    self.core.add(literal, watch)?;
+                } else {
+                    self.others.add(literal, watch)?;
+                }
+                Ok(Visit::Gone)
+            }
+            Look::Forces(other) => {
+                if self.assignment.is_false(other) {
+                    return Ok(Visit::Conflict { blocker: other });
+                }
+                self.assignment.assign(other, clause)?;
+                self.keep(code, other, falsified, moves_to_core)
+            }
+        }
+    }
+
+    /// Visits the clauses that watch a literal which is false now. Returns a clause of which all literals are false.
+    fn visit_all(
+        &mut self,
+        list: &mut Vec<Watch>,
+        falsified: u32,
+        is_core: bool,
+    ) -> Result<u32, AllocError> {
+        let mut kept = 0;
+        let mut conflict = NO_CLAUSE;
+        for place in 0..list.len() {
+            let watch = list[place];
+            let visit = if conflict != NO_CLAUSE || self.assignment.is_true(watch.blocker) {
+                Visit::Stays {
+                    blocker: watch.blocker,
+                }
+            } else {
+                self.visit(watch, falsified, is_core)?
+            };
+            let blocker = match visit {
+                Visit::Gone => continue,
+                Visit::Stays { blocker } => blocker,
+                Visit::Conflict { blocker } => {
+                    conflict = watch.code / 2;
+                    blocker
+                }
+            };
+            list[kept] = Watch {
+                code: watch.code,
+                blocker,
+            };
+            kept += 1;
+        }
+        list.truncate(kept);
+        Ok(conflict)
+    }
+
+    /// Visits the clauses of the core, or the others, that watch the negated of a true literal.
+    fn falsify(&mut self, literal: u32, is_core: bool) -> Result<u32, AllocError> {
+        let falsified = negated(literal);
+        if is_core {
+            let mut list = self.core.take(self.alloc, falsified);
+            let conflict = self.visit_all(&mut list, falsified, is_core)?;
+            self.core.put(falsified, list);
+            Ok(conflict)
+        } else {
+            let mut list = self.others.take(self.alloc, falsified);
+            let conflict = self.visit_all(&mut list, falsified, is_core)?;
+            self.others.put(falsified, list);
+            Ok(conflict)
+        }
+    }
+
+    /// Propagates the true literals from place `from` on, by clauses of the core as long as there are such. Returns a
+    /// clause of which all literals are false, or `NO_CLAUSE`.
+    pub(crate) fn propagate(&mut self, from: usize) -> Result<u32, AllocError> {
+        let (mut next_core, mut next_other) = (from, from);
+        for _ in 0..usize::MAX {
+            let mut is_core = true;
+            let mut next = self.assignment.assigned(next_core);
+            if next.is_some() {
+                next_core = next_core.saturating_add(1);
+            } else {
+                is_core = false;
+                next = self.assignment.assigned(next_other);
+                next_other = next_other.saturating_add(1);
+            }
+            let Some(literal) = next else {
+                break;
+            };
+            let conflict = self.falsify(literal, is_core)?;
+            if conflict != NO_CLAUSE {
+                return Ok(conflict);
+            }
+        }
+        Ok(NO_CLAUSE)
+    }
+}
