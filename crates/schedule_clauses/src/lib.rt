@@ -30,6 +30,9 @@ mod rows;
 mod size;
 mod start_forms;
 mod start_sections;
+mod surrogate;
+mod surrogate_section;
+mod weight_forms;
 mod windows;
 
 pub use certificate::{
