@@ -24,16 +24,18 @@ const STEPS: u64 = 200;
 /// The factor of each resource at first.
 const FACTOR: u64 = 1 << 24;
 /// The greatest weight. Small weights make small diagrams, and lose little.
-const MOST_WEIGHT: u64 = 16;
+const MOST_WEIGHT: u64 = 24;
 
 /// What there is of each resource over the periods of the bound.
 fn supplies(project: &Project, bound: u32) -> Numbers {
     let mut supplies = [0; 16];
-    for resource in 0..project.renewables() {
-        supplies[resource] = bound as u64 * project.capacity(resource) as u64;
-    }
-    for resource in 0..project.nonrenewables() {
-        supplies[8 + resource] = project.stock(resource) as u64;
+    for resource in 0..8 {
+        if resource < project.renewables() {
+            supplies[resource] = bound as u64 * project.capacity(resource) as u64;
+        }
+        if resource < project.nonrenewables() {
+            supplies[8 + resource] = project.stock(resource) as u64;
+        }
     }
     supplies
 }
@@ -45,11 +47,13 @@ fn needs(project: &Project, activity: usize, mode: usize) -> Numbers
 {
     let mut needs = [0; 16];
     let duration = project.duration(activity, mode) as u64;
-    for resource in 0..project.renewables() {
-        needs[resource] = duration * project.request(activity, mode, resource) as u64;
-    }
-    for resource in 0..project.nonrenewables() {
-        needs[8 + resource] = project.consumption(activity, mode, resource) as u64;
+    for resource in 0..8 {
+        if resource < project.renewables() {
+            needs[resource] = duration * project.request(activity, mode, resource) as u64;
+        }
+        if resource < project.nonrenewables() {
+            needs[8 + resource] = project.consumption(activity, mode, resource) as u64;
+        }
     }
     needs
 }
@@ -143,20 +147,32 @@ fn factors(alloc: Global, project: &Project, bound: u32) -> Result<Numbers, Allo
     Ok(best)
 }
 
-/// Whole weights in the ratio of the factors of shares.
-fn rounded(factors: Numbers, supplies: Numbers) -> Weights {
+/// The factors of amounts, from those of shares.
+fn ratios(factors: Numbers, supplies: Numbers) -> Numbers {
     let mut ratios = [0; 16];
-    let mut greatest = 1;
     for at in 0..16 {
-        ratios[at] = factors[at].saturating_mul(WHOLE) / supplies[at].max(1);
-        if supplies[at] == 0 {
-            ratios[at] = 0;
+        if supplies[at] > 0 {
+            ratios[at] = factors[at].saturating_mul(WHOLE) / supplies[at];
         }
-        greatest = ratios[at].max(greatest);
     }
+    ratios
+}
+
+fn greatest(numbers: Numbers) -> u64 {
+    let mut greatest = 0;
+    for number in numbers {
+        greatest = number.max(greatest);
+    }
+    greatest
+}
+
+/// Whole weights nearest to these ratios.
+fn rounded(ratios: Numbers) -> Weights {
+    let greatest = greatest(ratios);
     let mut weights = [0; 16];
     for at in 0..16 {
-        let weight = ratios[at].saturating_mul(MOST_WEIGHT) / greatest.max(1);
+        let grown = ratios[at].saturating_mul(MOST_WEIGHT);
+        let weight = grown.saturating_add(greatest / 2) / greatest.max(1);
         weights[at] = weight.min(255) as u8;
     }
     weights
@@ -169,5 +185,5 @@ pub(crate) fn weights_for(
     bound: u32,
 ) -> Result<Weights, AllocError> {
     let factors = factors(alloc, project, bound)?;
-    Ok(rounded(factors, supplies(project, bound)))
+    Ok(rounded(ratios(factors, supplies(project, bound))))
 }
