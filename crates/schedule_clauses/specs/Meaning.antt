@@ -5,8 +5,9 @@ use Rattle.std.specs.List.{list_any}
 use Rattle.mrcpsp.specs.Numbers.{sum_below}
 use Rattle.mrcpsp.specs.Project.{ProjectData, duration, consumption}
 use Rattle.mrcpsp.specs.Schedule.{ScheduleData, IsFeasible, makespan, mode_of, start_of, load}
+use Rattle.schedule_clauses.specs.Surrogate.{weight_below}
 use Rattle.schedule_clauses.specs.declared.meaning.Meaning.{Meaning}
-use Rattle.schedule_clauses.specs.declared.meaning.Meaning.TheVariants.{StartsBy, InMode, Runs, UseWithin, ConsumptionWithin}
+use Rattle.schedule_clauses.specs.declared.meaning.Meaning.TheVariants.{StartsBy, InMode, Runs, UseWithin, ConsumptionWithin, WeightWithin}
 use Rattle.schedule_clauses.specs.declared.meaning.Term.{Term}
 
 -- a feasible schedule, and where there is a limit, one of at most this makespan
@@ -32,6 +33,7 @@ holds p s (InMode j m) = mode_of s j == m
 holds p s (Runs j m t) = runs p s j m t
 holds p s (UseWithin r t count most) = nat_le (use_below p s r t count) most
 holds p s (ConsumptionWithin r count most) = nat_le (consumed_below p s r count) most
+holds p s (WeightWithin weights count most) = nat_le (weight_below p s weights count) most
 
 -- a variable or its negation is true
 abbrev pub term_true : ProjectData → ScheduleData → Term → Bool

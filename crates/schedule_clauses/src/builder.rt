@@ -5,6 +5,7 @@ ghost use Rattle.schedule_clauses.specs.Encoding.{AllGood};
 use crate::capacity_sections::{mode_section, nonrenewable_section, renewable_section};
 use crate::encoding::{Encoding, Scope};
 use crate::start_sections::{end_section, precedence_section, run_section, start_section};
+use crate::surrogate_section::surrogate_section;
 use crate::windows::Windows;
 use measures::Measures;
 use mrcpsp::Project;
@@ -26,6 +27,7 @@ pub(crate) fn encode(alloc: Global, project: &Project, bound: u32) -> Result<Enc
     run_section(&mut encoding, scope, &windows)?;
     renewable_section(&mut encoding, scope, &windows)?;
     nonrenewable_section(&mut encoding, scope)?;
+    surrogate_section(&mut encoding, scope, bound)?;
     Ok(encoding)
 }
 

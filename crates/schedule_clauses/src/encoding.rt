@@ -56,6 +56,11 @@ fn hash(meaning: Meaning) -> u64 {
             count,
             most,
         } => mix(mix(mix(5, resource as u64), count as u64), most as u64),
+        Meaning::WeightWithin {
+            weights: _,
+            count,
+            most,
+        } => mix(mix(6, count as u64), most as u64),
     }
 }
 

@@ -19,6 +19,8 @@ pub enum Kind {
     Renewable,
     /// The modes fit the stocks of the nonrenewable resources.
     Nonrenewable,
+    /// What all activities need of all resources, weighted, fits the capacities over the bound's periods.
+    Surrogate,
 }
 
 /// So many clauses of one kind, behind those of the sections before.

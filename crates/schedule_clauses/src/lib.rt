@@ -1,18 +1,19 @@
 //! The clauses of 'there is a schedule of at most this makespan', and certificates by a proof that they cannot all be true.
 //!
 //! A variable has a meaning, as 'activity 3 starts by period 7' (the order encoding of Crawford and Baker 1994), which is true
-//! or false of a schedule. Each clause is of one of 15 forms, and each form is proved to be true of every feasible schedule
+//! or false of a schedule. Each clause is of one of 18 forms, and each form is proved to be true of every feasible schedule
 //! within the bound; which clauses there are is a hint. So where [`clause_proof::refute`] accepts a proof, no schedule is that
 //! short, and a schedule that takes one period more is optimal ([`certify`]). That there are enough clauses for a proof is
 //! tested.
 //!
 //! - `meaning`: what a variable says of a schedule.
 //! - `encoding`: clauses over variables whose meanings are kept, and of which schedules they are true.
-//! - `mode_forms`, `start_forms`, `amount_forms`: the forms of clauses.
+//! - `mode_forms`, `start_forms`, `amount_forms`, `weight_forms`: the forms of clauses.
 //! - `windows`: the times at which an activity can start. Hints.
 //! - `size`: how many clauses on starts there are to be, before they are made.
 //! - `diagram`, `rows`: capacity rows as decision diagrams. Hints, and their clauses.
-//! - `capacity_sections`, `start_sections`, `builder`: all clauses of a project.
+//! - `surrogate`: the weights of the surrogate row. Hints.
+//! - `capacity_sections`, `start_sections`, `surrogate_section`, `builder`: all clauses of a project.
 //! - `formula`: the clauses, and what each run of them says.
 //! - `certificate`: `clauses`, `stock_clauses`, `certify`, `certify_bound`, `certify_infeasible`.
 #![tactic(auto)]
@@ -30,6 +31,9 @@ mod rows;
 mod size;
 mod start_forms;
 mod start_sections;
+mod surrogate;
+mod surrogate_section;
+mod weight_forms;
 mod windows;
 
 pub use certificate::{

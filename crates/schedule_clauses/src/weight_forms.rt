@@ -1,0 +1,222 @@
+//! Forms of clauses on the weights of a surrogate row. They hold of every schedule within the limit; where their numbers do
+//! not fit, nothing is added.
+ghost use Rattle.std.specs.Prelude.{◌≡◌, ℕ, ◌*◌, ◌<◌, ◌≤◌, IfOk};
+ghost use Rattle.mrcpsp.specs.Project.{size, mode_count, renewables, duration, request, capacity};
+ghost use Rattle.schedule_clauses.specs.Encoding.{AllGood};
+ghost use Rattle.schedule_clauses.specs.Surrogate.{weight, renewable_need, nonrenewable_need, capacity_weight, renewable_supply, nonrenewable_supply, IsLightest};
+
+use crate::encoding::{Encoding, Scope};
+use crate::meaning::{MOST, Node, Weights, in_mode, weight_within};
+use mrcpsp::Project;
+use std::alloc::AllocError;
+
+/// The energy of an activity in a mode.
+fn energy_of(project: &Project, activity: usize, mode: usize, resource: usize) -> u64
+    requires activity { activity < size project.now }
+    requires mode { mode < mode_count project.now activity }
+    requires resource { resource < renewables project.now }
+    ensures exact { result ≡ duration project.now activity mode * request project.now activity mode resource }
+    ensures few { result ≤ 1000000000 }
+{
+    let duration = project.duration(activity, mode) as u64;
+    let request = project.request(activity, mode, resource) as u64;
+    duration * request
+}
+
+/// What there is of a renewable resource over the periods of a bound.
+fn supply_of(project: &Project, bound: u32, resource: usize) -> u64
+    requires { resource < renewables project.now }
+    ensures exact { result ≡ bound * capacity project.now resource }
+    ensures few { result ≤ 4294967295000000 }
+{
+    let capacity = project.capacity(resource) as u64;
+    bound as u64 * capacity
+}
+
+/// The product of a weight and an amount.
+fn weighted(weight: u8, amount: u64) -> u64
+    requires { amount ≤ 4294967295000000 }
+    ensures exact { result ≡ weight * amount }
+    ensures few { result ≤ 1095216660225000000 }
+{
+    weight as u64 * amount
+}
+
+/// The weighted energy of an activity in a mode.
+#[tactic(auto, unfolding(crate::specs::Surrogate::renewable_need))]
+fn renewable_need_of(project: &Project, weights: Weights, activity: usize, mode: usize) -> u64
+    requires activity { activity < size project.now }
+    requires mode { mode < mode_count project.now activity }
+    ensures exact { result ≡ renewable_need project.now weights activity mode }
+    ensures few { result ≤ 4000000000000 }
+{
+    let mut sum = 0u64;
+    for resource in 0..project.renewables() {
+        let energy = energy_of(project, activity, mode, resource);
+        sum += weights[resource] as u64 * energy;
+    }
+    sum
+}
+
+/// The weighted consumptions of an activity in a mode.
+#[tactic(auto, unfolding(crate::specs::Surrogate::nonrenewable_need))]
+fn nonrenewable_need_of(project: &Project, weights: Weights, activity: usize, mode: usize) -> u64
+    requires activity { activity < size project.now }
+    requires mode { mode < mode_count project.now activity }
+    ensures exact { result ≡ nonrenewable_need project.now weights activity mode }
+    ensures few { result ≤ 4000000000 }
+{
+    let mut sum = 0u64;
+    for resource in 0..project.nonrenewables() {
+        let consumption = project.consumption(activity, mode, resource) as u64;
+        sum += weights[8 + resource] as u64 * consumption;
+    }
+    sum
+}
+
+/// What an activity weighs in a mode.
+#[tactic(auto, unfolding(crate::specs::Surrogate::weight))]
+pub(crate) fn weight_of(project: &Project, weights: Weights, activity: usize, mode: usize) -> u64
+    requires activity { activity < size project.now }
+    requires mode { mode < mode_count project.now activity }
+    ensures exact { result ≡ weight project.now weights activity mode }
+    ensures few { result ≤ 4004000000000 }
+{
+    renewable_need_of(project, weights, activity, mode)
+        + nonrenewable_need_of(project, weights, activity, mode)
+}
+
+/// No more than what an activity weighs in any of its modes.
+pub(crate) fn least_weight_of(project: &Project, weights: Weights, activity: usize) -> u64
+    requires { activity < size project.now }
+    ensures { IsLightest project.now weights activity (mode_count project.now activity) result }
+{
+    let mut least = u64::MAX;
+    for mode in 0..project.mode_count(activity) {
+        least = least.min(weight_of(project, weights, activity, mode));
+    }
+    least
+}
+
+/// What the renewable capacities weigh over the periods of a bound.
+#[tactic(auto, unfolding(crate::specs::Surrogate::renewable_supply))]
+fn renewable_supply_of(project: &Project, weights: Weights, bound: u32) -> u64
+    ensures exact { result ≡ renewable_supply project.now weights bound }
+    ensures few { result ≤ 9000000000000000000 }
+{
+    let mut sum = 0u64;
+    for resource in 0..project.renewables() {
+        sum += weighted(weights[resource], supply_of(project, bound, resource));
+    }
+    sum
+}
+
+/// What the stocks weigh.
+#[tactic(auto, unfolding(crate::specs::Surrogate::nonrenewable_supply))]
+fn nonrenewable_supply_of(project: &Project, weights: Weights) -> u64
+    ensures exact { result ≡ nonrenewable_supply project.now weights }
+    ensures few { result ≤ 4000000000 }
+{
+    let mut sum = 0u64;
+    for resource in 0..project.nonrenewables() {
+        let stock = project.stock(resource) as u64;
+        sum += weights[8 + resource] as u64 * stock;
+    }
+    sum
+}
+
+/// What the capacities weigh over the periods of a bound.
+#[tactic(auto, unfolding(crate::specs::Surrogate::capacity_weight))]
+pub(crate) fn capacity_weight_of(project: &Project, weights: Weights, bound: u32) -> u64
+    ensures { result ≡ capacity_weight project.now weights bound }
+{
+    renewable_supply_of(project, weights, bound) + nonrenewable_supply_of(project, weights)
+}
+
+/// All activities weigh at most what the capacities do.
+#[tactic(auto, using(crate::proofs::FormLemmas::end_rules))]
+pub(crate) fn weigh_all(
+    encoding: &mut Encoding,
+    scope: Scope<'_>,
+    weights: Weights,
+    most: u32,
+) -> Result<(), AllocError>
+    requires good { AllGood scope.project.now scope.limit encoding.old }
+    ensures { IfOk result (λ _. AllGood scope.entry.project.now scope.entry.limit encoding.new) }
+{
+    let Some(bound) = scope.limit else {
+        return Ok(());
+    };
+    let count = scope.project.size();
+    if capacity_weight_of(scope.project, weights, bound) > most as u64 {
+        return Ok(());
+    }
+    encoding.add(scope, &[weight_within(weights, Node { count, most })])
+}
+
+/// An activity leaves the less to those before it, whichever mode it has, or weighs too much in each.
+#[tactic(auto, using(crate::proofs::FormLemmas::form_rules))]
+pub(crate) fn weigh_any(
+    encoding: &mut Encoding,
+    scope: Scope<'_>,
+    weights: Weights,
+    activity: usize,
+    most: u32,
+    rest: Option<u32>,
+) -> Result<(), AllocError>
+    requires good { AllGood scope.project.now scope.limit encoding.old }
+    requires activity { activity < size scope.project.now }
+    ensures { IfOk result (λ _. AllGood scope.entry.project.now scope.entry.limit encoding.new) }
+{
+    let size = scope.project.size();
+    prove!(activity < size);
+    let least = least_weight_of(scope.project, weights, activity);
+    let count = activity + 1;
+    let whole = weight_within(weights, Node { count, most });
+    match rest {
+        Some(rest) if rest <= most && (most - rest) as u64 <= least => {
+            let node = Node {
+                count: activity,
+                most: rest,
+            };
+            encoding.add(scope, &[!whole, weight_within(weights, node)])
+        }
+        None if (most as u64) < least => encoding.add(scope, &[!whole]),
+        _ => Ok(()),
+    }
+}
+
+/// An activity in this mode leaves the less to those before it, or weighs too much.
+#[tactic(auto, using(crate::proofs::FormLemmas::form_rules))]
+pub(crate) fn weigh_mode(
+    encoding: &mut Encoding,
+    scope: Scope<'_>,
+    weights: Weights,
+    activity: usize,
+    mode: usize,
+    most: u32,
+    rest: Option<u32>,
+) -> Result<(), AllocError>
+    requires good { AllGood scope.project.now scope.limit encoding.old }
+    requires activity { activity < size scope.project.now }
+    requires mode { mode < mode_count scope.project.now activity }
+    ensures { IfOk result (λ _. AllGood scope.entry.project.now scope.entry.limit encoding.new) }
+{
+    let size = scope.project.size();
+    prove!(activity < size);
+    let weight = weight_of(scope.project, weights, activity, mode);
+    let count = activity + 1;
+    let whole = weight_within(weights, Node { count, most });
+    let chosen = in_mode(activity, mode);
+    match rest {
+        Some(rest) if rest <= most && (most - rest) as u64 <= weight => {
+            let node = Node {
+                count: activity,
+                most: rest,
+            };
+            encoding.add(scope, &[!whole, !chosen, weight_within(weights, node)])
+        }
+        None if (most as u64) < weight => encoding.add(scope, &[!whole, !chosen]),
+        _ => Ok(()),
+    }
+}
