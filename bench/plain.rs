@@ -1,5 +1,5 @@
 //! The searches of docs/METHODS.md as a good plain Rust program would have them, with no proofs, to
-//! measure against: `plain SEARCH FILE NODES` prints `nodes N best B VERDICT`, as `search_bench`
+//! measure against: `plain SEARCH FILE NODES` prints `nodes N best B VERDICT`, as `farm solve`
 //! does. SEARCH is `tree` or `sample:SEED`.
 //!
 //! The duties are the same: a search is in a box behind a trait, stops after any number of nodes,

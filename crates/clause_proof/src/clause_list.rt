@@ -1,4 +1,6 @@
-//! Clauses one behind another in one list of literals, numbered from 0 in the order in which they came.
+//! Clauses one behind another in one list of words, numbered from 0 in the order in which they came.
+ghost use Rattle.std.specs.Prelude.{◌<◌};
+
 use std::alloc::{AllocError, Global};
 
 /// Stands for no clause.
@@ -7,10 +9,25 @@ pub(crate) const NO_CLAUSE: u32 = u32::MAX;
 /// Stands for no literal.
 pub(crate) const NO_LITERAL: u32 = u32::MAX;
 
-/// The literals of clause `c` stand from `starts[c]` on, before `starts[c + 1]`.
+/// The greatest length of a clause that is kept.
+const MOST_LITERALS: usize = 1_000_000_000;
+
+/// Whether a clause takes part in propagation.
+#[derive(Clone, Copy, PartialEq, Eq)]
+pub(crate) enum State {
+    /// It is watched by no literals.
+    Idle,
+    Watched,
+    /// It is watched, and a step of the proof rests on it.
+    Core,
+    Deleted,
+}
+
+/// The literals of clause `c` stand from `starts[c]` on. Right before them stand the clause's number, and 4 · its length and its
+/// state, so that a visit by propagation reads one place in memory.
 #[derive(Drop)]
 pub(crate) struct ClauseList {
-    literals: Vec<u32>,
+    words: Vec<u32>,
     starts: Vec<usize>,
 }
 
@@ -21,66 +38,132 @@ pub(crate) struct Span {
     pub(crate) end: usize,
 }
 
+/// A clause as a visit finds it.
+#[derive(Clone, Copy)]
+pub(crate) struct Entry {
+    pub(crate) clause: u32,
+    pub(crate) state: State,
+    pub(crate) span: Span,
+}
+
+fn code_of(state: State) -> u32
+    ensures { result < 4 }
+{
+    match state {
+        State::Idle => 0,
+        State::Watched => 1,
+        State::Core => 2,
+        State::Deleted => 3,
+    }
+}
+
+fn state_of(word: u32) -> State {
+    match word % 4 {
+        0 => State::Idle,
+        1 => State::Watched,
+        2 => State::Core,
+        _ => State::Deleted,
+    }
+}
+
+/// The places of so many literals as the word says.
+fn span_of(start: usize, word: u32) -> Span {
+    Span {
+        start,
+        end: start.saturating_add((word / 4) as usize),
+    }
+}
+
 impl ClauseList {
-    pub(crate) fn new(alloc: Global) -> Result<ClauseList, AllocError> {
-        let mut starts = Vec::new(alloc);
-        starts.push(0)?;
-        Ok(ClauseList {
-            literals: Vec::new(alloc),
-            starts,
-        })
+    pub(crate) fn new(alloc: Global) -> ClauseList {
+        ClauseList {
+            words: Vec::new(alloc),
+            starts: Vec::new(alloc),
+        }
     }
 
     /// How many clauses there are.
     pub(crate) fn count(&self) -> u32 {
-        match u32::try_from(self.starts.len().saturating_sub(1)) {
+        match u32::try_from(self.starts.len()) {
             Ok(count) => count,
             Err(_) => NO_CLAUSE,
         }
     }
 
-    /// Adds a clause behind the others.
+    /// Adds a clause behind the others, which takes no part yet.
     pub(crate) fn push(&mut self, clause: &[u32]) -> Result<(), AllocError> {
+        let length = clause.len().min(MOST_LITERALS) as u32;
+        let number = self.count();
+        self.words.push(number)?;
+        self.words.push(4 * length + code_of(State::Idle))?;
+        self.starts.push(self.words.len())?;
         for literal in clause {
-            self.literals.push(*literal)?;
+            self.words.push(*literal)?;
         }
-        self.starts.push(self.literals.len())?;
         Ok(())
+    }
+
+    /// The word at a place, `NO_LITERAL` where there is none.
+    pub(crate) fn literal(&self, place: usize) -> u32 {
+        match self.words.get(place) {
+            Some(word) => *word,
+            None => NO_LITERAL,
+        }
+    }
+
+    /// The place of a clause's first literal, if there is such a clause.
+    pub(crate) fn start(&self, clause: u32) -> Option<usize> {
+        self.starts.get(clause as usize).copied()
+    }
+
+    /// The clause whose literals stand from this place on.
+    pub(crate) fn entry(&self, start: usize) -> Entry {
+        let word = self.literal(start.saturating_sub(1));
+        Entry {
+            clause: self.literal(start.saturating_sub(2)),
+            state: state_of(word),
+            span: span_of(start, word),
+        }
     }
 
     /// Returns the places of a clause, none where there is no such clause.
     pub(crate) fn span(&self, clause: u32) -> Span {
-        let at = clause as usize;
-        match (self.starts.get(at), self.starts.get(at + 1)) {
-            (Some(start), Some(end)) => Span {
-                start: *start,
-                end: *end,
-            },
-            _ => Span { start: 0, end: 0 },
+        match self.start(clause) {
+            Some(start) => span_of(start, self.literal(start.saturating_sub(1))),
+            None => Span { start: 0, end: 0 },
         }
     }
 
-    pub(crate) fn literal(&self, place: usize) -> u32 {
-        match self.literals.get(place) {
-            Some(literal) => *literal,
-            None => NO_LITERAL,
+    pub(crate) fn state(&self, clause: u32) -> State {
+        match self.start(clause) {
+            Some(start) => state_of(self.literal(start.saturating_sub(1))),
+            None => State::Idle,
+        }
+    }
+
+    pub(crate) fn set_state(&mut self, clause: u32, state: State) {
+        if let Some(start) = self.start(clause) {
+            let at = start.saturating_sub(1);
+            if at < self.words.len() {
+                self.words[at] = self.words[at] / 4 * 4 + code_of(state);
+            }
         }
     }
 
     /// Returns the literals of a clause.
     pub(crate) fn literals(&self, clause: u32) -> &[u32] {
         let span = self.span(clause);
-        if span.start <= span.end && span.end <= self.literals.len() {
-            &self.literals[span.start..span.end]
+        if span.start <= span.end && span.end <= self.words.len() {
+            &self.words[span.start..span.end]
         } else {
-            &self.literals[0..0]
+            &self.words[0..0]
         }
     }
 
     /// Exchanges two literals.
     pub(crate) fn swap(&mut self, one: usize, other: usize) {
-        if one < self.literals.len() && other < self.literals.len() {
-            self.literals.swap(one, other);
+        if one < self.words.len() && other < self.words.len() {
+            self.words.swap(one, other);
         }
     }
 }

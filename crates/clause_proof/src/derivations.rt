@@ -1,6 +1,6 @@
 //! From which clauses a clause follows: the reasons of a propagation, collected backwards from its conflict.
-use crate::clause_list::NO_CLAUSE;
-use crate::propagator::{Propagator, State};
+use crate::clause_list::{NO_CLAUSE, State};
+use crate::propagator::Propagator;
 use crate::replay::negated;
 use std::alloc::{AllocError, Global};
 
@@ -42,10 +42,11 @@ impl Derivations {
     /// Adds a hint, which is of the core from now on. Its false literals are seen.
     fn push_hint(&mut self, clause: u32, implied: u32) -> Result<(), AllocError> {
         self.hints.push(clause)?;
-        if self.propagator.state(clause) == State::Watched {
-            self.propagator.set_state(clause, State::Core);
+        let clauses = &mut self.propagator.clauses;
+        if clauses.state(clause) == State::Watched {
+            clauses.set_state(clause, State::Core);
         }
-        let span = self.propagator.clauses.span(clause);
+        let span = clauses.span(clause);
         for place in span.start..span.end {
             let literal = self.propagator.clauses.literal(place);
             if literal != implied {

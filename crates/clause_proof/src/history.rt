@@ -1,9 +1,8 @@
 //! The steps of a proof: read from the first to the last, and taken back from the last to the first.
-use crate::clause_list::NO_CLAUSE;
+use crate::clause_list::{NO_CLAUSE, State};
 use crate::derivations::Derivations;
 use crate::fault::ProofFault;
 use crate::index::{Index, signature};
-use crate::propagator::State;
 use crate::reader::{Reader, Step};
 use std::alloc::{AllocError, Global};
 
@@ -168,11 +167,10 @@ impl History {
     fn delete(&mut self, clause: &[u32]) -> Result<(), AllocError> {
         if let Some(at) = self.index.remove(signature(clause))
             && let Ok(number) = u32::try_from(at)
-            && self.derivations.propagator.state(number) != State::Idle
+            && self.derivations.propagator.clauses.state(number) != State::Idle
         {
-            self.derivations
-                .propagator
-                .set_state(number, State::Deleted);
+            let clauses = &mut self.derivations.propagator.clauses;
+            clauses.set_state(number, State::Deleted);
             let count = self.count();
             self.deletions.push(Deletion {
                 clause: number,
@@ -224,10 +222,9 @@ impl History {
                 break;
             }
             self.deletions.pop();
-            self.derivations
-                .propagator
-                .set_state(last.clause, State::Watched);
-            self.derivations.propagator.watch(last.clause)?;
+            let propagator = &mut self.derivations.propagator;
+            propagator.clauses.set_state(last.clause, State::Watched);
+            propagator.watch(last.clause)?;
         }
         Ok(())
     }
@@ -238,7 +235,8 @@ impl History {
             return Ok(());
         };
         self.undelete(clause)?;
-        self.derivations.propagator.set_state(clause, State::Idle);
+        let clauses = &mut self.derivations.propagator.clauses;
+        clauses.set_state(clause, State::Idle);
         let mut reason = NO_CLAUSE;
         if let Some(root) = self.roots.last().copied()
             && root.unit == clause

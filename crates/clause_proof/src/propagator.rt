@@ -1,28 +1,20 @@
 //! Unit propagation over two watched literals (Moskewicz, Madigan, Zhao, Zhang and Malik 2001), clauses of the core first
 //! (Wetzler, Heule and Hunt 2014). No proof rests on what it finds.
 use crate::assignment::Assignment;
-use crate::clause_list::{ClauseList, NO_CLAUSE, NO_LITERAL, Span};
+use crate::clause_list::{ClauseList, Entry, NO_CLAUSE, NO_LITERAL, Span, State};
 use crate::replay::negated;
 use crate::watches::{Watch, WatchLists};
 use std::alloc::{AllocError, Global};
 
-/// Whether a clause takes part in propagation.
-#[derive(Clone, Copy, PartialEq, Eq)]
-pub(crate) enum State {
-    /// It is watched by no literals.
-    Idle,
-    Watched,
-    /// It is watched, and a step of the proof rests on it.
-    Core,
-    Deleted,
-}
+/// The greatest place of a clause that is watched, so that a watch's code fits.
+const MOST_PLACE: usize = 2_000_000_000;
 
 /// What becomes of a watch whose literal is false now.
 #[derive(Clone, Copy)]
 enum Visit {
     Stays { blocker: u32 },
     Gone,
-    Conflict { blocker: u32 },
+    Conflict { clause: u32 },
 }
 
 /// What a clause that watches a false literal comes to.
@@ -41,10 +33,8 @@ enum Look {
 pub(crate) struct Propagator {
     alloc: Global,
     pub(crate) clauses: ClauseList,
-    pub(crate) states: Vec<State>,
     pub(crate) assignment: Assignment,
-    core: WatchLists,
-    others: WatchLists,
+    watches: WatchLists,
 }
 
 impl Propagator {
@@ -52,11 +42,9 @@ impl Propagator {
     pub(crate) fn new(alloc: Global, size: usize) -> Result<Propagator, AllocError> {
         Ok(Propagator {
             alloc,
-            clauses: ClauseList::new(alloc)?,
-            states: Vec::new(alloc),
+            clauses: ClauseList::new(alloc),
             assignment: Assignment::new(alloc, size)?,
-            core: WatchLists::new(alloc, size)?,
-            others: WatchLists::new(alloc, size)?,
+            watches: WatchLists::new(alloc, size)?,
         })
     }
 
@@ -64,22 +52,7 @@ impl Propagator {
     pub(crate) fn push(&mut self, clause: &[u32]) -> Result<u32, AllocError> {
         let number = self.clauses.count();
         self.clauses.push(clause)?;
-        self.states.push(State::Idle)?;
         Ok(number)
-    }
-
-    pub(crate) fn state(&self, clause: u32) -> State {
-        match self.states.get(clause as usize) {
-            Some(state) => *state,
-            None => State::Idle,
-        }
-    }
-
-    pub(crate) fn set_state(&mut self, clause: u32, state: State) {
-        let at = clause as usize;
-        if at < self.states.len() {
-            self.states[at] = state;
-        }
     }
 
     /// The first place from `from` on whose literal is not false and not `other`.
@@ -112,7 +85,7 @@ impl Propagator {
             return Ok(false);
         };
         self.clauses.swap(start + 1, place);
-        self.set_state(clause, State::Watched);
+        self.clauses.set_state(clause, State::Watched);
         self.watch(clause)?;
         Ok(false)
     }
@@ -120,27 +93,22 @@ impl Propagator {
     /// The first two literals of a clause are watched.
     pub(crate) fn watch(&mut self, clause: u32) -> Result<(), AllocError> {
         let Span { start, end } = self.clauses.span(clause);
-        if end < 2 || end - 2 < start || NO_CLAUSE / 2 <= clause {
+        if end < 2 || end - 2 < start || MOST_PLACE < start {
             return Ok(());
         }
         let (one, other) = (self.clauses.literal(start), self.clauses.literal(start + 1));
-        let code = 2 * clause + (end - start == 2) as u32;
-        self.others.add(
-            one,
-            Watch {
-                code,
-                blocker: other,
-            },
-        )?;
-        self.others.add(other, Watch { code, blocker: one })?;
-        Ok(())
+        let code = 2 * start as u32 + (end - start == 2) as u32;
+        let blocker = other;
+        self.watches.add(one, Watch { code, blocker }, false)?;
+        let blocker = one;
+        self.watches.add(other, Watch { code, blocker }, false)
     }
 
     /// Watches the clauses anew that take part and are not of the core.
     pub(crate) fn watch_all(&mut self) -> Result<(), AllocError> {
-        self.others.clear();
+        self.watches.clear();
         for clause in 0..self.clauses.count() {
-            if self.state(clause) == State::Watched {
+            if self.clauses.state(clause) == State::Watched {
                 self.watch(clause)?;
             }
         }
@@ -148,8 +116,8 @@ impl Propagator {
     }
 
     /// Looks at a clause of three or more literals which watches `falsified`.
-    fn look(&mut self, clause: u32, falsified: u32) -> Look {
-        let Span { start, end } = self.clauses.span(clause);
+    fn look(&mut self, span: Span, falsified: u32) -> Look {
+        let Span { start, end } = span;
         if end < 2 || end - 2 < start {
             return Look::IsTrue(NO_LITERAL);
         }
@@ -173,23 +141,27 @@ impl Propagator {
     /// Keeps the watch of a false literal, among those of the core if the clause has come to be of it.
     fn keep(
         &mut self,
-        code: u32,
-        blocker: u32,
+        watch: Watch,
         falsified: u32,
         moves_to_core: bool,
     ) -> Result<Visit, AllocError> {
         if !moves_to_core {
-            return Ok(Visit::Stays { blocker });
+            return Ok(Visit::Stays {
+                blocker: watch.blocker,
+            });
         }
-        self.core.add(falsified, Watch { code, blocker })?;
+        self.watches.add(falsified, watch, true)?;
         Ok(Visit::Gone)
     }
 
     /// Visits a clause whose watched literal `falsified` is false and whose blocker is not true.
     fn visit(&mut self, watch: Watch, falsified: u32, is_core: bool) -> Result<Visit, AllocError> {
         let Watch { code, blocker } = watch;
-        let clause = code / 2;
-        let state = self.state(clause);
+        let Entry {
+            clause,
+            state,
+            span,
+        } = self.clauses.entry((code / 2) as usize);
         if state == State::Idle || state == State::Deleted {
             return Ok(Visit::Gone);
         }
@@ -197,28 +169,22 @@ impl Propagator {
         let look = if code % 2 == 1 {
             Look::Forces(blocker)
         } else {
-            self.look(clause, falsified)
+            self.look(span, falsified)
         };
         match look {
-            Look::IsTrue(other) => self.keep(code, other, falsified, moves_to_core),
+            Look::IsTrue(blocker) => self.keep(Watch { code, blocker }, falsified, moves_to_core),
             Look::Moves { literal, other } => {
-                let watch = Watch {
-                    code,
-                    blocker: other,
-                };
-                if state == State::Core {
-                    self.core.add(literal, watch)?;
-                } else {
-                    self.others.add(literal, watch)?;
-                }
+                let blocker = other;
+                self.watches
+                    .add(literal, Watch { code, blocker }, state == State::Core)?;
                 Ok(Visit::Gone)
             }
-            Look::Forces(other) => {
-                if self.assignment.is_false(other) {
-                    return Ok(Visit::Conflict { blocker: other });
+            Look::Forces(blocker) => {
+                if self.assignment.is_false(blocker) {
+                    return Ok(Visit::Conflict { clause });
                 }
-                self.assignment.assign(other, clause)?;
-                self.keep(code, other, falsified, moves_to_core)
+                self.assignment.assign(blocker, clause)?;
+                self.keep(Watch { code, blocker }, falsified, moves_to_core)
             }
         }
     }
@@ -234,21 +200,14 @@ impl Propagator {
         let mut conflict = NO_CLAUSE;
         for place in 0..list.len() {
             let watch = list[place];
-            let visit = if conflict != NO_CLAUSE || self.assignment.is_true(watch.blocker) {
-                Visit::Stays {
-                    blocker: watch.blocker,
+            let mut blocker = watch.blocker;
+            if conflict == NO_CLAUSE && !self.assignment.is_true(blocker) {
+                match self.visit(watch, falsified, is_core)? {
+                    Visit::Gone => continue,
+                    Visit::Stays { blocker: other } => blocker = other,
+                    Visit::Conflict { clause } => conflict = clause,
                 }
-            } else {
-                self.visit(watch, falsified, is_core)?
-            };
-            let blocker = match visit {
-                Visit::Gone => continue,
-                Visit::Stays { blocker } => blocker,
-                Visit::Conflict { blocker } => {
-                    conflict = watch.code / 2;
-                    blocker
-                }
-            };
+            }
             list[kept] = Watch {
                 code: watch.code,
                 blocker,
@@ -262,17 +221,13 @@ impl Propagator {
     /// Visits the clauses of the core, or the others, that watch the negated of a true literal.
     fn falsify(&mut self, literal: u32, is_core: bool) -> Result<u32, AllocError> {
         let falsified = negated(literal);
-        if is_core {
-            let mut list = self.core.take(self.alloc, falsified);
-            let conflict = self.visit_all(&mut list, falsified, is_core)?;
-            self.core.put(falsified, list);
-            Ok(conflict)
-        } else {
-            let mut list = self.others.take(self.alloc, falsified);
-            let conflict = self.visit_all(&mut list, falsified, is_core)?;
-            self.others.put(falsified, list);
-            Ok(conflict)
-        }
+        let Some(list) = self.watches.take(self.alloc, falsified, is_core) else {
+            return Ok(NO_CLAUSE);
+        };
+        let mut list = list;
+        let conflict = self.visit_all(&mut list, falsified, is_core)?;
+        self.watches.put(falsified, list, is_core);
+        Ok(conflict)
     }
 
     /// Propagates the true literals from place `from` on, by clauses of the core as long as there are such. Returns a

@@ -4,8 +4,7 @@ ghost use Rattle.std.specs.Prelude.{◌≡◌, ◌+◌, ◌<◌, ◌≤◌, IfNo
 ghost use Rattle.clause_proof.specs.Clauses.{negated};
 ghost use Rattle.clause_proof.specs.Propagation.{IsAssigned, HasOnly, HasNone, IsFresh, Infers, Assumes, IsTautology, Keeps, Follows};
 
-/// Stands for no literal.
-const NO_LITERAL: u32 = u32::MAX;
+use crate::clause_list::NO_LITERAL;
 
 #[tactic(auto, unfolding(crate::specs::Clauses::negated))]
 pub(crate) fn negated(literal: u32) -> u32

@@ -5,49 +5,66 @@ use std::mem;
 /// A clause that watches a literal.
 #[derive(Clone, Copy)]
 pub(crate) struct Watch {
-    /// 2 · the clause's number, and 1 more if the clause has two literals.
+    /// 2 · the place of the clause's first literal, and 1 more if the clause has two literals.
     pub(crate) code: u32,
     /// Another literal of the clause.
     pub(crate) blocker: u32,
 }
 
-/// For each literal the clauses that watch it.
+/// For each literal the clauses of the core that watch it, and right behind them in memory the others that do.
 #[derive(Drop)]
 pub(crate) struct WatchLists {
     lists: Vec<Vec<Watch>>,
 }
 
+/// The place of a literal's list.
+fn place_of(literal: u32, is_core: bool) -> usize {
+    2 * literal as usize + !is_core as usize
+}
+
 impl WatchLists {
+    /// Lists of the literals below `size`.
     pub(crate) fn new(alloc: Global, size: usize) -> Result<WatchLists, AllocError> {
-        let mut lists = Vec::with_capacity(alloc, size)?;
-        for _ in 0..size {
+        let places = size.saturating_mul(2);
+        let mut lists = Vec::with_capacity(alloc, places)?;
+        for _ in 0..places {
             lists.push(Vec::new(alloc))?;
         }
         Ok(WatchLists { lists })
     }
 
     /// One more clause watches the literal.
-    pub(crate) fn add(&mut self, literal: u32, watch: Watch) -> Result<(), AllocError> {
-        let at = literal as usize;
+    pub(crate) fn add(
+        &mut self,
+        literal: u32,
+        watch: Watch,
+        is_core: bool,
+    ) -> Result<(), AllocError> {
+        let at = place_of(literal, is_core);
         if at < self.lists.len() {
             self.lists[at].push(watch)?;
         }
         Ok(())
     }
 
-    /// Takes out the list of a literal.
-    pub(crate) fn take(&mut self, alloc: Global, literal: u32) -> Vec<Watch> {
-        let at = literal as usize;
-        if at < self.lists.len() {
-            mem::replace(&mut self.lists[at], Vec::new(alloc))
+    /// Takes out a list of a literal, if a clause is in it.
+    pub(crate) fn take(
+        &mut self,
+        alloc: Global,
+        literal: u32,
+        is_core: bool,
+    ) -> Option<Vec<Watch>> {
+        let at = place_of(literal, is_core);
+        if at < self.lists.len() && !self.lists[at].is_empty() {
+            Some(mem::replace(&mut self.lists[at], Vec::new(alloc)))
         } else {
-            Vec::new(alloc)
+            None
         }
     }
 
-    /// Puts the list of a literal back.
-    pub(crate) fn put(&mut self, literal: u32, list: Vec<Watch>) {
-        let at = literal as usize;
+    /// Puts a list of a literal back.
+    pub(crate) fn put(&mut self, literal: u32, list: Vec<Watch>, is_core: bool) {
+        let at = place_of(literal, is_core);
         if at < self.lists.len() {
             self.lists[at] = list;
         }

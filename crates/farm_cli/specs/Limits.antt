@@ -79,8 +79,8 @@ pub record ScriptLimits : Type 0 where
   -- a script that is answered whole has at most 1,000,000 of them
   pub whole : (config : ConfigData) (script : List ℕ) (refuses : Bool) (old new : Option (List ℕ)) (is : IsWritten config script refuses old new) → length is.requests ≤ 1000000
   -- one that has too many is answered to the 1,000,000th
-  pub cut : (seen : Watches) (config : ConfigData) (script : List ℕ) (requests : List Marked) (rest : List Item) (part : List ℕ)
-      → IsCutBy fault.Requests seen config script requests rest part → length requests ≡ 1000000
+  pub cut : (from seen : Watches) (config : ConfigData) (script : List ℕ) (requests : List Marked) (rest : List Item) (part : List ℕ)
+      → IsCutBy fault.Requests from seen config script requests rest part → length requests ≡ 1000000
 
 -- what a command reads or answers
 pub record CommandLimits : Type 0 where

@@ -11,39 +11,40 @@ use Rattle.farm_cli.specs.declared.replaying.ReplayStop.{ReplayStop}
 use Rattle.farm_cli.specs.declared.replaying.ReplayStop.TheVariants as stop
 use Rattle.farm_cli.specs.Strict.{replay_status}
 
--- the output of a script, whole, with whether one of its replies is a refusal, or cut off by a fault
-abbrev pub Plays : Result ⊤ ReplayFault → ConfigData → Watches → Bool → List ℕ → Option (List ℕ) → Option (List ℕ) → Type 0
-Plays (Ok done) config seen refuses script before after = IsWritten config script refuses before after
-Plays (Err fault) config seen refuses script before after = IsCutOff config fault seen script before after
+-- the output of a script, whole, with whether one of its replies is a refusal, or cut off by a fault; by what the replay's watches had
+-- counted before it and count then
+abbrev pub Plays : Result ⊤ ReplayFault → ConfigData → Watches → Watches → Bool → List ℕ → Option (List ℕ) → Option (List ℕ) → Type 0
+Plays (Ok done) config from seen refuses script before after = IsWritten config script refuses before after
+Plays (Err fault) config from seen refuses script before after = IsCutOff config fault from seen script before after
 
 -- the text means a configuration, on whose farm a replay ended so, with what it wrote
-pub record IsPlayed (ended : Result ⊤ ReplayFault) (text : List ℕ) (seen : Watches) (refuses : Bool) (script before after : Option (List ℕ)) : Type 0 where
+pub record IsPlayed (ended : Result ⊤ ReplayFault) (text : List ℕ) (from seen : Watches) (refuses : Bool) (script before after : Option (List ℕ)) : Type 0 where
   pub config : ConfigData
   pub means : Means text (Ok config)
-  pub plays : IfSome script (λ bytes. Plays ended config seen refuses bytes before after)
+  pub plays : IfSome script (λ bytes. Plays ended config from seen refuses bytes before after)
 
 -- what was gathered did not all go out: what did is its front part
-pub record IsPartlyWritten (text : List ℕ) (seen : Watches) (refuses : Bool) (script before after : Option (List ℕ)) : Type 0 where
+pub record IsPartlyWritten (text : List ℕ) (from seen : Watches) (refuses : Bool) (script before after : Option (List ℕ)) : Type 0 where
   pub ended : Result ⊤ ReplayFault
   pub gathered : Option (List ℕ)
-  pub played : IsPlayed ended text seen refuses script before gathered
+  pub played : IsPlayed ended text from seen refuses script before gathered
   pub rest : List ℕ
   pub front : gathered ≡ append_known after rest
 
 -- how a replay of a script's reader under the text of a configuration ends, with what its writer held before and holds after, by whether one of the
 -- replies is a refusal and whether what was gathered could not be sent
-abbrev pub IsReplayOf : Result ⊤ ReplayStop → List ℕ → Watches → Bool → FileWatch → Option (List ℕ) → Option (List ℕ) → Option (List ℕ) → Type 0
-IsReplayOf (Ok done) text seen refuses sends script before after = IsPlayed (Ok tt) text seen refuses script before after
-IsReplayOf (Err (stop.Config fault)) text seen refuses sends script before after = HasFault text fault × (after ≡ before)
-IsReplayOf (Err (stop.Fault fault)) text seen refuses sends script before after = IsPlayed (Err fault) text seen refuses script before after
-IsReplayOf (Err stop.Unsent) text seen refuses sends script before after = (sends.failed ≡ true) × IsPartlyWritten text seen refuses script before after
+abbrev pub IsReplayOf : Result ⊤ ReplayStop → List ℕ → Watches → Watches → Bool → FileWatch → Option (List ℕ) → Option (List ℕ) → Option (List ℕ) → Type 0
+IsReplayOf (Ok done) text from seen refuses sends script before after = IsPlayed (Ok tt) text from seen refuses script before after
+IsReplayOf (Err (stop.Config fault)) text from seen refuses sends script before after = HasFault text fault × (after ≡ before)
+IsReplayOf (Err (stop.Fault fault)) text from seen refuses sends script before after = IsPlayed (Err fault) text from seen refuses script before after
+IsReplayOf (Err stop.Unsent) text from seen refuses sends script before after = (sends.failed ≡ true) × IsPartlyWritten text from seen refuses script before after
 
 abbrev pub stop_status : Result ⊤ ReplayStop → Bool → Bool → ℕ
 stop_status (Ok done) is_strict refuses = replay_status is_strict refuses
 stop_status (Err stop) is_strict refuses = 1
 
 -- the status is that of a replay which ends so
-pub record IsReplayed (status : ℕ) (is_strict refuses : Bool) (text : List ℕ) (seen : Watches) (sends : FileWatch) (script before after : Option (List ℕ)) : Type 0 where
+pub record IsReplayed (status : ℕ) (is_strict refuses : Bool) (text : List ℕ) (from seen : Watches) (sends : FileWatch) (script before after : Option (List ℕ)) : Type 0 where
   pub ended : Result ⊤ ReplayStop
-  pub is : IsReplayOf ended text seen refuses sends script before after
+  pub is : IsReplayOf ended text from seen refuses sends script before after
   pub ends : status ≡ stop_status ended is_strict refuses

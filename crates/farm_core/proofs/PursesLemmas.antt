@@ -1,7 +1,7 @@
 -- Walks over the tenants that find a purse's first member, count first members, and sum what a purse was granted.
-use Rattle.std.proofs.Common.{◌≡◌, ◌≢◌, ℕ, zero, suc, ◌==◌, ◌+◌, ◌-◌, ◌<◌, ◌≤◌, ◌&&◌, Bool, true, false, cond, nat_le, List, [], ◌∷◌, ◌++◌, length, map, filter, get_or, Option, None, refl, sym, ap, ◌∙◌, arith, add-zero, length-append}
-use Rattle.std.proofs.lemmas.Bool.{cond-true, cond-false, and_parts, leb-true}
-use Rattle.std.proofs.lemmas.List.{get_or-map, get_or_default, map-append, length-map}
+use Rattle.std.proofs.Common.{◌≡◌, ◌≢◌, ℕ, zero, suc, ◌==◌, ◌+◌, ◌-◌, ◌<◌, ◌≤◌, ◌&&◌, Bool, true, false, cond, nat_le, List, [], ◌∷◌, ◌++◌, length, map, filter, get_or, set, ⊎_elim, Option, None, refl, sym, ap, ◌∙◌, arith, add-zero, length-append}
+use Rattle.std.proofs.lemmas.Bool.{cond-true, cond-false, and_parts, leb-true, cases_lt}
+use Rattle.std.proofs.lemmas.List.{get_or-map, get_or_default, get_or-set_same, get_or-set_other, map-append, length-map}
 use Rattle.std.proofs.lemmas.List.Elements.{filter-append}
 use Rattle.std.proofs.lemmas.List.Sums.{sum_by_push}
 use Rattle.std.specs.List.{range_with_len, list_all}
@@ -68,6 +68,17 @@ fails test n h = passing_next test n ∙ ap (λ (b : Bool). passing test n ++ co
 
 pub counts : (test : ℕ → Bool) (n : ℕ) → test n ≡ true → length (passing test (n + 1)) ≡ length (passing test n) + 1
 counts test n h = ap length (passes test n h) ∙ length-append (passing test n) (n ∷ [])
+
+-- a list that has the numbers of those before n, and then that of n
+pub numbered_more : (number : ℕ → ℕ) (numbers : List ℕ) (n x : ℕ) → n < length numbers → ((t : ℕ) → t < n → get_or numbers t 0 ≡ number t) → x ≡ number n
+    → (t : ℕ) → t < n + 1 → get_or (set numbers n x) t 0 ≡ number t
+numbered_more number numbers n x l before is t m =
+    ⊎_elim
+    (λ (k : t < n). get_or-set_other numbers n t x 0 (λ e. absurd (omega (arith, e, k))) ∙ before t k)
+    (λ (k : n ≤ t).
+    let e : t ≡ n = omega (arith, k, m) in
+    ap (λ (i : ℕ). get_or (set numbers n x) i 0) e ∙ get_or-set_same numbers n x 0 l ∙ is ∙ ap number (sym e))
+    (cases_lt t n)
 
 -- ---- what a purse was granted by the first n tenants
 

@@ -5,7 +5,7 @@ use Rattle.std.specs.List.{range_with_len}
 use Rattle.mrcpsp.specs.Numbers.{first_from}
 use Rattle.mrcpsp.proofs.NumbersLemmas.{first_from-le}
 use Rattle.farm_core.specs.Name.{same_bytes}
-use Rattle.farm_core.specs.Purses.{purse_name, is_shared, first_member, is_first, purse_of, purses, members_of, place_of}
+use Rattle.farm_core.specs.Purses.{purse_name, is_shared, first_member, is_first, passing, purse_of, purses, members_of, place_of}
 use Rattle.farm_core.specs.Laws.{PursesAreShared}
 use Rattle.farm_core.proofs.PlaceLemmas.{at_place, in_place, all_pass, first_from-most, nth_of}
 
@@ -111,6 +111,15 @@ same_number names t u h =
     let two = at_place (is_first names) 0 n (first_member names u) 0 (omega arith) (is_first_one names (first_member names u) (first_stays names u)) in
     let both : 0 + first_member names t ≡ 0 + first_member names u = sym one ∙ ap (λ (i : ℕ). get_or (filter (is_first names) (range_with_len 0 n)) i 0) h ∙ two in
     omega arith
+
+-- a tenant has the number of its purse's first member, which is how many first members come before it
+pub joined : (names : Names) (t : ℕ) → purse_of names t ≡ purse_of names (first_member names t)
+unfolding purse_of
+joined names t = ap (λ (n : ℕ). length (filter (is_first names) (range_with_len 0 n))) (sym (first_stays names t))
+
+pub founded : (names : Names) (t : ℕ) → first_member names t ≡ t → purse_of names t ≡ length (passing (is_first names) t)
+unfolding purse_of
+founded names t h = ap (λ (n : ℕ). length (passing (is_first names) n)) h
 
 shared : (names : Names) (t u : ℕ) → is_shared (purse_name names t) (purse_name names u) ≡ true → purse_of names t ≡ purse_of names u
 unfolding purse_of

@@ -6,7 +6,7 @@ use Rattle.job_table.specs.Job.{IsOwn, IsStrange}
 use Rattle.farm_core.specs.declared.entry.Event.{Event}
 use Rattle.farm_core.specs.declared.entry.Event.TheVariants.{Take, Give}
 use Rattle.farm_core.specs.declared.reply.Reply.{Reply}
-use Rattle.farm_core.specs.declared.turn.Turn.{Turn}
+use Rattle.farm_core.specs.Turn.{TurnData}
 use Rattle.farm_core.specs.Config.{ConfigData}
 use Rattle.farm_core.specs.Tenant.{find_job, nodes_out_in}
 use Rattle.farm_core.specs.Step.{Answer, Replied}
@@ -40,7 +40,7 @@ nodes_out None = 0
 nodes_out (Some job) = nodes_out_in job job.phase
 
 -- each of these turns is held and has not run
-abbrev pub AreHeld : {J : Type 0} → (J → Meaning) → World → List (Turn J) → Type 0
+abbrev pub AreHeld : {J : Type 0} → (J → Meaning) → World → List (TurnData J) → Type 0
 AreHeld meaning w [] = ⊤
 AreHeld meaning w (turn ∷ turns) =
     (turn.ran ≡ 0) × (turn.tenant < length w.config.tenants) × IsOutFor w turn.tenant turn.seq turn.slice (meaning turn.search) × AreHeld meaning w turns

@@ -1,5 +1,5 @@
 -- Which tenants share a purse, and how purses are numbered.
-use Rattle.std.specs.Prelude.{ℕ, Bool, false, ◌==◌, List, length, filter, get_or, Option, Some, None}
+use Rattle.std.specs.Prelude.{◌≡◌, ℕ, ◌<◌, Bool, false, ◌==◌, List, length, filter, get_or, slice_index, Option, Some, None}
 use Rattle.std.specs.List.{range_with_len}
 use Rattle.mrcpsp.specs.Numbers.{first_from}
 use Rattle.farm_core.specs.Name.{same_bytes}
@@ -31,6 +31,11 @@ purse_of names t = length (passing (is_first names) (first_member names t))
 
 unfoldable pub purses : List (Option (List ℕ)) → ℕ
 purses names = length (passing (is_first names) (length names))
+
+-- these are the numbers of the tenants' purses, and there are so many purses
+pub record AreNumbered (names : List (Option (List ℕ))) (numbers : List ℕ) (count : ℕ) : Type 0 where
+  pub each : (t : ℕ) → t < length names → slice_index numbers t ≡ purse_of names t
+  pub counted : count ≡ purses names
 
 -- the members of a purse, in the order of their numbers
 unfoldable pub members_of : List (Option (List ℕ)) → ℕ → List ℕ

@@ -13,6 +13,14 @@ use Rattle.farm_core.specs.Step as step
 use Rattle.farm_core.specs.Step.{Replied, Sent, is_slice, has_room}
 use Rattle.farm_core.specs.World.{World, table_of, view, Follows}
 
+-- what contracts see of a turn: the tenant and the number of its job, how many nodes it may run and how many it has run, and the search
+pub record TurnData (J : Type 0) : Type 0 where
+  pub tenant : ℕ
+  pub seq : ℕ
+  pub slice : ℕ
+  pub ran : ℕ
+  pub search : J
+
 -- a turn that has run so many nodes: nothing yet, or all that it could; and the best schedule is still with its search
 pub record IsTurn (slice ran : ℕ) (m : Meaning) : Type 0 where
   pub best : m.taken ≡ false

@@ -11,7 +11,7 @@ ghost use Rattle.farm_core.specs.World.{World, view, IsOnlyNoted, KeepsTurns};
 ghost use Rattle.farm_core.specs.Farm.{IsReply, IsFundRefusal, IsGivenUpTo};
 
 use crate::farm::{keep_room, write_down};
-use crate::{Account, Event, Farm, Line, MOST_QUANTA, Reply};
+use crate::{Account, Event, Farm, Line, MOST_QUANTA, NotedPlan, Reply};
 use job_table::{Job, Phase};
 use mrcpsp::Schedule;
 use std::alloc::{AllocError, Global};
@@ -44,7 +44,7 @@ fn submission(alloc: Global, plan: &Plan, quanta: u64) -> Result<Event, AllocErr
 {
     // (each of a project's readers tells so)
     plan.project.activities();
-    Ok(Event::Submit(plan.clone_in(alloc)?, quanta))
+    Ok(Event::Submit(NotedPlan::of(alloc, plan)?, quanta))
 }
 
 /// Why a job in this phase is not given so many quanta.
@@ -178,7 +178,7 @@ impl<J: Strategy> Farm<J> {
         let purse = self.purse_of(tenant);
         let mut account = self.account(tenant);
         if let Err(short) = account.book.hold(quanta) {
-            return self.noted(tenant, event, Reply::NoShort(short.free));
+            return self.noted(tenant, event, Reply::NoShort(short.0));
         }
         let seq = account.next;
         account.next += 1;
@@ -267,7 +267,7 @@ impl<J: Strategy> Farm<J> {
         let mut account = self.account(tenant);
         let event = Event::Fund(seq, quanta);
         if let Err(short) = account.book.hold(quanta) {
-            return self.noted(tenant, event, Reply::NoShort(short.free));
+            return self.noted(tenant, event, Reply::NoShort(short.0));
         }
         let Ok(()) = keep_room(&mut self.journal, self.jobs.len()) else {
             return Reply::NoMemory;

@@ -5,7 +5,7 @@ ghost use Rattle.farm_core.specs.Config.{ConfigData, are_terms, has_name, are_di
 ghost use Rattle.farm_core.specs.Purses.{purse_of, purses};
 
 use crate::Name;
-use crate::purses::{are_purses, granted_to, purse_of, purses};
+use crate::purses::{Purses, are_purses, granted_to};
 use mrcpsp::Sequence;
 use std::alloc::{AllocError, Global};
 use std::marker::Model;
@@ -50,18 +50,21 @@ pub struct Config {
     tenants: Sequence<TenantLine>,
     workers: u64,
     slice: u64,
+    purses: Purses,
 }
 
 impl Model for Config {
     ghost use Rattle.std.specs.Prelude.{IsTrue};
-    ghost use Rattle.farm_core.specs.Config.{ConfigData, is_config};
+    ghost use Rattle.farm_core.specs.Config.{ConfigData, is_config, purse_names};
+    ghost use Rattle.farm_core.specs.Purses.{AreNumbered};
 
     ghost Value = { ConfigData };
 
     ghost view = { λ c. record { tenants = c.tenants; workers = c.workers; slice = c.slice } };
 
     ghost invariant = { λ c.
-        IsTrue (is_config (record { tenants = c.tenants; workers = c.workers; slice = c.slice })) };
+        IsTrue (is_config (record { tenants = c.tenants; workers = c.workers; slice = c.slice }))
+        × AreNumbered (purse_names c.tenants) c.purses.numbers c.purses.count };
 }
 
 impl TenantLine {
@@ -149,10 +152,13 @@ impl Config {
             result ≡ (if is_config given then Some given else None) }
     {
         let lines = tenants.as_slice();
-        let holds = (1..=MOST_TENANTS).contains(&lines.len())
-            && are_all_terms(lines)
+        if !(1..=MOST_TENANTS).contains(&lines.len()) {
+            return None;
+        }
+        let purses = Purses::of(lines);
+        let holds = are_all_terms(lines)
             && are_distinct(lines)
-            && are_purses(lines)
+            && are_purses(lines, &purses)
             && (1..=MOST_WORKERS).contains(&workers)
             && (1..=MOST_SLICE).contains(&slice);
         if holds {
@@ -160,6 +166,7 @@ impl Config {
                 tenants,
                 workers,
                 slice,
+                purses,
             })
         } else {
             None
@@ -174,6 +181,7 @@ impl Config {
             tenants: Sequence::from(clone_lines(alloc, self.tenants())?),
             workers: self.workers,
             slice: self.slice,
+            purses: self.purses,
         })
     }
 
@@ -197,7 +205,9 @@ impl Config {
         ensures most { result ≤ length self.now.tenants }
         ensures few { result ≤ MOST_TENANTS }
     {
-        purses(self.tenants())
+        // (they keep their limits)
+        self.tenants();
+        self.purses.count()
     }
 
     /// The number of a tenant's purse. Purses are numbered from 0 on, in the order of their first members.
@@ -206,14 +216,15 @@ impl Config {
         ensures exact { result ≡ purse_of (purse_names self.now.tenants) tenant }
         ensures known { result < purses (purse_names self.now.tenants) }
     {
-        purse_of(self.tenants(), tenant as usize)
+        prove!((tenant as usize) < self.tenants().len());
+        self.purses.number(tenant as usize)
     }
 
     /// How many quanta a purse was granted: what its members' lines grant together.
     pub fn granted(&self, purse: u32) -> u64
         ensures { result ≡ granted_by (member_lines self.now.tenants purse) }
     {
-        granted_to(self.tenants(), purse)
+        granted_to(self.tenants(), &self.purses, purse)
     }
 
     /// How many workers there are.

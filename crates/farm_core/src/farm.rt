@@ -8,7 +8,6 @@ ghost use Rattle.farm_core.specs.Config.{is_config};
 ghost use Rattle.farm_core.specs.Farm.{IsAccount, IsReached, IsReply, ArePassed, purse_numbers};
 ghost use Rattle.farm_core.specs.Truth.{IsPlanned};
 
-use crate::purses::granted_to;
 use crate::{
     Account, Config, Entry, Event, Line, MOST_ENTRIES, MOST_QUANTA, MOST_TENANTS, Numbers, Reply,
 };
@@ -95,9 +94,11 @@ fn number_purses(alloc: Global, config: &Config) -> Result<Vec<u32>, AllocError>
 fn open_books(alloc: Global, config: &Config) -> Result<Vec<Book>, AllocError>
     ensures { IfOk result (λ books. books.items ≡ opened_books config.now) }
 {
+    // (a configuration keeps its limits)
+    config.tenants();
     let mut books = Vec::new(alloc);
     for purse in 0..config.purses() {
-        books.push(Book::new(granted_to(config.tenants(), purse)))?;
+        books.push(Book::new(config.granted(purse)))?;
     }
     Ok(books)
 }

@@ -36,7 +36,7 @@ pub use config::{
     Config, MOST_ENTRIES, MOST_JOBS, MOST_QUANTA, MOST_SLICE, MOST_TENANTS, MOST_WORKERS,
     TenantLine,
 };
-pub use entry::{Entry, Event};
+pub use entry::{Entry, Event, NotedPlan};
 pub use farm::Farm;
 pub use name::{MOST_NAME, Name};
 pub use reply::{Line, NoTurn, Reply};

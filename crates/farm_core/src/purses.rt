@@ -1,8 +1,8 @@
 //! Which tenants share a purse, and how purses are numbered.
-ghost use Rattle.std.specs.Prelude.{◌≡◌, ◌<◌, ◌≤◌, ◌*◌, IsTrue, length, Option};
+ghost use Rattle.std.specs.Prelude.{◌≡◌, ◌<◌, ◌≤◌, IsTrue, length, slice_index};
 ghost use Rattle.std.specs.List.{list_all};
 ghost use Rattle.farm_core.specs.Config.{are_terms, purse_names, member_lines, granted_by, are_purses};
-ghost use Rattle.farm_core.specs.Purses.{is_shared, is_first, passing, first_member, purse_of, purses};
+ghost use Rattle.farm_core.specs.Purses.{is_shared, first_member, AreNumbered};
 
 use crate::{MOST_QUANTA, MOST_TENANTS, Name, TenantLine};
 
@@ -31,52 +31,59 @@ fn first_member(lines: &[TenantLine], tenant: usize) -> usize
     tenant
 }
 
-/// How many of the first so many tenants are the first members of their purses.
-fn first_members(lines: &[TenantLine], count: usize) -> u32
-    requires within { count ≤ length lines.now }
-    requires few { length lines.now ≤ MOST_TENANTS }
-    ensures exact { result ≡ length (passing (is_first (purse_names lines.now)) count) }
-    ensures most { result ≤ count }
-{
-    let mut firsts = 0;
-    for tenant in 0..count {
-        if first_member(lines, tenant) == tenant {
-            firsts += 1;
+/// The number of each tenant's purse, and how many purses there are.
+#[derive(Clone, Copy, Debug)]
+pub(crate) struct Purses {
+    numbers: [u32; MOST_TENANTS],
+    count: u32,
+}
+
+impl Purses {
+    /// The numbers of the purses of these tenants.
+    pub(crate) fn of(lines: &[TenantLine]) -> Purses
+        requires few { length lines.now ≤ MOST_TENANTS }
+        ensures { AreNumbered (purse_names lines.now) result.numbers result.count }
+    {
+        let mut numbers = [0; MOST_TENANTS];
+        let mut count = 0;
+        for tenant in 0..lines.len() {
+            let first = first_member(lines, tenant);
+            if first < tenant {
+                numbers[tenant] = numbers[first];
+            } else {
+                numbers[tenant] = count;
+                count += 1;
+            }
         }
+        Purses { numbers, count }
     }
-    firsts
-}
 
-/// The number of a tenant's purse.
-#[tactic(auto, unfolding(crate::specs::Purses::purse_of))]
-pub(crate) fn purse_of(lines: &[TenantLine], tenant: usize) -> u32
-    requires known { tenant < length lines.now }
-    requires few { length lines.now ≤ MOST_TENANTS }
-    ensures exact { result ≡ purse_of (purse_names lines.now) tenant }
-    ensures known { result < purses (purse_names lines.now) }
-{
-    first_members(lines, first_member(lines, tenant))
-}
+    /// The number of a tenant's purse.
+    pub(crate) fn number(&self, tenant: usize) -> u32
+        requires { tenant < MOST_TENANTS }
+        ensures { result ≡ slice_index self.now.numbers tenant }
+    {
+        self.numbers[tenant]
+    }
 
-/// How many purses there are.
-#[tactic(auto, unfolding(crate::specs::Purses::purses))]
-pub(crate) fn purses(lines: &[TenantLine]) -> u32
-    requires small { length lines.now ≤ MOST_TENANTS }
-    ensures exact { result ≡ purses (purse_names lines.now) }
-    ensures few { result ≤ MOST_TENANTS }
-{
-    first_members(lines, lines.len())
+    /// How many purses there are.
+    pub(crate) fn count(&self) -> u32
+        ensures { result ≡ self.now.count }
+    {
+        self.count
+    }
 }
 
 /// What a purse's members' lines grant together.
-pub(crate) fn granted_to(lines: &[TenantLine], purse: u32) -> u64
+pub(crate) fn granted_to(lines: &[TenantLine], purses: &Purses, purse: u32) -> u64
+    requires numbered { AreNumbered (purse_names lines.now) purses.now.numbers purses.now.count }
     requires few { length lines.now ≤ MOST_TENANTS }
     requires terms { IsTrue (list_all are_terms lines.now) }
     ensures exact { result ≡ granted_by (member_lines lines.now purse) }
 {
     let mut granted = 0;
     for (tenant, line) in lines.iter().enumerate() {
-        if purse_of(lines, tenant) == purse {
+        if purses.number(tenant) == purse {
             granted += line.quanta;
         }
     }
@@ -84,13 +91,14 @@ pub(crate) fn granted_to(lines: &[TenantLine], purse: u32) -> u64
 }
 
 /// Whether no purse was granted more than 10^12 quanta.
-pub(crate) fn are_purses(lines: &[TenantLine]) -> bool
+pub(crate) fn are_purses(lines: &[TenantLine], purses: &Purses) -> bool
+    requires numbered { AreNumbered (purse_names lines.now) purses.now.numbers purses.now.count }
     requires few { length lines.now ≤ MOST_TENANTS }
     requires terms { IsTrue (list_all are_terms lines.now) }
     ensures { result ≡ are_purses lines.now }
 {
-    for purse in 0..purses(lines) {
-        if granted_to(lines, purse) > MOST_QUANTA {
+    for purse in 0..purses.count() {
+        if granted_to(lines, purses, purse) > MOST_QUANTA {
             return false;
         }
     }

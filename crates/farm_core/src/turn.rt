@@ -12,6 +12,7 @@ ghost use Rattle.farm_core.specs.Turn.{IsTurn, IsTaken, IsNotTaken, IsGiven, IsI
 use crate::farm::{keep_room, line_of, write_down};
 use crate::{Event, Farm, Line, MOST_ENTRIES, MOST_SLICE, NoTurn, Reply};
 use job_table::JobTable;
+use std::marker::Model;
 use strategy::Strategy;
 
 /// A job's search in the hands of a worker, for at most so many nodes. It is given back to its farm, or abandoned.
@@ -21,6 +22,16 @@ pub struct Turn<J> {
     pub(crate) slice: u64,
     pub(crate) ran: u64,
     pub(crate) search: J,
+}
+
+impl<J> Model for Turn<J> {
+    ghost use Rattle.farm_core.specs.Turn.{TurnData};
+
+    ghost Value = { TurnData J };
+
+    ghost view = { λ t. record { tenant = t.tenant; seq = t.seq; slice = t.slice; ran = t.ran; search = t.search } };
+
+    ghost inverse = { λ t. record { tenant = t.tenant; seq = t.seq; slice = t.slice; ran = t.ran; search = t.search } };
 }
 
 /// The job whose turn is next, where there is one, and up to which all are passed.

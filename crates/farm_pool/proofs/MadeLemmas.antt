@@ -172,7 +172,7 @@ call_left config before (said.Back i) e (told.Gave r) is = step_left config befo
 call_left config before (said.Back i) e told.Stray is = let none = is.entry_is in absurd (cc)
 call_left config before call e answer is = absurd is
 
-legal_left : (config : ConfigData) (before es : List Entry) → LegalFrom Served config before es → AreLeft config before es
+pub legal_left : (config : ConfigData) (before es : List Entry) → LegalFrom Served config before es → AreLeft config before es
 legal_left config before [] legal = tt
 legal_left config before (e ∷ es) legal =
     let it = legal.0.2 in (
@@ -188,7 +188,7 @@ step_is : (config : ConfigData) (before : List Entry) (t : ℕ) (event : Event) 
 step_is config before t event entry reply.NoMemory memory is = absurd (memory refl)
 step_is config before t event entry r memory is = is
 
-left_if : (config : ConfigData) (before : List Entry) (e : Entry) (b : Bool) → AreLeft config [] before → (b ≡ true → IsLeft config before e)
+pub left_if : (config : ConfigData) (before : List Entry) (e : Entry) (b : Bool) → AreLeft config [] before → (b ≡ true → IsLeft config before e)
     → AreOfRun config (before ++ listed (cond {A = Option Entry} b (Some e) None))
 left_if config before e true all one = left_run config (before ++ e ∷ []) (left_more config [] before e all (one refl))
 left_if config before e false all one = subst (AreOfRun config) (sym (append-nil before)) (left_run config before all)

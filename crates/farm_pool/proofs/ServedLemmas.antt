@@ -8,7 +8,7 @@ use Rattle.farm_core.specs.declared.entry.Event.{Event}
 use Rattle.farm_core.specs.declared.entry.Event.TheVariants.{Take, Give}
 use Rattle.farm_core.specs.declared.reply.Reply.{Reply}
 use Rattle.farm_core.specs.declared.reply.Reply.TheVariants as reply
-use Rattle.farm_core.specs.declared.turn.Turn.{Turn}
+use Rattle.farm_core.specs.Turn.{TurnData}
 use Rattle.farm_core.specs.Tenant.{Tenant, Purse, seat, find_job, line_of}
 use Rattle.farm_core.specs.Step.{Answer, Replied, Sent, step, is_slice, has_room}
 use Rattle.farm_core.specs.Config.{ConfigData}
@@ -98,7 +98,7 @@ asked_replied meaning old new call t e r is known at f needs =
     }
 
 -- a turn was taken
-pub sent_out : {J : Type 0} (meaning : J → Meaning) (old new : World) (slice : ℕ) (turn : Turn J) → IsOfJournal old → IsTaken old turn.tenant turn.seq slice (meaning turn.search) new
+pub sent_out : {J : Type 0} (meaning : J → Meaning) (old new : World) (slice : ℕ) (turn : TurnData J) → IsOfJournal old → IsTaken old turn.tenant turn.seq slice (meaning turn.search) new
     → turn.slice ≡ slice → turn.ran ≡ 0 → AnswersOn meaning old (asked.Next slice) (given.Sent turn) new
 sent_out meaning old new slice turn at taken slice_is ran =
     let t = turn.tenant in
@@ -159,7 +159,7 @@ unsent meaning old new slice t s at ready kept =
     }
 
 -- a turn came back
-pub gave_back : {J : Type 0} (meaning : J → Meaning) (old new : World) (turn : Turn J) (r : Reply) → IsOfJournal old
+pub gave_back : {J : Type 0} (meaning : J → Meaning) (old new : World) (turn : TurnData J) (r : Reply) → IsOfJournal old
     → IsGiven old turn.tenant turn.seq turn.slice turn.ran (meaning turn.search) r new → AnswersOn meaning old (asked.Back turn) (given.Gave r) new
 gave_back meaning old new turn r at given =
     let it = steps_on old new turn.tenant (Give turn.seq turn.ran) (Replied r) at given.follows in
@@ -177,7 +177,7 @@ gave_back meaning old new turn r at given =
     }
 
 -- it is of no job
-pub strayed : {J : Type 0} (meaning : J → Meaning) (old new : World) (turn back : Turn J) → turn.tenant < length old.config.tenants → IsOfJournal old
+pub strayed : {J : Type 0} (meaning : J → Meaning) (old new : World) (turn back : TurnData J) → turn.tenant < length old.config.tenants → IsOfJournal old
     → IsStrange old.rows turn.tenant turn.seq turn.slice turn.ran (meaning turn.search) → new ≡ old → AnswersOn meaning old (asked.Back turn) (given.Stray back) new
 strayed meaning old new turn back known at strange kept = record {
   entry = None;

@@ -1,7 +1,7 @@
 -- What a worker's calls come to.
 use Rattle.std.proofs.Common.{◌≡◌, ℕ, ◌+◌, ◌-◌, ◌<◌, false, List, [], ◌∷◌, length, min, Some, refl, sym, ap, ◌∙◌, subst, arith}
 use Rattle.strategy.specs.Search.{Meaning, nodes_within, ran_on}
-use Rattle.farm_core.specs.declared.turn.Turn.{Turn}
+use Rattle.farm_core.specs.Turn.{TurnData}
 use Rattle.farm_core.specs.Config.{ConfigData}
 use Rattle.farm_core.specs.Turn.{IsTurn}
 use Rattle.farm_core.proofs.TurnLemmas.{turn_fresh}
@@ -41,7 +41,7 @@ nothing : (n : ℕ) → 0 + n ≡ n
 nothing n = omega arith
 
 -- a turn that has run is told so
-pub image_ran : {J : Type 0} (meaning : J → Meaning) (t u : Turn J) (n : ℕ) → u.tenant ≡ t.tenant → u.seq ≡ t.seq → u.slice ≡ t.slice → t.ran ≡ 0 → u.ran ≡ t.ran + n
+pub image_ran : {J : Type 0} (meaning : J → Meaning) (t u : TurnData J) (n : ℕ) → u.tenant ≡ t.tenant → u.seq ≡ t.seq → u.slice ≡ t.slice → t.ran ≡ 0 → u.ran ≡ t.ran + n
     → n ≡ nodes_within t.slice (meaning t.search) → meaning u.search ≡ ran_on n (meaning t.search) → turn_image meaning u ≡ run_out (turn_image meaning t)
 image_ran meaning t u n tenant seq slice unrun ran all is =
     let m : Meaning = meaning t.search in

@@ -2,7 +2,7 @@
 use Rattle.std.specs.Prelude.{◌≡◌, ⊤, ◌<◌, ◌++◌, length, Option}
 use Rattle.strategy.specs.Search.{Meaning}
 use Rattle.farm_core.specs.declared.entry.Entry.{Entry}
-use Rattle.farm_core.specs.declared.turn.Turn.{Turn}
+use Rattle.farm_core.specs.Turn.{TurnData}
 use Rattle.farm_core.specs.Command.{event_of}
 use Rattle.farm_core.specs.Config.{ConfigData}
 use Rattle.farm_core.specs.Turn.{IsTurn}
@@ -19,7 +19,7 @@ use Rattle.farm_pool.specs.declared.held.FarmAnswer.{FarmAnswer}
 use Rattle.farm_pool.specs.declared.held.FarmAnswer.TheVariants as given
 use Rattle.farm_pool.specs.Served.{Answers, Served}
 
-abbrev pub turn_image : {J : Type 0} → (J → Meaning) → Turn J → TurnImage
+abbrev pub turn_image : {J : Type 0} → (J → Meaning) → TurnData J → TurnImage
 turn_image meaning turn =
     let m : Meaning = meaning turn.search in
     record { tenant = turn.tenant; seq = turn.seq; slice = turn.slice; ran = turn.ran; owner = m.tenant; plan = m.plan; nodes = m.nodes; left = m.left; taken = m.taken }
@@ -38,7 +38,7 @@ answer_image meaning (given.Gave answer) = told.Gave answer
 answer_image meaning (given.Stray turn) = told.Stray
 
 -- a turn that may be taken back
-pub record MayComeBack {J : Type 0} (meaning : J → Meaning) (config : ConfigData) (turn : Turn J) : Type 0 where
+pub record MayComeBack {J : Type 0} (meaning : J → Meaning) (config : ConfigData) (turn : TurnData J) : Type 0 where
   pub known : turn.tenant < length config.tenants
   pub is : IsTurn turn.slice turn.ran (meaning turn.search)
 

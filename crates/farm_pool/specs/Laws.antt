@@ -1,14 +1,17 @@
 -- Why each purse of a running pool is alone in it, and why what the pool replies about a job is true.
-use Rattle.std.specs.Prelude.{◌≡◌, ◌≢◌, ℕ, ◌<◌, List, [], ◌∷◌, ◌++◌, cond, take, length, Some, slice_get}
+use Rattle.std.specs.Prelude.{◌≡◌, ◌≢◌, ℕ, ◌+◌, ◌-◌, ◌<◌, true, false, List, [], ◌∷◌, ◌++◌, cond, take, length, Some, slice_get}
 use Rattle.strategy.specs.declared.plan.Plan.{Plan}
+use Rattle.job_table.specs.Table.{JobData, is_waiting}
+use Rattle.job_table.specs.Job.{is_turn, back}
 use Rattle.farm_core.specs.declared.entry.Entry.{Entry}
 use Rattle.farm_core.specs.declared.entry.Event.{Event}
 use Rattle.farm_core.specs.declared.entry.Event.TheVariants.{Submit, Cancel}
 use Rattle.farm_core.specs.declared.reply.Line.{Line as JobLine}
 use Rattle.farm_core.specs.declared.reply.Reply.{Reply}
-use Rattle.farm_core.specs.declared.reply.Reply.TheVariants.{Job, Line, NoMemory}
+use Rattle.farm_core.specs.declared.reply.Reply.TheVariants.{Job, Line, NoMemory, Ran}
 use Rattle.farm_core.specs.Config.{ConfigData}
-use Rattle.farm_core.specs.Step.{Replied, step}
+use Rattle.farm_core.specs.Tenant.{Tenant, find_job, line_of}
+use Rattle.farm_core.specs.Step.{Replied, step, has_room, is_slice, may_have_run}
 use Rattle.farm_core.specs.World.{Asked, purse_in, place_in, opened_purse, events_of, is_noted, answers_alone}
 use Rattle.farm_core.specs.Truth.{IsPlanned, IsTrueReply}
 use Rattle.turn_lock.specs.History as history
@@ -90,6 +93,32 @@ abbrev pub EachReplyCanBeMade : Type 0
 EachReplyCanBeMade = (config : ConfigData) (log : List (ℕ × Entry)) (number splits : ℕ) → IsLegal Served config log →
     (t : ℕ) → t < length config.tenants → (event : Event) → IsPlanned event → (reply : Reply) →
     (step (tenant_at config (history.events_of log) t) event).answer ≡ Replied reply → reply ≢ NoMemory → IsReplied config log number splits t event reply
+
+-- the turn of tenant t's job s for at most `slice` nodes, of which `ran` were run
+abbrev pub turn_of : ℕ → ℕ → ℕ → ℕ → JobData → TurnImage
+turn_of t s slice ran job =
+    record { tenant = t; seq = s; slice = slice; ran = ran; owner = t; plan = job.plan; nodes = job.nodes + ran; left = job.left - ran; taken = false }
+
+-- a pass that has seen this history is given this answer to its next call
+pub record IsTold (config : ConfigData) (log : List (ℕ × Entry)) (number splits : ℕ) (call : CallImage) (answer : AnswerImage) : Type 0 where
+  pub after : PoolView
+  pub called :
+      let own = history.entries_of number log in
+      let seen : PoolView = record { stage = Idle; number = number; opening = Some config; seen = log; mine = own; splits = splits } in
+      Called Served seen call answer after
+  pub before : called.before ≡ log
+
+-- after each legal history a turn can be taken of each job that waits, if its tenant has entries for it; and the turn of
+-- each job that is out can be given, with none or all of its nodes run. So what is said of takes and gives is never said of nothing
+pub record EachTurnCanBeMade : Type 0 where
+  pub taken : (config : ConfigData) (log : List (ℕ × Entry)) (number splits : ℕ) → IsLegal Served config log → (t s slice : ℕ) (job : JobData) →
+      let tenant : Tenant = tenant_at config (history.events_of log) t in
+      t < length config.tenants → find_job s tenant.jobs ≡ Some job → is_waiting job.phase ≡ true → is_slice slice ≡ true → has_room 2 tenant ≡ true →
+      IsTold config log number splits (said.Next slice) (told.Sent (turn_of t s slice 0 job))
+  pub given : (config : ConfigData) (log : List (ℕ × Entry)) (number splits : ℕ) → IsLegal Served config log → (t s slice ran : ℕ) (job : JobData) →
+      t < length config.tenants → find_job s (tenant_at config (history.events_of log) t).jobs ≡ Some job → is_turn slice job.phase ≡ true →
+      may_have_run ran job job.phase ≡ true →
+      IsTold config log number splits (said.Back (turn_of t s slice ran job)) (told.Gave (Ran ran (line_of (back ran job))))
 
 -- whatever memory there is, a cancel that its tenant's step accepts is answered so
 abbrev pub AcceptedCancelsAreMade : Type 0

@@ -6,6 +6,7 @@ ghost use Rattle.farm_pool.specs.Calls.{MayAsk, AnswersOn, DoesOn};
 use crate::image::{AnswerImage, CallImage};
 use farm_core::{Command, Config, Entry, Farm, NoTurn, Reply, Stranger, Turn};
 use std::alloc::{AllocError, Global};
+use std::marker::Model;
 use strategy::Strategy;
 use turn_lock::{Kept, Runs};
 
@@ -35,21 +36,32 @@ pub enum FarmAnswer<J> {
     Stray(Turn<J>),
 }
 
-/// A farm under the lock. The trait and the farm are other crates', so it stands in a type of this one.
+/// A farm under the lock, in memory of its own, so that the lock hands on a pointer. The trait and the farm are other crates', so it
+/// stands in a type of this one.
 #[derive(Drop)]
 pub struct Held<J> {
-    pub(crate) farm: Farm<J>,
+    pub(crate) farm: Box<Farm<J>>,
 }
 
-impl<J> Held<J> {
+impl<J> Model for Held<J> {
+    ghost use Rattle.farm_core.specs.World.{World};
+
+    ghost Value = { World };
+
+    ghost view = { λ held. held.farm.value };
+}
+
+impl<J: Drop> Held<J> {
     /// A farm in which nothing has happened.
     #[tactic(auto, unfolding(farm_core::specs::World::opened))]
     pub(crate) fn new(alloc: Global, config: &Config) -> Result<Held<J>, AllocError>
-        ensures opening { IfOk result (λ held. held.farm.config ≡ config.now) }
-        ensures empty { IfOk result (λ held. held.farm.journal ≡ []) }
+        ensures opening { IfOk result (λ held. held.config ≡ config.now) }
+        ensures empty { IfOk result (λ held. held.journal ≡ []) }
     {
-        let farm = Farm::new(alloc, config)?;
-        Ok(Held { farm })
+        match Box::new(alloc, Farm::new(alloc, config)?) {
+            Ok(farm) => Ok(Held { farm }),
+            Err(_) => Err(AllocError),
+        }
     }
 }
 
@@ -65,11 +77,15 @@ impl<J> Kept for Held<J> {
 
     ghost use Rattle.farm_pool.specs.Served.{Served};
 
-    ghost opening = { λ held. held.farm.config };
+    ghost opening = { λ held. held.config };
 
-    ghost events = { λ held. held.farm.journal };
+    ghost events = { λ held. held.journal };
 
     ghost relation = { Served };
+
+    fn events(&self) -> u64 {
+        self.farm.journal().len() as u64
+    }
 }
 
 /// Takes a turn of some waiting job.
@@ -135,10 +151,10 @@ impl Runs for Held<Box<dyn Strategy>> {
 
     ghost told = { λ answer. answer_image (λ b. (Strategy-box b).meaning b.value) answer };
 
-    ghost may = { λ held call. MayAsk (λ b. (Strategy-box b).meaning b.value) held.farm.config call };
+    ghost may = { λ held call. MayAsk (λ b. (Strategy-box b).meaning b.value) held.config call };
 
     ghost does = { λ old call answer new.
-        DoesOn (λ b. (Strategy-box b).meaning b.value) old.farm call answer new.farm };
+        DoesOn (λ b. (Strategy-box b).meaning b.value) old call answer new };
 
     fn apply(&mut self, call: FarmCall<Box<dyn Strategy>>) -> FarmAnswer<Box<dyn Strategy>> {
         serve_on(&mut self.farm, call)

@@ -1,6 +1,6 @@
 //! Laws of a pool: each is the proved contract of a function that does nothing.
 ghost use Rattle.farm_pool.specs.Closed.{ClosedPoolsAreIsolated, RepliesAreInTheHistory};
-ghost use Rattle.farm_pool.specs.Laws.{AcceptedCancelsAreMade, EachReplyCanBeMade, EachReplyIsAlone, EachReplyIsIsolated, EachReplyIsTrue, LegalHistoriesAreRuns, NoPassIsSplitOff};
+ghost use Rattle.farm_pool.specs.Laws.{AcceptedCancelsAreMade, EachReplyCanBeMade, EachReplyIsAlone, EachReplyIsIsolated, EachReplyIsTrue, EachTurnCanBeMade, LegalHistoriesAreRuns, NoPassIsSplitOff};
 
 /// The entries of a legal history are those of a run of the farm. So what is proved of each run is true of each history: what a pass has
 /// seen, and what the farm of a closed pool has in its journal.
@@ -44,6 +44,13 @@ pub fn each_reply_is_true()
 /// said of nothing.
 pub fn each_reply_can_be_made()
     ensures { EachReplyCanBeMade }
+{}
+
+/// After each legal history a turn can be taken of each job that waits, if its tenant has entries for
+/// it, and the turn of each job that is out can be given, with none or all of its nodes run. So what
+/// is proved of takes and gives is never said of nothing.
+pub fn each_turn_can_be_made()
+    ensures { EachTurnCanBeMade }
 {}
 
 /// In a running pool a cancel that its tenant's step accepts is answered so, whatever memory there is.

@@ -13,6 +13,7 @@ ghost use Rattle.farm_pool.specs.Worked.{IsClosed};
 use crate::held::{FarmAnswer, FarmCall, Held};
 use farm_core::{Command, Config, Farm, Reply};
 use std::alloc::{AllocError, Global};
+use std::marker::Model;
 use std::snapshot::Snapshot;
 use std::sync::Wait;
 use std::thread::Promise;
@@ -35,14 +36,31 @@ pub struct Pool {
     pub(crate) slice: u64,
 }
 
+impl Model for Pool {
+    ghost use Rattle.farm_pool.specs.Pool.{PoolData};
+
+    ghost Value = { PoolData };
+
+    ghost view = { λ p. record { lock = p.lock; slice = p.slice } };
+}
+
 /// That a thread brings back a pass of this lock.
 #[derive(Drop)]
 pub struct OfLock<J>(Snapshot<TurnLock<Held<J>>>);
 
+impl<J> Model for OfLock<J> {
+    ghost use Rattle.farm_core.specs.Config.{ConfigData};
+    ghost use Rattle.turn_lock.specs.Values.{LockValue};
+
+    ghost Value = { LockValue ConfigData };
+
+    ghost view = { λ p. p.0.value };
+}
+
 impl<J> Promise<Pass<Held<J>>> for OfLock<J> {
     ghost use Rattle.turn_lock.specs.Values.{IsPassOf};
 
-    ghost kept_by = { λ p pass. IsPassOf p.0.value pass };
+    ghost kept_by = { λ lock pass. IsPassOf lock pass };
 }
 
 /// Waits for the turn, and makes one call of the farm.
@@ -130,7 +148,7 @@ impl Pool {
 
     /// What a thread promises that is to bring back a pass of this pool.
     pub fn promise(&self) -> OfLock<Box<dyn Strategy>>
-        ensures { result.0.value ≡ self.now.lock }
+        ensures { result ≡ self.now.lock }
     {
         OfLock(Snapshot::of(&self.lock))
     }
@@ -147,7 +165,7 @@ impl Pool {
         match lock.close(pass) {
             Some(Held { farm }) => {
                 farm.journal();
-                Some(farm)
+                Some(Box::into_inner(farm))
             }
             None => None,
         }

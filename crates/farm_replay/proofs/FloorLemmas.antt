@@ -21,7 +21,7 @@ use Rattle.farm_core.specs.declared.reply.Reply.{Reply}
 use Rattle.farm_core.specs.declared.reply.Reply.TheVariants as reply
 use Rattle.farm_core.specs.declared.reply.NoTurn.{NoTurn}
 use Rattle.farm_core.specs.declared.reply.NoTurn.TheVariants as no_turn
-use Rattle.farm_core.specs.declared.turn.Turn.{Turn}
+use Rattle.farm_core.specs.Turn.{TurnData}
 use Rattle.farm_core.specs.Tenant.{Tenant, find_job, line_of, nodes_out_in, Member, Purse, no_member, seat, own_of, with_seat}
 use Rattle.farm_core.specs.Step as calls
 use Rattle.farm_core.specs.Step.{Answer, Replied, Sent, Step, Effect, Nothing, Changes, done, step, has_room, is_slice, about, may_have_run, to_give}
@@ -51,10 +51,10 @@ or_false a b h k = subst (λ x. (x || b) ≡ false) (sym h) k
 swapped : (a b c d : ℕ) → ((a == b) && (c == d)) ≡ false → ((b == a) && (d == c)) ≡ false
 swapped a b c d h = grind (arith, nat_tests)
 
-turn_swapped : {J : Type 0} (x z : Turn J) → is_turn_of z.tenant z.seq x ≡ false → is_turn_of x.tenant x.seq z ≡ false
+turn_swapped : {J : Type 0} (x z : TurnData J) → is_turn_of z.tenant z.seq x ≡ false → is_turn_of x.tenant x.seq z ≡ false
 turn_swapped x z h = swapped x.tenant z.tenant x.seq z.seq h
 
-lacks_without : {J : Type 0} (t s : ℕ) (xs : List (Turn J)) (x : Turn J) (ys : List (Turn J)) → has_turn t s (xs ++ x ∷ ys) ≡ false
+lacks_without : {J : Type 0} (t s : ℕ) (xs : List (TurnData J)) (x : TurnData J) (ys : List (TurnData J)) → has_turn t s (xs ++ x ∷ ys) ≡ false
     → (is_turn_of t s x ≡ false) × (has_turn t s (xs ++ ys) ≡ false)
 lacks_without t s [] x ys h = or_parts (is_turn_of t s x) (has_turn t s ys) h
 lacks_without t s (z ∷ xs) x ys h =
@@ -62,7 +62,7 @@ lacks_without t s (z ∷ xs) x ys h =
     let q = lacks_without t s xs x ys p.1 in
     (q.0, or_false (is_turn_of t s z) (has_turn t s (xs ++ ys)) p.0 q.1)
 
-apart_without : {J : Type 0} (xs : List (Turn J)) (x : Turn J) (ys : List (Turn J)) → AreApart (xs ++ x ∷ ys)
+apart_without : {J : Type 0} (xs : List (TurnData J)) (x : TurnData J) (ys : List (TurnData J)) → AreApart (xs ++ x ∷ ys)
     → (has_turn x.tenant x.seq (xs ++ ys) ≡ false) × AreApart (xs ++ ys)
 apart_without [] x ys h = h
 apart_without (z ∷ xs) x ys h =
@@ -70,7 +70,7 @@ apart_without (z ∷ xs) x ys h =
     let q = apart_without xs x ys h.1 in
     (or_false (is_turn_of x.tenant x.seq z) (has_turn x.tenant x.seq (xs ++ ys)) (turn_swapped x z p.0) q.0, (p.1, q.1))
 
-apart_push : {J : Type 0} (xs : List (Turn J)) (x : Turn J) → AreApart xs → has_turn x.tenant x.seq xs ≡ false → AreApart (xs ++ x ∷ [])
+apart_push : {J : Type 0} (xs : List (TurnData J)) (x : TurnData J) → AreApart xs → has_turn x.tenant x.seq xs ≡ false → AreApart (xs ++ x ∷ [])
 apart_push [] x h none = (refl, tt)
 apart_push (z ∷ xs) x h none =
     let p = or_parts (is_turn_of x.tenant x.seq z) (has_turn x.tenant x.seq xs) none in
@@ -80,34 +80,34 @@ apart_push (z ∷ xs) x h none =
     (more, apart_push xs x h.1 p.1)
 
 -- a turn that is not x is among the others
-has_others : {J : Type 0} (t s : ℕ) (xs : List (Turn J)) (x : Turn J) (ys : List (Turn J)) → has_turn t s (xs ++ x ∷ ys) ≡ true → is_turn_of t s x ≡ false
+has_others : {J : Type 0} (t s : ℕ) (xs : List (TurnData J)) (x : TurnData J) (ys : List (TurnData J)) → has_turn t s (xs ++ x ∷ ys) ≡ true → is_turn_of t s x ≡ false
     → has_turn t s (xs ++ ys) ≡ true
 has_others t s xs x ys h other =
     list_any-append (is_turn_of t s) xs ys
     ∙ ap (λ b. has_turn t s xs || (b || has_turn t s ys)) (sym other)
     ∙ sym (list_any-append (is_turn_of t s) xs (x ∷ ys)) ∙ h
 
-has_pushed : {J : Type 0} (t s : ℕ) (xs : List (Turn J)) (x : Turn J) → (has_turn t s xs ≡ true) ⊎ (is_turn_of t s x ≡ true) → has_turn t s (xs ++ x ∷ []) ≡ true
+has_pushed : {J : Type 0} (t s : ℕ) (xs : List (TurnData J)) (x : TurnData J) → (has_turn t s xs ≡ true) ⊎ (is_turn_of t s x ≡ true) → has_turn t s (xs ++ x ∷ []) ≡ true
 has_pushed t s [] x h = ⊎_elim (λ e. absurd (cc)) (λ e. ap (λ b. b || false) e) h
 has_pushed t s (z ∷ xs) x h = grind (arith, nat_tests, has_pushed t s xs x)
 
-is_turn_in : {J : Type 0} (t s : ℕ) (x : Turn J) → is_turn_of t s x ≡ true → (x.tenant ≡ t) × (x.seq ≡ s)
+is_turn_in : {J : Type 0} (t s : ℕ) (x : TurnData J) → is_turn_of t s x ≡ true → (x.tenant ≡ t) × (x.seq ≡ s)
 is_turn_in t s x h = let p = and_parts (x.tenant == t) (x.seq == s) h in (eqb-true x.tenant t p.0, eqb-true x.seq s p.1)
 
-turn_is : {J : Type 0} (t s : ℕ) (x : Turn J) → x.tenant ≡ t → x.seq ≡ s → is_turn_of t s x ≡ true
+turn_is : {J : Type 0} (t s : ℕ) (x : TurnData J) → x.tenant ≡ t → x.seq ≡ s → is_turn_of t s x ≡ true
 turn_is t s x h k = grind (arith, nat_tests)
 
 -- ---- held turns
 
-held_append : {J : Type 0} (meaning : J → Meaning) (w : World) (xs ys : List (Turn J)) → AreHeld meaning w xs → AreHeld meaning w ys → AreHeld meaning w (xs ++ ys)
+held_append : {J : Type 0} (meaning : J → Meaning) (w : World) (xs ys : List (TurnData J)) → AreHeld meaning w xs → AreHeld meaning w ys → AreHeld meaning w (xs ++ ys)
 held_append meaning w [] ys h k = k
 held_append meaning w (x ∷ xs) ys h k = (h.0, h.1, h.2, held_append meaning w xs ys h.3 k)
 
-pub held_parts : {J : Type 0} (meaning : J → Meaning) (w : World) (xs ys : List (Turn J)) → AreHeld meaning w (xs ++ ys) → AreHeld meaning w xs × AreHeld meaning w ys
+pub held_parts : {J : Type 0} (meaning : J → Meaning) (w : World) (xs ys : List (TurnData J)) → AreHeld meaning w (xs ++ ys) → AreHeld meaning w xs × AreHeld meaning w ys
 held_parts meaning w [] ys h = (tt, h)
 held_parts meaning w (x ∷ xs) ys h = let p = held_parts meaning w xs ys h.3 in ((h.0, h.1, h.2, p.0), p.1)
 
-held_without : {J : Type 0} (meaning : J → Meaning) (w : World) (xs : List (Turn J)) (x : Turn J) (ys : List (Turn J)) → AreHeld meaning w (xs ++ x ∷ ys) → AreHeld meaning w (xs ++ ys)
+held_without : {J : Type 0} (meaning : J → Meaning) (w : World) (xs : List (TurnData J)) (x : TurnData J) (ys : List (TurnData J)) → AreHeld meaning w (xs ++ x ∷ ys) → AreHeld meaning w (xs ++ ys)
 held_without meaning w xs x ys h = let p = held_parts meaning w xs (x ∷ ys) h in held_append meaning w xs ys p.0 p.1.3
 
 out_of_turn : (slice : ℕ) (phase : Phase) → is_turn slice phase ≡ true → is_out phase ≡ true
@@ -121,7 +121,7 @@ out_of_turn slice Cancelled h = absurd (cc)
 held_is_out : (w : World) (t s slice : ℕ) (m : Meaning) → IsOutFor w t s slice m → is_out_of (find_job s (view t w).jobs) ≡ true
 held_is_out w t s slice m it = ap is_out_of it.found ∙ out_of_turn slice it.job.phase it.own.turn
 
-all_out : {J : Type 0} (meaning : J → Meaning) (w : World) (turns : List (Turn J)) (t s : ℕ) → AreHeld meaning w turns → has_turn t s turns ≡ true
+all_out : {J : Type 0} (meaning : J → Meaning) (w : World) (turns : List (TurnData J)) (t s : ℕ) → AreHeld meaning w turns → has_turn t s turns ≡ true
     → is_out_of (find_job s (view t w).jobs) ≡ true
 all_out meaning w [] t s h e = absurd (cc)
 all_out meaning w (x ∷ turns) t s h e =
@@ -138,7 +138,7 @@ all_out meaning w (x ∷ turns) t s h e =
     or_is false b = refl
 
 held_over : {J : Type 0} (meaning : J → Meaning) (old new : World) (t : ℕ) (e : Event) (answer : Answer) → Follows old t e answer new
-    → (turns : List (Turn J)) → ((s : ℕ) → gives s e ≡ true → has_turn t s turns ≡ false) → AreHeld meaning old turns → AreHeld meaning new turns
+    → (turns : List (TurnData J)) → ((s : ℕ) → gives s e ≡ true → has_turn t s turns ≡ false) → AreHeld meaning old turns → AreHeld meaning new turns
 held_over meaning old new t e answer f [] apart h = tt
 held_over meaning old new t e answer f (x ∷ turns) apart h =
     let not_given : t ≡ x.tenant → gives x.seq e ≡ false =
@@ -156,7 +156,7 @@ held_over meaning old new t e answer f (x ∷ turns) apart h =
 
 -- a call that neither takes nor gives a turn leaves all turns as they are
 pub floor_over : {J : Type 0} (meaning : J → Meaning) (old new : World) (t : ℕ) (e : Event) (answer : Answer)
-    → Follows old t e answer new → ((s : ℕ) → gives s e ≡ false) → ((s : ℕ) → takes s e ≡ false) → (turns : List (Turn J)) → IsFloor meaning old turns → IsFloor meaning new turns
+    → Follows old t e answer new → ((s : ℕ) → gives s e ≡ false) → ((s : ℕ) → takes s e ≡ false) → (turns : List (TurnData J)) → IsFloor meaning old turns → IsFloor meaning new turns
 floor_over meaning old new t e answer f nor_gives nor_takes turns floor = record {
   held = held_over meaning old new t e answer f turns (λ s given. absurd (both_ways (gives s e) (nor_gives s) given)) floor.held;
   apart = floor.apart;
@@ -168,8 +168,8 @@ floor_over meaning old new t e answer f nor_gives nor_takes turns floor = record
 
 -- a turn that is taken is held with the others
 pub floor_taken : {J : Type 0} (meaning : J → Meaning) (old new : World) (t s slice : ℕ)
-    → (x : Turn J) → IsTaken old t s slice (meaning x.search) new → x.tenant ≡ t → x.seq ≡ s → x.slice ≡ slice → x.ran ≡ 0 → t < length old.config.tenants
-    → (turns : List (Turn J)) → IsFloor meaning old turns → IsFloor meaning new (turns ++ x ∷ [])
+    → (x : TurnData J) → IsTaken old t s slice (meaning x.search) new → x.tenant ≡ t → x.seq ≡ s → x.slice ≡ slice → x.ran ≡ 0 → t < length old.config.tenants
+    → (turns : List (TurnData J)) → IsFloor meaning old turns → IsFloor meaning new (turns ++ x ∷ [])
 floor_taken meaning old new t s slice x it tenant seq most ran known turns floor =
     let f = it.follows in
     let answer : Answer = Sent (line_of (record it.job { phase = Out slice })) in
@@ -194,7 +194,7 @@ floor_taken meaning old new t s slice x it tenant seq most ran known turns floor
 
 -- a turn that is given back is held no more
 pub floor_given : {J : Type 0} (meaning : J → Meaning) (old new : World) (t s ran : ℕ) (reply : Reply)
-    → Follows old t (Give s ran) (Replied reply) new → (xs : List (Turn J)) (x : Turn J) (ys : List (Turn J)) → x.tenant ≡ t → x.seq ≡ s
+    → Follows old t (Give s ran) (Replied reply) new → (xs : List (TurnData J)) (x : TurnData J) (ys : List (TurnData J)) → x.tenant ≡ t → x.seq ≡ s
     → IsFloor meaning old (xs ++ x ∷ ys) → IsFloor meaning new (xs ++ ys)
 floor_given meaning old new t s ran reply f xs x ys tenant seq floor =
     let apart = apart_without xs x ys floor.apart in
@@ -299,7 +299,7 @@ replied old new t what e answer known same may h =
 
 -- a command leaves the turns as they are
 pub floor_replied : {J : Type 0} (meaning : J → Meaning) (old new : World) (t : ℕ) (e : Event) (answer : Reply)
-    → ((s : ℕ) → gives s e ≡ false) → ((s : ℕ) → takes s e ≡ false) → (turns : List (Turn J)) → IsReply old t e answer new → IsFloor meaning old turns → IsFloor meaning new turns
+    → ((s : ℕ) → gives s e ≡ false) → ((s : ℕ) → takes s e ≡ false) → (turns : List (TurnData J)) → IsReply old t e answer new → IsFloor meaning old turns → IsFloor meaning new turns
 floor_replied meaning old new t e answer nor_gives nor_takes turns h floor =
     ⊎_elim
     (λ (none : (answer ≡ reply.NoMemory) × (new ≡ old) × (has_room 1 (view t old) ≡ true)). subst (λ w. IsFloor meaning w turns) (sym none.1) floor)
@@ -331,7 +331,7 @@ commanded old new t request e answer known is h accepted =
     replied old new t request e answer known it.told (λ none _. it.needs (command_needs old new t e answer h accepted none)) h
 
 -- and it leaves the turns as they are
-pub floor_commanded : {J : Type 0} (meaning : J → Meaning) (old new : World) (t : ℕ) (request : What) (e : Event) (answer : Reply) → event_in request ≡ Some e → (turns : List (Turn J))
+pub floor_commanded : {J : Type 0} (meaning : J → Meaning) (old new : World) (t : ℕ) (request : What) (e : Event) (answer : Reply) → event_in request ≡ Some e → (turns : List (TurnData J))
     → IsReply old t e answer new → IsFloor meaning old turns → IsFloor meaning new turns
 floor_commanded meaning old new t request e answer is turns h floor =
     let it = asked_for (view t old) request e is in
@@ -398,7 +398,7 @@ not_out (Some job) h =
     rw not refl
 
 -- no turn of the job is held
-pub told_none : {J : Type 0} (meaning : J → Meaning) (w : World) (t s : ℕ) (turns : List (Turn J)) → t < length w.config.tenants → IsFloor meaning w turns → has_turn t s turns ≡ false → IsTold w t (what.Give s) said.NoTurn w
+pub told_none : {J : Type 0} (meaning : J → Meaning) (w : World) (t s : ℕ) (turns : List (TurnData J)) → t < length w.config.tenants → IsFloor meaning w turns → has_turn t s turns ≡ false → IsTold w t (what.Give s) said.NoTurn w
 told_none meaning w t s turns known floor none =
     let quiet : is_out_of (find_job s (view t w).jobs) ≡ false =
     elim (is_out_of (find_job s (view t w).jobs)) as (λ b. is_out_of (find_job s (view t w).jobs) ≡ b → b ≡ false) [
@@ -417,9 +417,9 @@ told_none meaning w t s turns known floor none =
 -- ---- a turn that is found
 
 -- the turn of job s of tenant t among those that are held, and the others
-pub record IsFound {J : Type 0} (meaning : J → Meaning) (w : World) (t s : ℕ) (turns rest : List (Turn J)) (x : Turn J) : Type 0 where
-  pub front : List (Turn J)
-  pub behind : List (Turn J)
+pub record IsFound {J : Type 0} (meaning : J → Meaning) (w : World) (t s : ℕ) (turns rest : List (TurnData J)) (x : TurnData J) : Type 0 where
+  pub front : List (TurnData J)
+  pub behind : List (TurnData J)
   pub whole : turns ≡ front ++ x ∷ behind
   pub others : rest ≡ front ++ behind
   pub tenant : x.tenant ≡ t
@@ -434,7 +434,7 @@ split_at xs i x h is = sym (take-append-drop i xs) ∙ ap (λ ys. take i xs ++ y
     drop_at : {A : Type 0} (xs : List A) (i : ℕ) (x : A) → i < length xs → x ≡ get_or xs i x → drop i xs ≡ x ∷ drop (i + 1) xs
     drop_at xs i x h is = rw (add-one) (drop-cons xs i x h ∙ ap (λ y. y ∷ drop (suc i) xs) (sym is))
 
-pub found_turn : {J : Type 0} (meaning : J → Meaning) (w : World) (t s : ℕ) (turns rest : List (Turn J)) (i : ℕ) (x : Turn J) → position (is_turn_of t s) turns ≡ Some i → x ≡ get_or turns i x
+pub found_turn : {J : Type 0} (meaning : J → Meaning) (w : World) (t s : ℕ) (turns rest : List (TurnData J)) (i : ℕ) (x : TurnData J) → position (is_turn_of t s) turns ≡ Some i → x ≡ get_or turns i x
     → rest ≡ take i turns ++ drop (i + 1) turns → IsFloor meaning w turns → IsFound meaning w t s turns rest x
 found_turn meaning w t s turns rest i x at is others floor =
     let p = position-Some (is_turn_of t s) turns i x at in
@@ -453,7 +453,7 @@ found_turn meaning w t s turns rest i x at is others floor =
       held = held.2;
     }
 
-pub found_floor : {J : Type 0} (meaning : J → Meaning) (old new : World) (t s ran : ℕ) (reply : Reply) (turns rest : List (Turn J)) (x : Turn J)
+pub found_floor : {J : Type 0} (meaning : J → Meaning) (old new : World) (t s ran : ℕ) (reply : Reply) (turns rest : List (TurnData J)) (x : TurnData J)
     → IsFound meaning old t s turns rest x → Follows old t (Give s ran) (Replied reply) new → IsFloor meaning old turns → IsFloor meaning new rest
 found_floor meaning old new t s ran reply turns rest x it f floor =
     subst (λ ys. IsFloor meaning new ys) (sym it.others)
@@ -470,7 +470,7 @@ pub held_turn : (w : World) (t s slice ran : ℕ) (m : Meaning) → IsOutFor w t
 held_turn w t s slice ran m it none = record { best = it.best; start = m; after = ran_none m ∙ ap (λ n. ran_on n m) (sym none); all = inl none }
 
 -- it was run and given
-pub record IsRun {J : Type 0} (meaning : J → Meaning) (x : Turn J) (tenant seq slice ran result : ℕ) (m : Meaning) : Type 0 where
+pub record IsRun {J : Type 0} (meaning : J → Meaning) (x : TurnData J) (tenant seq slice ran result : ℕ) (m : Meaning) : Type 0 where
   pub tenant_is : tenant ≡ x.tenant
   pub seq_is : seq ≡ x.seq
   pub slice_is : slice ≡ x.slice
@@ -478,15 +478,15 @@ pub record IsRun {J : Type 0} (meaning : J → Meaning) (x : Turn J) (tenant seq
   pub ran_is : ran ≡ x.ran + result
   pub search : m ≡ ran_on result (meaning x.search)
 
-ran_all : {J : Type 0} (meaning : J → Meaning) (x : Turn J) (tenant seq slice ran result : ℕ) (m : Meaning) → IsRun meaning x tenant seq slice ran result m → x.ran ≡ 0 → ran ≡ nodes_within x.slice (meaning x.search)
+ran_all : {J : Type 0} (meaning : J → Meaning) (x : TurnData J) (tenant seq slice ran result : ℕ) (m : Meaning) → IsRun meaning x tenant seq slice ran result m → x.ran ≡ 0 → ran ≡ nodes_within x.slice (meaning x.search)
 ran_all meaning x tenant seq slice ran result m it none = omega (arith, it.ran_is, it.first none)
 
-pub found_follows : {J : Type 0} (meaning : J → Meaning) (old new : World) (t s : ℕ) (turns rest : List (Turn J)) (x : Turn J) (tenant seq slice ran result : ℕ) (m : Meaning) (answer : Reply)
+pub found_follows : {J : Type 0} (meaning : J → Meaning) (old new : World) (t s : ℕ) (turns rest : List (TurnData J)) (x : TurnData J) (tenant seq slice ran result : ℕ) (m : Meaning) (answer : Reply)
     → IsFound meaning old t s turns rest x → IsRun meaning x tenant seq slice ran result m → Follows old tenant (Give seq ran) (Replied answer) new → Follows old t (Give s ran) (Replied answer) new
 found_follows meaning old new t s turns rest x tenant seq slice ran result m answer it run f =
     subst (λ k. Follows old t (Give k ran) (Replied answer) new) (run.seq_is ∙ it.seq) (subst (λ k. Follows old k (Give seq ran) (Replied answer) new) (run.tenant_is ∙ it.tenant) f)
 
-pub found_told : {J : Type 0} (meaning : J → Meaning) (old new : World) (t s : ℕ) (turns rest : List (Turn J)) (x : Turn J) (tenant seq slice ran result : ℕ) (m : Meaning) (answer : Reply)
+pub found_told : {J : Type 0} (meaning : J → Meaning) (old new : World) (t s : ℕ) (turns rest : List (TurnData J)) (x : TurnData J) (tenant seq slice ran result : ℕ) (m : Meaning) (answer : Reply)
     → IsFound meaning old t s turns rest x → IsRun meaning x tenant seq slice ran result m → Follows old tenant (Give seq ran) (Replied answer) new
     → IsTold old t (what.Give s) (said.Reply answer) new
 found_told meaning old new t s turns rest x tenant seq slice ran result m answer it run f =
@@ -494,7 +494,7 @@ found_told meaning old new t s turns rest x tenant seq slice ran result m answer
     (ran_all meaning x tenant seq slice ran result m run it.ran ∙ held_turns_run_their_nodes old x.tenant x.seq x.slice (meaning x.search) it.held
     ∙ ap (λ k. nodes_out (find_job x.seq (view k old).jobs)) it.tenant ∙ ap (λ k. nodes_out (find_job k (view t old).jobs)) it.seq)
 
-pub never_strange : {J : Type 0} (meaning : J → Meaning) (old : World) (t s : ℕ) (turns rest : List (Turn J)) (x : Turn J) (tenant seq slice ran result : ℕ) (m : Meaning)
+pub never_strange : {J : Type 0} (meaning : J → Meaning) (old : World) (t s : ℕ) (turns rest : List (TurnData J)) (x : TurnData J) (tenant seq slice ran result : ℕ) (m : Meaning)
     → IsFound meaning old t s turns rest x → IsRun meaning x tenant seq slice ran result m → IsStrange old.rows tenant seq slice ran m → ⊥
 never_strange meaning old t s turns rest x tenant seq slice ran result m it run strange =
     let search : m ≡ ran_on (nodes_within x.slice (meaning x.search)) (meaning x.search) = run.search ∙ ap (λ n. ran_on n (meaning x.search)) (run.first it.ran) in
@@ -519,7 +519,7 @@ none_passes p (x ∷ xs) h =
     elim (p x) as (λ b. suc (length xs) ≤ cond (not b) (1 + position_or_len p xs) 0 → (b || list_any p xs) ≡ false)
     [ true ↦ λ e. absurd (omega (arith, e)) | false ↦ λ e. none_passes p xs (omega (arith, e)) ] h
 
-pub lacks_turn : {J : Type 0} (t s : ℕ) (turns : List (Turn J)) → position (is_turn_of t s) turns ≡ None → has_turn t s turns ≡ false
+pub lacks_turn : {J : Type 0} (t s : ℕ) (turns : List (TurnData J)) → position (is_turn_of t s) turns ≡ None → has_turn t s turns ≡ false
 lacks_turn t s turns h = none_passes (is_turn_of t s) turns (no_place (position_or_len (is_turn_of t s) turns) (length turns) h)
 
 -- ---- the first and the last floor
@@ -529,7 +529,7 @@ unfolding opened view member
 floor_opened meaning config w is = record { held = tt; apart = tt; all = λ t s out. absurd (cc (ap (λ v. is_out_of (find_job s (view t v).jobs)) is)); replayed = subst IsOfJournal (sym is) (farms_are_replayed.made config) }
 
 -- the last turn of those that are held
-pub found_last : {J : Type 0} (meaning : J → Meaning) (w : World) (turns xs : List (Turn J)) (x : Turn J) → turns ≡ xs ++ x ∷ [] → IsFloor meaning w turns
+pub found_last : {J : Type 0} (meaning : J → Meaning) (w : World) (turns xs : List (TurnData J)) (x : TurnData J) → turns ≡ xs ++ x ∷ [] → IsFloor meaning w turns
     → IsFound meaning w x.tenant x.seq turns xs x
 found_last meaning w turns xs x whole floor =
     let held = (held_parts meaning w xs (x ∷ []) (subst (λ ys. AreHeld meaning w ys) whole floor.held)).1 in
@@ -569,13 +569,13 @@ given_none old new t s ran answer none f u =
     (cases_eq (purse_in old.config u) (purse_in old.config t))
     ∙ sym (spent_is old u)
 
-pub unrun_known : {J : Type 0} (meaning : J → Meaning) (old : World) (turns rest : List (Turn J)) (x : Turn J) → IsFound meaning old x.tenant x.seq turns rest x
+pub unrun_known : {J : Type 0} (meaning : J → Meaning) (old : World) (turns rest : List (TurnData J)) (x : TurnData J) → IsFound meaning old x.tenant x.seq turns rest x
     → IsStrange old.rows x.tenant x.seq x.slice x.ran (meaning x.search) → ⊥
 unrun_known meaning old turns rest x it strange =
     (held_turns_are_no_strangers old x.tenant x.seq x.slice (meaning x.search) (meaning x.search) it.held).1 (subst (λ n. IsStrange old.rows x.tenant x.seq x.slice n (meaning x.search)) it.ran strange)
 
 -- where no turn is held, no job is out
-pub none_out : {J : Type 0} (meaning : J → Meaning) (w : World) (turns : List (Turn J)) → turns ≡ [] → IsFloor meaning w turns → (t s : ℕ) → is_out_of (find_job s (view t w).jobs) ≡ false
+pub none_out : {J : Type 0} (meaning : J → Meaning) (w : World) (turns : List (TurnData J)) → turns ≡ [] → IsFloor meaning w turns → (t s : ℕ) → is_out_of (find_job s (view t w).jobs) ≡ false
 none_out meaning w turns none floor t s =
     elim (is_out_of (find_job s (view t w).jobs)) as (λ b. is_out_of (find_job s (view t w).jobs) ≡ b → b ≡ false) [
       | true ↦ λ out. absurd (both_ways (has_turn t s turns) (ap (has_turn t s) none) (floor.all t s out))

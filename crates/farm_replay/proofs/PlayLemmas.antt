@@ -15,13 +15,14 @@ use Rattle.farm_core.specs.World.{World, opened, purse_in, place_in, purse, view
 use Rattle.farm_core.proofs.SeatLemmas.{each_view_is_a_seat}
 use Rattle.farm_replay.proofs.NumberLemmas.{known_number}
 use Rattle.farm_core.specs.Held.{FarmsAreReplayed}
+use Rattle.io_watch.specs.Failure.{HasFailed}
 use Rattle.session_lines.specs.declared.request.Request.{Request}
 use Rattle.session_lines.specs.declared.request.What.{What}
 use Rattle.session_lines.specs.declared.request.LineFault.{LineFault}
 use Rattle.session_lines.specs.declared.request.LineFault.TheVariants.{Eof, Read, TooLong, Syntax, File, NoMemory}
 use Rattle.session_lines.specs.declared.said.Said.{Said}
 use Rattle.session_lines.specs.declared.said.Said.TheVariants as said
-use Rattle.session_lines.specs.Cause.{HasCause, lines_after, IsPast, IsReadGivenUp}
+use Rattle.session_lines.specs.Cause.{HasCause, lines_after, IsPast, IsReadGivenUp, HasReadWell}
 use Rattle.session_lines.specs.Known.{Goes, AppendsPart}
 use Rattle.session_lines.specs.Laws.{EachInTurn, from_first}
 use Rattle.session_lines.specs.ReplyText.{reply_line}
@@ -156,8 +157,8 @@ play_on turns config xs ys zs old mid new count noted noted' w w' line it m n by
 
 -- a part of its line was written, and no more
 cut_by_write : EachInTurn → (config : ConfigData) (xs ys zs : List ℕ) (old mid new : Option (List ℕ)) (count : ℕ) (noted : Bool) (w w' : World) (line : Saying) (it : IsPlayed config xs ys old mid count noted w) (m : Marked)
-    → IsNext m ys zs → IsAnsweredBy config (parts_after config (opening config) it.requests) m line w' → AppendsPart mid new (line_text line) → (seen : Watches) → seen.writes.failed ≡ true → IsCutOff config fault.Write seen xs old new
-cut_by_write turns config xs ys zs old mid new count noted w w' line it m n by part seen failed = record {
+    → IsNext m ys zs → IsAnsweredBy config (parts_after config (opening config) it.requests) m line w' → AppendsPart mid new (line_text line) → (before seen : Watches) → HasFailed before.writes seen.writes → IsCutOff config fault.Write before seen xs old new
+cut_by_write turns config xs ys zs old mid new count noted w w' line it m n by part before seen failed = record {
   requests = it.requests;
   rest = m.item ∷ requests_of zs;
   part = part.part;
@@ -168,8 +169,8 @@ cut_by_write turns config xs ys zs old mid new count noted w w' line it m n by p
 
 -- nothing of its line was written
 cut_before : EachInTurn → (config : ConfigData) (xs ys zs : List ℕ) (old new : Option (List ℕ)) (count : ℕ) (noted : Bool) (w : World) (it : IsPlayed config xs ys old new count noted w) (m : Marked)
-    → IsNext m ys zs → (seen : Watches) → seen.writes.failed ≡ true → IsCutOff config fault.Write seen xs old new
-cut_before turns config xs ys zs old new count noted w it m n seen failed = record {
+    → IsNext m ys zs → (before seen : Watches) → HasFailed before.writes seen.writes → IsCutOff config fault.Write before seen xs old new
+cut_before turns config xs ys zs old new count noted w it m n before seen failed = record {
   requests = it.requests;
   rest = m.item ∷ requests_of zs;
   part = [];
@@ -188,9 +189,9 @@ cut_before turns config xs ys zs old new count noted w it m n seen failed = reco
   );
 }
 
-cut_between : (config : ConfigData) (xs ys : List ℕ) (old new : Option (List ℕ)) (count : ℕ) (noted : Bool) (w : World) (why : ReplayFault) (seen : Watches) (it : IsPlayed config xs ys old new count noted w)
-    → IsCutBy why seen config xs it.requests (requests_of ys) [] → IsCutOff config why seen xs old new
-cut_between config xs ys old new count noted w why seen it cause = record {
+cut_between : (config : ConfigData) (xs ys : List ℕ) (old new : Option (List ℕ)) (count : ℕ) (noted : Bool) (w : World) (why : ReplayFault) (before seen : Watches) (it : IsPlayed config xs ys old new count noted w)
+    → IsCutBy why before seen config xs it.requests (requests_of ys) [] → IsCutOff config why before seen xs old new
+cut_between config xs ys old new count noted w why before seen it cause = record {
   requests = it.requests;
   rest = requests_of ys;
   part = [];
@@ -357,12 +358,12 @@ settled_on turns config a b c old mid new count noted noted' w answer who words 
 
 pub settled_cut : EachInTurn → (config : ConfigData) (a b c old mid new : Option (List ℕ)) (count : ℕ) (noted : Bool) (w : World) (answer : Result Request LineFault) (who : Option (List ℕ)) (words : Said)
     → heard.Told who words ≡ heard_of config answer → Takes 100000000 None b c answer → Played config a b old mid count noted w → AppendsPart mid new (reply_line who words)
-    → (seen : Watches) → seen.writes.failed ≡ true → IfSome a (λ xs. IsCutOff config fault.Write seen xs old new)
-settled_cut turns config a b c old mid new count noted w answer who words is takes played part seen failed =
-    known_first a c (λ xs zs. IsCutOff config fault.Write seen xs old new) (λ xs. IsCutOff config fault.Write seen xs old new)
-    (goes_on a b c (λ xs ys. IsPlayed config xs ys old mid count noted w) (IsSettled config (record { who = who; said = words })) (λ xs zs. IsCutOff config fault.Write seen xs old new)
+    → (before seen : Watches) → HasFailed before.writes seen.writes → IfSome a (λ xs. IsCutOff config fault.Write before seen xs old new)
+settled_cut turns config a b c old mid new count noted w answer who words is takes played part before seen failed =
+    known_first a c (λ xs zs. IsCutOff config fault.Write before seen xs old new) (λ xs. IsCutOff config fault.Write before seen xs old new)
+    (goes_on a b c (λ xs ys. IsPlayed config xs ys old mid count noted w) (IsSettled config (record { who = who; said = words })) (λ xs zs. IsCutOff config fault.Write before seen xs old new)
     played (told_takes turns config 100000000 b c answer who words is takes)
-    (λ xs ys zs it s. cut_by_write turns config xs ys zs old mid new count noted w w (record { who = who; said = words }) it s.request s.cut (answered_settled config xs ys zs old mid count noted w (record { who = who; said = words }) it s) part seen failed))
+    (λ xs ys zs it s. cut_by_write turns config xs ys zs old mid new count noted w w (record { who = who; said = words }) it s.request s.cut (answered_settled config xs ys zs old mid count noted w (record { who = who; said = words }) it s) part before seen failed))
     (λ xs zs known it. it)
 
 -- the line of tenant t's request, where this is told to it
@@ -462,24 +463,24 @@ asked_on turns config a b c old mid new count noted noted' w w' answer t who wha
 
 pub asked_cut : EachInTurn → (config : ConfigData) (a b c old mid new : Option (List ℕ)) (count : ℕ) (noted : Bool) (w w' : World) (answer : Result Request LineFault) (t : ℕ) (who : List ℕ) (what : What) (words : Said)
     → heard.Asked t who what ≡ heard_of config answer → Takes 100000000 None b c answer → IsTold w t what words w' → Played config a b old mid count noted w → AppendsPart mid new (reply_line (Some who) words)
-    → (seen : Watches) → seen.writes.failed ≡ true → IfSome a (λ xs. IsCutOff config fault.Write seen xs old new)
-asked_cut turns config a b c old mid new count noted w w' answer t who what words is takes told played part seen failed =
-    known_first a c (λ xs zs. IsCutOff config fault.Write seen xs old new) (λ xs. IsCutOff config fault.Write seen xs old new)
-    (goes_on a b c (λ xs ys. IsPlayed config xs ys old mid count noted w) (IsAsked config t who what) (λ xs zs. IsCutOff config fault.Write seen xs old new)
+    → (before seen : Watches) → HasFailed before.writes seen.writes → IfSome a (λ xs. IsCutOff config fault.Write before seen xs old new)
+asked_cut turns config a b c old mid new count noted w w' answer t who what words is takes told played part before seen failed =
+    known_first a c (λ xs zs. IsCutOff config fault.Write before seen xs old new) (λ xs. IsCutOff config fault.Write before seen xs old new)
+    (goes_on a b c (λ xs ys. IsPlayed config xs ys old mid count noted w) (IsAsked config t who what) (λ xs zs. IsCutOff config fault.Write before seen xs old new)
     played (asked_takes config 100000000 b c answer t who what is takes)
     (λ xs ys zs it s.
     let by = answered_asked config xs ys zs old mid count noted w w' t who what words it s told in
-    cut_by_write turns config xs ys zs old mid new count noted w w' (record { who = Some who; said = words }) it (record { item = s.item; refused = by.0 }) (record { cut = s.cut }) by.1 part seen failed))
+    cut_by_write turns config xs ys zs old mid new count noted w w' (record { who = Some who; said = words }) it (record { item = s.item; refused = by.0 }) (record { cut = s.cut }) by.1 part before seen failed))
     (λ xs zs known it. it)
 
 -- nothing could be sent before it is answered
 pub asked_unsent : EachInTurn → (config : ConfigData) (a b c old new : Option (List ℕ)) (count : ℕ) (noted : Bool) (w : World) (answer : Result Request LineFault) (t : ℕ) (who : List ℕ) (what : What)
-    → heard.Asked t who what ≡ heard_of config answer → Takes 100000000 None b c answer → Played config a b old new count noted w → (seen : Watches) → seen.writes.failed ≡ true → IfSome a (λ xs. IsCutOff config fault.Write seen xs old new)
-asked_unsent turns config a b c old new count noted w answer t who what is takes played seen failed =
-    known_first a c (λ xs zs. IsCutOff config fault.Write seen xs old new) (λ xs. IsCutOff config fault.Write seen xs old new)
-    (goes_on a b c (λ xs ys. IsPlayed config xs ys old new count noted w) (IsAsked config t who what) (λ xs zs. IsCutOff config fault.Write seen xs old new)
+    → heard.Asked t who what ≡ heard_of config answer → Takes 100000000 None b c answer → Played config a b old new count noted w → (before seen : Watches) → HasFailed before.writes seen.writes → IfSome a (λ xs. IsCutOff config fault.Write before seen xs old new)
+asked_unsent turns config a b c old new count noted w answer t who what is takes played before seen failed =
+    known_first a c (λ xs zs. IsCutOff config fault.Write before seen xs old new) (λ xs. IsCutOff config fault.Write before seen xs old new)
+    (goes_on a b c (λ xs ys. IsPlayed config xs ys old new count noted w) (IsAsked config t who what) (λ xs zs. IsCutOff config fault.Write before seen xs old new)
     played (asked_takes config 100000000 b c answer t who what is takes)
-    (λ xs ys zs it s. cut_before turns config xs ys zs old new count noted w it (record { item = s.item; refused = false }) (record { cut = s.cut }) seen failed))
+    (λ xs ys zs it s. cut_before turns config xs ys zs old new count noted w it (record { item = s.item; refused = false }) (record { cut = s.cut }) before seen failed))
     (λ xs zs known it. it)
 
 pub play_over : EachInTurn → (config : ConfigData) (a b c old new : Option (List ℕ)) (count : ℕ) (noted : Bool) (w : World) (answer : Result Request LineFault) → count ≤ 1000000 → heard.Over ≡ heard_of config answer
@@ -494,36 +495,55 @@ play_over turns config a b c old new count noted w answer most is takes played =
 long_next : (config : ConfigData) (xs ys : List ℕ) (old new : Option (List ℕ)) (count : ℕ) (noted : Bool) (w : World) (it : IsPlayed config xs ys old new count noted w) → IsPast 100000000 None (lines_of ys) → IsLongNext xs it.requests
 long_next config xs ys old new count noted w it long = subst (IsPast 100000000 None) (sym it.left ∙ ap (λ n. lines_past n (lines_of xs)) (sym it.number)) long
 
-broken_by : (config : ConfigData) (xs ys : List ℕ) (old new : Option (List ℕ)) (count : ℕ) (noted : Bool) (w : World) (failed : Bool) (it : IsPlayed config xs ys old new count noted w)
-    → (failed ≡ true) ⊎ IsPast 100000000 None (lines_of ys) → (failed ≡ true) ⊎ IsLongNext xs it.requests
-broken_by config xs ys old new count noted w failed it (inl h) = inl h
-broken_by config xs ys old new count noted w failed it (inr h) = inr (long_next config xs ys old new count noted w it h)
+broken_by : (config : ConfigData) (xs ys : List ℕ) (old new : Option (List ℕ)) (count : ℕ) (noted : Bool) (w : World) (Failed : Type 0) (it : IsPlayed config xs ys old new count noted w)
+    → Failed ⊎ IsPast 100000000 None (lines_of ys) → Failed ⊎ IsLongNext xs it.requests
+broken_by config xs ys old new count noted w Failed it (inl h) = inl h
+broken_by config xs ys old new count noted w Failed it (inr h) = inr (long_next config xs ys old new count noted w it h)
 
 -- what was heard tells that the read was given up
-given_up : (config : ConfigData) (failed : Bool) (old : Option (List ℕ)) (answer : Result Request LineFault) → heard.Broken ≡ heard_of config answer → IsReadGivenUp 100000000 None failed old answer
-    → HasCause failed old (λ bytes. IsPast 100000000 None (lines_of bytes))
-given_up config failed old (Ok request) is h = absurd (nowhere (tenant_number request.who config) is)
+given_up : (config : ConfigData) (Failed : Type 0) (old : Option (List ℕ)) (answer : Result Request LineFault) → heard.Broken ≡ heard_of config answer → IsReadGivenUp 100000000 None Failed old answer
+    → HasCause Failed old (λ bytes. IsPast 100000000 None (lines_of bytes))
+given_up config Failed old (Ok request) is h = absurd (nowhere (tenant_number request.who config) is)
   where
     nowhere : (n : Option ℕ) → heard.Broken ≡ heard_for request.who request.what n → ⊥
     nowhere None e = cc
     nowhere (Some t) e = cc
-given_up config failed old (Err Eof) is h = absurd (cc)
-given_up config failed old (Err Read) is h = h
-given_up config failed old (Err (TooLong w)) is h = absurd (cc)
-given_up config failed old (Err (Syntax w)) is h = absurd (cc)
-given_up config failed old (Err (File w why)) is h = absurd (cc)
-given_up config failed old (Err (NoMemory w)) is h = absurd (cc)
+given_up config Failed old (Err Eof) is h = absurd (cc)
+given_up config Failed old (Err Read) is h = h
+given_up config Failed old (Err (TooLong w)) is h = absurd (cc)
+given_up config Failed old (Err (Syntax w)) is h = absurd (cc)
+given_up config Failed old (Err (File w why)) is h = absurd (cc)
+given_up config Failed old (Err (NoMemory w)) is h = absurd (cc)
 
-cause_at : (failed : Bool) (b : Option (List ℕ)) (ys : List ℕ) (P : List ℕ → Type 0) → b ≡ Some ys → HasCause failed b P → (failed ≡ true) ⊎ P ys
-cause_at failed b ys P known (inl h) = inl h
-cause_at failed b ys P known (inr h) = inr (subst (λ o. IfSome o P) known h)
+-- what asks for a line was read with no failure
+pub told_well : (config : ConfigData) (old new : ℕ) (answer : Result Request LineFault) (who : Option (List ℕ)) (words : Said) → heard.Told who words ≡ heard_of config answer → HasReadWell answer old new → new ≡ old
+told_well config old new (Ok request) who words is h = h
+told_well config old new (Err Eof) who words is h = h
+told_well config old new (Err Read) who words is h = absurd (cc)
+told_well config old new (Err (TooLong w)) who words is h = h
+told_well config old new (Err (Syntax w)) who words is h = h
+told_well config old new (Err (File w why)) who words is h = h
+told_well config old new (Err (NoMemory w)) who words is h = h
 
-pub play_broken : (config : ConfigData) (a b old new : Option (List ℕ)) (count : ℕ) (noted : Bool) (w : World) (answer : Result Request LineFault) (seen : Watches) → heard.Broken ≡ heard_of config answer
-    → IsReadGivenUp 100000000 None seen.reads.failed b answer → Played config a b old new count noted w → IfSome a (λ xs. IsCutOff config fault.Read seen xs old new)
-play_broken config a b old new count noted w answer seen is cause played =
-    known_first a b (λ xs ys. IsPlayed config xs ys old new count noted w) (λ xs. IsCutOff config fault.Read seen xs old new) played
-    (λ xs ys known it. cut_between config xs ys old new count noted w fault.Read seen it
-    (refl, broken_by config xs ys old new count noted w seen.reads.failed it (cause_at seen.reads.failed b ys (λ bytes. IsPast 100000000 None (lines_of bytes)) known (given_up config seen.reads.failed b answer is cause))))
+pub asked_well : (config : ConfigData) (old new : ℕ) (answer : Result Request LineFault) (t : ℕ) (who : List ℕ) (what : What) → heard.Asked t who what ≡ heard_of config answer → HasReadWell answer old new → new ≡ old
+asked_well config old new (Ok request) t who what is h = h
+asked_well config old new (Err Eof) t who what is h = h
+asked_well config old new (Err Read) t who what is h = absurd (cc)
+asked_well config old new (Err (TooLong w)) t who what is h = h
+asked_well config old new (Err (Syntax w)) t who what is h = h
+asked_well config old new (Err (File w why)) t who what is h = h
+asked_well config old new (Err (NoMemory w)) t who what is h = h
+
+cause_at : (Failed : Type 0) (b : Option (List ℕ)) (ys : List ℕ) (P : List ℕ → Type 0) → b ≡ Some ys → HasCause Failed b P → Failed ⊎ P ys
+cause_at Failed b ys P known (inl h) = inl h
+cause_at Failed b ys P known (inr h) = inr (subst (λ o. IfSome o P) known h)
+
+pub play_broken : (config : ConfigData) (a b old new : Option (List ℕ)) (count : ℕ) (noted : Bool) (w : World) (answer : Result Request LineFault) (before seen : Watches) → heard.Broken ≡ heard_of config answer
+    → IsReadGivenUp 100000000 None (HasFailed before.reads seen.reads) b answer → Played config a b old new count noted w → IfSome a (λ xs. IsCutOff config fault.Read before seen xs old new)
+play_broken config a b old new count noted w answer before seen is cause played =
+    known_first a b (λ xs ys. IsPlayed config xs ys old new count noted w) (λ xs. IsCutOff config fault.Read before seen xs old new) played
+    (λ xs ys known it. cut_between config xs ys old new count noted w fault.Read before seen it
+    (refl, broken_by config xs ys old new count noted w (HasFailed before.reads seen.reads) it (cause_at (HasFailed before.reads seen.reads) b ys (λ bytes. IsPast 100000000 None (lines_of bytes)) known (given_up config (HasFailed before.reads seen.reads) b answer is cause))))
 
 pub play_ends : (config : ConfigData) (a b old new : Option (List ℕ)) (count : ℕ) (noted : Bool) (w : World) → count ≤ 1000000 → Played config a b old new count noted w → IfSome b (λ ys. requests_of ys ≡ []) → IfSome a (λ xs. IsWritten config xs noted old new)
 play_ends config a b old new count noted w most played over =
@@ -536,43 +556,43 @@ one_more turns old new answer takes =
     known_first old new (λ xs ys. Cuts 100000000 (first None (lines_of xs)) answer xs ys) (λ bytes. requests_of bytes ≢ []) takes
     (λ xs ys known it none. let some : requests_of xs ≡ it.item ∷ requests_of ys = turns xs ∙ ap from_first it.cut in absurd (cc))
 
-pub play_stops : (config : ConfigData) (a b old new : Option (List ℕ)) (noted : Bool) (w : World) (why : ReplayFault) (seen : Watches) → Played config a b old new 1000000 noted w → IfSome b (λ ys. GoesOn why seen.reads.failed ys)
-    → IfSome a (λ xs. IsCutOff config why seen xs old new)
-play_stops config a b old new noted w why seen played stops =
-    known_first a b (λ xs ys. IsPlayed config xs ys old new 1000000 noted w) (λ xs. IsCutOff config why seen xs old new) played
-    (λ xs ys known it. cut_between config xs ys old new 1000000 noted w why seen it (cause why xs ys it (subst (λ o. IfSome o (λ ys. GoesOn why seen.reads.failed ys)) known stops)))
+pub play_stops : (config : ConfigData) (a b old new : Option (List ℕ)) (noted : Bool) (w : World) (why : ReplayFault) (before seen : Watches) → Played config a b old new 1000000 noted w → IfSome b (λ ys. GoesOn why (HasFailed before.reads seen.reads) ys)
+    → IfSome a (λ xs. IsCutOff config why before seen xs old new)
+play_stops config a b old new noted w why before seen played stops =
+    known_first a b (λ xs ys. IsPlayed config xs ys old new 1000000 noted w) (λ xs. IsCutOff config why before seen xs old new) played
+    (λ xs ys known it. cut_between config xs ys old new 1000000 noted w why before seen it (cause why xs ys it (subst (λ o. IfSome o (λ ys. GoesOn why (HasFailed before.reads seen.reads) ys)) known stops)))
   where
-    cause : (why : ReplayFault) (xs ys : List ℕ) (it : IsPlayed config xs ys old new 1000000 noted w) → GoesOn why seen.reads.failed ys → IsCutBy why seen config xs it.requests (requests_of ys) []
-    cause fault.Read xs ys it h = (refl, broken_by config xs ys old new 1000000 noted w seen.reads.failed it h)
+    cause : (why : ReplayFault) (xs ys : List ℕ) (it : IsPlayed config xs ys old new 1000000 noted w) → GoesOn why (HasFailed before.reads seen.reads) ys → IsCutBy why before seen config xs it.requests (requests_of ys) []
+    cause fault.Read xs ys it h = (refl, broken_by config xs ys old new 1000000 noted w (HasFailed before.reads seen.reads) it h)
     cause fault.Write xs ys it h = absurd h
     cause fault.Requests xs ys it h = (refl, it.number, h)
     cause fault.NoMemory xs ys it h = absurd h
 
 -- what is read after the last request that may be
-pub end_stops : EachInTurn → (old new : Option (List ℕ)) (failed : Bool) (answer : Result Request LineFault) → Takes 100000000 None old new answer → IsReadGivenUp 100000000 None failed old answer
-    → IfErr (end_of answer) (λ why. IfSome old (λ bytes. GoesOn why failed bytes))
-end_stops turns old new failed (Err Eof) takes cause = tt
-end_stops turns old new failed (Err Read) takes cause = known old cause
+pub end_stops : EachInTurn → (old new : Option (List ℕ)) (Failed : Type 0) (answer : Result Request LineFault) → Takes 100000000 None old new answer → IsReadGivenUp 100000000 None Failed old answer
+    → IfErr (end_of answer) (λ why. IfSome old (λ bytes. GoesOn why Failed bytes))
+end_stops turns old new Failed (Err Eof) takes cause = tt
+end_stops turns old new Failed (Err Read) takes cause = known old cause
   where
-    known : (old : Option (List ℕ)) → HasCause failed old (λ bytes. IsPast 100000000 None (lines_of bytes)) → IfSome old (λ bytes. GoesOn fault.Read failed bytes)
+    known : (old : Option (List ℕ)) → HasCause Failed old (λ bytes. IsPast 100000000 None (lines_of bytes)) → IfSome old (λ bytes. GoesOn fault.Read Failed bytes)
     known None h = tt
     known (Some xs) (inl h) = inl h
     known (Some xs) (inr h) = inr h
-end_stops turns old new failed (Ok request) takes cause = one_more turns old new (Ok request) takes
-end_stops turns old new failed (Err (TooLong w)) takes cause = one_more turns old new (Err (TooLong w)) takes
-end_stops turns old new failed (Err (Syntax w)) takes cause = one_more turns old new (Err (Syntax w)) takes
-end_stops turns old new failed (Err (File w why)) takes cause = one_more turns old new (Err (File w why)) takes
-end_stops turns old new failed (Err (NoMemory w)) takes cause = one_more turns old new (Err (NoMemory w)) takes
+end_stops turns old new Failed (Ok request) takes cause = one_more turns old new (Ok request) takes
+end_stops turns old new Failed (Err (TooLong w)) takes cause = one_more turns old new (Err (TooLong w)) takes
+end_stops turns old new Failed (Err (Syntax w)) takes cause = one_more turns old new (Err (Syntax w)) takes
+end_stops turns old new Failed (Err (File w why)) takes cause = one_more turns old new (Err (File w why)) takes
+end_stops turns old new Failed (Err (NoMemory w)) takes cause = one_more turns old new (Err (NoMemory w)) takes
 
 pub play_written : (config : ConfigData) (a b old new : Option (List ℕ)) (count : ℕ) (noted : Bool) (w : World) (result : Result ⊤ ReplayFault) → count ≤ 1000000 → Played config a b old new count noted w
     → OnOk result (IfSome b (λ ys. requests_of ys ≡ [])) → OnOk result (IfSome a (λ xs. IsWritten config xs noted old new))
 play_written config a b old new count noted w (Ok u) most played over = play_ends config a b old new count noted w most played over
 play_written config a b old new count noted w (Err why) most played over = tt
 
-pub play_cut : (config : ConfigData) (a b old new : Option (List ℕ)) (noted : Bool) (w : World) (seen : Watches) (result : Result ⊤ ReplayFault) → Played config a b old new 1000000 noted w
-    → IfErr result (λ why. IfSome b (λ ys. GoesOn why seen.reads.failed ys)) → IfErr result (λ why. IfSome a (λ xs. IsCutOff config why seen xs old new))
-play_cut config a b old new noted w seen (Ok u) played stops = tt
-play_cut config a b old new noted w seen (Err why) played stops = play_stops config a b old new noted w why seen played stops
+pub play_cut : (config : ConfigData) (a b old new : Option (List ℕ)) (noted : Bool) (w : World) (before seen : Watches) (result : Result ⊤ ReplayFault) → Played config a b old new 1000000 noted w
+    → IfErr result (λ why. IfSome b (λ ys. GoesOn why (HasFailed before.reads seen.reads) ys)) → IfErr result (λ why. IfSome a (λ xs. IsCutOff config why before seen xs old new))
+play_cut config a b old new noted w before seen (Ok u) played stops = tt
+play_cut config a b old new noted w before seen (Err why) played stops = play_stops config a b old new noted w why before seen played stops
 
 -- in a new farm no purse has done anything yet
 pub begun : (config : ConfigData) (w : World) → FarmsAreReplayed → w ≡ opened config → (p : ℕ) → purse p w ≡ opening config p

@@ -2,7 +2,7 @@
 use Rattle.std.specs.Prelude.{◌≡◌, ◌≢◌, ℕ, Bool, true, false, ◌&&◌, ◌==◌, List, [], ◌∷◌, ⊤}
 use Rattle.std.specs.List.{list_any}
 use Rattle.strategy.specs.Search.{Meaning}
-use Rattle.farm_core.specs.declared.turn.Turn.{Turn}
+use Rattle.farm_core.specs.Turn.{TurnData}
 use Rattle.farm_core.specs.declared.reply.Reply.TheVariants as reply
 use Rattle.farm_core.specs.declared.reply.NoTurn.{NoTurn}
 use Rattle.farm_core.specs.declared.reply.NoTurn.TheVariants as no_turn
@@ -15,19 +15,19 @@ use Rattle.session_lines.specs.declared.said.Said.TheVariants as said
 use Rattle.farm_replay.specs.Output.{told_under}
 
 -- a turn of a tenant's job of that number
-abbrev pub is_turn_of : {J : Type 0} → ℕ → ℕ → Turn J → Bool
+abbrev pub is_turn_of : {J : Type 0} → ℕ → ℕ → TurnData J → Bool
 is_turn_of t s turn = (turn.tenant == t) && (turn.seq == s)
 
-abbrev pub has_turn : {J : Type 0} → ℕ → ℕ → List (Turn J) → Bool
+abbrev pub has_turn : {J : Type 0} → ℕ → ℕ → List (TurnData J) → Bool
 has_turn t s turns = list_any (is_turn_of t s) turns
 
 -- no two turns are of one job
-abbrev pub AreApart : {J : Type 0} → List (Turn J) → Type 0
+abbrev pub AreApart : {J : Type 0} → List (TurnData J) → Type 0
 AreApart [] = ⊤
 AreApart (turn ∷ turns) = (has_turn turn.tenant turn.seq turns ≡ false) × AreApart turns
 
 -- each turn is of a job that is out, and has not run; each job that is out has its turn here, and one alone; and the farm is where its journal leads
-pub record IsFloor {J : Type 0} (meaning : J → Meaning) (w : World) (turns : List (Turn J)) : Type 0 where
+pub record IsFloor {J : Type 0} (meaning : J → Meaning) (w : World) (turns : List (TurnData J)) : Type 0 where
   pub held : AreHeld meaning w turns
   pub apart : AreApart turns
   pub all : (t s : ℕ) → is_out_of (find_job s (view t w).jobs) ≡ true → has_turn t s turns ≡ true

@@ -11,6 +11,7 @@ use Rattle.farm_core.specs.Step.{Step, Answer, Replied, Sent, step, has_room}
 use Rattle.farm_core.specs.Command.{is_line}
 use Rattle.farm_core.specs.World.{purse_in, place_in, opened_purse}
 use Rattle.farm_core.specs.Held.{nodes_out}
+use Rattle.io_watch.specs.Failure.{HasFailed}
 use Rattle.session_lines.specs.declared.request.Request.{Request}
 use Rattle.session_lines.specs.declared.request.What.{What}
 use Rattle.session_lines.specs.declared.request.What.TheVariants.{Submit, Fund, Status, Fetch, Cancel, Forget, Ledger, Take, Give, Turn}
@@ -197,18 +198,19 @@ lines_past (suc n) lines = lines_after (first None (lines_past n lines))
 abbrev pub IsLongNext : List ℕ → List Marked → Type 0
 IsLongNext script requests = IsPast MOST_REQUEST_BYTES None (lines_past (length requests) (lines_of script))
 
--- why a replay ends after these requests, by its fault and by whether a read or a write has failed, and what was written after their lines
-abbrev pub IsCutBy : ReplayFault → Watches → ConfigData → List ℕ → List Marked → List Item → List ℕ → Type 0
-IsCutBy fault.Read seen config script requests rest part = (part ≡ []) × ((seen.reads.failed ≡ true) ⊎ IsLongNext script requests)
-IsCutBy fault.Write seen config script requests rest part = (seen.writes.failed ≡ true) × IsPartOfNext config requests rest part
-IsCutBy fault.Requests seen config script requests rest part = (part ≡ []) × (length requests ≡ MOST_REQUESTS) × (rest ≢ [])
-IsCutBy fault.NoMemory seen config script requests rest part = (part ≡ []) × (requests ≡ [])
+-- why a replay ends after these requests, by its fault and by what its watches had counted before it and count then, and what was written
+-- after their lines: a fault of the reader or the writer is one of this replay, whatever failed before it
+abbrev pub IsCutBy : ReplayFault → Watches → Watches → ConfigData → List ℕ → List Marked → List Item → List ℕ → Type 0
+IsCutBy fault.Read before seen config script requests rest part = (part ≡ []) × (HasFailed before.reads seen.reads ⊎ IsLongNext script requests)
+IsCutBy fault.Write before seen config script requests rest part = HasFailed before.writes seen.writes × IsPartOfNext config requests rest part
+IsCutBy fault.Requests before seen config script requests rest part = (part ≡ []) × (length requests ≡ MOST_REQUESTS) × (rest ≢ [])
+IsCutBy fault.NoMemory before seen config script requests rest part = (part ≡ []) × (requests ≡ [])
 
 -- the output of a script's first requests was written, and after a failed write a part of the next line
-pub record IsCutOff (config : ConfigData) (fault : ReplayFault) (seen : Watches) (script : List ℕ) (old new : Option (List ℕ)) : Type 0 where
+pub record IsCutOff (config : ConfigData) (fault : ReplayFault) (before seen : Watches) (script : List ℕ) (old new : Option (List ℕ)) : Type 0 where
   pub requests : List Marked
   pub rest : List Item
   pub part : List ℕ
   pub all : items_of requests ++ rest ≡ requests_of script
   pub written : Appends old new (output_of config requests ++ part)
-  pub cause : IsCutBy fault seen config script requests rest part
+  pub cause : IsCutBy fault before seen config script requests rest part

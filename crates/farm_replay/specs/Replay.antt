@@ -1,5 +1,5 @@
 -- How a replay ends after its last request that may be.
-use Rattle.std.specs.Prelude.{◌≡◌, ◌≢◌, ◌⊎◌, ⊤, ℕ, Bool, true, List, [], None, Result, Ok, Err}
+use Rattle.std.specs.Prelude.{◌≢◌, ◌⊎◌, ⊤, ℕ, List, [], None, Result, Ok, Err}
 use Rattle.session_lines.specs.declared.request.Request.{Request}
 use Rattle.session_lines.specs.declared.request.LineFault.{LineFault}
 use Rattle.session_lines.specs.declared.request.LineFault.TheVariants.{Eof, Read}
@@ -10,11 +10,11 @@ use Rattle.farm_replay.specs.declared.script.ReplayFault.{ReplayFault}
 use Rattle.farm_replay.specs.declared.script.ReplayFault.TheVariants as fault
 
 -- the reader failed or the next request is too long, or there is one request more
-abbrev pub GoesOn : ReplayFault → Bool → List ℕ → Type 0
-GoesOn fault.Read failed bytes = (failed ≡ true) ⊎ IsPast MOST_REQUEST_BYTES None (lines_of bytes)
-GoesOn fault.Write failed bytes = ⊥
-GoesOn fault.Requests failed bytes = requests_of bytes ≢ []
-GoesOn fault.NoMemory failed bytes = ⊥
+abbrev pub GoesOn : ReplayFault → Type 0 → List ℕ → Type 0
+GoesOn fault.Read Failed bytes = Failed ⊎ IsPast MOST_REQUEST_BYTES None (lines_of bytes)
+GoesOn fault.Write Failed bytes = ⊥
+GoesOn fault.Requests Failed bytes = requests_of bytes ≢ []
+GoesOn fault.NoMemory Failed bytes = ⊥
 
 -- how a replay ends after its last request that may be: with the script, with a reader that failed, or with a request too many
 abbrev pub end_of : Result Request LineFault → Result ⊤ ReplayFault

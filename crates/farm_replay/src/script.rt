@@ -1,6 +1,7 @@
 //! Scripts of requests, run one after another on a farm of one thread.
 ghost use Rattle.std.specs.Prelude.{◌≡◌, [], true, false, is_some, IfSome, IfErr, OnOk, OnErr};
 ghost use Rattle.farm_core.specs.World.{opened};
+ghost use Rattle.io_watch.specs.Failure.{HasFailed, IsNoted};
 ghost use Rattle.session_lines.specs.Known.{Writes};
 ghost use Rattle.session_lines.specs.ReplyText.{reply_line};
 ghost use Rattle.session_lines.specs.Script.{requests_of};
@@ -58,7 +59,7 @@ fn tell<W: Write>(
 ) -> Result<(), ReplayFault>
     ensures writes { Writes result (W.contents writer.old) (W.contents writer.new) (reply_line who said) }
     ensures fault { IfErr result (λ fault. fault ≡ ReplayFault.Write) }
-    ensures cause { OnErr result (watch.new.failed ≡ true) }
+    ensures noted { IsNoted result watch.old watch.new }
 {
     match write_reply(writer, watch, who, &said) {
         Ok(()) => Ok(()),
@@ -81,7 +82,7 @@ fn ended(read: Result<Request, LineFault>) -> Result<(), ReplayFault>
 fn end<R: Read>(alloc: Global, script: &mut R, watch: &mut Watch) -> Result<(), ReplayFault>
     ensures over { OnOk result (IfSome (R.remaining script.old) (λ bytes. requests_of bytes ≡ [])) }
     ensures fault { IfErr result (λ fault. IfSome (R.remaining script.old) (λ bytes.
-        GoesOn fault watch.new.failed bytes)) }
+        GoesOn fault (HasFailed watch.old watch.new) bytes)) }
 {
     requests_come_in_turn();
     ended(read_request(alloc, script, watch))
@@ -107,7 +108,7 @@ fn play<J: Strategy, R: Read, W: Write, M: Fn(Ready) -> Option<J>>(
     ensures written { OnOk result (IfSome (script_rest R.remaining script.old) (λ bytes.
         IsWritten config.now bytes (is_some notes.new.refused) (W.contents writer.old) (W.contents writer.new))) }
     ensures cut_off { IfErr result (λ fault. IfSome (script_rest R.remaining script.old) (λ bytes.
-        IsCutOff config.now fault watches.new bytes (W.contents writer.old) (W.contents writer.new))) }
+        IsCutOff config.now fault watches.old watches.new bytes (W.contents writer.old) (W.contents writer.new))) }
     ensures floor { IsFloor J.meaning floor.new.farm floor.new.held.items }
     ensures leased { AreLeasesOf config.now (M.post make.now)
         (script_rest R.remaining script.old) branches.old branches.new }
@@ -143,8 +144,8 @@ fn play<J: Strategy, R: Read, W: Write, M: Fn(Ready) -> Option<J>>(
 
 /// Runs a script of requests on a new farm of the configuration, and writes one reply line for each. Turns that the script still
 /// holds at its end are given back unrun. After a fault the lines of the requests before it stand whole; after `Write` a front part
-/// of the next line stands behind them. `Read` comes only where a read has failed or a request has more than 100,000,000 bytes, `Write`
-/// only where a write has failed or took nothing. Replies go out before the script is waited for, and before a turn is run. What a
+/// of the next line stands behind them. `Read` comes only if a read of this call fails or a request has more than 100,000,000 bytes,
+/// `Write` only if a write of this call fails or takes nothing. Replies go out before the script is waited for, and before a turn is run. What a
 /// writer of scripts may want to look at is noted, and what was noted before is forgotten.
 pub fn replay<R: Read + Drop, W: Write>(
     alloc: Global,
@@ -161,7 +162,7 @@ pub fn replay<R: Read + Drop, W: Write>(
     ensures truth { OnOk result (IfSome (R.remaining reader) (λ script.
         HasWritten (IsTruthful config.now) config.now script (W.contents writer.old) (W.contents writer.new))) }
     ensures cut_off { IfErr result (λ fault. IfSome (R.remaining reader) (λ script.
-        IsCutOff config.now fault watches.new script (W.contents writer.old) (W.contents writer.new))) }
+        IsCutOff config.now fault watches.old watches.new script (W.contents writer.old) (W.contents writer.new))) }
 {
     outputs_are_isolated();
     each_line_is_true();

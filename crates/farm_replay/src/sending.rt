@@ -1,6 +1,7 @@
 //! When replies go out: before a wait for more of the script, and before nodes are run.
-ghost use Rattle.std.specs.Prelude.{◌≡◌, true, IfErr, OnErr};
+ghost use Rattle.std.specs.Prelude.{◌≡◌, IfErr};
 ghost use Rattle.std.specs.Io.KnownBytes.{Keeps};
+ghost use Rattle.io_watch.specs.Failure.{IsNoted};
 
 use crate::reader::Script;
 use crate::script::ReplayFault;
@@ -26,7 +27,7 @@ pub(crate) fn send_before_nodes<W: Write>(
 ) -> Result<(), ReplayFault>
     ensures kept { Keeps (W.contents writer.old) (W.contents writer.new) }
     ensures fault { IfErr result (λ fault. fault ≡ ReplayFault.Write) }
-    ensures cause { OnErr result (watch.new.failed ≡ true) }
+    ensures noted { IsNoted result watch.old watch.new }
 {
     if !matches!(asked, What::Turn { .. } | What::Give(_)) {
         return Ok(());

@@ -1,10 +1,10 @@
 //! Whether the reader or the writer of a replay has failed.
-ghost use Rattle.std.specs.Prelude.{◌≡◌, false};
+ghost use Rattle.std.specs.Prelude.{◌≡◌};
 
 use io_watch::Watch;
 
 /// The watches through which a replay reads its script and writes its replies: after `Read` and `Write` they tell contracts
-/// whether a read or a write has failed.
+/// whether a read or a write failed during the call.
 #[derive(Debug, Drop)]
 pub struct Watches {
     /// Of the script's reader.
@@ -16,8 +16,8 @@ pub struct Watches {
 impl Watches {
     /// Watches through which nothing has failed.
     pub fn new() -> Watches
-        ensures reads { result.reads.failed ≡ false }
-        ensures writes { result.writes.failed ≡ false }
+        ensures reads { result.reads ≡ 0 }
+        ensures writes { result.writes ≡ 0 }
     {
         Watches {
             reads: Watch::new(),

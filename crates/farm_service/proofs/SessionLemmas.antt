@@ -18,12 +18,10 @@ module _ {T J : Type 0} (config : ConfigData) (tells : T → ℕ → Event → R
   session_on start mid new so next = (next.0 ∷ so.0, (mid, so.1, next.1))
 
   -- a client to which nothing was told
-  pub client_left : (token : T) (branches : List BranchValue) → IsClientServed config tells made token branches token
-  client_left token branches =
-      let at : Stand T = stand token branches None None in
-      (at, at, refl, refl, refl, session_begins at)
+  pub client_left : (token : T) (branches : List BranchValue) → IsClientServed config tells made token branches token branches
+  client_left token branches = (None, None, None, None, session_begins (stand token branches None None))
 
   -- a client that was told what its session told it
   pub client_served : (old new : T) (branches then : List BranchValue) (left read written told : Option (List ℕ))
-      → IsSession config tells made (stand old branches left written) (stand new then read told) → IsClientServed config tells made old branches new
-  client_served old new branches then left read written told so = (stand old branches left written, stand new then read told, refl, refl, refl, so)
+      → IsSession config tells made (stand old branches left written) (stand new then read told) → IsClientServed config tells made old branches new then
+  client_served old new branches then left read written told so = (left, written, read, told, so)

@@ -47,12 +47,15 @@ module _ {T J : Type 0} (config : ConfigData) (tells : T → ℕ → Event → R
   abbrev pub IsSession : Stand T → Stand T → Type 0
   IsSession old new = (heard : List Heard) × HasServed old heard new
 
-  -- a client was served at these branches, whatever its connection tells
-  abbrev pub IsClientServed : T → List BranchValue → T → Type 0
-  IsClientServed old branches new =
-      (from : Stand T) × (to : Stand T) × (from.token ≡ old) × (from.branches ≡ branches) × (to.token ≡ new) × IsSession from to
+  -- a client was served from its first request to its last, whatever its connection tells: no lease
+  -- was made before or after
+  abbrev pub IsClientServed : T → List BranchValue → T → List BranchValue → Type 0
+  IsClientServed old branches new then =
+      (left : Option (List ℕ)) × (written : Option (List ℕ)) × (rest : Option (List ℕ)) × (told : Option (List ℕ))
+      × IsSession (stand old branches left written) (stand new then rest told)
 
   -- what a thread of a service did: a worker took turns, and a client's thread was a session
-  abbrev pub HasDonePart : (T → T → Type 0) → Part → T → T → Type 0
-  HasDonePart works Worker old new = works old new
-  HasDonePart works (Client own stream) old new = IsClientServed old own.items new
+  abbrev pub HasDonePart : (T → T → Type 0) → Part → T → Part → T → Type 0
+  HasDonePart works Worker old then new = works old new
+  HasDonePart works (Client own stream) old Worker new = ⊥
+  HasDonePart works (Client own stream) old (Client then same) new = IsClientServed old own.items new then.items

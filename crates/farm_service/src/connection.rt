@@ -1,5 +1,6 @@
 //! One connection.
-ghost use Rattle.std.specs.Prelude.{◌≡◌, ◌<◌, length, true, Some, OnErr};
+ghost use Rattle.std.specs.Prelude.{◌≡◌, ◌<◌, length, Some};
+ghost use Rattle.io_watch.specs.Failure.{IsNoted};
 ghost use Rattle.quanta_till.specs.Lease.{empty_lease};
 ghost use Rattle.farm_core.specs.declared.entry.Event.TheVariants as event;
 ghost use Rattle.farm_session.specs.Branch.{tills_of, HasLeased, HasLeasedFor, HasLeasedBy};
@@ -39,7 +40,7 @@ fn heard(config: &Config, read: Result<Request, LineFault>) -> Heard
     }
 }
 
-/// Whether a read or a write of a connection has failed.
+/// The watches through which a connection is read and written.
 #[derive(Drop)]
 struct Watches {
     reads: Watch,
@@ -143,8 +144,8 @@ fn answer<D: Shared, R: Wait, M: Fn(Ready) -> Option<D::Search>>(
 }
 
 /// Tells what was heard of a connection in one line: of a tenant's request the reply to its call.
-/// At the input's end, and where it cannot be read, nothing is written. An error comes only where a
-/// write has failed or took nothing.
+/// At the input's end, and where it cannot be read, nothing is written. An error comes only if a
+/// write of this call fails or takes nothing.
 fn reply<D: Shared, R: Wait, W: Write, M: Fn(Ready) -> Option<D::Search>>(
     office: &Office<'_, R, D, M>,
     token: &mut D::Token,
@@ -165,7 +166,7 @@ fn reply<D: Shared, R: Wait, W: Write, M: Fn(Ready) -> Option<D::Search>>(
         token.new }
     ensures leased { HasLeasedBy (M.post office.now.make.now)
         office.now.config.now heard branches.old branches.new }
-    ensures cause { OnErr result (watch.new.failed ≡ true) }
+    ensures noted { IsNoted result watch.old watch.new }
 {
     match heard {
         Heard::Over | Heard::Broken => Ok(()),

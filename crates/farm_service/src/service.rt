@@ -50,24 +50,23 @@ enum Part<'a> {
     Client(Vec<Branch<'a>>, TcpStream),
 }
 
-/// Answers the requests of a client.
+/// Answers the requests of a client. No lease is made beside those of its requests.
 fn welcome<D: Shared, R: Wait, M: Fn(Ready) -> Option<D::Search>>(
     office: &Office<'_, R, D, M>,
     token: &mut D::Token,
-    own: Vec<Branch<'_>>,
+    own: &mut [Branch<'_>],
     stream: &TcpStream,
 )
     requires own { D.owns office.now.shared.now token.old }
     requires config { D.config office.now.shared.now ≡ office.now.config.now }
-    requires tills { AreTillsOf office.now.config.now (tills_of own.items) }
+    requires tills { AreTillsOf office.now.config.now (tills_of own.old) }
     requires make { M.IsAlwaysCallable office.now.make.now }
     ensures own { D.owns office.now.shared.now token.new }
     ensures served { IsClientServed office.now.config.now
         (D.tells office.now.shared.now)
         (M.post office.now.make.now)
-        token.old own.entry.items token.new }
+        token.old own.old token.new own.new }
 {
-    let mut own = own;
     let _ = stream.set_nodelay(true);
     let Ok(input) = BufReader::new(office.alloc, stream) else {
         return;
@@ -78,38 +77,39 @@ fn welcome<D: Shared, R: Wait, M: Fn(Ready) -> Option<D::Search>>(
     let told = RefCell::new(output);
     let mut reader = Incoming { input, told: &told };
     let mut writer = Outgoing { told: &told };
-    session(office, token, own.as_mut_slice(), &mut reader, &mut writer);
+    session(office, token, own, &mut reader, &mut writer);
     let _ = writer.flush();
 }
 
-/// Does a thread's part, and brings back its token.
-fn take_part<D: Shared, R: Wait + Clock, M: Fn(Ready) -> Option<D::Search>>(
+/// Does a thread's part, and brings back its token and the part. The leases that were made at the
+/// desks of a client are those of its requests.
+fn take_part<'a, D: Shared, R: Wait + Clock, M: Fn(Ready) -> Option<D::Search>>(
     office: &Office<'_, R, D, M>,
     token: D::Token,
-    part: Part<'_>,
-) -> D::Token
+    part: Part<'a>,
+) -> (D::Token, Part<'a>)
     requires own { D.owns office.now.shared.now token }
     requires config { D.config office.now.shared.now ≡ office.now.config.now }
     requires tills { IsAtTills office.now.config.now part }
     requires make { M.IsAlwaysCallable office.now.make.now }
-    ensures own { D.owns office.now.shared.now result }
+    ensures own { D.owns office.now.shared.now result.0 }
     ensures part { HasDonePart office.now.config.now
         (D.tells office.now.shared.now)
         (M.post office.now.make.now)
         (D.works office.now.shared.now)
-        part.entry token result }
+        part.entry token result.1 result.0 }
 {
     let mut token = token;
     match part {
         Part::Worker => {
             let seat = Seat::new(office.rt, office.lobby);
             office.shared.work(office.rt, &mut token, &seat);
-            token
+            (token, Part::Worker)
         }
-        Part::Client(own, stream) => {
-            welcome(office, &mut token, own, &stream);
+        Part::Client(mut own, stream) => {
+            welcome(office, &mut token, own.as_mut_slice(), &stream);
             office.lobby.leave(office.rt, 1);
-            token
+            (token, Part::Client(own, stream))
         }
     }
 }
@@ -203,7 +203,7 @@ fn attend<
                             lobby,
                             make,
                         };
-                        take_part(&office, theirs, part)
+                        take_part(&office, theirs, part).0
                     },
                 );
                 let Ok(handle) = spawned else {

@@ -142,7 +142,7 @@ pub(crate) enum Noted {
 /// What an entry says.
 fn noted_by(event: &Event) -> Noted {
     match event {
-        Event::Submit(plan, quanta) => Noted::Submit(plan.kind, *quanta),
+        Event::Submit(noted, quanta) => Noted::Submit(noted.plan().kind, *quanta),
         Event::Fund(seq, quanta) => Noted::Fund(*seq, *quanta),
         Event::Status(seq) => Noted::Status(*seq),
         Event::Fetch(seq) => Noted::Fetch(*seq),

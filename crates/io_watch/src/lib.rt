@@ -1,38 +1,48 @@
-//! Whether a read or a write has failed, as contracts can say it.
+//! Whether a read or a write failed during a call, as contracts can say it.
 //!
-//! A reader and a writer do not tell contracts whether they failed. A [`Watch`] does: what is read and written through it is read and
-//! written as ever, and where it answers an error, and only there, it has noted that. So a function that is handed a watch can promise
-//! that it tells a failed read only where one failed.
+//! A reader and a writer do not tell contracts whether they failed. A [`Watch`] counts the failures
+//! of what is read and written through it. A function that is handed a watch can promise that it
+//! reports a failed read only if the count has grown during the call (`specs/Failure.antt`).
 #![tactic(auto)]
 
-ghost use Rattle.std.specs.Prelude.{◌≡◌, ◌<◌, true, false, OnOk, OnErr, IfOk, length};
+ghost use Rattle.std.specs.Prelude.{◌≡◌, ◌<◌, IfOk, length};
 ghost use Rattle.std.specs.Io.{ReadsAtMost, WritesAtMost};
 ghost use Rattle.std.specs.Io.KnownBytes.{Keeps, ReadConsumes, WriteAppends};
+ghost use Rattle.io_watch.specs.Failure.{HasFailed, IsNoted};
 
 use std::io;
 use std::io::{Error, ErrorKind, Read, Write};
+use std::marker::Model;
 
-/// Whether a read or a write that was made through this watch has failed. Contracts of `Read` and `Write` do not say when a call fails,
-/// so that a noted failure was the reader's or the writer's is seen in the bodies of `read`, `write` and `flush` alone.
+/// A count of the reads and writes that failed through it, modulo 2^64. Contracts of `Read` and
+/// `Write` do not say when a call fails: that a failure which is noted was the reader's or the
+/// writer's is seen in the bodies of `read`, `write` and `flush` alone.
 #[derive(Debug, Drop)]
 pub struct Watch {
-    failed: bool,
+    failures: u64,
+}
+
+impl Model for Watch {
+    ghost use Rattle.std.specs.Prelude.{ℕ};
+
+    ghost Value = { ℕ };
+
+    ghost view = { λ w. w.failures };
 }
 
 impl Watch {
     /// A watch through which nothing has failed.
     pub fn new() -> Watch
-        ensures { result.failed ≡ false }
+        ensures { result ≡ 0 }
     {
-        Watch { failed: false }
+        Watch { failures: 0 }
     }
 
     /// Reads bytes, as `Read::read` does, and notes an error. A read that a signal interrupts is made again, and fails only where it never comes to an end.
     pub fn read<R: Read>(&mut self, reader: &mut R, room: &mut [u8]) -> io::Result<usize>
         ensures bound { ReadsAtMost result room.new }
         ensures bytes { ReadConsumes (R.remaining reader.old) (R.remaining reader.new) result room.new }
-        ensures kept { OnOk result (self.new.failed ≡ self.old.failed) }
-        ensures noted { OnErr result (self.new.failed ≡ true) }
+        ensures noted { IsNoted result self.old self.new }
     {
         for _ in 0..u64::MAX {
             match reader.read(room) {
@@ -53,8 +63,7 @@ impl Watch {
         ensures bound { WritesAtMost result bytes.now }
         ensures bytes { WriteAppends (W.contents writer.old) (W.contents writer.new) result bytes.now }
         ensures some { IfOk result (λ count. 0 < length bytes.now → 0 < count) }
-        ensures kept { OnOk result (self.new.failed ≡ self.old.failed) }
-        ensures noted { OnErr result (self.new.failed ≡ true) }
+        ensures noted { IsNoted result self.old self.new }
     {
         for _ in 0..u64::MAX {
             match writer.write(bytes) {
@@ -77,8 +86,7 @@ impl Watch {
     /// Sends what was gathered, as `Write::flush` does, and notes an error.
     pub fn flush<W: Write>(&mut self, writer: &mut W) -> io::Result<()>
         ensures bytes { Keeps (W.contents writer.old) (W.contents writer.new) }
-        ensures kept { OnOk result (self.new.failed ≡ self.old.failed) }
-        ensures noted { OnErr result (self.new.failed ≡ true) }
+        ensures noted { IsNoted result self.old self.new }
     {
         match writer.flush() {
             Ok(()) => Ok(()),
@@ -88,10 +96,10 @@ impl Watch {
 
     /// Notes that something failed, and answers why.
     fn note<T>(&mut self, error: Error) -> io::Result<T>
-        ensures noted { self.new.failed ≡ true }
+        ensures noted { HasFailed self.old self.new }
         ensures error { result ≡ Err error }
     {
-        self.failed = true;
+        self.failures = self.failures.wrapping_add(1);
         Err(error)
     }
 }

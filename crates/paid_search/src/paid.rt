@@ -4,7 +4,7 @@ ghost use Rattle.quanta_till.specs.Lease.{IsEmpty};
 ghost use Rattle.paid_search.specs.Paid.{fresh};
 
 use crate::Nodes;
-use crate::shown::{is_over, verdict_by};
+use crate::shown::{is_over, stops, verdict_by};
 use mrcpsp::Schedule;
 use quanta_till::{Lease, Owned};
 use std::alloc::Global;
@@ -133,16 +133,18 @@ impl<N: Nodes> Strategy for Paid<N> {
     fn run(&mut self, most: u64) -> u64 {
         let limit = most.min(self.lease.left());
         let mut ran = 0;
-        while ran < limit && !is_over(self.shown) {
+        let mut over = is_over(self.shown);
+        while ran < limit && !over {
             self.run.advance();
-            self.shown = verdict_by(
-                self.plan.kind,
-                self.run.makespan(),
-                self.bound,
-                self.run.all_run(),
-            );
+            over = stops(self.run.makespan(), self.bound, self.run.all_run());
             ran += 1;
         }
+        self.shown = verdict_by(
+            self.plan.kind,
+            self.run.makespan(),
+            self.bound,
+            self.run.all_run(),
+        );
         self.lease.use_up(ran);
         self.nodes += ran;
         ran

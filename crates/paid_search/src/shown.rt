@@ -3,7 +3,7 @@ ghost use Rattle.std.specs.Prelude.{◌≡◌, ℕ, Option, is_some, option_map}
 ghost use Rattle.mrcpsp.specs.Project.{ProjectData};
 ghost use Rattle.mrcpsp.specs.Schedule.{ScheduleData, makespan as greatest_finish};
 ghost use Rattle.mrcpsp.specs.Values.{bound as bound_of};
-ghost use Rattle.strategy.specs.Outcome.{all_run as all_nodes_run, best_after, final_verdict, is_at_bound, verdict_after};
+ghost use Rattle.strategy.specs.Outcome.{all_run as all_nodes_run, best_after, final_verdict, is_at_bound, is_closed, verdict_after};
 ghost use Rattle.strategy.specs.declared.plan.Plan.{Plan};
 ghost use Rattle.paid_search.specs.Paid.{is_over};
 
@@ -36,8 +36,18 @@ fn is_at_bound(makespan: Option<u32>, bound: u32) -> bool
     }
 }
 
-/// What a search shows, by the makespan of its best schedule and whether all its nodes have run. When a search stops is
-/// decided here and nowhere else.
+/// Whether a search stops: its best schedule is as short as the bound, or all its nodes have run.
+#[tactic(auto, unfolding(strategy::specs::Outcome::is_closed))]
+pub(crate) fn stops(makespan: Option<u32>, bound: u32, all_run: bool) -> bool
+    ensures { (plan : Plan) (k : ℕ) → makespan ≡ option_map (greatest_finish plan.project) (best_after plan k)
+        → bound ≡ bound_of plan.project → all_run ≡ all_nodes_run plan.project plan.kind k
+        → result ≡ is_closed plan k }
+{
+    is_at_bound(makespan, bound) || all_run
+}
+
+/// What a search shows, by the makespan of its best schedule and whether all its nodes have run.
+/// It is `Going` just if `stops` is false.
 pub(crate) fn verdict_by(kind: Kind, makespan: Option<u32>, bound: u32, all_run: bool) -> Verdict
     ensures { (plan : Plan) (k : ℕ) → kind ≡ plan.kind
         → makespan ≡ option_map (greatest_finish plan.project) (best_after plan k) → bound ≡ bound_of plan.project

@@ -10,8 +10,10 @@ use Rattle.mrcpsp.specs.Limits.{IsProject}
 use Rattle.mrcpsp.specs.Values.{shortest, tail}
 use Rattle.mrcpsp.proofs.LimitLemmas.{kept}
 use Rattle.mrcpsp.proofs.ProjectLemmas.{load-running, shortest-le, tail-le}
-use Rattle.schedule_clauses.specs.Meaning.{IsWithin, IsValid, term_true, use_below, consumed_below, runs}
+use Rattle.schedule_clauses.specs.Activities.{is_among, IsPart, Leaves}
+use Rattle.schedule_clauses.specs.Meaning.{IsWithin, IsValid, term_true, use_among, consumed_among, runs}
 use Rattle.schedule_clauses.specs.Surrogate.{weight, weight_below, capacity_weight, IsLightest}
+use Rattle.schedule_clauses.proofs.ActivityLemmas.{part-le, all-le, one-le, part-and-one}
 use Rattle.schedule_clauses.proofs.SurrogateLemmas.{weight-fits}
 use Rattle.schedule_clauses.specs.declared.meaning.Meaning.{Meaning}
 use Rattle.schedule_clauses.specs.declared.meaning.Meaning.TheVariants.{StartsBy, InMode, Runs, UseWithin, ConsumptionWithin, WeightWithin}
@@ -184,80 +186,94 @@ valid-executable p limit j m r inside known long over = record {
       let f = short.feasible.renewable r t known in omega arith);
 }
 
-pub valid-use-all : (p : ProjectData) (limit : Option ℕ) (r t : ℕ) → r < renewables p → IsValid p limit (yes_of (UseWithin r t (size p) (capacity p r)) ∷ [])
-unfolding use_below use_of
-valid-use-all p limit r t inside = record { sure = λ s short. last (nat_le (use_below p s r t (size p)) (capacity p r)) (le-leb (use_below p s r t (size p)) (capacity p r) (short.feasible.renewable r t inside)) }
-
-pub valid-use-fewer : (p : ProjectData) (limit : Option ℕ) (r t a c k e : ℕ) → k ≤ a → c ≤ e → IsValid p limit (not_of (UseWithin r t a c) ∷ yes_of (UseWithin r t k e) ∷ [])
-unfolding use_below
-valid-use-fewer p limit r t a c k e l h = record {
+pub valid-use-all : (p : ProjectData) (limit : Option ℕ) (r t c : ℕ) (a : List ℕ) → r < renewables p → capacity p r ≤ c → IsValid p limit (yes_of (UseWithin r t a c) ∷ [])
+unfolding use_among use_of
+valid-use-all p limit r t c a inside l = record {
   sure = λ s short.
-      skip_not (nat_le (use_below p s r t a) c) (nat_le (use_below p s r t k) e || false) (λ f.
-      last (nat_le (use_below p s r t k) e) (le-leb (use_below p s r t k) e (
-      let g = more (λ i. load p r t i (mode_of s i) (start_of s i)) k a l in
-      let i = leb-true (use_below p s r t a) c f in omega arith)));
+      last (nat_le (use_among p s r t a) c) (le-leb (use_among p s r t a) c (
+      let g = all-le (λ i. load p r t i (mode_of s i) (start_of s i)) a (size p) in
+      let h = short.feasible.renewable r t inside in omega arith));
 }
 
-pub valid-use-run : (p : ProjectData) (limit : Option ℕ) (r t j m c k e : ℕ) → k ≤ j → c ≤ e + request p j m r → IsValid p limit (not_of (UseWithin r t (j + 1) c) ∷ not_of (Runs j m t) ∷ yes_of (UseWithin r t k e) ∷ [])
-unfolding use_below
-valid-use-run p limit r t j m c k e l h = record {
+pub valid-use-fewer : (p : ProjectData) (limit : Option ℕ) (r t c e : ℕ) (a b : List ℕ) → IsPart b a → c ≤ e → IsValid p limit (not_of (UseWithin r t a c) ∷ yes_of (UseWithin r t b e) ∷ [])
+unfolding use_among
+valid-use-fewer p limit r t c e a b part l = record {
   sure = λ s short.
-      skip_not (nat_le (use_below p s r t (j + 1)) c) (not (runs p s j m t) || (nat_le (use_below p s r t k) e || false)) (λ f.
-      skip_not (runs p s j m t) (nat_le (use_below p s r t k) e || false) (λ n.
-      last (nat_le (use_below p s r t k) e) (le-leb (use_below p s r t k) e (
-      let g = more (λ i. load p r t i (mode_of s i) (start_of s i)) k j l in
-      let q = next (λ i. load p r t i (mode_of s i) (start_of s i)) j in
+      skip_not (nat_le (use_among p s r t a) c) (nat_le (use_among p s r t b) e || false) (λ f.
+      last (nat_le (use_among p s r t b) e) (le-leb (use_among p s r t b) e (
+      let g = part-le (λ i. load p r t i (mode_of s i) (start_of s i)) b a (size p) part in
+      let i = leb-true (use_among p s r t a) c f in omega arith)));
+}
+
+pub valid-use-run : (p : ProjectData) (limit : Option ℕ) (r t j m c e : ℕ) (a b : List ℕ) → j < size p → Leaves a b c e j (request p j m r) → IsValid p limit (not_of (UseWithin r t a c) ∷ not_of (Runs j m t) ∷ yes_of (UseWithin r t b e) ∷ [])
+unfolding use_among
+valid-use-run p limit r t j m c e a b inside leaves = record {
+  sure = λ s short.
+      skip_not (nat_le (use_among p s r t a) c) (not (runs p s j m t) || (nat_le (use_among p s r t b) e || false)) (λ f.
+      skip_not (runs p s j m t) (nat_le (use_among p s r t b) e || false) (λ n.
+      last (nat_le (use_among p s r t b) e) (le-leb (use_among p s r t b) e (
+      let g = part-and-one (λ i. load p r t i (mode_of s i) (start_of s i)) b a (size p) j leaves.nested inside leaves.inside leaves.outside in
       let w = runs-load p s r j m t n in
-      let i = leb-true (use_below p s r t (j + 1)) c f in omega arith))));
+      let h = leaves.enough in
+      let i = leb-true (use_among p s r t a) c f in omega arith))));
 }
 
-pub valid-use-over : (p : ProjectData) (limit : Option ℕ) (r t j m c : ℕ) → c < request p j m r → IsValid p limit (not_of (UseWithin r t (j + 1) c) ∷ not_of (Runs j m t) ∷ [])
-unfolding use_below
-valid-use-over p limit r t j m c h = record {
+pub valid-use-over : (p : ProjectData) (limit : Option ℕ) (r t j m c : ℕ) (a : List ℕ) → j < size p → is_among a j ≡ true → c < request p j m r → IsValid p limit (not_of (UseWithin r t a c) ∷ not_of (Runs j m t) ∷ [])
+unfolding use_among
+valid-use-over p limit r t j m c a inside among h = record {
   sure = λ s short.
-      skip_not (nat_le (use_below p s r t (j + 1)) c) (not (runs p s j m t) || false) (λ f.
+      skip_not (nat_le (use_among p s r t a) c) (not (runs p s j m t) || false) (λ f.
       last_not (runs p s j m t) (λ n.
-      let q = next (λ i. load p r t i (mode_of s i) (start_of s i)) j in
+      let g = one-le (λ i. load p r t i (mode_of s i) (start_of s i)) a (size p) j inside among in
       let w = runs-load p s r j m t n in
-      let i = leb-true (use_below p s r t (j + 1)) c f in omega arith));
+      let i = leb-true (use_among p s r t a) c f in omega arith));
 }
 
-pub valid-stock-all : (p : ProjectData) (limit : Option ℕ) (r : ℕ) → r < nonrenewables p → IsValid p limit (yes_of (ConsumptionWithin r (size p) (stock p r)) ∷ [])
-unfolding consumed_below consumed
-valid-stock-all p limit r inside = record { sure = λ s short. last (nat_le (consumed_below p s r (size p)) (stock p r)) (le-leb (consumed_below p s r (size p)) (stock p r) (short.feasible.nonrenewable r inside)) }
+-- an activity consumes what its mode does
+same-consumption : (p : ProjectData) (s : ScheduleData) (r j m : ℕ) → (mode_of s j == m) ≡ true → consumption p j (mode_of s j) r ≡ consumption p j m r
+same-consumption p s r j m e = ap (λ x. consumption p j x r) (eqb-true (mode_of s j) m e)
 
-pub valid-stock-fewer : (p : ProjectData) (limit : Option ℕ) (r a c k e : ℕ) → k ≤ a → c ≤ e → IsValid p limit (not_of (ConsumptionWithin r a c) ∷ yes_of (ConsumptionWithin r k e) ∷ [])
-unfolding consumed_below
-valid-stock-fewer p limit r a c k e l h = record {
+pub valid-stock-all : (p : ProjectData) (limit : Option ℕ) (r c : ℕ) (a : List ℕ) → r < nonrenewables p → stock p r ≤ c → IsValid p limit (yes_of (ConsumptionWithin r a c) ∷ [])
+unfolding consumed_among consumed
+valid-stock-all p limit r c a inside l = record {
   sure = λ s short.
-      skip_not (nat_le (consumed_below p s r a) c) (nat_le (consumed_below p s r k) e || false) (λ f.
-      last (nat_le (consumed_below p s r k) e) (le-leb (consumed_below p s r k) e (
-      let g = more (λ i. consumption p i (mode_of s i) r) k a l in
-      let i = leb-true (consumed_below p s r a) c f in omega arith)));
+      last (nat_le (consumed_among p s r a) c) (le-leb (consumed_among p s r a) c (
+      let g = all-le (λ i. consumption p i (mode_of s i) r) a (size p) in
+      let h = short.feasible.nonrenewable r inside in omega arith));
 }
 
-pub valid-stock-mode : (p : ProjectData) (limit : Option ℕ) (r j m c k e : ℕ) → k ≤ j → c ≤ e + consumption p j m r → IsValid p limit (not_of (ConsumptionWithin r (j + 1) c) ∷ not_of (InMode j m) ∷ yes_of (ConsumptionWithin r k e) ∷ [])
-unfolding consumed_below
-valid-stock-mode p limit r j m c k e l h = record {
+pub valid-stock-fewer : (p : ProjectData) (limit : Option ℕ) (r c e : ℕ) (a b : List ℕ) → IsPart b a → c ≤ e → IsValid p limit (not_of (ConsumptionWithin r a c) ∷ yes_of (ConsumptionWithin r b e) ∷ [])
+unfolding consumed_among
+valid-stock-fewer p limit r c e a b part l = record {
   sure = λ s short.
-      skip_not (nat_le (consumed_below p s r (j + 1)) c) (not (mode_of s j == m) || (nat_le (consumed_below p s r k) e || false)) (λ f.
-      skip_not (mode_of s j == m) (nat_le (consumed_below p s r k) e || false) (λ n.
-      last (nat_le (consumed_below p s r k) e) (le-leb (consumed_below p s r k) e (
-      let g = more (λ i. consumption p i (mode_of s i) r) k j l in
-      let q = next (λ i. consumption p i (mode_of s i) r) j in
-      let w : consumption p j (mode_of s j) r ≡ consumption p j m r = ap (λ x. consumption p j x r) (eqb-true (mode_of s j) m n) in
-      let i = leb-true (consumed_below p s r (j + 1)) c f in omega arith))));
+      skip_not (nat_le (consumed_among p s r a) c) (nat_le (consumed_among p s r b) e || false) (λ f.
+      last (nat_le (consumed_among p s r b) e) (le-leb (consumed_among p s r b) e (
+      let g = part-le (λ i. consumption p i (mode_of s i) r) b a (size p) part in
+      let i = leb-true (consumed_among p s r a) c f in omega arith)));
 }
 
-pub valid-stock-over : (p : ProjectData) (limit : Option ℕ) (r j m c : ℕ) → c < consumption p j m r → IsValid p limit (not_of (ConsumptionWithin r (j + 1) c) ∷ not_of (InMode j m) ∷ [])
-unfolding consumed_below
-valid-stock-over p limit r j m c h = record {
+pub valid-stock-mode : (p : ProjectData) (limit : Option ℕ) (r j m c e : ℕ) (a b : List ℕ) → j < size p → Leaves a b c e j (consumption p j m r) → IsValid p limit (not_of (ConsumptionWithin r a c) ∷ not_of (InMode j m) ∷ yes_of (ConsumptionWithin r b e) ∷ [])
+unfolding consumed_among
+valid-stock-mode p limit r j m c e a b inside leaves = record {
   sure = λ s short.
-      skip_not (nat_le (consumed_below p s r (j + 1)) c) (not (mode_of s j == m) || false) (λ f.
+      skip_not (nat_le (consumed_among p s r a) c) (not (mode_of s j == m) || (nat_le (consumed_among p s r b) e || false)) (λ f.
+      skip_not (mode_of s j == m) (nat_le (consumed_among p s r b) e || false) (λ n.
+      last (nat_le (consumed_among p s r b) e) (le-leb (consumed_among p s r b) e (
+      let g = part-and-one (λ i. consumption p i (mode_of s i) r) b a (size p) j leaves.nested inside leaves.inside leaves.outside in
+      let w = same-consumption p s r j m n in
+      let h = leaves.enough in
+      let i = leb-true (consumed_among p s r a) c f in omega arith))));
+}
+
+pub valid-stock-over : (p : ProjectData) (limit : Option ℕ) (r j m c : ℕ) (a : List ℕ) → j < size p → is_among a j ≡ true → c < consumption p j m r → IsValid p limit (not_of (ConsumptionWithin r a c) ∷ not_of (InMode j m) ∷ [])
+unfolding consumed_among
+valid-stock-over p limit r j m c a inside among h = record {
+  sure = λ s short.
+      skip_not (nat_le (consumed_among p s r a) c) (not (mode_of s j == m) || false) (λ f.
       last_not (mode_of s j == m) (λ n.
-      let q = next (λ i. consumption p i (mode_of s i) r) j in
-      let w : consumption p j (mode_of s j) r ≡ consumption p j m r = ap (λ x. consumption p j x r) (eqb-true (mode_of s j) m n) in
-      let i = leb-true (consumed_below p s r (j + 1)) c f in omega arith));
+      let g = one-le (λ i. consumption p i (mode_of s i) r) a (size p) j inside among in
+      let w = same-consumption p s r j m n in
+      let i = leb-true (consumed_among p s r a) c f in omega arith));
 }
 
 -- a schedule within the bound weighs no more than the capacities

@@ -2,9 +2,9 @@
 -- (Crawford and Baker 1994): a variable for each activity and time says that it starts at that time or before.
 use Rattle.std.specs.Prelude.{◌≡◌, ℕ, ◌+◌, ◌≤◌, ◌==◌, Bool, true, not, cond, ◌&&◌, nat_le, nat_lt, List, Option, Some}
 use Rattle.std.specs.List.{list_any}
-use Rattle.mrcpsp.specs.Numbers.{sum_below}
-use Rattle.mrcpsp.specs.Project.{ProjectData, duration, consumption}
+use Rattle.mrcpsp.specs.Project.{ProjectData, size, duration, consumption}
 use Rattle.mrcpsp.specs.Schedule.{ScheduleData, IsFeasible, makespan, mode_of, start_of, load}
+use Rattle.schedule_clauses.specs.Activities.{sum_among}
 use Rattle.schedule_clauses.specs.Surrogate.{weight_below}
 use Rattle.schedule_clauses.specs.declared.meaning.Meaning.{Meaning}
 use Rattle.schedule_clauses.specs.declared.meaning.Meaning.TheVariants.{StartsBy, InMode, Runs, UseWithin, ConsumptionWithin, WeightWithin}
@@ -15,12 +15,12 @@ pub record IsWithin (p : ProjectData) (limit : Option ℕ) (s : ScheduleData) : 
   pub feasible : IsFeasible p s
   pub short : (bound : ℕ) → limit ≡ Some bound → makespan p s ≤ bound
 
--- what the first activities use of a renewable resource in a period, and consume of a nonrenewable one
-unfoldable pub use_below : ProjectData → ScheduleData → ℕ → ℕ → ℕ → ℕ
-use_below p s r t count = sum_below (λ j. load p r t j (mode_of s j) (start_of s j)) count
+-- what these activities use of a renewable resource in a period, and consume of a nonrenewable one
+unfoldable pub use_among : ProjectData → ScheduleData → ℕ → ℕ → List ℕ → ℕ
+use_among p s r t activities = sum_among (λ j. load p r t j (mode_of s j) (start_of s j)) activities (size p)
 
-unfoldable pub consumed_below : ProjectData → ScheduleData → ℕ → ℕ → ℕ
-consumed_below p s r count = sum_below (λ j. consumption p j (mode_of s j) r) count
+unfoldable pub consumed_among : ProjectData → ScheduleData → ℕ → List ℕ → ℕ
+consumed_among p s r activities = sum_among (λ j. consumption p j (mode_of s j) r) activities (size p)
 
 -- activity j runs in mode m in period t
 unfoldable pub runs : ProjectData → ScheduleData → ℕ → ℕ → ℕ → Bool
@@ -31,8 +31,8 @@ abbrev pub holds : ProjectData → ScheduleData → Meaning → Bool
 holds p s (StartsBy j t) = nat_le (start_of s j) t
 holds p s (InMode j m) = mode_of s j == m
 holds p s (Runs j m t) = runs p s j m t
-holds p s (UseWithin r t count most) = nat_le (use_below p s r t count) most
-holds p s (ConsumptionWithin r count most) = nat_le (consumed_below p s r count) most
+holds p s (UseWithin r t activities most) = nat_le (use_among p s r t activities) most
+holds p s (ConsumptionWithin r activities most) = nat_le (consumed_among p s r activities) most
 holds p s (WeightWithin weights count most) = nat_le (weight_below p s weights count) most
 
 -- a variable or its negation is true

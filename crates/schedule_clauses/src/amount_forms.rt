@@ -1,30 +1,55 @@
-//! Forms of clauses on amounts: what the first activities use of a renewable resource in a period, and consume of a
+//! Forms of clauses on amounts: what a set of activities uses of a renewable resource in a period, and consumes of a
 //! nonrenewable one. They hold of every feasible schedule; where their numbers do not fit, nothing is added.
-ghost use Rattle.std.specs.Prelude.{◌<◌, IfOk};
+ghost use Rattle.std.specs.Prelude.{◌≡◌, ◌<◌, true, IfOk};
 ghost use Rattle.mrcpsp.specs.Project.{size, mode_count, renewables, nonrenewables};
+ghost use Rattle.schedule_clauses.specs.Activities.{Leaves};
 ghost use Rattle.schedule_clauses.specs.Encoding.{AllGood};
 
+use crate::activities::{Activities, is_among, is_part};
 use crate::diagram::Part;
 use crate::encoding::{Encoding, Scope};
 use crate::formula::Row;
-use crate::meaning::{MOST, Node, in_mode, runs_at, stock_within, use_within};
+use crate::meaning::{Share, in_mode, runs_at, stock_within, use_within};
 use std::alloc::AllocError;
 
-/// All activities take at most the capacity.
+/// What is left for activities, and for those among them that stand below: nothing if there are none that fit.
+#[derive(Clone, Copy)]
+pub(crate) struct Descent {
+    pub(crate) from: Share,
+    pub(crate) to: Option<Share>,
+}
+
+/// Whether an activity that takes `amount` leaves no more than `to` of `from` to those below.
+fn does_leave(from: Share, to: Share, activity: usize, amount: u32) -> bool
+    ensures { result ≡ true → Leaves from.activities to.activities from.most to.most activity amount }
+{
+    is_part(to.activities, from.activities)
+        && is_among(from.activities, activity)
+        && !is_among(to.activities, activity)
+        && from.most.saturating_sub(to.most) <= amount
+}
+
+/// Some activities take at most the capacity.
 #[tactic(auto, using(crate::proofs::FormLemmas::form_rules))]
-pub(crate) fn all(encoding: &mut Encoding, scope: Scope<'_>, row: Row) -> Result<(), AllocError>
+pub(crate) fn all(
+    encoding: &mut Encoding,
+    scope: Scope<'_>,
+    row: Row,
+    share: Share,
+) -> Result<(), AllocError>
     requires good { AllGood scope.project.now scope.limit encoding.old }
     ensures { IfOk result (λ _. AllGood scope.entry.project.now scope.entry.limit encoding.new) }
 {
-    let count = scope.project.size();
     match row {
-        Row::Use { resource, time } if resource < scope.project.renewables() => {
-            let most = scope.project.capacity(resource);
-            encoding.add(scope, &[use_within(resource, time, Node { count, most })])
+        Row::Use { resource, time }
+            if resource < scope.project.renewables()
+                && scope.project.capacity(resource) <= share.most => {
+            encoding.add(scope, &[use_within(resource, time, share)])
         }
-        Row::Stock { resource } if resource < scope.project.nonrenewables() => {
-            let most = scope.project.stock(resource);
-            encoding.add(scope, &[stock_within(resource, Node { count, most })])
+        Row::Stock { resource }
+            if resource < scope.project.nonrenewables()
+                && scope.project.stock(resource) <= share.most => {
+            encoding.add(scope, &[stock_within(resource, share)])
         }
         _ => Ok(()),
     }
@@ -36,13 +61,13 @@ pub(crate) fn fewer(
     encoding: &mut Encoding,
     scope: Scope<'_>,
     row: Row,
-    from: Node,
-    to: Node,
+    from: Share,
+    to: Share,
 ) -> Result<(), AllocError>
     requires good { AllGood scope.project.now scope.limit encoding.old }
     ensures { IfOk result (λ _. AllGood scope.entry.project.now scope.entry.limit encoding.new) }
 {
-    if from.count < to.count || to.most < from.most {
+    if !is_part(to.activities, from.activities) || to.most < from.most {
         return Ok(());
     }
     match row {
@@ -57,7 +82,7 @@ pub(crate) fn fewer(
     }
 }
 
-/// What runs leaves the less to those before it, or cannot run.
+/// What runs leaves the less to those below it, or cannot run.
 #[tactic(auto, using(crate::proofs::FormLemmas::form_rules))]
 fn use_run(
     encoding: &mut Encoding,
@@ -65,8 +90,7 @@ fn use_run(
     resource: usize,
     time: u32,
     part: Part,
-    most: u32,
-    rest: Option<Node>,
+    descent: Descent,
 ) -> Result<(), AllocError>
     requires good { AllGood scope.project.now scope.limit encoding.old }
     requires resource { resource < renewables scope.project.now }
@@ -75,29 +99,29 @@ fn use_run(
     ensures { IfOk result (λ _. AllGood scope.entry.project.now scope.entry.limit encoding.new) }
 {
     let Part { activity, mode, .. } = part;
-    let size = scope.project.size();
-    prove!(activity < size);
+    let Descent { from, to } = descent;
     let request = scope.project.request(activity, mode, resource);
-    let count = activity + 1;
-    let used = use_within(resource, time, Node { count, most });
+    let used = use_within(resource, time, from);
     let run = runs_at(activity, mode, time);
-    match rest {
-        Some(node) if node.count <= activity && node.most <= MOST && most <= node.most + request =>
-            { encoding.add(scope, &[!used, !run, use_within(resource, time, node)]) }
-        None if most < request => encoding.add(scope, &[!used, !run]),
+    match to {
+        Some(to) if does_leave(from, to, activity, request) => {
+            encoding.add(scope, &[!used, !run, use_within(resource, time, to)])
+        }
+        None if from.most < request && is_among(from.activities, activity) => {
+            encoding.add(scope, &[!used, !run])
+        }
         _ => Ok(()),
     }
 }
 
-/// An activity in this mode leaves the less to those before it, or cannot have it.
+/// An activity in this mode leaves the less to those below it, or cannot have it.
 #[tactic(auto, using(crate::proofs::FormLemmas::form_rules))]
 fn stock_mode(
     encoding: &mut Encoding,
     scope: Scope<'_>,
     resource: usize,
     part: Part,
-    most: u32,
-    rest: Option<Node>,
+    descent: Descent,
 ) -> Result<(), AllocError>
     requires good { AllGood scope.project.now scope.limit encoding.old }
     requires resource { resource < nonrenewables scope.project.now }
@@ -106,30 +130,28 @@ fn stock_mode(
     ensures { IfOk result (λ _. AllGood scope.entry.project.now scope.entry.limit encoding.new) }
 {
     let Part { activity, mode, .. } = part;
-    let size = scope.project.size();
-    prove!(activity < size);
+    let Descent { from, to } = descent;
     let consumption = scope.project.consumption(activity, mode, resource);
-    let count = activity + 1;
-    let consumed = stock_within(resource, Node { count, most });
+    let consumed = stock_within(resource, from);
     let chosen = in_mode(activity, mode);
-    match rest {
-        Some(node)
-            if node.count <= activity && node.most <= MOST && most <= node.most + consumption => {
-            encoding.add(scope, &[!consumed, !chosen, stock_within(resource, node)])
+    match to {
+        Some(to) if does_leave(from, to, activity, consumption) => {
+            encoding.add(scope, &[!consumed, !chosen, stock_within(resource, to)])
         }
-        None if most < consumption => encoding.add(scope, &[!consumed, !chosen]),
+        None if from.most < consumption && is_among(from.activities, activity) => {
+            encoding.add(scope, &[!consumed, !chosen])
+        }
         _ => Ok(()),
     }
 }
 
-/// A part of a row leaves the less to the activities before it, or cannot be.
+/// A part of a row leaves the less to the activities below it, or cannot be.
 pub(crate) fn take(
     encoding: &mut Encoding,
     scope: Scope<'_>,
     row: Row,
     part: Part,
-    most: u32,
-    rest: Option<Node>,
+    descent: Descent,
 ) -> Result<(), AllocError>
     requires good { AllGood scope.project.now scope.limit encoding.old }
     ensures { IfOk result (λ _. AllGood scope.entry.project.now scope.entry.limit encoding.new) }
@@ -140,10 +162,10 @@ pub(crate) fn take(
     }
     match row {
         Row::Use { resource, time } if resource < project.renewables() => {
-            use_run(encoding, scope, resource, time, part, most, rest)
+            use_run(encoding, scope, resource, time, part, descent)
         }
         Row::Stock { resource } if resource < project.nonrenewables() => {
-            stock_mode(encoding, scope, resource, part, most, rest)
+            stock_mode(encoding, scope, resource, part, descent)
         }
         _ => Ok(()),
     }

@@ -3,6 +3,7 @@ ghost use Rattle.std.specs.Prelude.{◌<◌, IfOk};
 ghost use Rattle.mrcpsp.specs.Project.{size, mode_count, renewables};
 ghost use Rattle.schedule_clauses.specs.Encoding.{AllGood};
 
+use crate::chains::Chains;
 use crate::diagram::{Diagram, Part};
 use crate::encoding::{Encoding, Scope};
 use crate::formula::{Kind, Row};
@@ -80,6 +81,7 @@ fn use_parts(
             let over = window.last.saturating_add(project.duration(activity, mode));
             if amount > 0 && window.first <= time && time < over {
                 parts.push(Part {
+                    level: activity,
                     activity,
                     mode,
                     amount,
@@ -101,6 +103,7 @@ fn stock_parts(alloc: Global, project: &Project, resource: usize) -> Result<Vec<
             let amount = project.consumption(activity, mode, resource);
             if amount > 0 {
                 parts.push(Part {
+                    level: activity,
                     activity,
                     mode,
                     amount,
@@ -111,12 +114,13 @@ fn stock_parts(alloc: Global, project: &Project, resource: usize) -> Result<Vec<
     Ok(parts)
 }
 
-/// What runs before the bound fits the capacity of a renewable resource. Periods in which the same modes can run share their
-/// diagram.
+/// What runs before the bound fits the capacity of a renewable resource: a chain of activities a level. Periods in which the
+/// same modes can run share their diagram.
 fn use_section(
     encoding: &mut Encoding,
     scope: Scope<'_>,
     windows: &Windows,
+    chains: &Chains,
     resource: usize,
     room: &mut Room,
 ) -> Result<(), AllocError>
@@ -127,17 +131,15 @@ fn use_section(
     let project = scope.project;
     let alloc = encoding.alloc;
     let capacity = project.capacity(resource);
-    let first = Row::Use { resource, time: 0 };
-    let mut diagram = Diagram::new(alloc, first, capacity, Vec::new(alloc), 0)?;
+    let mut diagram = Diagram::new(alloc, capacity, Vec::new(alloc), 0)?;
     for time in 0..windows.bound {
         let parts = use_parts(alloc, project, windows, resource, time)?;
-        let row = Row::Use { resource, time };
-        if diagram.is_of(&parts) {
-            diagram.row = row;
-        } else {
-            diagram = Diagram::new(alloc, row, capacity, parts, room.most())?;
+        let parts = chains.in_levels(alloc, parts)?;
+        if !diagram.is_of(&parts) {
+            diagram = Diagram::new(alloc, capacity, parts, room.most())?;
         }
-        row_clauses(encoding, scope, &diagram, room)?;
+        let row = Row::Use { resource, time };
+        row_clauses(encoding, scope, row, &diagram, room)?;
     }
     Ok(())
 }
@@ -153,8 +155,9 @@ pub(crate) fn renewable_section(
 {
     let resources = scope.project.renewables();
     let mut room = Room::of(resources.saturating_mul(windows.bound as usize));
+    let chains = Chains::new(encoding.alloc, scope.project)?;
     for resource in 0..resources {
-        use_section(encoding, scope, windows, resource, &mut room)?;
+        use_section(encoding, scope, windows, &chains, resource, &mut room)?;
     }
     encoding.end_section(Kind::Renewable)
 }
@@ -171,10 +174,10 @@ pub(crate) fn nonrenewable_section(
     let mut room = Room::of(project.nonrenewables());
     for resource in 0..project.nonrenewables() {
         let parts = stock_parts(encoding.alloc, project, resource)?;
-        let row = Row::Stock { resource };
         let stock = project.stock(resource);
-        let diagram = Diagram::new(encoding.alloc, row, stock, parts, room.most())?;
-        row_clauses(encoding, scope, &diagram, &mut room)?;
+        let diagram = Diagram::new(encoding.alloc, stock, parts, room.most())?;
+        let row = Row::Stock { resource };
+        row_clauses(encoding, scope, row, &diagram, &mut room)?;
     }
     encoding.end_section(Kind::Nonrenewable)
 }

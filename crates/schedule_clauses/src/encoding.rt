@@ -3,6 +3,7 @@ ghost use Rattle.std.specs.Prelude.{◌≡◌, ◌+◌, ◌*◌, ◌<◌, ◌≤
 ghost use Rattle.schedule_clauses.specs.Meaning.{IsValid};
 ghost use Rattle.schedule_clauses.specs.Encoding.{AllGood, Extends};
 
+use crate::activities::Activities;
 use crate::diagram::number_at;
 use crate::formula::{Formula, Kind, Row, Section};
 use crate::meaning::{Meaning, Term};
@@ -33,6 +34,14 @@ fn mix(sum: u64, part: u64) -> u64 {
     spread ^ (spread >> 29)
 }
 
+fn mix_all(sum: u64, activities: Activities) -> u64 {
+    let mut sum = sum;
+    for word in activities {
+        sum = mix(sum, word);
+    }
+    sum
+}
+
 fn hash(meaning: Meaning) -> u64 {
     match meaning {
         Meaning::StartsBy { activity, time } => mix(mix(1, activity as u64), time as u64),
@@ -45,17 +54,17 @@ fn hash(meaning: Meaning) -> u64 {
         Meaning::UseWithin {
             resource,
             time,
-            count,
+            activities,
             most,
-        } => mix(
-            mix(mix(mix(4, resource as u64), time as u64), count as u64),
-            most as u64,
+        } => mix_all(
+            mix(mix(mix(4, resource as u64), time as u64), most as u64),
+            activities,
         ),
         Meaning::ConsumptionWithin {
             resource,
-            count,
+            activities,
             most,
-        } => mix(mix(mix(5, resource as u64), count as u64), most as u64),
+        } => mix_all(mix(mix(5, resource as u64), most as u64), activities),
         Meaning::WeightWithin {
             weights: _,
             count,

@@ -11,6 +11,8 @@
 //! - `mode_forms`, `start_forms`, `amount_forms`, `weight_forms`: the forms of clauses.
 //! - `windows`: the times at which an activity can start. Hints.
 //! - `size`: how many clauses on starts there are to be, before they are made.
+//! - `activities`: sets of activities.
+//! - `chains`: chains of activities, of which at most one runs in a period. Hints.
 //! - `diagram`, `rows`: capacity rows as decision diagrams. Hints, and their clauses.
 //! - `surrogate`: the weights of the surrogate row. Hints.
 //! - `capacity_sections`, `start_sections`, `surrogate_section`, `builder`: all clauses of a project.
@@ -18,10 +20,12 @@
 //! - `certificate`: `clauses`, `stock_clauses`, `certify`, `certify_bound`, `certify_infeasible`.
 #![tactic(auto)]
 
+mod activities;
 mod amount_forms;
 mod builder;
 mod capacity_sections;
 mod certificate;
+mod chains;
 mod diagram;
 mod encoding;
 mod formula;
@@ -36,6 +40,7 @@ mod surrogate_section;
 mod weight_forms;
 mod windows;
 
+pub use activities::Activities;
 pub use certificate::{
     CertificateFault, certify, certify_bound, certify_infeasible, clauses, stock_clauses,
 };

@@ -2,22 +2,28 @@
 ghost use Rattle.std.specs.Prelude.{IfOk};
 ghost use Rattle.schedule_clauses.specs.Encoding.{AllGood};
 
-use crate::amount_forms::{all, fewer, take};
+use crate::amount_forms::{Descent, all, fewer, take};
 use crate::diagram::{Diagram, Level, Part, in_order};
 use crate::encoding::{Encoding, Scope};
 use crate::formula::Row;
-use crate::meaning::Node;
 use std::alloc::AllocError;
 
 /// The most clauses of all rows together, half a gigabyte of them.
 const MOST_ROW_CLAUSES: usize = 8_000_000;
 
+/// A capacity row and its diagram, at a level.
+#[derive(Clone, Copy)]
+struct Place<'a> {
+    row: Row,
+    diagram: &'a Diagram,
+    level: Level,
+}
+
 /// The clauses of a part at a node: it leaves the less to the activities below it, or cannot be.
 fn part_clauses(
     encoding: &mut Encoding,
     scope: Scope<'_>,
-    diagram: &Diagram,
-    level: Level,
+    place: Place<'_>,
     part: Part,
     amount: u32,
     below: &mut Vec<u32>,
@@ -25,40 +31,44 @@ fn part_clauses(
     requires good { AllGood scope.project.now scope.limit encoding.old }
     ensures { IfOk result (λ _. AllGood scope.entry.project.now scope.entry.limit encoding.new) }
 {
+    let Place {
+        row,
+        diagram,
+        level,
+    } = place;
+    let from = level.up_to(amount);
     if amount < part.amount {
-        return take(encoding, scope, diagram.row, part, amount, None);
+        return take(encoding, scope, row, part, Descent { from, to: None });
     }
     let Some(most) = diagram.greatest(level.place, amount - part.amount) else {
         return Ok(());
     };
     below.push(most)?;
-    let count = level.before;
-    let rest = Some(Node { count, most });
-    take(encoding, scope, diagram.row, part, amount, rest)
+    let to = Some(level.under(most));
+    take(encoding, scope, row, part, Descent { from, to })
 }
 
 /// The activities up to a level take no less than those below it.
 fn skip_clauses(
     encoding: &mut Encoding,
     scope: Scope<'_>,
-    diagram: &Diagram,
-    level: Level,
+    place: Place<'_>,
     amount: u32,
     below: &mut Vec<u32>,
 ) -> Result<(), AllocError>
     requires good { AllGood scope.project.now scope.limit encoding.old }
     ensures { IfOk result (λ _. AllGood scope.entry.project.now scope.entry.limit encoding.new) }
 {
+    let Place {
+        row,
+        diagram,
+        level,
+    } = place;
     let Some(most) = diagram.greatest(level.place, amount) else {
         return Ok(());
     };
     below.push(most)?;
-    let from = Node {
-        count: level.activity.saturating_add(1),
-        most: amount,
-    };
-    let count = level.before;
-    fewer(encoding, scope, diagram.row, from, Node { count, most })
+    fewer(encoding, scope, row, level.up_to(amount), level.under(most))
 }
 
 /// The clauses of one node: with this amount left for the activities up to this level's. The amounts that it leaves to the
@@ -66,17 +76,16 @@ fn skip_clauses(
 fn node_clauses(
     encoding: &mut Encoding,
     scope: Scope<'_>,
-    diagram: &Diagram,
-    level: Level,
+    place: Place<'_>,
     amount: u32,
     below: &mut Vec<u32>,
 ) -> Result<(), AllocError>
     requires good { AllGood scope.project.now scope.limit encoding.old }
     ensures { IfOk result (λ _. AllGood scope.entry.project.now scope.entry.limit encoding.new) }
 {
-    skip_clauses(encoding, scope, diagram, level, amount, below)?;
-    for part in diagram.parts_of(level) {
-        part_clauses(encoding, scope, diagram, level, *part, amount, below)?;
+    skip_clauses(encoding, scope, place, amount, below)?;
+    for part in place.diagram.parts_of(place.level) {
+        part_clauses(encoding, scope, place, *part, amount, below)?;
     }
     Ok(())
 }
@@ -85,8 +94,7 @@ fn node_clauses(
 fn level_clauses(
     encoding: &mut Encoding,
     scope: Scope<'_>,
-    diagram: &Diagram,
-    level: Level,
+    place: Place<'_>,
     amounts: &[u32],
 ) -> Result<Vec<u32>, AllocError>
     requires good { AllGood scope.project.now scope.limit encoding.old }
@@ -94,29 +102,9 @@ fn level_clauses(
 {
     let mut below = Vec::new(encoding.alloc);
     for amount in amounts {
-        node_clauses(encoding, scope, diagram, level, *amount, &mut below)?;
+        node_clauses(encoding, scope, place, *amount, &mut below)?;
     }
     in_order(encoding.alloc, below)
-}
-
-/// The clauses at the top of a row: all activities take at most the capacity, so those up to the last level's do.
-fn top_clauses(
-    encoding: &mut Encoding,
-    scope: Scope<'_>,
-    diagram: &Diagram,
-    last: usize,
-    most: u32,
-) -> Result<(), AllocError>
-    requires good { AllGood scope.project.now scope.limit encoding.old }
-    ensures { IfOk result (λ _. AllGood scope.entry.project.now scope.entry.limit encoding.new) }
-{
-    all(encoding, scope, diagram.row)?;
-    let from = Node {
-        count: scope.project.size(),
-        most: diagram.capacity,
-    };
-    let count = last.saturating_add(1);
-    fewer(encoding, scope, diagram.row, from, Node { count, most })
 }
 
 /// How many clauses rows may have: all that are to come together, and each of them.
@@ -151,6 +139,7 @@ impl Room {
 fn diagram_clauses(
     encoding: &mut Encoding,
     scope: Scope<'_>,
+    row: Row,
     diagram: &Diagram,
 ) -> Result<(), AllocError>
     requires good { AllGood scope.project.now scope.limit encoding.old }
@@ -163,11 +152,16 @@ fn diagram_clauses(
     ) else {
         return Ok(());
     };
-    top_clauses(encoding, scope, diagram, last.activity, most)?;
+    all(encoding, scope, row, last.up_to(most))?;
     let mut amounts = Vec::new(encoding.alloc);
     amounts.push(most)?;
     for level in diagram.levels.iter().rev() {
-        amounts = level_clauses(encoding, scope, diagram, *level, &amounts)?;
+        let place = Place {
+            row,
+            diagram,
+            level: *level,
+        };
+        amounts = level_clauses(encoding, scope, place, &amounts)?;
     }
     Ok(())
 }
@@ -176,6 +170,7 @@ fn diagram_clauses(
 pub(crate) fn row_clauses(
     encoding: &mut Encoding,
     scope: Scope<'_>,
+    row: Row,
     diagram: &Diagram,
     room: &mut Room,
 ) -> Result<(), AllocError>
@@ -183,8 +178,8 @@ pub(crate) fn row_clauses(
     ensures { IfOk result (λ _. AllGood scope.entry.project.now scope.entry.limit encoding.new) }
 {
     if diagram.is_too_large || diagram.most_clauses > room.most() {
-        return encoding.leave_out(diagram.row);
+        return encoding.leave_out(row);
     }
     room.take(diagram.most_clauses);
-    diagram_clauses(encoding, scope, diagram)
+    diagram_clauses(encoding, scope, row, diagram)
 }

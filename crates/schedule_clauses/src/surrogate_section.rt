@@ -1,23 +1,23 @@
 //! The surrogate row of a bound: a decision diagram over what each activity weighs above its lightest mode. Its numbers are
 //! hints alone.
-ghost use Rattle.std.specs.Prelude.{◌<◌, IfOk};
+ghost use Rattle.std.specs.Prelude.{◌≡◌, ◌<◌, IfOk};
 ghost use Rattle.mrcpsp.specs.Project.{size};
 ghost use Rattle.schedule_clauses.specs.Encoding.{AllGood};
 
 use crate::diagram::{Diagram, Level, Part, in_order, number_at};
 use crate::encoding::{Encoding, Scope};
-use crate::formula::{Kind, Row};
+use crate::formula::Kind;
 use crate::meaning::Weights;
 use crate::surrogate::weights_for;
 use crate::weight_forms::{
-    capacity_weight_of, least_weight_of, weigh_all, weigh_any, weigh_mode, weight_of,
+    Step, capacity_weight_of, least_weight_of, weigh_all, weigh_any, weigh_mode, weight_of,
 };
 use mrcpsp::Project;
 use std::alloc::{AllocError, Global};
 
-/// The most clauses of the row's diagram. A larger one is left out: where the capacities weigh much more than the lightest
-/// modes, it helps little.
-const MOST_CLAUSES: usize = 200_000;
+/// The most clauses of the row's diagram, counted before equal nodes are joined. A larger one is left out: if the capacities
+/// weigh much more than the lightest modes, it costs a solver more time than it saves.
+const MOST_CLAUSES: usize = 100_000;
 
 /// A surrogate row: its weights, the least that so many first activities weigh, and the most that all may weigh.
 #[derive(Drop)]
@@ -36,6 +36,11 @@ impl Surrogate {
     /// What the first activities weigh at most, by how much that is above the least.
     fn most(&self, count: usize, above: u32) -> u32 {
         self.low(count).saturating_add(above)
+    }
+
+    /// One less than the first activities weigh at least, or `None` if they may weigh nothing.
+    fn under(&self, count: usize) -> Option<u32> {
+        self.low(count).checked_sub(1)
     }
 
     /// The row of a bound, or `None` if its numbers are too great.
@@ -69,6 +74,7 @@ impl Surrogate {
                 let weight = weight_of(project, self.weights, activity, mode);
                 let amount = weight.saturating_sub(least).min(u32::MAX as u64) as u32;
                 parts.push(Part {
+                    level: activity,
                     activity,
                     mode,
                     amount,
@@ -79,12 +85,32 @@ impl Surrogate {
     }
 }
 
+/// A row, and the diagram of what its modes weigh above the lightest.
+#[derive(Drop)]
+struct Drawn {
+    row: Surrogate,
+    diagram: Diagram,
+}
+
+impl Drawn {
+    /// What is left at a node for an activity and those before it, and for those before it alone.
+    fn step(&self, activity: usize, above: u32, rest: Option<u32>) -> Step
+        ensures { result.activity ≡ activity }
+    {
+        Step {
+            weights: self.row.weights,
+            activity,
+            most: self.row.most(activity.saturating_add(1), above),
+            rest,
+        }
+    }
+}
+
 /// The clauses of an activity at a node, whichever mode it has. What it leaves to those before it goes to `below`.
 fn any_clauses(
     encoding: &mut Encoding,
     scope: Scope<'_>,
-    row: &Surrogate,
-    diagram: &Diagram,
+    drawn: &Drawn,
     level: Level,
     above: u32,
     below: &mut Vec<u32>,
@@ -92,25 +118,24 @@ fn any_clauses(
     requires good { AllGood scope.project.now scope.limit encoding.old }
     ensures { IfOk result (λ _. AllGood scope.entry.project.now scope.entry.limit encoding.new) }
 {
-    let activity = level.activity;
+    let activity = level.place;
     if activity >= scope.project.size() {
         return Ok(());
     }
-    let Some(rest) = diagram.greatest(level.place, above) else {
+    let Some(rest) = drawn.diagram.greatest(level.place, above) else {
         return Ok(());
     };
     below.push(rest)?;
-    let most = row.most(activity + 1, above);
-    let rest = Some(row.most(activity, rest));
-    weigh_any(encoding, scope, row.weights, activity, most, rest)
+    let rest = Some(drawn.row.most(activity, rest));
+    weigh_any(encoding, scope, drawn.step(activity, above, rest))
 }
 
-/// The clauses of a mode at a node. What it leaves to the activities before it goes to `below`.
+/// The clauses of a mode at a node, unless it is the lightest, of which those of any mode say as much. What it leaves to the
+/// activities before it goes to `below`. A mode that leaves less than these weigh at least is excluded by [`low_clauses`].
 fn part_clauses(
     encoding: &mut Encoding,
     scope: Scope<'_>,
-    row: &Surrogate,
-    diagram: &Diagram,
+    drawn: &Drawn,
     part: Part,
     above: u32,
     below: &mut Vec<u32>,
@@ -122,28 +147,29 @@ fn part_clauses(
         activity,
         mode,
         amount,
+        ..
     } = part;
-    if activity >= scope.project.size() || mode >= scope.project.mode_count(activity) {
+    let project = scope.project;
+    if amount == 0 || activity >= project.size() || mode >= project.mode_count(activity) {
         return Ok(());
     }
-    let most = row.most(activity + 1, above);
     if above < amount {
-        return weigh_mode(encoding, scope, row.weights, activity, mode, most, None);
+        let step = drawn.step(activity, above, drawn.row.under(activity));
+        return weigh_mode(encoding, scope, step, mode);
     }
-    let Some(rest) = diagram.greatest(activity, above - amount) else {
+    let Some(rest) = drawn.diagram.greatest(activity, above - amount) else {
         return Ok(());
     };
     below.push(rest)?;
-    let rest = Some(row.most(activity, rest));
-    weigh_mode(encoding, scope, row.weights, activity, mode, most, rest)
+    let rest = Some(drawn.row.most(activity, rest));
+    weigh_mode(encoding, scope, drawn.step(activity, above, rest), mode)
 }
 
 /// The clauses of one node.
 fn node_clauses(
     encoding: &mut Encoding,
     scope: Scope<'_>,
-    row: &Surrogate,
-    diagram: &Diagram,
+    drawn: &Drawn,
     level: Level,
     above: u32,
     below: &mut Vec<u32>,
@@ -151,9 +177,9 @@ fn node_clauses(
     requires good { AllGood scope.project.now scope.limit encoding.old }
     ensures { IfOk result (λ _. AllGood scope.entry.project.now scope.entry.limit encoding.new) }
 {
-    any_clauses(encoding, scope, row, diagram, level, above, below)?;
-    for part in diagram.parts_of(level) {
-        part_clauses(encoding, scope, row, diagram, *part, above, below)?;
+    any_clauses(encoding, scope, drawn, level, above, below)?;
+    for part in drawn.diagram.parts_of(level) {
+        part_clauses(encoding, scope, drawn, *part, above, below)?;
     }
     Ok(())
 }
@@ -162,8 +188,7 @@ fn node_clauses(
 fn level_clauses(
     encoding: &mut Encoding,
     scope: Scope<'_>,
-    row: &Surrogate,
-    diagram: &Diagram,
+    drawn: &Drawn,
     level: Level,
     amounts: &[u32],
 ) -> Result<Vec<u32>, AllocError>
@@ -172,21 +197,40 @@ fn level_clauses(
 {
     let mut below = Vec::new(encoding.alloc);
     for above in amounts {
-        node_clauses(encoding, scope, row, diagram, level, *above, &mut below)?;
+        node_clauses(encoding, scope, drawn, level, *above, &mut below)?;
     }
     in_order(encoding.alloc, below)
+}
+
+/// The first activities weigh no less than their lightest modes do, for one activity after the other.
+fn low_clauses(encoding: &mut Encoding, scope: Scope<'_>, row: &Surrogate) -> Result<(), AllocError>
+    requires good { AllGood scope.project.now scope.limit encoding.old }
+    ensures { IfOk result (λ _. AllGood scope.entry.project.now scope.entry.limit encoding.new) }
+{
+    for activity in 0..scope.project.size() {
+        if let Some(most) = row.under(activity + 1) {
+            let step = Step {
+                weights: row.weights,
+                activity,
+                most,
+                rest: row.under(activity),
+            };
+            weigh_any(encoding, scope, step)?;
+        }
+    }
+    Ok(())
 }
 
 /// The clauses of the row's diagram, if that is small enough.
 fn diagram_clauses(
     encoding: &mut Encoding,
     scope: Scope<'_>,
-    row: &Surrogate,
-    diagram: &Diagram,
+    drawn: &Drawn,
 ) -> Result<(), AllocError>
     requires good { AllGood scope.project.now scope.limit encoding.old }
     ensures { IfOk result (λ _. AllGood scope.entry.project.now scope.entry.limit encoding.new) }
 {
+    let Drawn { row, diagram } = drawn;
     let levels = diagram.levels.len();
     if diagram.is_too_large || diagram.most_clauses > MOST_CLAUSES {
         return Ok(());
@@ -194,36 +238,18 @@ fn diagram_clauses(
     let Some(most) = diagram.greatest(levels, diagram.capacity) else {
         return Ok(());
     };
+    low_clauses(encoding, scope, row)?;
     weigh_all(encoding, scope, row.weights, row.most(levels, most))?;
     let mut amounts = Vec::new(encoding.alloc);
     amounts.push(most)?;
     for level in diagram.levels.iter().rev() {
-        amounts = level_clauses(encoding, scope, row, diagram, *level, &amounts)?;
+        amounts = level_clauses(encoding, scope, drawn, *level, &amounts)?;
     }
     Ok(())
 }
 
-/// The clauses of a row of which even the lightest modes weigh too much: what is left for fewer and fewer activities.
-fn over_clauses(
-    encoding: &mut Encoding,
-    scope: Scope<'_>,
-    row: &Surrogate,
-) -> Result<(), AllocError>
-    requires good { AllGood scope.project.now scope.limit encoding.old }
-    ensures { IfOk result (λ _. AllGood scope.entry.project.now scope.entry.limit encoding.new) }
-{
-    let size = scope.project.size();
-    let over = row.low(size).saturating_sub(row.most);
-    weigh_all(encoding, scope, row.weights, row.most)?;
-    for activity in (0..size).rev() {
-        let most = row.low(activity + 1).saturating_sub(over);
-        let rest = row.low(activity).checked_sub(over);
-        weigh_any(encoding, scope, row.weights, activity, most, rest)?;
-    }
-    Ok(())
-}
-
-/// The energies and the consumptions of all activities, weighted, fit the capacities over the periods of the bound.
+/// The energies and the consumptions of all activities, weighted, fit the capacities over the periods of the bound. If even
+/// the lightest modes weigh too much, two clauses conflict at once.
 pub(crate) fn surrogate_section(
     encoding: &mut Encoding,
     scope: Scope<'_>,
@@ -239,12 +265,12 @@ pub(crate) fn surrogate_section(
     };
     let low = row.low(project.size());
     if row.most < low {
-        over_clauses(encoding, scope, &row)?;
+        low_clauses(encoding, scope, &row)?;
+        weigh_all(encoding, scope, row.weights, low - 1)?;
     } else {
         let parts = row.parts(alloc, project)?;
-        let place = Row::Stock { resource: 0 };
-        let diagram = Diagram::new(alloc, place, row.most - low, parts, MOST_CLAUSES)?;
-        diagram_clauses(encoding, scope, &row, &diagram)?;
+        let diagram = Diagram::new(alloc, row.most - low, parts, MOST_CLAUSES)?;
+        diagram_clauses(encoding, scope, &Drawn { row, diagram })?;
     }
     encoding.end_section(Kind::Surrogate)
 }

@@ -10,6 +10,16 @@ use crate::meaning::{MOST, Node, Weights, in_mode, weight_within};
 use mrcpsp::Project;
 use std::alloc::AllocError;
 
+/// An activity at a node of a surrogate row. With those before it, it weighs at most `most`; what is left for those before it
+/// alone is `rest`, or `None` if the activity alone weighs too much.
+#[derive(Clone, Copy)]
+pub(crate) struct Step {
+    pub(crate) weights: Weights,
+    pub(crate) activity: usize,
+    pub(crate) most: u32,
+    pub(crate) rest: Option<u32>,
+}
+
 /// The energy of an activity in a mode.
 fn energy_of(project: &Project, activity: usize, mode: usize, resource: usize) -> u64
     requires activity { activity < size project.now }
@@ -159,15 +169,18 @@ pub(crate) fn weigh_all(
 pub(crate) fn weigh_any(
     encoding: &mut Encoding,
     scope: Scope<'_>,
-    weights: Weights,
-    activity: usize,
-    most: u32,
-    rest: Option<u32>,
+    step: Step,
 ) -> Result<(), AllocError>
     requires good { AllGood scope.project.now scope.limit encoding.old }
-    requires activity { activity < size scope.project.now }
+    requires activity { step.activity < size scope.project.now }
     ensures { IfOk result (λ _. AllGood scope.entry.project.now scope.entry.limit encoding.new) }
 {
+    let Step {
+        weights,
+        activity,
+        most,
+        rest,
+    } = step;
     let size = scope.project.size();
     prove!(activity < size);
     let least = least_weight_of(scope.project, weights, activity);
@@ -191,17 +204,20 @@ pub(crate) fn weigh_any(
 pub(crate) fn weigh_mode(
     encoding: &mut Encoding,
     scope: Scope<'_>,
-    weights: Weights,
-    activity: usize,
+    step: Step,
     mode: usize,
-    most: u32,
-    rest: Option<u32>,
 ) -> Result<(), AllocError>
     requires good { AllGood scope.project.now scope.limit encoding.old }
-    requires activity { activity < size scope.project.now }
-    requires mode { mode < mode_count scope.project.now activity }
+    requires activity { step.activity < size scope.project.now }
+    requires mode { mode < mode_count scope.project.now step.activity }
     ensures { IfOk result (λ _. AllGood scope.entry.project.now scope.entry.limit encoding.new) }
 {
+    let Step {
+        weights,
+        activity,
+        most,
+        rest,
+    } = step;
     let size = scope.project.size();
     prove!(activity < size);
     let weight = weight_of(scope.project, weights, activity, mode);

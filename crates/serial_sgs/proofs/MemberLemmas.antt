@@ -119,13 +119,13 @@ word_found words first w late inside some fits before =
     }
 
 -- the first of a later word, where nothing is left of this one
-pub later_word : (words : List ℕ) (from : ℕ) (found : Option ℕ) → get_or words (from / 64) 0 / 2 ^ (from % 64) ≡ 0 → MatchOption found (IsOver words ((from / 64 + 1) * 64)) (IsNext words ((from / 64 + 1) * 64)) → MatchOption found (IsOver words from) (IsNext words from)
-later_word words from None none over = λ i l h.
+pub later_word : (words : List ℕ) (from end : ℕ) (found : Option ℕ) → get_or words (from / 64) 0 / 2 ^ (from % 64) ≡ 0 → MatchOption found (IsOver words ((from / 64 + 1) * 64) end) (IsNext words ((from / 64 + 1) * 64)) → MatchOption found (IsOver words from end) (IsNext words from)
+later_word words from end None none over = λ i l h.
     ⊎_elim
     (λ (early : i < (from / 64 + 1) * 64). none_left words from none i l early)
     (λ (late : (from / 64 + 1) * 64 ≤ i). over i late h)
     (cases_lt i ((from / 64 + 1) * 64))
-later_word words from (Some j) none next = record {
+later_word words from end (Some j) none next = record {
   above = omega (arith, next.above);
   below = next.below;
   member = next.member;

@@ -5,9 +5,9 @@ use Rattle.std.specs.Int.{bit_at}
 unfoldable pub has : List ℕ → ℕ → Bool
 has words j = bit_at (get_or words (j / 64) 0) (j % 64) == 1
 
--- no member from `from` on
-abbrev pub IsOver : List ℕ → ℕ → Type 0
-IsOver words from = (i : ℕ) → from ≤ i → i < 256 → has words i ≡ false
+-- no member from `from` on before `end`
+abbrev pub IsOver : List ℕ → ℕ → ℕ → Type 0
+IsOver words from end = (i : ℕ) → from ≤ i → i < end → has words i ≡ false
 
 -- the least member from `from` on
 pub record IsNext (words : List ℕ) (from j : ℕ) : Type 0 where

@@ -1,5 +1,6 @@
 //! Amounts of as many resources as a project has at most of either kind: those that it does not have stand at 0. All are
-//! taken at once, since that is one step of the machine for four of them.
+//! taken at once, since that is one step of the machine for four of them. Sums are made in a copy:
+//! the compiler does not know that two references are of different amounts.
 ghost use Rattle.std.specs.Prelude.{◌≡◌, ℕ, ◌+◌, ◌<◌, ◌≤◌, ◌↔◌, IsTrue, slice_index};
 
 use mrcpsp::MOST_RESOURCES;
@@ -17,9 +18,11 @@ pub(crate) fn add(amounts: &mut Amounts, more: &Amounts)
     ensures { (r : ℕ) → r < MOST_RESOURCES
         → slice_index amounts.new r ≡ slice_index amounts.old r + slice_index more.now r }
 {
+    let mut sums = *amounts;
     for kind in 0..MOST_RESOURCES {
-        amounts[kind] += more[kind];
+        sums[kind] += more[kind];
     }
+    *amounts = sums;
 }
 
 /// Takes these amounts away from those.
@@ -28,9 +31,11 @@ pub(crate) fn subtract(amounts: &mut Amounts, less: &Amounts)
     ensures { (r : ℕ) → r < MOST_RESOURCES
         → slice_index amounts.old r ≡ slice_index amounts.new r + slice_index less.now r }
 {
+    let mut rests = *amounts;
     for kind in 0..MOST_RESOURCES {
-        amounts[kind] -= less[kind];
+        rests[kind] -= less[kind];
     }
+    *amounts = rests;
 }
 
 /// Whether these amounts are within the most of each, with so much more of each.
@@ -39,13 +44,11 @@ pub(crate) fn fits(amounts: &Amounts, more: &Amounts, most: &Amounts) -> bool
     ensures { IsTrue result ↔ ((r : ℕ) → r < MOST_RESOURCES
         → slice_index amounts.now r + slice_index more.now r ≤ slice_index most.now r) }
 {
-    let mut holds = true;
+    let mut over: u32 = 0;
     for kind in 0..MOST_RESOURCES {
-        if most[kind] < amounts[kind] + more[kind] {
-            holds = false;
-        }
+        over |= (amounts[kind] + more[kind]).saturating_sub(most[kind]);
     }
-    holds
+    over == 0
 }
 
 /// Whether these amounts are the same as those.

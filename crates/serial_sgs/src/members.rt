@@ -3,7 +3,7 @@ ghost use Rattle.std.specs.Prelude.{◌≡◌, ℕ, ◌*◌, ◌<◌, ◌≤◌,
 ghost use Rattle.serial_sgs.specs.Members.{has, IsNext, IsOver};
 
 /// Puts an activity in.
-fn put_in(words: &mut [u64; 4], activity: usize)
+pub(crate) fn put_in(words: &mut [u64; 4], activity: usize)
     requires { activity < 256 }
     ensures own { has words.new activity ≡ true }
     ensures others { (j : ℕ) → (j ≡ activity → ⊥) → has words.new j ≡ has words.old j }
@@ -12,7 +12,7 @@ fn put_in(words: &mut [u64; 4], activity: usize)
 }
 
 /// Takes an activity out.
-fn take_out(words: &mut [u64; 4], activity: usize)
+pub(crate) fn take_out(words: &mut [u64; 4], activity: usize)
     requires { activity < 256 }
     ensures own { has words.new activity ≡ false }
     ensures others { (j : ℕ) → (j ≡ activity → ⊥) → has words.new j ≡ has words.old j }
@@ -41,12 +41,16 @@ pub(crate) fn is_in(words: &[u64; 4], activity: usize) -> bool
     (words[activity / 64] >> (activity % 64)) & 1 == 1
 }
 
-/// The least member of the words from this one on.
-fn first_in(words: &[u64; 4], first: usize) -> Option<usize>
-    requires { first ≤ 4 }
-    ensures { MatchOption result (IsOver words.now (first * 64)) (IsNext words.now (first * 64)) }
+/// The least member of the words from `first` on. Words from `end` on are not looked at.
+fn first_in(words: &[u64; 4], first: usize, end: usize) -> Option<usize>
+    requires first { first ≤ 4 }
+    requires end { end ≤ 256 }
+    ensures { MatchOption result (IsOver words.now (first * 64) end) (IsNext words.now (first * 64)) }
 {
     for word in first..4 {
+        if end <= word * 64 {
+            return None;
+        }
         let bits = words[word];
         if bits != 0 {
             return Some(word * 64 + bits.trailing_zeros() as usize);
@@ -55,14 +59,15 @@ fn first_in(words: &[u64; 4], first: usize) -> Option<usize>
     None
 }
 
-/// The least member from an activity on.
-pub(crate) fn next_in(words: &[u64; 4], from: usize) -> Option<usize>
-    requires { from < 256 }
-    ensures { MatchOption result (IsOver words.now from) (IsNext words.now from) }
+/// The least member from an activity on. Words from `end` on are not looked at.
+pub(crate) fn next_in(words: &[u64; 4], from: usize, end: usize) -> Option<usize>
+    requires from { from < 256 }
+    requires end { end ≤ 256 }
+    ensures { MatchOption result (IsOver words.now from end) (IsNext words.now from) }
 {
     let rest = words[from / 64] >> (from % 64);
     if rest != 0 {
         return Some(from + rest.trailing_zeros() as usize);
     }
-    first_in(words, from / 64 + 1)
+    first_in(words, from / 64 + 1, end)
 }

@@ -162,6 +162,21 @@ impl Rows {
         })
     }
 
+    /// How many activities there are.
+    pub(crate) fn size(&self) -> usize
+        ensures { (p : ProjectData) → IsTable p self.now → result ≡ size p }
+    {
+        self.rows.len()
+    }
+
+    /// How many modes an activity has.
+    pub(crate) fn count(&self, activity: usize) -> usize
+        requires { (p : ProjectData) × IsTable p self.now × (activity < size p) }
+        ensures { (p : ProjectData) → IsTable p self.now → activity < size p → result ≡ mode_count p activity }
+    {
+        self.rows[activity].as_slice().len()
+    }
+
     /// The row of a mode of an activity.
     pub(crate) fn row(&self, activity: usize, mode: usize) -> &Row
         requires { (p : ProjectData) × IsTable p self.now × (activity < size p) × (mode < mode_count p activity) }

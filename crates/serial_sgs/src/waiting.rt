@@ -1,8 +1,8 @@
 //! Who is placed, how many predecessors of each activity are not, and who may come next.
-ghost use Rattle.std.specs.Prelude.{◌≡◌, ◌<◌, ◌≤◌, true, false, All, IfOk, MatchOption, get_or, length, replicate, set};
+ghost use Rattle.std.specs.Prelude.{◌≡◌, ◌+◌, ◌-◌, ◌<◌, ◌≤◌, ◌==◌, true, false, All, IfOk, MatchOption, get_or, length, replicate, set};
 ghost use Rattle.serial_sgs.specs.Waiting.{AreOthers, IsFirst, IsLess, IsNextOpen, NoneIsOpen, is_open};
 
-use crate::members::{is_in, keep_in, next_in};
+use crate::members::{is_in, keep_in, next_in, put_in, take_out};
 use mrcpsp::{MOST_ACTIVITIES, Sequence};
 use std::alloc::{AllocError, Global};
 use std::marker::Model;
@@ -83,15 +83,36 @@ impl Waiting {
         keep_in(&mut self.eligible, activity, is_member);
     }
 
-    /// Notes of one activity how many predecessors it misses.
-    fn note_missing(&mut self, activity: usize, missing: u32)
-        requires { activity < length self.old.flags }
-        ensures exact { self.new ≡ record self.old { missing = set self.old.missing activity missing } }
+    /// Notes that an activity misses one predecessor less. It can come next only if it misses none.
+    fn note_less(&mut self, activity: usize)
+        requires inside { activity < length self.old.flags }
+        requires some { 0 < get_or self.old.missing activity 0 }
+        ensures exact { self.new ≡ record self.old {
+          missing = set self.old.missing activity (get_or self.old.missing activity 0 - 1);
+        } }
         ensures same { length self.new.missing ≡ length self.new.flags }
     {
+        let missing = self.missing[activity] - 1;
         self.missing[activity] = missing;
-        let is_member = missing == 0 && !self.placed[activity];
-        keep_in(&mut self.eligible, activity, is_member);
+        if missing == 0 && !self.placed[activity] {
+            put_in(&mut self.eligible, activity);
+        }
+    }
+
+    /// Notes that an activity misses one predecessor more, and cannot come next any more.
+    fn note_more(&mut self, activity: usize)
+        requires inside { activity < length self.old.flags }
+        requires few { get_or self.old.missing activity 0 < 1000000 }
+        ensures exact { self.new ≡ record self.old {
+          missing = set self.old.missing activity (get_or self.old.missing activity 0 + 1);
+        } }
+        ensures same { length self.new.missing ≡ length self.new.flags }
+    {
+        let missing = self.missing[activity];
+        self.missing[activity] = missing + 1;
+        if missing == 0 {
+            take_out(&mut self.eligible, activity);
+        }
     }
 
     /// Nobody is placed any more. These are the predecessors of each activity.
@@ -141,16 +162,15 @@ impl Waiting {
         requires { from ≤ length self.now.flags }
         ensures { MatchOption result (NoneIsOpen self.now from) (IsNextOpen self.now from) }
     {
-        next_in(&self.eligible, from)
+        next_in(&self.eligible, from, self.placed.len())
     }
 
-    /// How many predecessors an activity misses.
-    fn missed_by(&self, activity: usize) -> u32
+    /// Whether all predecessors of an activity are placed.
+    pub(crate) fn misses_none(&self, activity: usize) -> bool
         requires { activity < length self.now.flags }
-        ensures exact { result ≡ get_or self.now.missing activity 0 }
-        ensures same { length self.now.missing ≡ length self.now.flags }
+        ensures { result ≡ (get_or self.now.missing activity 0 == 0) }
     {
-        self.missing[activity]
+        self.missing[activity] == 0
     }
 
     /// Notes that an activity is placed, for which these wait.
@@ -163,8 +183,7 @@ impl Waiting {
     {
         self.note_placed(activity, true);
         for other in after {
-            let missing = self.missed_by(*other as usize);
-            self.note_missing(*other as usize, missing - 1);
+            self.note_less(*other as usize);
         }
     }
 
@@ -178,8 +197,7 @@ impl Waiting {
     {
         self.note_placed(activity, false);
         for other in after {
-            let missing = self.missed_by(*other as usize);
-            self.note_missing(*other as usize, missing + 1);
+            self.note_more(*other as usize);
         }
     }
 }

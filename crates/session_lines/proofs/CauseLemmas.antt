@@ -60,11 +60,11 @@ pub on_err : {T E : Type 0} (P : Type 0) (result : Result T E) → P → OnErr r
 on_err P (Ok x) p = tt
 on_err P (Err e) p = p
 
-pub cause_before : (failed : Bool) (a b : Option (List ℕ)) (P : List ℕ → List ℕ → Type 0) (Q R : List ℕ → Type 0) → ((xs ys : List ℕ) → P xs ys → Q ys → R xs) → Goes a b P → HasCause failed b Q → HasCause failed a R
-cause_before failed a b P Q R f p (inl h) = inl h
-cause_before failed None b P Q R f p (inr q) = inr tt
-cause_before failed (Some xs) (Some ys) P Q R f p (inr q) = inr (f xs ys p q)
-cause_before failed (Some xs) None P Q R f p (inr q) = absurd p
+pub cause_before : (Failed : Type 0) (a b : Option (List ℕ)) (P : List ℕ → List ℕ → Type 0) (Q R : List ℕ → Type 0) → ((xs ys : List ℕ) → P xs ys → Q ys → R xs) → Goes a b P → HasCause Failed b Q → HasCause Failed a R
+cause_before Failed a b P Q R f p (inl h) = inl h
+cause_before Failed None b P Q R f p (inr q) = inr tt
+cause_before Failed (Some xs) (Some ys) P Q R f p (inr q) = inr (f xs ys p q)
+cause_before Failed (Some xs) None P Q R f p (inr q) = absurd p
 
 -- a byte that is one too many, after those of its line
 longer : (before left : ℕ) (raw xs ys : List ℕ) → length raw + left ≡ before → InLine raw xs ys → (left ≡ 0) × (ys ≢ []) → IsLonger before xs
@@ -74,25 +74,25 @@ longer before left raw xs (y ∷ ys) paid line (none, some) =
     let all : length (take_through 10 xs) ≡ length raw + length (take_through 10 (y ∷ ys)) = ap length line.through ∙ length-append raw (take_through 10 (y ∷ ys)) in
     omega (arith, here, all, paid, none)
 
-pub longer_line : (failed : Bool) (before left : ℕ) (raw : List ℕ) (a b : Option (List ℕ)) → length raw + left ≡ before → Scans raw a b → HasCause failed b (λ bytes. (left ≡ 0) × (bytes ≢ [])) → HasCause failed a (IsLonger before)
-longer_line failed before left raw a b paid = cause_before failed a b (InLine raw) _ _ (λ xs ys. longer before left raw xs ys paid)
+pub longer_line : (Failed : Type 0) (before left : ℕ) (raw : List ℕ) (a b : Option (List ℕ)) → length raw + left ≡ before → Scans raw a b → HasCause Failed b (λ bytes. (left ≡ 0) × (bytes ≢ [])) → HasCause Failed a (IsLonger before)
+longer_line Failed before left raw a b paid = cause_before Failed a b (InLine raw) _ _ (λ xs ys. longer before left raw xs ys paid)
 
-pub past_between : (failed : Bool) (now : Option TextData) (most left : ℕ) (a b : Option (List ℕ)) → Goes a b (GoesOn now most left) → HasCause failed b (IsLonger left) → HasCause failed a (λ xs. IsPast most None (lines_of xs))
-past_between failed now most left a b = cause_before failed a b (GoesOn now most left) _ _ (λ xs ys p. past None now most left xs ys p.same p.paid)
+pub past_between : (Failed : Type 0) (now : Option TextData) (most left : ℕ) (a b : Option (List ℕ)) → Goes a b (GoesOn now most left) → HasCause Failed b (IsLonger left) → HasCause Failed a (λ xs. IsPast most None (lines_of xs))
+past_between Failed now most left a b = cause_before Failed a b (GoesOn now most left) _ _ (λ xs ys p. past None now most left xs ys p.same p.paid)
 
-pub past_in_text : (failed : Bool) (text : Option TextData) (kept : Text) (most left : ℕ) (a b : Option (List ℕ)) → Goes a b (InText text kept most left) → HasCause failed b (IsLonger left) → HasCause failed a (λ xs. IsPast most text (lines_of xs))
-past_in_text failed text kept most left a b = cause_before failed a b (InText text kept most left) _ _ (λ xs ys p. past text (Some p.said) most left xs ys p.same p.paid)
+pub past_in_text : (Failed : Type 0) (text : Option TextData) (kept : Text) (most left : ℕ) (a b : Option (List ℕ)) → Goes a b (InText text kept most left) → HasCause Failed b (IsLonger left) → HasCause Failed a (λ xs. IsPast most text (lines_of xs))
+past_in_text Failed text kept most left a b = cause_before Failed a b (InText text kept most left) _ _ (λ xs ys p. past text (Some p.said) most left xs ys p.same p.paid)
 
 -- ---- answers
 
-pub not_given_up : (most : ℕ) (text : Option TextData) (failed : Bool) (old : Option (List ℕ)) (answer : Result Request LineFault) → answer ≢ Err Read → IsReadGivenUp most text failed old answer
-not_given_up most text failed old (Ok request) h = tt
-not_given_up most text failed old (Err Eof) h = tt
-not_given_up most text failed old (Err Read) h = absurd (h refl)
-not_given_up most text failed old (Err (TooLong who)) h = tt
-not_given_up most text failed old (Err (Syntax who)) h = tt
-not_given_up most text failed old (Err (File who f)) h = tt
-not_given_up most text failed old (Err (NoMemory who)) h = tt
+pub not_given_up : (most : ℕ) (text : Option TextData) (Failed : Type 0) (old : Option (List ℕ)) (answer : Result Request LineFault) → answer ≢ Err Read → IsReadGivenUp most text Failed old answer
+not_given_up most text Failed old (Ok request) h = tt
+not_given_up most text Failed old (Err Eof) h = tt
+not_given_up most text Failed old (Err Read) h = absurd (h refl)
+not_given_up most text Failed old (Err (TooLong who)) h = tt
+not_given_up most text Failed old (Err (Syntax who)) h = tt
+not_given_up most text Failed old (Err (File who f)) h = tt
+not_given_up most text Failed old (Err (NoMemory who)) h = tt
 
 past-head : (text : Option TextData) (most left : ℕ) (xs ys : List ℕ) → GoesOn text most left xs ys → IsPast left text (lines_of ys) → IsPast most None (lines_of xs)
 past-head text most left xs ys p q =
@@ -102,11 +102,11 @@ past-head text most left xs ys p q =
     omega (arith, is, p.paid, q, before, after)
 
 -- a submit is given up with its text
-pub head_given_up : (failed : Bool) (text : Option TextData) (most left : ℕ) (a b : Option (List ℕ)) (answer : Result Request LineFault) → Goes a b (GoesOn text most left) → IsReadGivenUp left text failed b answer → IsReadGivenUp most None failed a answer
-head_given_up failed text most left a b (Ok request) p q = tt
-head_given_up failed text most left a b (Err Eof) p q = tt
-head_given_up failed text most left a b (Err Read) p q = cause_before failed a b (GoesOn text most left) _ _ (past-head text most left) p q
-head_given_up failed text most left a b (Err (TooLong who)) p q = tt
-head_given_up failed text most left a b (Err (Syntax who)) p q = tt
-head_given_up failed text most left a b (Err (File who f)) p q = tt
-head_given_up failed text most left a b (Err (NoMemory who)) p q = tt
+pub head_given_up : (Failed : Type 0) (text : Option TextData) (most left : ℕ) (a b : Option (List ℕ)) (answer : Result Request LineFault) → Goes a b (GoesOn text most left) → IsReadGivenUp left text Failed b answer → IsReadGivenUp most None Failed a answer
+head_given_up Failed text most left a b (Ok request) p q = tt
+head_given_up Failed text most left a b (Err Eof) p q = tt
+head_given_up Failed text most left a b (Err Read) p q = cause_before Failed a b (GoesOn text most left) _ _ (past-head text most left) p q
+head_given_up Failed text most left a b (Err (TooLong who)) p q = tt
+head_given_up Failed text most left a b (Err (Syntax who)) p q = tt
+head_given_up Failed text most left a b (Err (File who f)) p q = tt
+head_given_up Failed text most left a b (Err (NoMemory who)) p q = tt

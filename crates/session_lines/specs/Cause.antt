@@ -1,14 +1,14 @@
 -- Why a request is not read: the reader failed, or the request is too long.
-use Rattle.std.specs.Prelude.{◌≡◌, ℕ, ◌+◌, ◌<◌, ◌⊎◌, Bool, true, List, [], ◌∷◌, length, Option, Some, None, Result, Err, IfSome, ⊤}
+use Rattle.std.specs.Prelude.{◌≡◌, ℕ, ◌+◌, ◌<◌, ◌⊎◌, List, [], ◌∷◌, length, Option, Some, None, Result, Err, IfSome, ⊤}
 use Rattle.std.specs.Io.BufRead.{take_through}
 use Rattle.session_lines.specs.declared.request.Request.{Request}
 use Rattle.session_lines.specs.declared.request.LineFault.{LineFault}
 use Rattle.session_lines.specs.declared.request.LineFault.TheVariants.{Read}
 use Rattle.session_lines.specs.Script.{TextData, Found, lines_of, first}
 
--- a read failed, or the bytes that were left before, where these are known, are such
-abbrev pub HasCause : Bool → Option (List ℕ) → (List ℕ → Type 0) → Type 0
-HasCause failed old P = (failed ≡ true) ⊎ IfSome old P
+-- a read failed during the call, or the bytes that were left before, where these are known, are such
+abbrev pub HasCause : Type 0 → Option (List ℕ) → (List ℕ → Type 0) → Type 0
+HasCause Failed old P = Failed ⊎ IfSome old P
 
 -- the first line of these bytes has more than so many, with its end
 abbrev pub IsLonger : ℕ → List ℕ → Type 0
@@ -28,7 +28,12 @@ lines_after (Some found) = found.rest
 abbrev pub IsPast : ℕ → Option TextData → List (List ℕ) → Type 0
 IsPast most text lines = size_of (lines_after (first text lines)) + most < size_of lines
 
--- a read is given up only where the reader failed or the request has more than so many bytes
-abbrev pub IsReadGivenUp : ℕ → Option TextData → Bool → Option (List ℕ) → Result Request LineFault → Type 0
-IsReadGivenUp most text failed old (Err Read) = HasCause failed old (λ bytes. IsPast most text (lines_of bytes))
-IsReadGivenUp most text failed old answer = ⊤
+-- a read is given up only if the reader failed during the call or the request has more than so many bytes
+abbrev pub IsReadGivenUp : ℕ → Option TextData → Type 0 → Option (List ℕ) → Result Request LineFault → Type 0
+IsReadGivenUp most text Failed old (Err Read) = HasCause Failed old (λ bytes. IsPast most text (lines_of bytes))
+IsReadGivenUp most text Failed old answer = ⊤
+
+-- with every other answer the reader has not failed during the call, by a watch's counts before and after
+abbrev pub HasReadWell : Result Request LineFault → ℕ → ℕ → Type 0
+HasReadWell (Err Read) old new = ⊤
+HasReadWell answer old new = new ≡ old

@@ -1,6 +1,7 @@
 //! Bytes and lines of a reader, with no memory.
-ghost use Rattle.std.specs.Prelude.{◌≡◌, ◌≢◌, ◌+◌, ◌<◌, Bool, true, false, not, ◌&&◌, ◌||◌, ◌==◌, take, [], ◌∷◌, ◌++◌, IfOk, OnErr, MatchOption, nat_lt, length, if◌then◌else◌};
+ghost use Rattle.std.specs.Prelude.{◌≡◌, ◌≢◌, ◌+◌, ◌<◌, Bool, true, false, not, ◌&&◌, ◌||◌, ◌==◌, take, [], ◌∷◌, ◌++◌, IfOk, OnOk, OnErr, MatchOption, nat_lt, length, if◌then◌else◌};
 ghost use Rattle.std.specs.Io.KnownBytes.{Consumes, IsAtEnd};
+ghost use Rattle.io_watch.specs.Failure.{HasFailed};
 ghost use Rattle.psplib_mm.specs.Text.{is_blank};
 ghost use Rattle.session_lines.specs.Cause.{HasCause, IsLonger};
 ghost use Rattle.session_lines.specs.Known.{Goes};
@@ -79,7 +80,8 @@ pub fn next_byte<R: Read>(
         × IsAtEnd (R.remaining reader.new) × (left.new ≡ left.old))
         (λ b. Consumes (R.remaining reader.old) (R.remaining reader.new) (b ∷ [])
         × (left.new + 1 ≡ left.old))) }
-    ensures cause { OnErr result (HasCause watch.new.failed (R.remaining reader.old)
+    ensures kept { OnOk result (watch.new ≡ watch.old) }
+    ensures cause { OnErr result (HasCause (HasFailed watch.old watch.new) (R.remaining reader.old)
         (λ bytes. (left.old ≡ 0) × (bytes ≢ []))) }
 {
     let mut one = [0u8; 1];
@@ -109,7 +111,8 @@ pub fn next_line<R: Read>(
     ensures taken { IfOk result (λ found. Goes (R.remaining reader.old) (R.remaining reader.new)
         (TakesLine line.new.kept.items line.new.is_blank found left.old left.new)) }
     ensures fewer { IfOk result (λ found. found ≡ true → left.new < left.old) }
-    ensures cause { OnErr result (HasCause watch.new.failed (R.remaining reader.old)
+    ensures kept { OnOk result (watch.new ≡ watch.old) }
+    ensures cause { OnErr result (HasCause (HasFailed watch.old watch.new) (R.remaining reader.old)
         (IsLonger left.old)) }
 {
     loop {

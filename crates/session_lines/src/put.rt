@@ -1,5 +1,6 @@
 //! Bytes and numbers to a writer, with no memory.
-ghost use Rattle.std.specs.Prelude.{◌≡◌, decimal, true, OnErr};
+ghost use Rattle.std.specs.Prelude.{◌≡◌, decimal};
+ghost use Rattle.io_watch.specs.Failure.{IsNoted};
 ghost use Rattle.session_lines.specs.Known.{Writes};
 ghost use Rattle.session_lines.specs.Part.{part_text, parts_text};
 
@@ -23,7 +24,7 @@ pub enum Part<'a> {
 /// Writes bytes. After a fault some of them may have gone out, from the front.
 pub fn put<W: Write>(writer: &mut W, watch: &mut Watch, bytes: &[u8]) -> Result<(), WriteFault>
     ensures writes { Writes result (W.contents writer.old) (W.contents writer.new) bytes.now }
-    ensures cause { OnErr result (watch.new.failed ≡ true) }
+    ensures noted { IsNoted result watch.old watch.new }
 {
     let mut rest = bytes;
     while !rest.is_empty() {
@@ -37,7 +38,7 @@ pub fn put<W: Write>(writer: &mut W, watch: &mut Watch, bytes: &[u8]) -> Result<
 
 fn put_part<W: Write>(writer: &mut W, watch: &mut Watch, part: Part<'_>) -> Result<(), WriteFault>
     ensures writes { Writes result (W.contents writer.old) (W.contents writer.new) (part_text part.entry) }
-    ensures cause { OnErr result (watch.new.failed ≡ true) }
+    ensures noted { IsNoted result watch.old watch.new }
 {
     match part {
         Part::Text(bytes) => put(writer, watch, bytes),
@@ -53,7 +54,7 @@ pub fn put_parts<W: Write>(
     parts: &[Part<'_>],
 ) -> Result<(), WriteFault>
     ensures writes { Writes result (W.contents writer.old) (W.contents writer.new) (parts_text parts.now) }
-    ensures cause { OnErr result (watch.new.failed ≡ true) }
+    ensures noted { IsNoted result watch.old watch.new }
 {
     for part in parts {
         if let Err(fault) = put_part(writer, watch, *part) {

@@ -1,6 +1,7 @@
 //! Requests of a reader.
 ghost use Rattle.std.specs.Prelude.{◌≡◌, ◌≤◌, None, Some};
-ghost use Rattle.session_lines.specs.Cause.{IsReadGivenUp};
+ghost use Rattle.io_watch.specs.Failure.{HasFailed};
+ghost use Rattle.session_lines.specs.Cause.{IsReadGivenUp, HasReadWell};
 ghost use Rattle.session_lines.specs.Script.{Takes, opened_text};
 ghost use Rattle.session_lines.specs.Taken.{judged_by};
 
@@ -40,8 +41,10 @@ fn read_text<R: Read>(
 ) -> Result<Request, LineFault>
     ensures takes { Takes left.old (Some (opened_text head)) (R.remaining reader.old) (R.remaining reader.new)
         result }
-    ensures cause { IsReadGivenUp left.old (Some (opened_text head)) watch.new.failed (R.remaining reader.old)
+    ensures cause { IsReadGivenUp left.old (Some (opened_text head)) (HasFailed watch.old watch.new)
+        (R.remaining reader.old)
         result }
+    ensures kept { HasReadWell result watch.old watch.new }
 {
     let mut text = Text::new(alloc, head);
     loop {
@@ -67,7 +70,8 @@ pub fn read_within<R: Read>(
     most: u64,
 ) -> Result<Request, LineFault>
     ensures takes { Takes most None (R.remaining reader.old) (R.remaining reader.new) result }
-    ensures cause { IsReadGivenUp most None watch.new.failed (R.remaining reader.old) result }
+    ensures cause { IsReadGivenUp most None (HasFailed watch.old watch.new) (R.remaining reader.old) result }
+    ensures kept { HasReadWell result watch.old watch.new }
 {
     let mut left = most;
     loop {
@@ -89,8 +93,8 @@ pub fn read_within<R: Read>(
 }
 
 /// Takes the bytes of the next request, with the blank lines before it, through a watch, and leaves the rest. Where a
-/// line or a text is no request, its bytes are taken too; what is left after `LineFault::Read` is not known, and it
-/// comes only where a read failed or the request has more than 100,000,000 bytes. Only a submit takes memory. It reads
+/// line or a text is no request, its bytes are taken too; what is left after `LineFault::Read` is not known. It comes
+/// only if a read fails during the call or the request has more than 100,000,000 bytes. Only a submit takes memory. It reads
 /// byte by byte, so hand in a reader that reads ahead.
 pub fn read_request<R: Read>(
     alloc: Global,
@@ -98,7 +102,10 @@ pub fn read_request<R: Read>(
     watch: &mut Watch,
 ) -> Result<Request, LineFault>
     ensures takes { Takes MOST_REQUEST_BYTES None (R.remaining reader.old) (R.remaining reader.new) result }
-    ensures cause { IsReadGivenUp MOST_REQUEST_BYTES None watch.new.failed (R.remaining reader.old) result }
+    ensures cause { IsReadGivenUp MOST_REQUEST_BYTES None (HasFailed watch.old watch.new)
+        (R.remaining reader.old)
+        result }
+    ensures kept { HasReadWell result watch.old watch.new }
 {
     read_within(alloc, reader, watch, MOST_REQUEST_BYTES)
 }

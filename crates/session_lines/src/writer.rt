@@ -1,6 +1,7 @@
 //! Reply lines to a writer.
-ghost use Rattle.std.specs.Prelude.{◌≡◌, ◌++◌, codes, decimal, true, OnErr};
+ghost use Rattle.std.specs.Prelude.{◌≡◌, ◌++◌, codes, decimal};
 ghost use Rattle.psplib_mm.specs.FaultText.{section_text, limit_text};
+ghost use Rattle.io_watch.specs.Failure.{IsNoted};
 ghost use Rattle.session_lines.specs.Known.{Writes};
 ghost use Rattle.session_lines.specs.Part.{part_text, parts_text};
 ghost use Rattle.session_lines.specs.ReplyText.{verdict_text, best_text, line_text, place_text, places_text, schedule_text, book_text, reply_text, file_text, said_text, who_text, reply_line};
@@ -54,7 +55,7 @@ fn best_part(best: Option<u32>) -> Part<'static>
 fn put_who<W: Write>(writer: &mut W, watch: &mut Watch, who: Option<Name>) -> Result<(), WriteFault>
     ensures writes { Writes result (W.contents writer.old) (W.contents writer.new)
         (who_text who) }
-    ensures cause { OnErr result (watch.new.failed ≡ true) }
+    ensures noted { IsNoted result watch.old watch.new }
 {
     match &who {
         Some(name) => put_parts(
@@ -73,7 +74,7 @@ fn put_who<W: Write>(writer: &mut W, watch: &mut Watch, who: Option<Name>) -> Re
 // What is known of a job, below its number.
 fn put_line<W: Write>(writer: &mut W, watch: &mut Watch, line: &Line) -> Result<(), WriteFault>
     ensures writes { Writes result (W.contents writer.old) (W.contents writer.new) (line_text line.now) }
-    ensures cause { OnErr result (watch.new.failed ≡ true) }
+    ensures noted { IsNoted result watch.old watch.new }
 {
     put_parts(
         writer,
@@ -101,7 +102,7 @@ fn put_job<W: Write>(
 ) -> Result<(), WriteFault>
     ensures writes { Writes result (W.contents writer.old) (W.contents writer.new)
         (parts_text parts.now ++ line_text line.now) }
-    ensures cause { OnErr result (watch.new.failed ≡ true) }
+    ensures noted { IsNoted result watch.old watch.new }
 {
     if let Err(fault) = put_parts(writer, watch, parts) {
         return Err(fault);
@@ -111,7 +112,7 @@ fn put_job<W: Write>(
 
 fn put_book<W: Write>(writer: &mut W, watch: &mut Watch, book: &Book) -> Result<(), WriteFault>
     ensures writes { Writes result (W.contents writer.old) (W.contents writer.new) (book_text book.now) }
-    ensures cause { OnErr result (watch.new.failed ≡ true) }
+    ensures noted { IsNoted result watch.old watch.new }
 {
     put_parts(
         writer,
@@ -132,7 +133,7 @@ fn put_book<W: Write>(writer: &mut W, watch: &mut Watch, book: &Book) -> Result<
 // Why a text is no project.
 fn put_file<W: Write>(writer: &mut W, watch: &mut Watch, fault: MmFault) -> Result<(), WriteFault>
     ensures writes { Writes result (W.contents writer.old) (W.contents writer.new) (file_text fault) }
-    ensures cause { OnErr result (watch.new.failed ≡ true) }
+    ensures noted { IsNoted result watch.old watch.new }
 {
     match fault {
         MmFault::TooLong => put(writer, watch, b"no file TooLong"),
@@ -200,7 +201,7 @@ fn put_bracketed<'a, W: Write>(
 ) -> Result<(), WriteFault>
     ensures writes { Writes result (W.contents writer.old) (W.contents writer.new)
         (text.entry.now ++ part_text inside.entry ++ codes ")") }
-    ensures cause { OnErr result (watch.new.failed ≡ true) }
+    ensures noted { IsNoted result watch.old watch.new }
 {
     put_parts(writer, watch, &[Part::Text(text), inside, Part::Text(b")")])
 }
@@ -213,7 +214,7 @@ fn put_schedule<W: Write>(
 ) -> Result<(), WriteFault>
     ensures writes { Writes result (W.contents writer.old) (W.contents writer.new)
         (places_text 1 schedule.now.modes schedule.now.starts) }
-    ensures cause { OnErr result (watch.new.failed ≡ true) }
+    ensures noted { IsNoted result watch.old watch.new }
 {
     let modes = schedule.modes.as_slice();
     let starts = schedule.starts.as_slice();
@@ -235,7 +236,7 @@ fn put_place<W: Write>(
 ) -> Result<(), WriteFault>
     ensures writes { Writes result (W.contents writer.old) (W.contents writer.new)
         (place_text number mode start) }
-    ensures cause { OnErr result (watch.new.failed ≡ true) }
+    ensures noted { IsNoted result watch.old watch.new }
 {
     put_parts(
         writer,
@@ -259,7 +260,7 @@ fn put_places<W: Write>(
 ) -> Result<(), WriteFault>
     ensures writes { Writes result (W.contents writer.old) (W.contents writer.new)
         (schedule_text schedule.now) }
-    ensures cause { OnErr result (watch.new.failed ≡ true) }
+    ensures noted { IsNoted result watch.old watch.new }
 {
     match schedule {
         Some(schedule) => put_schedule(writer, watch, schedule),
@@ -278,7 +279,7 @@ fn put_front<W: Write>(
     ensures writes { Writes result (W.contents writer.old) (W.contents writer.new)
         (codes "job " ++ decimal seq ++ codes " makespan " ++ best_text best ++ codes " "
         ++ verdict_text verdict) }
-    ensures cause { OnErr result (watch.new.failed ≡ true) }
+    ensures noted { IsNoted result watch.old watch.new }
 {
     let parts = [
         Part::Text(b"job "),
@@ -303,7 +304,7 @@ fn put_best<W: Write>(
     ensures writes { Writes result (W.contents writer.old) (W.contents writer.new)
         (codes "job " ++ decimal seq ++ codes " makespan " ++ best_text best ++ codes " "
         ++ verdict_text verdict ++ schedule_text schedule.now) }
-    ensures cause { OnErr result (watch.new.failed ≡ true) }
+    ensures noted { IsNoted result watch.old watch.new }
 {
     if let Err(fault) = put_front(writer, watch, seq, best, verdict) {
         return Err(fault);
@@ -314,7 +315,7 @@ fn put_best<W: Write>(
 fn put_forgotten<W: Write>(writer: &mut W, watch: &mut Watch, seq: u64) -> Result<(), WriteFault>
     ensures writes { Writes result (W.contents writer.old) (W.contents writer.new)
         (codes "job " ++ decimal seq ++ codes " forgotten") }
-    ensures cause { OnErr result (watch.new.failed ≡ true) }
+    ensures noted { IsNoted result watch.old watch.new }
 {
     let parts = [
         Part::Text(b"job "),
@@ -326,7 +327,7 @@ fn put_forgotten<W: Write>(writer: &mut W, watch: &mut Watch, seq: u64) -> Resul
 
 fn put_reply<W: Write>(writer: &mut W, watch: &mut Watch, reply: &Reply) -> Result<(), WriteFault>
     ensures writes { Writes result (W.contents writer.old) (W.contents writer.new) (reply_text reply.now) }
-    ensures cause { OnErr result (watch.new.failed ≡ true) }
+    ensures noted { IsNoted result watch.old watch.new }
 {
     match reply {
         Reply::Job(seq) => put_parts(writer, watch, &[Part::Text(b"job "), Part::Number(*seq)]),
@@ -372,7 +373,7 @@ fn put_reply<W: Write>(writer: &mut W, watch: &mut Watch, reply: &Reply) -> Resu
 
 fn put_said<W: Write>(writer: &mut W, watch: &mut Watch, said: &Said) -> Result<(), WriteFault>
     ensures writes { Writes result (W.contents writer.old) (W.contents writer.new) (said_text said.now) }
-    ensures cause { OnErr result (watch.new.failed ≡ true) }
+    ensures noted { IsNoted result watch.old watch.new }
 {
     match said {
         Said::Reply(reply) => put_reply(writer, watch, reply),
@@ -385,8 +386,8 @@ fn put_said<W: Write>(writer: &mut W, watch: &mut Watch, said: &Said) -> Result<
 }
 
 /// Writes the one line of a reply, with its line feed, through a watch: `@`, the tenant's name, a space and the reply's
-/// text. Where no tenant is known, a question mark stands for the name. After a fault, which comes only where a write
-/// failed or took nothing, an unknown part of the line has gone out, from its front. Takes no memory; the line goes out
+/// text. Where no tenant is known, a question mark stands for the name. After a fault, which comes only if a write of this
+/// call fails or takes nothing, an unknown part of the line has gone out, from its front. Takes no memory; the line goes out
 /// in small pieces, so hand in a writer that gathers them.
 pub fn write_reply<W: Write>(
     writer: &mut W,
@@ -396,7 +397,7 @@ pub fn write_reply<W: Write>(
 ) -> Result<(), WriteFault>
     ensures writes { Writes result (W.contents writer.old) (W.contents writer.new)
         (reply_line who said.now) }
-    ensures cause { OnErr result (watch.new.failed ≡ true) }
+    ensures noted { IsNoted result watch.old watch.new }
 {
     if let Err(fault) = put_who(writer, watch, who) {
         return Err(fault);

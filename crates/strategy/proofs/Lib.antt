@@ -5,4 +5,5 @@ pub mod LawLemmas
 pub mod LaterLemmas
 pub mod PassLemmas
 pub mod OutcomeLemmas
+pub mod RunLemmas
 pub mod Examples

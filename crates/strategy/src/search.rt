@@ -19,19 +19,22 @@ pub trait Strategy: Send + Drop {
 
     /// The number of the tenant whose search it is.
     fn tenant(&self) -> u32
-        ensures { result ≡ (meaning self.now).tenant };
+        ensures shown { result ≡ (meaning self.now).tenant }
+        ensures owned { result ≡ (lease self.now).tenant };
 
     /// What it searches, and how.
     fn plan(&self) -> &Plan
         ensures { result.now ≡ (meaning self.now).plan };
 
-    /// How many nodes it has run.
+    /// How many nodes it has run: as many as its lease has quanta used.
     fn nodes(&self) -> u64
-        ensures { result ≡ (meaning self.now).nodes };
+        ensures shown { result ≡ (meaning self.now).nodes }
+        ensures paid { result ≡ (lease self.now).used };
 
     /// How many quanta it holds: how many nodes it may still run.
     fn left(&self) -> u64
-        ensures { result ≡ (meaning self.now).left };
+        ensures shown { result ≡ (meaning self.now).left }
+        ensures held { result ≡ (lease self.now).left };
 
     /// Whether it runs no more nodes.
     fn closed(&self) -> bool
@@ -59,14 +62,21 @@ pub trait Strategy: Send + Drop {
         ensures shown { meaning self.new ≡ advanced (meaning self.old) }
         ensures used { lease self.new ≡ after_use (lease self.old) 1 };
 
-    /// Runs nodes until so many have run, it holds no more quanta or it is over, and tells how many. Each is paid with a
-    /// quantum of those that it holds, all of them in one step at the end: so searches that share a till do not wait for
-    /// each other at every node.
+    /// Runs nodes until so many have run, it holds no more quanta or it is over, and tells how many. An implementation may
+    /// pay for all of them in one step at the end: so searches that share a till do not wait for each other at every node.
     fn run(&mut self, most: u64) -> u64
         requires { (meaning self.old).taken ≡ false }
         ensures ran { result ≡ nodes_within most (meaning self.old) }
         ensures shown { meaning self.new ≡ ran_on result (meaning self.old) }
-        ensures used { lease self.new ≡ after_use (lease self.old) result };
+        ensures used { lease self.new ≡ after_use (lease self.old) result }
+    {
+        let mut ran = 0;
+        while ran < most && 0 < self.left() && !self.closed() {
+            self.advance();
+            ran += 1;
+        }
+        ran
+    }
 
     /// Hands back all quanta that it holds.
     fn settle(&mut self)

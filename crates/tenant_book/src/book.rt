@@ -28,12 +28,9 @@ impl Model for Book {
     ghost invariant = { λ b. IsBook (record { granted = b.granted; free = b.free; held = b.held; spent = b.spent }) };
 }
 
-/// More quanta were asked for than are free.
+/// More quanta were asked for than are free, and how many these are.
 #[derive(Clone, Copy, Debug, PartialEq, Eq)]
-pub struct Short {
-    /// How many are free.
-    pub free: u64,
-}
+pub struct Short(pub u64);
 
 impl Book {
     /// A book of so many quanta, at most `MOST_QUANTA`, that are all free.
@@ -85,11 +82,11 @@ impl Book {
     pub fn hold(&mut self, quanta: u64) -> Result<(), Short>
         ensures enough { IsOk result ↔ (quanta ≤ self.old.free) }
         ensures held { OnOk result (self.new ≡ after_hold quanta self.old) }
-        ensures short { IfErr result (λ short. short.free ≡ self.old.free) }
+        ensures short { IfErr result (λ short. short.0 ≡ self.old.free) }
         ensures kept { OnErr result (self.new ≡ self.old) }
     {
         if self.free < quanta {
-            return Err(Short { free: self.free });
+            return Err(Short(self.free));
         }
         self.free -= quanta;
         self.held += quanta;

@@ -15,7 +15,7 @@ fn quanta_of_a_day(rt: HostRuntime) -> Result<(), Fail> {
     tells(&rt, &book, 100, 0, 0);
     assert!(rt; book.hold(6) == Ok(()));
     tells(&rt, &book, 94, 6, 0);
-    assert!(rt; book.hold(95) == Err(Short { free: 94 }));
+    assert!(rt; book.hold(95) == Err(Short(94)));
     tells(&rt, &book, 94, 6, 0);
     if 4 <= book.held() {
         book.spend(4);
@@ -27,6 +27,6 @@ fn quanta_of_a_day(rt: HostRuntime) -> Result<(), Fail> {
     tells(&rt, &book, 96, 0, 4);
     assert!(rt; book.hold(96) == Ok(()));
     tells(&rt, &book, 0, 96, 4);
-    assert!(rt; book.hold(1) == Err(Short { free: 0 }));
+    assert!(rt; book.hold(1) == Err(Short(0)));
     Ok(())
 }

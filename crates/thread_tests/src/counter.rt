@@ -76,6 +76,10 @@ impl Kept for Counter {
     ghost events = { λ c. c.history.items };
 
     ghost relation = { Counted };
+
+    fn events(&self) -> u64 {
+        self.history.len() as u64
+    }
 }
 
 impl Runs for Counter {

@@ -81,11 +81,6 @@ impl Strategy for Patient {
         self.search.advance();
     }
 
-    fn run(&mut self, most: u64) -> u64 {
-        self.meet();
-        self.search.run(most)
-    }
-
     fn settle(&mut self) {
         self.search.settle();
     }

@@ -1,5 +1,5 @@
 //! What may lie under a turn lock.
-ghost use Rattle.std.specs.Prelude.{List, Option};
+ghost use Rattle.std.specs.Prelude.{◌≡◌, List, Option, length};
 
 /// A value that keeps a list of events, in the order in which they came. All of these types are plain data: no value of theirs is made.
 ///
@@ -20,6 +20,10 @@ pub trait Kept {
     ghost events: { Self → List Self.Event };
     // How the value may answer: its opening, the events before, what the call says, the event that it leaves, and what the answer says.
     ghost relation: { Self.Opening → List Self.Event → Self.Said → Option Self.Event → Self.Told → Type 0 };
+
+    /// How many events there are.
+    fn events(&self) -> u64
+        ensures { result ≡ length (events self.now) };
 }
 
 /// The calls of a value under a lock. Nothing here ties them to [`Kept`]: who makes a call shows that it keeps the opening, leaves one

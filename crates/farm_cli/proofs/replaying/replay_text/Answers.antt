@@ -8,10 +8,10 @@ pub returns-in-Ok-flush : goal.returns-in-Ok-flush
 returns-in-Ok-flush g c =
     let held = writer_contents g.W.Write.contents c.replay-ended.new.writer in
     let out = writer_contents g.W.Write.contents c.flush.new.output in
-    sent (Err c.in-Err-ended.fault) c.args.text.now c.replay-ended.new.watches (is_some c.replay-ended.new.notes.refused) (g.S.Read.remaining c.args.script)
+    sent (Err c.in-Err-ended.fault) c.args.text.now c.args.watches.now c.replay-ended.new.watches (is_some c.replay-ended.new.notes.refused) (g.S.Read.remaining c.args.script)
     (g.W.Write.contents (writer_inner c.args.output.now)) (g.W.Write.contents (writer_inner c.flush.new.output)) (writer_buffer c.flush.new.output)
     c.in-Ok-flush.ensures.sent
-    (gathered (Err c.in-Err-ended.fault) c.args.text.now c.in-Ok.config c.replay-ended.new.watches (is_some c.replay-ended.new.notes.refused) (g.S.Read.remaining c.args.script)
+    (gathered (Err c.in-Err-ended.fault) c.args.text.now c.in-Ok.config c.args.watches.now c.replay-ended.new.watches (is_some c.replay-ended.new.notes.refused) (g.S.Read.remaining c.args.script)
     (g.W.Write.contents (writer_inner c.args.output.now)) held out (writer_buffer c.args.output.now)
     c.in-Ok.ensures.ok c.requires c.in-Err-ended.ensures.written c.in-Err-ended.ensures.cut_off c.in-Ok-flush.ensures.bytes)
 
@@ -20,9 +20,9 @@ returns g c =
     let held = writer_contents g.W.Write.contents c.replay-ended.new.writer in
     let out = writer_contents g.W.Write.contents c.flush.new.output in (
       c.in-Err-flush.ensures.noted,
-      unsent c.replay-ended.result c.args.text.now c.replay-ended.new.watches (is_some c.replay-ended.new.notes.refused) (g.S.Read.remaining c.args.script)
+      unsent c.replay-ended.result c.args.text.now c.args.watches.now c.replay-ended.new.watches (is_some c.replay-ended.new.notes.refused) (g.S.Read.remaining c.args.script)
           (g.W.Write.contents (writer_inner c.args.output.now)) (g.W.Write.contents (writer_inner c.flush.new.output)) (writer_buffer c.flush.new.output)
-          (gathered c.replay-ended.result c.args.text.now c.in-Ok.config c.replay-ended.new.watches (is_some c.replay-ended.new.notes.refused) (g.S.Read.remaining c.args.script)
+          (gathered c.replay-ended.result c.args.text.now c.in-Ok.config c.args.watches.now c.replay-ended.new.watches (is_some c.replay-ended.new.notes.refused) (g.S.Read.remaining c.args.script)
           (g.W.Write.contents (writer_inner c.args.output.now)) held out (writer_buffer c.args.output.now)
           c.in-Ok.ensures.ok c.requires c.replay-ended.ensures.written c.replay-ended.ensures.cut_off c.in-Err-flush.ensures.bytes),
     )

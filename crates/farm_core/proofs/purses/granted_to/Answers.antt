@@ -1,7 +1,11 @@
 use Rattle.std.proofs.Common.{◌≡◌, arith, length, sym, ap, ◌∙◌}
+use Rattle.std.proofs.lemmas.List.{length-map}
+use Rattle.farm_core.specs.Config.{purse_names}
+use Rattle.farm_core.specs.Purses.{purse_of}
+use Rattle.farm_core.specs.declared.config.TenantLine.{TenantLine}
 use Rattle.farm_core.proofs.PursesLemmas.{granted_below, granted_more, granted_as_before, granted_in_all, quanta_most}
 use Rattle.farm_core.proofs.purses.granted_to.Goals as goal
-use Rattle.farm_core.proofs.purses.granted_to.Goals.{then-purse_of-purse, else-purse_of-purse}
+use Rattle.farm_core.proofs.purses.granted_to.Goals.{then-number-purse, else-number-purse}
 
 pub overflow_add-granted : goal.overflow_add-granted
 overflow_add-granted c =
@@ -12,14 +16,16 @@ pub loop-tenant-preserved : goal.loop-tenant-preserved
 loop-tenant-preserved c =
     let lines = c.args.lines.now in
     let t = c.loop-tenant.tenant in
-    elim c.if-purse_of-purse.branch [
-      | then-purse_of-purse w ↦
-          let own = sym c.purse_of.ensures.exact ∙ w.if-purse_of-purse.true in
+    let many = length-map lines (λ (line : TenantLine). line.purse) in
+    let number : c.number.result ≡ purse_of (purse_names lines) t = c.number.ensures ∙ c.requires.numbered.each t (omega arith) in
+    elim c.if-number-purse.branch [
+      | then-number-purse w ↦
+          let own = sym number ∙ w.if-number-purse.true in
           let more = granted_more lines c.args.purse t c.index-lines-tenant.result (omega arith) c.index-lines-tenant.is own in
           let most = quanta_most lines t c.index-lines-tenant.result c.requires.terms (omega arith) c.index-lines-tenant.is in
           record { exact = omega arith; most = omega arith }
-      | else-purse_of-purse w ↦
-          let same = granted_as_before lines c.args.purse t (λ e. w.if-purse_of-purse.false (c.purse_of.ensures.exact ∙ e)) in
+      | else-number-purse w ↦
+          let same = granted_as_before lines c.args.purse t (λ e. w.if-number-purse.false (number ∙ e)) in
           record { exact = omega arith; most = omega arith }
     ]
 

@@ -1,6 +1,7 @@
+use Rattle.io_watch.specs.Failure.{HasFailed}
 use Rattle.farm_replay.proofs.PlayLemmas.{end_stops}
 use Rattle.farm_replay.proofs.script.end.Goals as goal
 
 pub returns-clause-fault : goal.returns-clause-fault
 returns-clause-fault g c =
-    rw c.ended.ensures (end_stops c.requests_come_in_turn.ensures (g.R.Read.remaining c.args.script.now) (g.R.Read.remaining c.read_request.new.reader) c.read_request.new.watch.failed c.read_request.result c.read_request.ensures.takes c.read_request.ensures.cause)
+    rw c.ended.ensures (end_stops c.requests_come_in_turn.ensures (g.R.Read.remaining c.args.script.now) (g.R.Read.remaining c.read_request.new.reader) (HasFailed c.args.watch.now c.read_request.new.watch) c.read_request.result c.read_request.ensures.takes c.read_request.ensures.cause)

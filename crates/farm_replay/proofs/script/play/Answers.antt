@@ -7,7 +7,7 @@ use Rattle.farm_session.proofs.TillLemmas.{tills_kept}
 use Rattle.farm_replay.specs.Floor.{IsFloor}
 use Rattle.farm_replay.specs.Reader.{script_rest}
 use Rattle.farm_replay.proofs.LeaseLemmas.{LeasedTo, none_leased, leases_told, leases_asked, leases_of}
-use Rattle.farm_replay.proofs.PlayLemmas.{Played, begun, play_begins, settled_on, settled_cut, asked_on, asked_cut, asked_unsent, played_sent, play_over, play_broken, play_written, play_cut}
+use Rattle.farm_replay.proofs.PlayLemmas.{Played, begun, play_begins, settled_on, settled_cut, asked_on, asked_cut, asked_unsent, played_sent, play_over, play_broken, play_written, play_cut, told_well, asked_well}
 use Rattle.farm_replay.proofs.script.play.Goals as goal
 use Rattle.farm_replay.proofs.script.play.Goals.{in-Told+in_default, in-Asked+in_default-send_before_nodes+in_default-tell}
 
@@ -22,6 +22,8 @@ loop-answered-init g c = (
       (play_begins c.args.config.now (script_rest g.R.Read.remaining c.args.script.now) (g.W.Write.contents c.args.writer.now) c.args.floor.now.farm
       (ap (λ w. w.config) c.requires.farm) (begun c.args.config.now c.args.floor.now.farm c.farms_are_replayed.ensures c.requires.farm)),
   none_leased c.args.config.now (goal.M-post g c.args.make.now) (script_rest g.R.Read.remaining c.args.script.now) c.args.branches.now,
+  refl,
+  refl,
 )
 
 pub returns-in-Over-clause-written : goal.returns-in-Over-clause-written
@@ -39,7 +41,7 @@ returns-in-Err-clause-cut_off g c =
     (g.W.Write.contents c.args.writer.now) (g.W.Write.contents c.send_before_wait.new.writer) (g.W.Write.contents c.tell.new.writer) c.loop-answered._answered (is_some c.loop-answered.notes.refused) c.loop-answered.floor.farm c.read_request.result
     c.in-Told.who c.in-Told.said (cc (c.in-Told.is, c.hear.ensures)) c.read_request.ensures.takes (played_sent c.args.config.now (script_rest g.R.Read.remaining c.args.script.now) (script_rest g.R.Read.remaining c.loop-answered.script) (script_rest g.R.Read.remaining c.begin.new.self)
     (g.W.Write.contents c.args.writer.now) (g.W.Write.contents c.loop-answered.writer) (g.W.Write.contents c.send_before_wait.new.writer) c.loop-answered._answered (is_some c.loop-answered.notes.refused) c.loop-answered.floor.farm c.begin.ensures
-    c.send_before_wait.ensures c.loop-answered.invariant.3) c.in-Err.ensures.writes.err _ c.in-Err.ensures.cause)
+    c.send_before_wait.ensures c.loop-answered.invariant.3) c.in-Err.ensures.writes.err _ _ (rw c.loop-answered.invariant.6 at c.in-Err.ensures.noted))
 
 pub returns-in-Err-send_before_nodes-clause-cut_off : goal.returns-in-Err-send_before_nodes-clause-cut_off
 returns-in-Err-send_before_nodes-clause-cut_off g c =
@@ -51,7 +53,7 @@ returns-in-Err-send_before_nodes-clause-cut_off g c =
     (g.W.Write.contents c.args.writer.now) (g.W.Write.contents c.send_before_wait.new.writer) (g.W.Write.contents c.send_before_nodes.new.writer) c.loop-answered._answered (is_some c.loop-answered.notes.refused) c.loop-answered.floor.farm refl
     c.send_before_nodes.ensures.kept (played_sent c.args.config.now (script_rest g.R.Read.remaining c.args.script.now) (script_rest g.R.Read.remaining c.loop-answered.script) (script_rest g.R.Read.remaining c.begin.new.self)
     (g.W.Write.contents c.args.writer.now) (g.W.Write.contents c.loop-answered.writer) (g.W.Write.contents c.send_before_wait.new.writer) c.loop-answered._answered (is_some c.loop-answered.notes.refused) c.loop-answered.floor.farm c.begin.ensures
-    c.send_before_wait.ensures c.loop-answered.invariant.3)) _ c.in-Err-send_before_nodes.ensures.cause)
+    c.send_before_wait.ensures c.loop-answered.invariant.3)) _ _ (rw c.loop-answered.invariant.6 at c.in-Err-send_before_nodes.ensures.noted))
 
 pub returns-in-Err-tell-clause-cut_off : goal.returns-in-Err-tell-clause-cut_off
 returns-in-Err-tell-clause-cut_off g c =
@@ -63,7 +65,7 @@ returns-in-Err-tell-clause-cut_off g c =
     (g.W.Write.contents c.args.writer.now) (g.W.Write.contents c.send_before_wait.new.writer) (g.W.Write.contents c.send_before_nodes.new.writer) c.loop-answered._answered (is_some c.loop-answered.notes.refused) c.loop-answered.floor.farm refl
     c.send_before_nodes.ensures.kept (played_sent c.args.config.now (script_rest g.R.Read.remaining c.args.script.now) (script_rest g.R.Read.remaining c.loop-answered.script) (script_rest g.R.Read.remaining c.begin.new.self)
     (g.W.Write.contents c.args.writer.now) (g.W.Write.contents c.loop-answered.writer) (g.W.Write.contents c.send_before_wait.new.writer) c.loop-answered._answered (is_some c.loop-answered.notes.refused) c.loop-answered.floor.farm c.begin.ensures
-    c.send_before_wait.ensures c.loop-answered.invariant.3)) c.in-Err-tell.ensures.writes.err _ c.in-Err-tell.ensures.cause)
+    c.send_before_wait.ensures c.loop-answered.invariant.3)) c.in-Err-tell.ensures.writes.err _ _ (rw (c.in_default-send_before_nodes.ensures.noted ∙ c.loop-answered.invariant.6) at c.in-Err-tell.ensures.noted))
 
 pub loop-answered-preserved : goal.loop-answered-preserved
 loop-answered-preserved g c =
@@ -82,6 +84,10 @@ loop-answered-preserved g c =
         leases_told c.args.config.now (goal.M-post g c.args.make.now) (script_rest g.R.Read.remaining c.args.script.now) (script_rest g.R.Read.remaining c.loop-answered.script) (script_rest g.R.Read.remaining c.begin.new.self)
             (script_rest g.R.Read.remaining c.read_request.new.reader) c.args.branches.now c.loop-answered.branches _ c.read_request.result w.in-Told.who w.in-Told.said
             (cc (w.in-Told.is, c.hear.ensures)) c.begin.ensures c.read_request.ensures.takes w.branches-is inv.4,
+        ap (λ v. v.reads) w.watches-is
+            ∙ told_well c.args.config.now c.loop-answered.watches.reads c.read_request.new.watch c.read_request.result w.in-Told.who w.in-Told.said (cc (w.in-Told.is, c.hear.ensures)) c.read_request.ensures.kept
+            ∙ inv.5,
+        ap (λ v. v.writes) w.watches-is ∙ w.in_default.ensures.noted ∙ inv.6,
       )
       | in-Asked+in_default-send_before_nodes+in_default-tell w ↦ (
         ap (λ x. x.farm.config) w.floor-is ∙ w.answer-said.ensures.told.config ∙ inv.0,
@@ -104,6 +110,10 @@ loop-answered-preserved g c =
             (script_rest g.R.Read.remaining c.read_request.new.reader) c.args.branches.now c.loop-answered.branches w.answer-said.new.branches c.read_request.result w.in-Asked.tenant w.in-Asked.who w.in-Asked.asked
             (cc (w.in-Asked.is, c.hear.ensures)) c.begin.ensures c.read_request.ensures.takes
             (subst (λ k. HasLeasedFor (goal.M-post g c.args.make.now) k w.in-Asked.tenant w.in-Asked.asked c.loop-answered.branches w.answer-said.new.branches) inv.0 w.answer-said.ensures.leased) inv.4),
+        ap (λ v. v.reads) w.watches-is
+            ∙ asked_well c.args.config.now c.loop-answered.watches.reads c.read_request.new.watch c.read_request.result w.in-Asked.tenant w.in-Asked.who w.in-Asked.asked (cc (w.in-Asked.is, c.hear.ensures)) c.read_request.ensures.kept
+            ∙ inv.5,
+        ap (λ v. v.writes) w.watches-is ∙ w.in_default-tell.ensures.noted ∙ w.in_default-send_before_nodes.ensures.noted ∙ inv.6,
       )
     ]
 
@@ -116,14 +126,14 @@ pub returns-clause-cut_off : goal.returns-clause-cut_off
 returns-clause-cut_off g c =
     let all : c.loop-answered._answered ≡ 1000000 = omega arith in
     play_cut c.args.config.now (script_rest g.R.Read.remaining c.args.script.now) (script_rest g.R.Read.remaining c.loop-answered.script) (g.W.Write.contents c.args.writer.now) (g.W.Write.contents c.loop-answered.writer)
-    (is_some c.loop-answered.notes.refused) c.loop-answered.floor.farm _ c.end.result
+    (is_some c.loop-answered.notes.refused) c.loop-answered.floor.farm _ _ c.end.result
     (subst (λ n. Played c.args.config.now (script_rest g.R.Read.remaining c.args.script.now) (script_rest g.R.Read.remaining c.loop-answered.script) (g.W.Write.contents c.args.writer.now) (g.W.Write.contents c.loop-answered.writer) n (is_some c.loop-answered.notes.refused) c.loop-answered.floor.farm)
-    all c.loop-answered.invariant.3) c.end.ensures.fault
+    all c.loop-answered.invariant.3) (rw c.loop-answered.invariant.5 at c.end.ensures.fault)
 
 pub returns-in-Broken-clause-cut_off : goal.returns-in-Broken-clause-cut_off
 returns-in-Broken-clause-cut_off g c =
     play_broken c.args.config.now (script_rest g.R.Read.remaining c.args.script.now) (script_rest g.R.Read.remaining c.begin.new.self) (g.W.Write.contents c.args.writer.now) (g.W.Write.contents c.send_before_wait.new.writer)
-    c.loop-answered._answered (is_some c.loop-answered.notes.refused) c.loop-answered.floor.farm c.read_request.result _ (cc (c.in-Broken.is, c.hear.ensures)) c.read_request.ensures.cause
+    c.loop-answered._answered (is_some c.loop-answered.notes.refused) c.loop-answered.floor.farm c.read_request.result _ _ (cc (c.in-Broken.is, c.hear.ensures)) (rw c.loop-answered.invariant.5 at c.read_request.ensures.cause)
     (played_sent c.args.config.now (script_rest g.R.Read.remaining c.args.script.now) (script_rest g.R.Read.remaining c.loop-answered.script) (script_rest g.R.Read.remaining c.begin.new.self)
     (g.W.Write.contents c.args.writer.now) (g.W.Write.contents c.loop-answered.writer) (g.W.Write.contents c.send_before_wait.new.writer) c.loop-answered._answered (is_some c.loop-answered.notes.refused) c.loop-answered.floor.farm c.begin.ensures
     c.send_before_wait.ensures c.loop-answered.invariant.3)

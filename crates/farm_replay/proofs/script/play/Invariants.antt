@@ -8,9 +8,10 @@ use Rattle.farm_replay.proofs.LeaseLemmas.{LeasedTo}
 use Rattle.farm_replay.proofs.PlayLemmas.{Played}
 use Rattle.farm_replay.proofs.script.play.Given as goal
 
--- so many requests are answered, the farm is where they lead and holds their turns, and it is noted whether one was refused
+-- so many requests are answered, the farm is where they lead and holds their turns, it is noted whether one was refused, and nothing has failed
 abbrev pub invariant-loop-answered : goal.invariant-loop-answered
 invariant-loop-answered g l =
     (l.floor.farm.config ≡ l.config) × AreTillsOf l.config (tills_of l.branches) × IsFloor g.J.Strategy.meaning l.floor.farm l.floor.held.items
     × Played l.config (script_rest g.R.Read.remaining l.fn.script) (script_rest g.R.Read.remaining l.script) (g.W.Write.contents l.fn.writer) (g.W.Write.contents l.writer) l._answered (is_some l.notes.refused) l.floor.farm
     × LeasedTo l.config (goal.M-post g l.make) (script_rest g.R.Read.remaining l.fn.script) l.fn.branches (script_rest g.R.Read.remaining l.script) l.branches
+    × (l.watches.reads ≡ l.fn.watches.reads) × (l.watches.writes ≡ l.fn.watches.writes)

@@ -32,5 +32,5 @@ returns-clause-truth g c =
 
 pub returns-clause-cut_off : goal.returns-clause-cut_off
 returns-clause-cut_off g c =
-    subst (λ a. IfErr c.play-ended.result (λ fault. IfSome a (λ bytes. IsCutOff c.args.config.now fault c.play-ended.new.watches bytes (g.W.Write.contents c.args.writer.now) (g.W.Write.contents c.play-ended.new.writer))))
+    subst (λ a. IfErr c.play-ended.result (λ fault. IfSome a (λ bytes. IsCutOff c.args.config.now fault c.args.watches.now c.play-ended.new.watches bytes (g.W.Write.contents c.args.writer.now) (g.W.Write.contents c.play-ended.new.writer))))
     c.in-Ok.ensures c.play-ended.ensures.cut_off

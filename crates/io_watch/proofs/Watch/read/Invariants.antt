@@ -6,5 +6,5 @@ use Rattle.io_watch.proofs.Watch.read.Given as goal
 abbrev pub invariant-loop : goal.invariant-loop
 invariant-loop g l = record {
   bytes : Keeps (g.R.Read.remaining l.initial.reader) (g.R.Read.remaining l.reader);
-  failed : l.self.failed ≡ l.initial.self.failed;
+  kept : l.self ≡ l.initial.self;
 }

@@ -6,5 +6,5 @@ use Rattle.io_watch.proofs.Watch.write.Given as goal
 abbrev pub invariant-loop : goal.invariant-loop
 invariant-loop g l = record {
   bytes : Keeps (g.W.Write.contents l.initial.writer) (g.W.Write.contents l.writer);
-  failed : l.self.failed ≡ l.initial.self.failed;
+  kept : l.self ≡ l.initial.self;
 }

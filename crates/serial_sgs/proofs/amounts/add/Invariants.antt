@@ -3,7 +3,7 @@ use Rattle.serial_sgs.proofs.amounts.add.Given as goal
 
 abbrev pub invariant-loop-kind : goal.invariant-loop-kind
 invariant-loop-kind l = record {
-  fit : length l.amounts ≡ 8;
-  done : (r : ℕ) → r < l.kind → get_or l.amounts r 0 ≡ get_or l.initial.amounts r 0 + get_or l.more r 0;
-  rest : (r : ℕ) → l.kind ≤ r → get_or l.amounts r 0 ≡ get_or l.initial.amounts r 0;
+  fit : length l.sums ≡ 8;
+  done : (r : ℕ) → r < l.kind → get_or l.sums r 0 ≡ get_or l.amounts r 0 + get_or l.more r 0;
+  rest : (r : ℕ) → l.kind ≤ r → get_or l.sums r 0 ≡ get_or l.amounts r 0;
 }

@@ -1,5 +1,4 @@
-use Rattle.std.proofs.Common.{arith, ap}
-use Rattle.mrcpsp.specs.Project.{mode_count}
+use Rattle.std.proofs.Common.{arith}
 use Rattle.tree_search.proofs.MachineLemmas.{from-next, from-none}
 use Rattle.tree_search.proofs.cursor.first_candidate.Goals as goal
 
@@ -13,7 +12,7 @@ returns c =
     let found = c.in_ok-activity.ensures in (
       record {
         activity = found.inside;
-        mode = omega (arith, c.mode_count-modes.ensures.some, c.mode_count-modes.ensures.exact, ap (λ q. mode_count q c.in_ok-activity.activity) c.project.ensures);
+        mode = omega (arith, c.mode_count-modes.ensures.some, c.mode_count-modes.ensures.exact);
         few = omega arith;
         eligible = found.eligible;
       },

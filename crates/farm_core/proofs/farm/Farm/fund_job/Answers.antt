@@ -24,7 +24,7 @@ pub noted-requires-clause-step : goal.noted-requires-clause-step
 noted-requires-clause-step g c =
     let w : World = c.args.self.now in
     let free_is : c.account-account.result.book.free ≡ free (view c.args.tenant w) = free_in w c.args.tenant (vec_capacity c.self.inside.journal) c.account-account.result (subst (λ (x : World). IsFarm x (vec_capacity c.self.inside.journal)) c.self.view_is c.self.invariant.0) c.requires.known c.account-account.ensures.exact in
-    fund_short (view c.args.tenant w) c.args.seq c.args.quanta c.in-Err.short.free c.args.line c.requires.line c.requires.out c.requires.ended c.requires.amount
+    fund_short (view c.args.tenant w) c.args.seq c.args.quanta c.in-Err.short.0 c.args.line c.requires.line c.requires.out c.requires.ended c.requires.amount
     (λ enough. let no = c.in-Err.ensures.enough.1 (omega (arith, enough, free_is)) in absurd (cc)) (c.in-Err.ensures.short ∙ free_is)
 
 pub fund-requires-after_bounds : goal.fund-requires-after_bounds

@@ -26,8 +26,8 @@ pub noted-requires-clause-step : goal.noted-requires-clause-step
 noted-requires-clause-step g c =
     let w : World = c.args.self.now in
     let free_is : c.account-account.result.book.free ≡ free (view c.args.tenant w) = free_in w c.args.tenant (vec_capacity c.self.inside.journal) c.account-account.result (subst (λ (x : World). IsFarm x (vec_capacity c.self.inside.journal)) c.self.view_is c.self.invariant.0) c.requires.known c.account-account.ensures.exact in
-    subst (λ (e : Event). IsOnlyNoted (view c.args.tenant w) e (reply.NoShort c.in-Err.short.free)) (sym c.requires.event)
-    (submit_short (view c.args.tenant w) c.args.plan c.args.quanta c.in-Err.short.free c.requires.amount c.requires.jobs
+    subst (λ (e : Event). IsOnlyNoted (view c.args.tenant w) e (reply.NoShort c.in-Err.short.0)) (sym c.requires.event)
+    (submit_short (view c.args.tenant w) c.args.plan c.args.quanta c.in-Err.short.0 c.requires.amount c.requires.jobs
     (λ enough. let no = c.in-Err.ensures.enough.1 (omega (arith, enough, free_is)) in absurd (cc)) (c.in-Err.ensures.short ∙ free_is))
 
 pub overflow_add-account : goal.overflow_add-account

@@ -1,0 +1,11 @@
+-- What a watch has noted during a call, by its counts before and after.
+use Rattle.std.specs.Prelude.{◌≡◌, ℕ, ◌+◌, ◌%◌, ◌^◌, Result, Ok, Err}
+
+-- one failure, and no more: it takes 2^64 to bring the count back to where it was
+abbrev pub HasFailed : ℕ → ℕ → Type 0
+HasFailed old new = new ≡ (old + 1) % 2 ^ 64
+
+-- one failure if the call answers a fault, and otherwise none
+abbrev pub IsNoted : {T E : Type 0} → Result T E → ℕ → ℕ → Type 0
+IsNoted (Ok value) old new = new ≡ old
+IsNoted (Err fault) old new = HasFailed old new

@@ -1,0 +1,79 @@
+//! Activities in few chains of precedences, so that at most one of each chain runs in a period. They are hints alone.
+use crate::activities::{Activities, add_all, add_one, is_among};
+use crate::diagram::Part;
+use mrcpsp::Project;
+use std::alloc::{AllocError, Global};
+
+/// For each activity all that come before it, right before it or by others between.
+#[derive(Drop)]
+pub(crate) struct Chains {
+    before: Vec<Activities>,
+}
+
+impl Chains {
+    pub(crate) fn new(alloc: Global, project: &Project) -> Result<Chains, AllocError> {
+        let mut chains = Chains {
+            before: Vec::new(alloc),
+        };
+        for activity in 0..project.size() {
+            let before = chains.before_next(project, activity);
+            chains.before.push(before)?;
+        }
+        Ok(chains)
+    }
+
+    /// All that come before an activity, from what comes before those with lower numbers.
+    fn before_next(&self, project: &Project, activity: usize) -> Activities {
+        let mut before = [0; 4];
+        for other in 0..self.before.len() {
+            if other < project.size()
+                && activity < project.size()
+                && project.precedes(other, activity)
+            {
+                add_all(&mut before, self.before[other]);
+                add_one(&mut before, other);
+            }
+        }
+        before
+    }
+
+    fn does_precede(&self, before: usize, after: usize) -> bool {
+        match self.before.get(after) {
+            Some(activities) => is_among(*activities, before),
+            None => false,
+        }
+    }
+
+    /// The chain of an activity: the first whose last activity comes before it, or a new one.
+    fn place(&self, lasts: &mut Vec<usize>, activity: usize) -> Result<usize, AllocError> {
+        for place in 0..lasts.len() {
+            if self.does_precede(lasts[place], activity) {
+                lasts[place] = activity;
+                return Ok(place);
+            }
+        }
+        lasts.push(activity)?;
+        Ok(lasts.len() - 1)
+    }
+
+    /// Puts parts that are sorted by activity into levels of one chain each.
+    pub(crate) fn in_levels(
+        &self,
+        alloc: Global,
+        parts: Vec<Part>,
+    ) -> Result<Vec<Part>, AllocError> {
+        let mut parts = parts;
+        let mut lasts = Vec::new(alloc);
+        for at in 0..parts.len() {
+            let activity = parts[at].activity;
+            let level = if at > 0 && parts[at - 1].activity == activity {
+                parts[at - 1].level
+            } else {
+                self.place(&mut lasts, activity)?
+            };
+            parts[at].level = level;
+        }
+        parts.sort_by_key(|part| part.level)?;
+        Ok(parts)
+    }
+}
