@@ -1,7 +1,7 @@
 //! Clauses in DIMACS form: a line `p cnf VARIABLES CLAUSES`, and each clause as numbers ended by 0, a negative number for a
 //! negated variable. Lines that begin with `c` tell what the clauses say, and which variable says `starts J T`, that activity
 //! J starts at T or before, or `mode J M`, that it has the mode M.
-use schedule_clauses::{Formula, Kind, Meaning, Row};
+use schedule_clauses::{Formula, Kind, Fact, CapacityRow};
 use std::io::{self, Write};
 
 /// What the clauses of a kind say.
@@ -37,14 +37,14 @@ fn write_sections<W: Write>(writer: &mut W, formula: &Formula) -> io::Result<()>
 fn write_left_out<W: Write>(writer: &mut W, formula: &Formula) -> io::Result<()> {
     for row in &formula.left_out {
         match row {
-            Row::Use { resource, time } => {
+            CapacityRow::Use { resource, time } => {
                 let number = resource.saturating_add(1);
                 writeln!(
                     writer,
                     "c left out, as too large: renewable resource {number} in period {time}"
                 )?;
             }
-            Row::Stock { resource } => {
+            CapacityRow::Stock { resource } => {
                 let number = resource.saturating_add(1);
                 writeln!(
                     writer,
@@ -57,13 +57,13 @@ fn write_left_out<W: Write>(writer: &mut W, formula: &Formula) -> io::Result<()>
 }
 
 /// Tells what a variable says, where a schedule can be read off it. Activities and modes are numbered from 1.
-fn write_meaning<W: Write>(writer: &mut W, variable: usize, meaning: Meaning) -> io::Result<()> {
+fn write_meaning<W: Write>(writer: &mut W, variable: usize, meaning: Fact) -> io::Result<()> {
     match meaning {
-        Meaning::StartsBy { activity, time } => {
+        Fact::StartsBy { activity, time } => {
             let number = activity.saturating_add(1);
             writeln!(writer, "c {variable} starts {number} {time}")
         }
-        Meaning::InMode { activity, mode } => {
+        Fact::InMode { activity, mode } => {
             let number = activity.saturating_add(1);
             let mode = mode.saturating_add(1);
             writeln!(writer, "c {variable} mode {number} {mode}")

@@ -2,14 +2,14 @@
 use crate::head::{DOUBLY, JOBS, Label, NONRENEWABLE, PROJECTS, RENEWABLE, Value, value_of};
 use crate::limits::why_limit;
 use crate::lines::{Count, Piece, count_lines, number, shown_word};
-use crate::rows::{Misfit, Row, first_misfit, misnumbered, number_at};
+use crate::rows::{Misfit, FileRow, first_misfit, misnumbered, number_at};
 use crate::sections::lines_below;
 use crate::sheet::{Sheet, sheet_of};
 use psplib_mm::{MmFault, SectionName};
 use std::alloc::{AllocError, Global};
 
 /// Adds the name of a row: a job, or a mode of one.
-fn put_row(text: &mut String, row: &Row) -> Result<(), AllocError> {
+fn put_row(text: &mut String, row: &FileRow) -> Result<(), AllocError> {
     let job = row.job;
     match row.mode {
         Some(mode) => write!(text, "mode {mode} of job {job}"),
@@ -27,7 +27,7 @@ fn put_words(text: &mut String, count: usize) -> Result<(), AllocError> {
 }
 
 /// Adds which words a row needs.
-fn put_needs(text: &mut String, row: &Row) -> Result<(), AllocError> {
+fn put_needs(text: &mut String, row: &FileRow) -> Result<(), AllocError> {
     match (row.mode, row.has_job) {
         (Some(_), true) => {
             let resources = row.words.saturating_sub(3);
@@ -92,7 +92,7 @@ fn put_misfit(text: &mut String, misfit: &Misfit<'_>) -> Result<(), AllocError> 
 fn why_rows(
     alloc: Global,
     words: &[Piece<'_>],
-    rows: &[Row],
+    rows: &[FileRow],
 ) -> Result<Option<String>, AllocError> {
     let Some(misfit) = first_misfit(words, rows) else {
         return Ok(None);
@@ -181,7 +181,7 @@ fn blame_of(words: &[Piece<'_>], from: usize, place: usize, job: u64, jobs: u64)
 fn why_successor_of(
     alloc: Global,
     words: &[Piece<'_>],
-    row: &Row,
+    row: &FileRow,
     jobs: u64,
 ) -> Result<Option<String>, AllocError> {
     let from = row.start.saturating_add(3);

@@ -1,7 +1,7 @@
 //! The first number of a project that is above its limit.
 use crate::head::{JOBS, NONRENEWABLE, RENEWABLE, count_of, line_of};
 use crate::lines::{Count, Piece, number};
-use crate::rows::{Row, number_at};
+use crate::rows::{FileRow, number_at};
 use crate::sheet::Sheet;
 use psplib_mm::LimitName;
 use std::alloc::{AllocError, Global};
@@ -29,7 +29,7 @@ fn first_above(words: &[Piece<'_>], from: usize, count: usize, most: u64) -> Opt
 }
 
 /// The place of the duration of a mode's row.
-fn duration_place(row: &Row) -> usize {
+fn duration_place(row: &FileRow) -> usize {
     let place = row.start.saturating_add(1);
     if row.has_job {
         place.saturating_add(1)
@@ -39,7 +39,7 @@ fn duration_place(row: &Row) -> usize {
 }
 
 /// The first duration above 1,000.
-fn long_mode(words: &[Piece<'_>], rows: &[Row]) -> Option<(Row, Excess)> {
+fn long_mode(words: &[Piece<'_>], rows: &[FileRow]) -> Option<(FileRow, Excess)> {
     for row in rows {
         if row.mode.is_some()
             && let Some(excess) = first_above(words, duration_place(row), 1, 1_000)
@@ -51,7 +51,7 @@ fn long_mode(words: &[Piece<'_>], rows: &[Row]) -> Option<(Row, Excess)> {
 }
 
 /// The first request or consumption above 1,000,000.
-fn great_request(words: &[Piece<'_>], rows: &[Row], resources: usize) -> Option<(Row, Excess)> {
+fn great_request(words: &[Piece<'_>], rows: &[FileRow], resources: usize) -> Option<(FileRow, Excess)> {
     for row in rows {
         let from = duration_place(row).saturating_add(1);
         if row.mode.is_some()
@@ -64,7 +64,7 @@ fn great_request(words: &[Piece<'_>], rows: &[Row], resources: usize) -> Option<
 }
 
 /// The first job with no mode, or with more than ten.
-fn odd_job(words: &[Piece<'_>], rows: &[Row]) -> Option<(Row, Excess)> {
+fn odd_job(words: &[Piece<'_>], rows: &[FileRow]) -> Option<(FileRow, Excess)> {
     for row in rows {
         let place = row.start.saturating_add(1);
         let found = number_at(words, place);
@@ -77,7 +77,7 @@ fn odd_job(words: &[Piece<'_>], rows: &[Row]) -> Option<(Row, Excess)> {
 }
 
 /// The sum of all jobs' longest durations.
-fn horizon_of(words: &[Piece<'_>], rows: &[Row]) -> u64 {
+fn horizon_of(words: &[Piece<'_>], rows: &[FileRow]) -> u64 {
     let mut total = 0u64;
     let mut longest = 0u64;
     for row in rows {
@@ -95,7 +95,7 @@ fn horizon_of(words: &[Piece<'_>], rows: &[Row]) -> u64 {
 /// What is said of a number of a mode.
 fn tell_mode(
     alloc: Global,
-    told: Option<(Row, Excess)>,
+    told: Option<(FileRow, Excess)>,
     what: &str,
     most: u64,
 ) -> Result<Option<String>, AllocError> {

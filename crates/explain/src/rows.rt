@@ -4,7 +4,7 @@ use std::alloc::{AllocError, Global};
 
 /// The words of one job, or of one of its modes.
 #[derive(Clone, Copy, Debug)]
-pub(crate) struct Row {
+pub(crate) struct FileRow {
     /// The number of the job.
     pub(crate) job: u64,
     /// The number of the mode, in the section of requests.
@@ -21,11 +21,11 @@ pub(crate) struct Row {
 #[derive(Clone, Copy, Debug)]
 pub(crate) enum Misfit<'a> {
     /// Another word is where the number of the job, or of the mode, is wanted.
-    Other(Row, Piece<'a>),
+    Other(FileRow, Piece<'a>),
     /// It has so many words from its first one to the end of that line, or of the section.
-    Length(Row, usize, usize),
+    Length(FileRow, usize, usize),
     /// The section ends before it.
-    Missing(Row),
+    Missing(FileRow),
     /// So many words follow the last row, the first of them on this line.
     Surplus(usize, usize),
 }
@@ -47,12 +47,12 @@ pub(crate) fn precedence_rows(
     alloc: Global,
     words: &[Piece<'_>],
     jobs: u64,
-) -> Result<Vec<Row>, AllocError> {
+) -> Result<Vec<FileRow>, AllocError> {
     let mut rows = Vec::new(alloc);
     let mut start = 0usize;
     for job in 0..jobs {
         let successors = to_count(number_at(words, start.saturating_add(2)));
-        let row = Row {
+        let row = FileRow {
             job: job.saturating_add(1),
             mode: None,
             has_job: true,
@@ -70,7 +70,7 @@ pub(crate) fn precedence_rows(
 
 /// Adds the rows of one job's modes from a place on, up to the first one that the section has no words for.
 fn push_modes(
-    rows: &mut Vec<Row>,
+    rows: &mut Vec<FileRow>,
     start: usize,
     end: usize,
     job: u64,
@@ -78,7 +78,7 @@ fn push_modes(
     resources: usize,
 ) -> Result<usize, AllocError> {
     if modes == 0 {
-        rows.push(Row {
+        rows.push(FileRow {
             job,
             mode: None,
             has_job: true,
@@ -90,7 +90,7 @@ fn push_modes(
     let mut next = start;
     for mode in 0..modes {
         let has_job = mode == 0;
-        let row = Row {
+        let row = FileRow {
             job,
             mode: Some(mode.saturating_add(1)),
             has_job,
@@ -113,7 +113,7 @@ pub(crate) fn request_rows(
     words: &[Piece<'_>],
     modes: &[u64],
     resources: usize,
-) -> Result<Vec<Row>, AllocError> {
+) -> Result<Vec<FileRow>, AllocError> {
     let mut rows = Vec::new(alloc);
     let mut start = 0usize;
     let mut job = 0u64;
@@ -131,7 +131,7 @@ pub(crate) fn request_rows(
 pub(crate) fn modes_of(
     alloc: Global,
     words: &[Piece<'_>],
-    rows: &[Row],
+    rows: &[FileRow],
 ) -> Result<Vec<u64>, AllocError> {
     let mut modes = Vec::new(alloc);
     for row in rows {
@@ -152,7 +152,7 @@ fn words_on_line(words: &[Piece<'_>], place: usize) -> usize {
 }
 
 /// The word of a row that is not the number of its job or its mode.
-pub(crate) fn misnumbered<'a>(words: &[Piece<'a>], row: &Row) -> Option<Piece<'a>> {
+pub(crate) fn misnumbered<'a>(words: &[Piece<'a>], row: &FileRow) -> Option<Piece<'a>> {
     let mut place = row.start;
     if row.has_job {
         let word = *words.get(place)?;
@@ -170,7 +170,7 @@ pub(crate) fn misnumbered<'a>(words: &[Piece<'a>], row: &Row) -> Option<Piece<'a
 }
 
 /// Whether a row ends within a line, or behind the end of the section.
-fn is_uneven(words: &[Piece<'_>], row: &Row) -> bool {
+fn is_uneven(words: &[Piece<'_>], row: &FileRow) -> bool {
     let end = row.start.saturating_add(row.words);
     if end > words.len() {
         return true;
@@ -182,7 +182,7 @@ fn is_uneven(words: &[Piece<'_>], row: &Row) -> bool {
 }
 
 /// How one row is out of place.
-fn misfit_of<'a>(words: &[Piece<'a>], row: &Row) -> Option<Misfit<'a>> {
+fn misfit_of<'a>(words: &[Piece<'a>], row: &FileRow) -> Option<Misfit<'a>> {
     let Some(first) = words.get(row.start) else {
         return Some(Misfit::Missing(*row));
     };
@@ -197,7 +197,7 @@ fn misfit_of<'a>(words: &[Piece<'a>], row: &Row) -> Option<Misfit<'a>> {
 }
 
 /// How the first row is out of place that is, or how many words follow the last row.
-pub(crate) fn first_misfit<'a>(words: &[Piece<'a>], rows: &[Row]) -> Option<Misfit<'a>> {
+pub(crate) fn first_misfit<'a>(words: &[Piece<'a>], rows: &[FileRow]) -> Option<Misfit<'a>> {
     let mut end = 0usize;
     for row in rows {
         if let Some(misfit) = misfit_of(words, row) {

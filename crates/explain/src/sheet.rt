@@ -1,7 +1,7 @@
 //! A project's file, line by line and row by row.
 use crate::head::{JOBS, NONRENEWABLE, RENEWABLE, count_of};
 use crate::lines::{Piece, lines_of};
-use crate::rows::{Row, modes_of, precedence_rows, request_rows};
+use crate::rows::{FileRow, modes_of, precedence_rows, request_rows};
 use crate::sections::{head_of, section};
 use psplib_mm::SectionName;
 use std::alloc::{AllocError, Global};
@@ -20,9 +20,9 @@ pub(crate) struct Sheet<'a> {
     /// The words of the last section.
     pub(crate) availabilities: Vec<Piece<'a>>,
     /// The rows of the first section.
-    pub(crate) jobs: Vec<Row>,
+    pub(crate) jobs: Vec<FileRow>,
     /// The rows of the second section.
-    pub(crate) modes: Vec<Row>,
+    pub(crate) modes: Vec<FileRow>,
     /// How many resources there are.
     pub(crate) resources: usize,
 }

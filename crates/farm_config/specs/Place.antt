@@ -2,16 +2,16 @@
 use Rattle.std.specs.Prelude.{ℕ, List, Option, Some, slice_get, if◌then◌else◌}
 use Rattle.serde_json.specs.Read.{read}
 use Rattle.farm_core.specs.declared.config.TenantLine.{TenantLine}
-use Rattle.farm_config.specs.declared.place.Part.{Part}
-use Rattle.farm_config.specs.declared.place.Part.TheVariants.{Name, Purse}
+use Rattle.farm_config.specs.declared.place.ConfigPart.{ConfigPart}
+use Rattle.farm_config.specs.declared.place.ConfigPart.TheVariants.{Name, Purse}
 use Rattle.farm_config.specs.Config.{◌>>=◌, tenants_of, is_name_if_any}
 
 -- its purse where that is ill formed, and otherwise its name
-abbrev pub part_to_blame : TenantLine → Part
+abbrev pub part_to_blame : TenantLine → ConfigPart
 part_to_blame line = if is_name_if_any line.purse then Name else Purse
 
 -- the same of the tenant at a place of the text
-abbrev pub to_blame : List ℕ → ℕ → Option Part
+abbrev pub to_blame : List ℕ → ℕ → Option ConfigPart
 to_blame bytes index = do
   value ← read bytes
   lines ← tenants_of value

@@ -19,5 +19,5 @@ mod place;
 mod read;
 
 pub use fault::{ConfigFault, Key};
-pub use place::{Part, Place, place_of};
+pub use place::{ConfigPart, ConfigPlace, place_of};
 pub use read::read_config;

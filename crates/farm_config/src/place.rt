@@ -14,7 +14,7 @@ use std::fmt;
 
 /// A part of a configuration, or of a tenant in it.
 #[derive(Clone, Copy, Debug, PartialEq, Eq)]
-pub enum Part {
+pub enum ConfigPart {
     /// The object itself.
     Whole,
     /// The list of tenants.
@@ -29,47 +29,47 @@ pub enum Part {
 
 /// Where a fault lies.
 #[derive(Clone, Copy, Debug, PartialEq, Eq)]
-pub enum Place {
+pub enum ConfigPlace {
     /// A line of the text and a column of it, counted from 1.
     Text(usize, usize),
     /// A part of the configuration.
-    Whole(Part),
+    Whole(ConfigPart),
     /// A part of the tenant at that place of the list, counted from 0.
-    Tenant(usize, Part),
+    Tenant(usize, ConfigPart),
 }
 
-impl fmt::Display for Part {
+impl fmt::Display for ConfigPart {
     /// Writes the part as a key.
     fn fmt<W: fmt::Write>(&self, f: &mut fmt::Formatter<W>) -> fmt::Result {
         match self {
-            Part::Whole => write!(f, "the whole"),
-            Part::Tenants => write!(f, "tenants"),
-            Part::Name => write!(f, "name"),
-            Part::Purse => write!(f, "purse"),
-            Part::Number(key) => write!(f, "{key}"),
+            ConfigPart::Whole => write!(f, "the whole"),
+            ConfigPart::Tenants => write!(f, "tenants"),
+            ConfigPart::Name => write!(f, "name"),
+            ConfigPart::Purse => write!(f, "purse"),
+            ConfigPart::Number(key) => write!(f, "{key}"),
         }
     }
 }
 
-impl fmt::Display for Place {
+impl fmt::Display for ConfigPlace {
     /// Writes the place as a path, as `tenants[1].name`.
     fn fmt<W: fmt::Write>(&self, f: &mut fmt::Formatter<W>) -> fmt::Result {
         match self {
-            Place::Text(line, column) => write!(f, "line {line} column {column}"),
-            Place::Whole(part) => write!(f, "{part}"),
-            Place::Tenant(index, Part::Whole) => write!(f, "tenants[{index}]"),
-            Place::Tenant(index, part) => write!(f, "tenants[{index}].{part}"),
+            ConfigPlace::Text(line, column) => write!(f, "line {line} column {column}"),
+            ConfigPlace::Whole(part) => write!(f, "{part}"),
+            ConfigPlace::Tenant(index, ConfigPart::Whole) => write!(f, "tenants[{index}]"),
+            ConfigPlace::Tenant(index, part) => write!(f, "tenants[{index}].{part}"),
         }
     }
 }
 
 /// What may stand at a part where its value is of the wrong kind.
-fn kind_of(part: Part) -> &'static str {
+fn kind_of(part: ConfigPart) -> &'static str {
     match part {
-        Part::Whole => "an object is wanted",
-        Part::Tenants => "a list is wanted",
-        Part::Name | Part::Purse => "a string is wanted",
-        Part::Number(_) => "a natural number below 2^64 is wanted, in digits alone",
+        ConfigPart::Whole => "an object is wanted",
+        ConfigPart::Tenants => "a list is wanted",
+        ConfigPart::Name | ConfigPart::Purse => "a string is wanted",
+        ConfigPart::Number(_) => "a natural number below 2^64 is wanted, in digits alone",
     }
 }
 
@@ -85,13 +85,13 @@ fn range_of(key: Key) -> &'static str {
     }
 }
 
-impl Place {
+impl ConfigPlace {
     /// What is wanted at the place of this fault.
     pub fn wanted(self, fault: ConfigFault) -> &'static str {
         match (fault, self) {
-            (ConfigFault::Shape, Place::Whole(part) | Place::Tenant(_, part)) => kind_of(part),
+            (ConfigFault::Shape, ConfigPlace::Whole(part) | ConfigPlace::Tenant(_, part)) => kind_of(part),
             (ConfigFault::Tenants, _) => "1 to 64 are allowed",
-            (ConfigFault::Name(_), Place::Tenant(_, Part::Purse)) => {
+            (ConfigFault::Name(_), ConfigPlace::Tenant(_, ConfigPart::Purse)) => {
                 "1 to 32 of a-z, 0-9, _ and - are allowed, a letter first"
             }
             (ConfigFault::Name(_), _) => {
@@ -104,12 +104,12 @@ impl Place {
 }
 
 /// The first part of a tenant's object that is missing or of the wrong kind.
-fn misfit_of(tenant: &Value) -> Option<Part> {
+fn misfit_of(tenant: &Value) -> Option<ConfigPart> {
     if !tenant.is_object() {
-        return Some(Part::Whole);
+        return Some(ConfigPart::Whole);
     }
     if tenant.get("name").and_then(Value::as_str).is_none() {
-        return Some(Part::Name);
+        return Some(ConfigPart::Name);
     }
     let keys = [
         ("quanta", Key::Quanta),
@@ -118,31 +118,31 @@ fn misfit_of(tenant: &Value) -> Option<Part> {
     ];
     for (key, number) in keys {
         if tenant.get(key).and_then(Value::as_u64).is_none() {
-            return Some(Part::Number(number));
+            return Some(ConfigPart::Number(number));
         }
     }
     match tenant.get("purse") {
-        Some(purse) if purse.as_str().is_none() => Some(Part::Purse),
+        Some(purse) if purse.as_str().is_none() => Some(ConfigPart::Purse),
         _ => None,
     }
 }
 
 /// Where a value has not the shape of a configuration.
-fn misfit(value: &Value) -> Place {
+fn misfit(value: &Value) -> ConfigPlace {
     if !value.is_object() {
-        return Place::Whole(Part::Whole);
+        return ConfigPlace::Whole(ConfigPart::Whole);
     }
     let Some(tenants) = value.get("tenants").and_then(Value::as_array) else {
-        return Place::Whole(Part::Tenants);
+        return ConfigPlace::Whole(ConfigPart::Tenants);
     };
     for (index, tenant) in tenants.iter().enumerate() {
         if let Some(part) = misfit_of(tenant) {
-            return Place::Tenant(index, part);
+            return ConfigPlace::Tenant(index, part);
         }
     }
     match value.get("workers") {
-        Some(workers) if workers.as_u64().is_none() => Place::Whole(Part::Number(Key::Workers)),
-        _ => Place::Whole(Part::Number(Key::Slice)),
+        Some(workers) if workers.as_u64().is_none() => ConfigPlace::Whole(ConfigPart::Number(Key::Workers)),
+        _ => ConfigPlace::Whole(ConfigPart::Number(Key::Slice)),
     }
 }
 
@@ -182,38 +182,38 @@ fn first_over(lines: &[LineDraft<'_>], key: Key) -> Option<usize> {
 }
 
 /// Where the first number at this key stands that is out of range: of a purse, where its first tenant names it.
-fn out_of_range(alloc: Global, value: &Value, key: Key) -> Place {
+fn out_of_range(alloc: Global, value: &Value, key: Key) -> ConfigPlace {
     let part = match key {
-        Key::Purse => Part::Purse,
-        _ => Part::Number(key),
+        Key::Purse => ConfigPart::Purse,
+        _ => ConfigPart::Number(key),
     };
     let Ok(draft) = draft_of(alloc, value) else {
-        return Place::Whole(part);
+        return ConfigPlace::Whole(part);
     };
     let tenant = match key {
         Key::Purse => overfull(&draft.tenants),
         _ => first_over(&draft.tenants, key),
     };
     match tenant {
-        Some(index) => Place::Tenant(index, part),
-        None => Place::Whole(part),
+        Some(index) => ConfigPlace::Tenant(index, part),
+        None => ConfigPlace::Whole(part),
     }
 }
 
 /// What is to blame where this tenant is misnamed: its purse where that is ill formed, and otherwise its name.
-fn part_to_blame(line: &LineDraft<'_>) -> Part
+fn part_to_blame(line: &LineDraft<'_>) -> ConfigPart
     ensures { result ≡ part_to_blame line.now }
 {
     match line.purse {
-        Some(purse) if Name::new(purse).is_none() => Part::Purse,
-        _ => Part::Name,
+        Some(purse) if Name::new(purse).is_none() => ConfigPart::Purse,
+        _ => ConfigPart::Name,
     }
 }
 
 /// Where the tenant at this place of the list is misnamed. It is not known where memory ran out.
-fn misnamed_place(alloc: Global, bytes: &[u8], index: usize) -> Option<Place>
+fn misnamed_place(alloc: Global, bytes: &[u8], index: usize) -> Option<ConfigPlace>
     ensures { IfSome result (λ place.
-        (part : Part) × (to_blame bytes.now index ≡ Some part) × (place ≡ Place.Tenant index part)) }
+        (part : ConfigPart) × (to_blame bytes.now index ≡ Some part) × (place ≡ ConfigPlace.Tenant index part)) }
 {
     let Ok(value) = value_of(alloc, bytes) else {
         return None;
@@ -222,25 +222,25 @@ fn misnamed_place(alloc: Global, bytes: &[u8], index: usize) -> Option<Place>
         return None;
     };
     match draft.tenants.get(index) {
-        Some(line) => Some(Place::Tenant(index, part_to_blame(line))),
+        Some(line) => Some(ConfigPlace::Tenant(index, part_to_blame(line))),
         None => None,
     }
 }
 
 /// Where the fault of these bytes lies. It is not known where memory ran out.
-pub fn place_of(alloc: Global, bytes: &[u8], fault: ConfigFault) -> Option<Place>
+pub fn place_of(alloc: Global, bytes: &[u8], fault: ConfigFault) -> Option<ConfigPlace>
     ensures { (index : ℕ) → fault ≡ misnamed index →
         IfSome result (λ place.
-        (part : Part) × (to_blame bytes.now index ≡ Some part) × (place ≡ Place.Tenant index part)) }
+        (part : ConfigPart) × (to_blame bytes.now index ≡ Some part) × (place ≡ ConfigPlace.Tenant index part)) }
 {
     if let ConfigFault::Name(index) = fault {
         return misnamed_place(alloc, bytes, index);
     }
     match (Value::from_slice(alloc, bytes), fault) {
         (Ok(value), ConfigFault::Shape) => Some(misfit(&value)),
-        (Ok(_), ConfigFault::Tenants) => Some(Place::Whole(Part::Tenants)),
+        (Ok(_), ConfigFault::Tenants) => Some(ConfigPlace::Whole(ConfigPart::Tenants)),
         (Ok(value), ConfigFault::Range(key)) => Some(out_of_range(alloc, &value, key)),
-        (Err(error), ConfigFault::Json) => Some(Place::Text(error.line(), error.column())),
+        (Err(error), ConfigFault::Json) => Some(ConfigPlace::Text(error.line(), error.column())),
         _ => None,
     }
 }

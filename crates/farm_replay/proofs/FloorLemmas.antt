@@ -40,7 +40,7 @@ use Rattle.session_lines.specs.declared.request.What.TheVariants as what
 use Rattle.session_lines.specs.declared.said.Said.{Said}
 use Rattle.session_lines.specs.declared.said.Said.TheVariants as said
 use Rattle.farm_session.specs.Command.{event_in}
-use Rattle.farm_replay.specs.Output.{Told, said_for, told_by, told_to, told_under, given_back, turned, request_may_need}
+use Rattle.farm_replay.specs.Output.{Answered, said_for, told_by, told_to, told_under, given_back, turned, request_may_need}
 use Rattle.farm_replay.specs.Floor.{is_turn_of, has_turn, AreApart, IsFloor, IsTold, untaken}
 
 -- ---- lists of turns
@@ -281,8 +281,8 @@ stepped : (old new : World) (t : ℕ) (what : What) (e : Event) (answer : Answer
     → IsTold old t what (said_for answer) new
 stepped old new t what e answer same f = record {
   refused = false;
-  said = ap said_for f.answer_is ∙ ap (λ (it : Told). it.said) (sym same);
-  own = called old new t e answer f ∙ ap (λ (it : Told). with_seat (purse_at old t) (place_in old.config t) it.after) (sym same);
+  said = ap said_for f.answer_is ∙ ap (λ (it : Answered). it.said) (sym same);
+  own = called old new t e answer f ∙ ap (λ (it : Answered). with_seat (purse_at old t) (place_in old.config t) it.after) (sym same);
   others = others_stay old new t e answer f;
   config = f.config;
 }
@@ -378,9 +378,9 @@ turned_whole old mid new t s slice line answer f it =
     ap (λ v. given_back v s) f.own ∙ ap (λ a. turned a (step (view t old) (Take s slice)).after s) f.answer_is in
     record {
       refused = false;
-      said = it.said ∙ ap (λ (x : Told). x.said) (back ∙ whole);
+      said = it.said ∙ ap (λ (x : Answered). x.said) (back ∙ whole);
       own = given_own old mid new t (Take s slice) (Sent line) (told_under it.refused (view t mid) (what.Give s)).after f it.own
-          ∙ ap (λ (x : Told). with_seat (purse_at old t) (place_in old.config t) x.after) (back ∙ whole);
+          ∙ ap (λ (x : Answered). with_seat (purse_at old t) (place_in old.config t) x.after) (back ∙ whole);
       others = λ p other. it.others p (λ e. other (e ∙ ap (λ (c : ConfigData). purse_in c t) f.config)) ∙ others_stay old mid t (Take s slice) (Sent line) f p other;
       config = it.config ∙ f.config;
     }
@@ -408,8 +408,8 @@ told_none meaning w t s turns known floor none =
     let same : given_back (view t w) s ≡ record { said = said.NoTurn; after = view t w } = ap (λ f. told_by (done (view t w) f)) (not_out (find_job s (view t w).jobs) quiet) in
     record {
       refused = false;
-      said = ap (λ (x : Told). x.said) (sym same);
-      own = stands w t known ∙ ap (λ (x : Told). with_seat (purse_at w t) (place_in w.config t) x.after) (sym same);
+      said = ap (λ (x : Answered). x.said) (sym same);
+      own = stands w t known ∙ ap (λ (x : Answered). with_seat (purse_at w t) (place_in w.config t) x.after) (sym same);
       others = λ p other. refl;
       config = refl;
     }

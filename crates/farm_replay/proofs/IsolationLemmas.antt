@@ -19,7 +19,7 @@ use Rattle.session_lines.specs.declared.request.LineFault.TheVariants.{Eof, Read
 use Rattle.session_lines.specs.declared.said.Said.{Said}
 use Rattle.session_lines.specs.declared.said.Said.TheVariants as said
 use Rattle.farm_session.specs.Heard.{is_line_of, tenant_number, heard_for, heard_of}
-use Rattle.farm_replay.specs.Output.{Told, told_under, Parts, opening, part_of, Saying, Next, says, answered, who_in, Marked, is_unread, next, lines_for}
+use Rattle.farm_replay.specs.Output.{Answered, told_under, Parts, opening, part_of, Saying, Next, says, answered, who_in, Marked, is_unread, next, lines_for}
 use Rattle.farm_replay.specs.Isolation.{whose, is_of, place_if, seat_of, is_members, own_lines, own_requests, EachReplaysAlone, ReplaysAreIsolated, EachLoneReplaysAlone}
 
 -- ---- names
@@ -58,14 +58,14 @@ seated config p k t = by (purse_in config t == p) refl
 
 -- what is said to it, and its purse then
 own_asked : (config : ConfigData) (refused : Bool) (parts : Parts) (who : List ℕ) (what : What) (p k t : ℕ) → IsSeated config p k t
-    → let it : Told = told_under refused (seat (parts p) k) what in
+    → let it : Answered = told_under refused (seat (parts p) k) what in
     (let n : Next = answered config refused parts (heard_for who what (Some t)) in
     (n.line ≡ record { who = Some who; said = it.said }) × (n.parts p ≡ with_seat (parts p) k it.after))
 own_asked config refused parts who what p k t at =
-    let said : ℕ → ℕ → Told = λ x y. told_under refused (seat (parts x) y) what in
+    let said : ℕ → ℕ → Answered = λ x y. told_under refused (seat (parts x) y) what in
     let told : said (purse_in config t) (place_in config t) ≡ said p k = ap (λ x. said x (place_in config t)) at.purse ∙ ap (said p) at.place in
     let first = purse_in config t in (
-      ap (λ (x : Told). let l : Saying = record { who = Some who; said = x.said } in l) told,
+      ap (λ (x : Answered). let l : Saying = record { who = Some who; said = x.said } in l) told,
       ap (λ b. cond b (with_seat (parts first) (place_in config t) (said first (place_in config t)).after) (parts p)) (eq-eqb p first (sym at.purse))
           ∙ ap (λ x. with_seat (parts x) (place_in config t) (said x (place_in config t)).after) at.purse
           ∙ ap (λ y. with_seat (parts p) y (said p y).after) at.place,
@@ -79,7 +79,7 @@ same_asked config elsewhere refused one other who what p q (Some t) None (Some k
 same_asked config elsewhere refused one other who what p q (Some t) (Some s) (Some k) at there own h =
     let here = own_asked config refused one who what p k t (seated config p k t at) in
     let over = own_asked elsewhere refused other who what q k s (seated elsewhere q k s there) in
-    let said : Purse → Told = λ x. told_under refused (seat x k) what in
+    let said : Purse → Answered = λ x. told_under refused (seat x k) what in
     record {
       line = here.0 ∙ ap (λ (x : Purse). let l : Saying = record { who = Some who; said = (said x).said } in l) h ∙ sym over.0;
       agree = here.1 ∙ ap (λ (x : Purse). with_seat x k (said x).after) h ∙ sym over.1;

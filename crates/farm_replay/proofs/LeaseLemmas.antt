@@ -12,9 +12,9 @@ use Rattle.farm_session.specs.declared.heard.Heard.TheVariants.{Told, Asked}
 use Rattle.farm_session.specs.Branch.{BranchValue, HasLeasedFor, HasLeasedBy}
 use Rattle.farm_session.specs.Heard.{heard_of}
 use Rattle.farm_session.specs.Ready.{ReadyData}
-use Rattle.farm_replay.specs.Leases.{Place, HaveLeased, AreLeasesOf}
+use Rattle.farm_replay.specs.Leases.{ScriptPoint, HaveLeased, AreLeasesOf}
 
-abbrev place : Option (List ℕ) → List BranchValue → Place
+abbrev place : Option (List ℕ) → List BranchValue → ScriptPoint
 place left branches = record { left = left; branches = branches }
 
 module _ {J : Type 0} (config : ConfigData) (made : ReadyData → Option J → Type 0) where

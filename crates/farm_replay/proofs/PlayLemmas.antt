@@ -30,7 +30,7 @@ use Rattle.session_lines.specs.Script.{Item, lines_of, first, first_request, req
 use Rattle.farm_replay.specs.declared.script.ReplayFault.{ReplayFault}
 use Rattle.farm_replay.specs.declared.script.ReplayFault.TheVariants as fault
 use Rattle.farm_session.specs.declared.heard.Heard.TheVariants as heard
-use Rattle.farm_replay.specs.Output.{Told, request_may_need, told_to, told_under, Parts, opening, part_of, with_tenant, Saying, Next, says, answered, who_in, Marked, next, lines_for, parts_after, line_text, output_of, items_of, has_refusal, IsWritten, lines_past, IsLongNext, IsCutBy, IsCutOff}
+use Rattle.farm_replay.specs.Output.{Answered, request_may_need, told_to, told_under, Parts, opening, part_of, with_tenant, Saying, Next, says, answered, who_in, Marked, next, lines_for, parts_after, line_text, output_of, items_of, has_refusal, IsWritten, lines_past, IsLongNext, IsCutBy, IsCutOff}
 use Rattle.farm_session.specs.Heard.{tenant_number, heard_for, heard_of}
 use Rattle.farm_replay.specs.Refusal.{is_refusal}
 use Rattle.farm_replay.specs.Replay.{GoesOn, end_of}
@@ -367,7 +367,7 @@ settled_cut turns config a b c old mid new count noted w answer who words is tak
     (λ xs zs known it. it)
 
 -- the line of tenant t's request, where this is told to it
-record IsLed (config : ConfigData) (parts : Parts) (item : Item) (t : ℕ) (who : List ℕ) (told : Told) (refused : Bool) : Type 0 where
+record IsLed (config : ConfigData) (parts : Parts) (item : Item) (t : ℕ) (who : List ℕ) (told : Answered) (refused : Bool) : Type 0 where
   line : (next config parts (record { item = item; refused = refused })).line ≡ record { who = Some who; said = told.said }
   leads : (q : ℕ) → (next config parts (record { item = item; refused = refused })).parts q ≡ with_tenant config parts t told.after q
 
@@ -388,7 +388,7 @@ stays config parts t q =
       | false ↦ λ _. refl
     ] refl
 
-abbrev told_if : Bool → Tenant → What → Told
+abbrev told_if : Bool → Tenant → What → Answered
 told_if silent t what = cond silent (record { said = said.Reply reply.NoMemory; after = t }) (told_to t what)
 
 -- whatever is told to it, there is a mark that leads there: memory that is refused for a submit refuses its text
@@ -444,10 +444,10 @@ answered_asked config xs ys zs old mid count noted w w' t who what words it s h 
     let same : told_under h.refused (view t w) what ≡ told_under h.refused (part_of config parts t) what = ap (λ v. told_under h.refused v what) (view_is config parts w t it.of_config known it.parts) in (
       led.0,
       record {
-        says = led.1.line ∙ ap (λ v. let l : Saying = record { who = Some who; said = v } in l) (sym (h.said ∙ ap (λ (x : Told). x.said) same));
+        says = led.1.line ∙ ap (λ v. let l : Saying = record { who = Some who; said = v } in l) (sym (h.said ∙ ap (λ (x : Answered). x.said) same));
         of_config = h.config ∙ it.of_config;
         leads = λ q. leads_to config parts w w' t (told_under h.refused (view t w) what).after it.of_config h.own h.others it.parts q
-            ∙ ap (λ (x : Told). with_tenant config parts t x.after q) same ∙ sym (led.1.leads q);
+            ∙ ap (λ (x : Answered). with_tenant config parts t x.after q) same ∙ sym (led.1.leads q);
       },
     )
 

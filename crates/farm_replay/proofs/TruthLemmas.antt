@@ -29,7 +29,7 @@ use Rattle.session_lines.specs.declared.request.LineFault.{LineFault}
 use Rattle.session_lines.specs.declared.said.Said.{Said}
 use Rattle.session_lines.specs.declared.said.Said.TheVariants as said
 use Rattle.farm_session.specs.Heard.{tenant_number, heard_for, heard_of}
-use Rattle.farm_replay.specs.Output.{Told, said_for, told_by, turned, told_to, request_may_need, told_under, Parts, opening, Next, says, answered, who_in, Marked, is_unread, next, parts_after, part_of, with_tenant}
+use Rattle.farm_replay.specs.Output.{Answered, said_for, told_by, turned, told_to, request_may_need, told_under, Parts, opening, Next, says, answered, who_in, Marked, is_unread, next, parts_after, part_of, with_tenant}
 use Rattle.farm_replay.proofs.IsolationLemmas.{settled}
 use Rattle.farm_replay.proofs.PlayLemmas.{parts_more}
 use Rattle.farm_replay.proofs.PlannedLemmas.{IsPlannedWhat, IsPlannedRequest, ArePlanned, script_planned}
@@ -51,12 +51,12 @@ call_for t (Give s) = event.Give s (nodes_out (find_job s t.jobs))
 call_for t (Turn s slice) = event.Take s slice
 
 -- something that is so where memory is refused, of each call, and of each whole turn
-record Cases (t : Tenant) (P : Event → Told → Type 0) : Type 0 where
+record Cases (t : Tenant) (P : Event → Answered → Type 0) : Type 0 where
   refuses : (e : Event) → P e (record { said = said.Reply reply.NoMemory; after = t })
   steps : (e : Event) → P e (told_by (step t e))
   turns : (s slice : ℕ) → P (event.Take s slice) (told_to t (Turn s slice))
 
-each_told : (t : Tenant) (P : Event → Told → Type 0) → Cases t P → (refused : Bool) (what : What) → P (call_for t what) (told_under refused t what)
+each_told : (t : Tenant) (P : Event → Answered → Type 0) → Cases t P → (refused : Bool) (what : What) → P (call_for t what) (told_under refused t what)
 each_told t P c refused what =
     cond_both (refused && request_may_need t what) _ (told_to t what) (P (call_for t what)) (λ _. c.refuses (call_for t what)) (λ _. by what)
   where
@@ -65,7 +65,7 @@ each_told t P c refused what =
     by what = c.steps (call_for t what)
 
 -- what is said is true, and jobs stay known where a submit that is told of a job makes it known
-record IsGoodTold (made : Made) (e : Event) (it : Told) : Type 0 where
+record IsGoodTold (made : Made) (e : Event) (it : Answered) : Type 0 where
   jobs : IsPlanned e → ((plan : Plan) (quanta s : ℕ) → e ≡ event.Submit plan quanta → it.said ≡ said.Reply (reply.Job s) → made s plan) → AreKnown made it.after.jobs
   said : IsTrueSaid made it.said
 
@@ -98,7 +98,7 @@ told_good made t known = record {
 }
 
 -- a number that is said is not below the next, and the next is above it then
-record IsNumberedTold (t : Tenant) (e : Event) (it : Told) : Type 0 where
+record IsNumberedTold (t : Tenant) (e : Event) (it : Answered) : Type 0 where
   grows : t.next ≤ it.after.next
   told : (s : ℕ) → it.said ≡ said.Reply (reply.Job s) → (t.next ≤ s) × (s < it.after.next)
 
@@ -198,7 +198,7 @@ own_asked config m a t own = let same : Some a.tenant ≡ Some t = sym a.number 
 -- what is so where nothing changes and no tenant is told of a job, and where one asks for something, is so of each request
 next_so : (config : ConfigData) (parts : Parts) (m : Marked) (P : Next → Type 0)
     → ((who : Option (List ℕ)) (words : Said) → ((t : ℕ) → owner_of config m.item.answer ≡ Some t → words ≡ said.Reply reply.NoMemory) → P (says who words parts))
-    → ((a : IsAsked config m) → let it : Told = told_under m.refused (part_of config parts a.tenant) a.what in P (says (Some a.who) it.said (with_tenant config parts a.tenant it.after)))
+    → ((a : IsAsked config m) → let it : Answered = told_under m.refused (part_of config parts a.tenant) a.what in P (says (Some a.who) it.said (with_tenant config parts a.tenant it.after)))
     → P (next config parts m)
 next_so config parts m P quiet asked =
     cond_both (is_unread m) _ _ P (λ _. quiet (who_in m.item.answer) (said.Reply reply.NoMemory) (λ t own. refl)) (λ _. by m.item.answer refl)
@@ -245,7 +245,7 @@ next_good config made parts m known =
     (λ who words silent. record { said = λ t own. subst (IsTrueSaid (made t)) (sym (silent t own)) tt; jobs = λ ok new. known })
     (λ a.
     let t : Tenant = part_of config parts a.tenant in
-    let it : Told = told_under m.refused t a.what in
+    let it : Answered = told_under m.refused t a.what in
     let there = known_number a.who config a.tenant a.number in
     let good : IsGoodTold (made a.tenant) (call_for t a.what) it =
     each_told t (IsGoodTold (made a.tenant)) (told_good (made a.tenant) t (known a.tenant there).own) m.refused a.what in
@@ -278,7 +278,7 @@ next_numbered config t b parts m from =
     })
     (λ a.
     let v : Tenant = part_of config parts a.tenant in
-    let it : Told = told_under m.refused v a.what in
+    let it : Answered = told_under m.refused v a.what in
     let there = known_number a.who config a.tenant a.number in
     let number = each_told v (IsNumberedTold v) (told_numbered v) m.refused a.what in
     record {

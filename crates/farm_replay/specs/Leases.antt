@@ -10,20 +10,20 @@ use Rattle.farm_session.specs.Heard.{heard_of}
 use Rattle.farm_session.specs.Ready.{ReadyData}
 
 -- the bytes that are left of a script, where these are known, and its branches
-pub record Place : Type 0 where
+pub record ScriptPoint : Type 0 where
   pub left : Option (List ℕ)
   pub branches : List BranchValue
 
 module _ {J : Type 0} (config : ConfigData) (made : ReadyData → Option J → Type 0) where
   -- a request was read, and only the lease was made that it needs
-  pub record HasHeard (old : Place) (read : Result Request LineFault) (new : Place) : Type 0 where
+  pub record HasHeard (old : ScriptPoint) (read : Result Request LineFault) (new : ScriptPoint) : Type 0 where
     pub takes : Takes MOST_REQUEST_BYTES None old.left new.left read
     pub leased : HasLeasedBy made config (heard_of config read) old.branches new.branches
 
   -- requests one after another, the last first
-  abbrev pub HaveLeased : Place → List (Result Request LineFault) → Place → Type 0
+  abbrev pub HaveLeased : ScriptPoint → List (Result Request LineFault) → ScriptPoint → Type 0
   HaveLeased old [] new = new ≡ old
-  HaveLeased old (r ∷ reads) new = (mid : Place) × HaveLeased old reads mid × HasHeard mid r new
+  HaveLeased old (r ∷ reads) new = (mid : ScriptPoint) × HaveLeased old reads mid × HasHeard mid r new
 
   -- these branches have the leases of some of the script's first requests, and no others
   abbrev pub AreLeasesOf : Option (List ℕ) → List BranchValue → List BranchValue → Type 0

@@ -35,7 +35,7 @@ use Rattle.farm_replay.specs.declared.watches.Watches.{Watches}
 -- ---- one tenant
 
 -- what is said to a tenant, and its part of the farm then
-pub record Told : Type 0 where
+pub record Answered : Type 0 where
   pub said : Said
   pub after : Tenant
 
@@ -45,20 +45,20 @@ said_for (Replied answer) = said.Reply answer
 said_for (Sent line) = said.Reply (reply.Line line)
 said_for step.NoTurn = said.NoTurn
 
-abbrev pub told_by : Step → Told
+abbrev pub told_by : Step → Answered
 told_by s = record { said = said_for s.answer; after = s.after }
 
 -- the turn of job s that is out runs all that it can, and comes back
-abbrev pub given_back : Tenant → ℕ → Told
+abbrev pub given_back : Tenant → ℕ → Answered
 given_back t s = told_by (step t (event.Give s (nodes_out (find_job s t.jobs))))
 
 -- once a turn of job s was asked for: where there is one it runs and comes back
-abbrev pub turned : Answer → Tenant → ℕ → Told
+abbrev pub turned : Answer → Tenant → ℕ → Answered
 turned (Sent line) t s = given_back t s
 turned answer t s = record { said = said_for answer; after = t }
 
 -- a tenant's request is a call of the farm, and a whole turn is two
-abbrev pub told_to : Tenant → What → Told
+abbrev pub told_to : Tenant → What → Answered
 told_to t (Submit kind quanta project) = told_by (step t (event.Submit (record { project = project; kind = kind }) quanta))
 told_to t (Fund s quanta) = told_by (step t (event.Fund s quanta))
 told_to t (Status s) = told_by (step t (event.Status s))
@@ -81,7 +81,7 @@ request_may_need t (Cancel s) = has_room 1 t && not (is_line (step t (event.Canc
 request_may_need t what = has_room 1 t
 
 -- what is said to a request where memory that it needs is refused, or where it is not: a refusal changes nothing
-abbrev pub told_under : Bool → Tenant → What → Told
+abbrev pub told_under : Bool → Tenant → What → Answered
 told_under refused t what = cond (refused && request_may_need t what) (record { said = said.Reply reply.NoMemory; after = t }) (told_to t what)
 
 -- ---- all purses
@@ -121,7 +121,7 @@ says who words parts = record { line = record { who = who; said = words }; parts
 abbrev pub answered : ConfigData → Bool → Parts → Heard → Next
 answered config refused parts (heard.Told who words) = says who words parts
 answered config refused parts (heard.Asked t who what) =
-    let it : Told = told_under refused (part_of config parts t) what in
+    let it : Answered = told_under refused (part_of config parts t) what in
     says (Some who) it.said (with_tenant config parts t it.after)
 answered config refused parts no_request = says None said.Syntax parts
 

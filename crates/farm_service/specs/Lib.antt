@@ -1,6 +1,6 @@
 pub mod Asked
 pub mod Known
-pub mod Part
+pub mod Role
 pub mod Session
 pub mod Tills
 pub mod Told

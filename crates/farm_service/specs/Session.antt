@@ -12,8 +12,8 @@ use Rattle.session_lines.specs.Script.{Takes}
 use Rattle.farm_session.specs.declared.heard.Heard.{Heard}
 use Rattle.farm_session.specs.Branch.{BranchValue, HasLeasedBy}
 use Rattle.farm_session.specs.Ready.{ReadyData}
-use Rattle.farm_service.specs.declared.service.Part.{Part}
-use Rattle.farm_service.specs.declared.service.Part.TheVariants.{Worker, Client}
+use Rattle.farm_service.specs.declared.service.Role.{Role}
+use Rattle.farm_service.specs.declared.service.Role.TheVariants.{Worker, Client}
 use Rattle.farm_service.specs.Told.{heard_in, IsToldOf}
 
 -- where a session stands: its token of the pool, its branches, the bytes that its reader has left,
@@ -55,7 +55,7 @@ module _ {T J : Type 0} (config : ConfigData) (tells : T → ℕ → Event → R
       × IsSession (stand old branches left written) (stand new then rest told)
 
   -- what a thread of a service did: a worker took turns, and a client's thread was a session
-  abbrev pub HasDonePart : (T → T → Type 0) → Part → T → Part → T → Type 0
-  HasDonePart works Worker old then new = works old new
-  HasDonePart works (Client own stream) old Worker new = ⊥
-  HasDonePart works (Client own stream) old (Client then same) new = IsClientServed old own.items new then.items
+  abbrev pub HasPlayedRole : (T → T → Type 0) → Role → T → Role → T → Type 0
+  HasPlayedRole works Worker old then new = works old new
+  HasPlayedRole works (Client own stream) old Worker new = ⊥
+  HasPlayedRole works (Client own stream) old (Client then same) new = IsClientServed old own.items new then.items

@@ -4,8 +4,8 @@ ghost use Rattle.farm_core.specs.Config.{ConfigData};
 ghost use Rattle.farm_core.specs.Tills.{AreSeated, AreTillsOf};
 ghost use Rattle.farm_session.specs.Branch.{tills_of};
 ghost use Rattle.farm_pool.specs.Settle.{books_of, words_at, AreLoaded, first_unsettled};
-ghost use Rattle.farm_service.specs.Part.{IsAtTills};
-ghost use Rattle.farm_service.specs.Session.{HasDonePart, IsClientServed};
+ghost use Rattle.farm_service.specs.Role.{IsAtTills};
+ghost use Rattle.farm_service.specs.Session.{HasPlayedRole, IsClientServed};
 ghost use Rattle.farm_service.specs.Tills.{IsSettled};
 
 use crate::connection::{Office, session};
@@ -43,7 +43,7 @@ pub enum ServeFault {
 
 /// What a thread of a service does.
 #[derive(Drop)]
-enum Part<'a> {
+enum Role<'a> {
     /// It takes turns of the jobs.
     Worker,
     /// It answers a client, at these desks.
@@ -81,56 +81,56 @@ fn welcome<D: Shared, R: Wait, M: Fn(Ready) -> Option<D::Search>>(
     let _ = writer.flush();
 }
 
-/// Does a thread's part, and brings back its token and the part. The leases that were made at the
+/// Plays a thread's role, and brings back its token and the role. The leases that were made at the
 /// desks of a client are those of its requests.
-fn take_part<'a, D: Shared, R: Wait + Clock, M: Fn(Ready) -> Option<D::Search>>(
+fn play_role<'a, D: Shared, R: Wait + Clock, M: Fn(Ready) -> Option<D::Search>>(
     office: &Office<'_, R, D, M>,
     token: D::Token,
-    part: Part<'a>,
-) -> (D::Token, Part<'a>)
+    role: Role<'a>,
+) -> (D::Token, Role<'a>)
     requires own { D.owns office.now.shared.now token }
     requires config { D.config office.now.shared.now ≡ office.now.config.now }
-    requires tills { IsAtTills office.now.config.now part }
+    requires tills { IsAtTills office.now.config.now role }
     requires make { M.IsAlwaysCallable office.now.make.now }
     ensures own { D.owns office.now.shared.now result.0 }
-    ensures part { HasDonePart office.now.config.now
+    ensures role { HasPlayedRole office.now.config.now
         (D.tells office.now.shared.now)
         (M.post office.now.make.now)
         (D.works office.now.shared.now)
-        part.entry token result.1 result.0 }
+        role.entry token result.1 result.0 }
 {
     let mut token = token;
-    match part {
-        Part::Worker => {
+    match role {
+        Role::Worker => {
             let seat = Seat::new(office.rt, office.lobby);
             office.shared.work(office.rt, &mut token, &seat);
-            (token, Part::Worker)
+            (token, Role::Worker)
         }
-        Part::Client(mut own, stream) => {
+        Role::Client(mut own, stream) => {
             welcome(office, &mut token, own.as_mut_slice(), &stream);
             office.lobby.leave(office.rt, 1);
-            (token, Part::Client(own, stream))
+            (token, Role::Client(own, stream))
         }
     }
 }
 
-/// The next part: the workers come first, and then each client once it is accepted. A client gets
+/// The next role: the workers come first, and then each client once it is accepted. A client gets
 /// one of the places, which stay tills of the configuration of which they were.
-fn next_part<'a>(
+fn next_role<'a>(
     listener: &TcpListener,
     is_worker: bool,
     places: &mut Vec<Vec<Branch<'a>>>,
-) -> Result<Part<'a>, ServeFault>
+) -> Result<Role<'a>, ServeFault>
     ensures left { (config : ConfigData) → All (λ own. AreTillsOf config (tills_of own.items)) places.old.items
         → All (λ own. AreTillsOf config (tills_of own.items)) places.new.items }
     ensures own { (config : ConfigData) → All (λ own. AreTillsOf config (tills_of own.items)) places.old.items
         → IfOk result (IsAtTills config) }
 {
     if is_worker {
-        return Ok(Part::Worker);
+        return Ok(Role::Worker);
     }
     match (places.pop(), listener.accept()) {
-        (Some(own), Ok((stream, _))) => Ok(Part::Client(own, stream)),
+        (Some(own), Ok((stream, _))) => Ok(Role::Client(own, stream)),
         _ => Err(ServeFault::Listen),
     }
 }
@@ -177,7 +177,7 @@ fn attend<
             let mut handles = Vec::new(alloc);
             let mut fault = None;
             for i in 0..total {
-                let Ok(part) = next_part(&listener, i < workers, &mut places) else {
+                let Ok(role) = next_role(&listener, i < workers, &mut places) else {
                     fault = Some(ServeFault::Listen);
                     break;
                 };
@@ -191,7 +191,7 @@ fn attend<
                     move || -> D::Token
                         requires { D.owns shared.now theirs
                             × (D.config shared.now ≡ config.now)
-                            × IsAtTills config.now part
+                            × IsAtTills config.now role
                             × M.IsAlwaysCallable make.now }
                         ensures { D.owns shared.entry.now result }
                     {
@@ -203,7 +203,7 @@ fn attend<
                             lobby,
                             make,
                         };
-                        take_part(&office, theirs, part).0
+                        play_role(&office, theirs, role).0
                     },
                 );
                 let Ok(handle) = spawned else {

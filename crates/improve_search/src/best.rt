@@ -11,7 +11,7 @@ use std::alloc::{AllocError, Global};
 
 /// The best schedule that was checked, and memory to write another one.
 #[derive(Drop)]
-pub(crate) enum Best {
+pub(crate) enum BestChecked {
     /// There is none yet. Both are only memory.
     Unknown(Schedule, Schedule),
     /// The schedule, its makespan, and what is only memory.
@@ -45,16 +45,16 @@ fn written(room: Schedule, annealing: &Annealing) -> Schedule {
     }
 }
 
-impl Best {
+impl BestChecked {
     /// None yet, with memory for schedules of so many activities.
-    pub(crate) fn none(alloc: Global, size: usize) -> Result<Best, AllocError>
+    pub(crate) fn none(alloc: Global, size: usize) -> Result<BestChecked, AllocError>
         ensures { IfOk result (λ best. best_in best ≡ None × length_in best ≡ None) }
     {
-        Ok(Best::Unknown(blank(alloc, size)?, blank(alloc, size)?))
+        Ok(BestChecked::Unknown(blank(alloc, size)?, blank(alloc, size)?))
     }
 
     /// None yet, and no memory.
-    pub(crate) fn empty(alloc: Global) -> Best
+    pub(crate) fn empty(alloc: Global) -> BestChecked
         ensures best { best_in result ≡ None }
         ensures length { length_in result ≡ None }
     {
@@ -66,7 +66,7 @@ impl Best {
             modes: Sequence::from(Vec::new(alloc)),
             starts: Sequence::from(Vec::new(alloc)),
         };
-        Best::Unknown(room, other)
+        BestChecked::Unknown(room, other)
     }
 
     /// The schedule.
@@ -74,8 +74,8 @@ impl Best {
         ensures { option_copied result ≡ best_in self.now }
     {
         match self {
-            Best::Unknown(_, _) => None,
-            Best::Known(schedule, _, _) => Some(schedule),
+            BestChecked::Unknown(_, _) => None,
+            BestChecked::Known(schedule, _, _) => Some(schedule),
         }
     }
 
@@ -84,8 +84,8 @@ impl Best {
         ensures { result ≡ length_in self.now }
     {
         match self {
-            Best::Unknown(_, _) => None,
-            Best::Known(_, makespan, _) => Some(*makespan),
+            BestChecked::Unknown(_, _) => None,
+            BestChecked::Known(_, makespan, _) => Some(*makespan),
         }
     }
 
@@ -94,32 +94,32 @@ impl Best {
         ensures { result ≡ best_in self }
     {
         match self {
-            Best::Unknown(_, _) => None,
-            Best::Known(schedule, _, _) => Some(schedule),
+            BestChecked::Unknown(_, _) => None,
+            BestChecked::Known(schedule, _, _) => Some(schedule),
         }
     }
 }
 
 /// The best schedule after the current one of a walk is offered: that one where it is feasible and shorter than the best so far,
 /// or there is none.
-pub(crate) fn better(best: Best, project: &Project, annealing: &Annealing) -> Best
+pub(crate) fn better(best: BestChecked, project: &Project, annealing: &Annealing) -> BestChecked
     requires { IsKept project.now best }
     ensures kept { IsKept project.now result }
     ensures no_longer { IsNoLonger project.now (best_in best) (best_in result) }
 {
     match best {
-        Best::Unknown(room, other) => {
+        BestChecked::Unknown(room, other) => {
             let schedule = written(room, annealing);
             match check(project, &schedule) {
-                Ok(makespan) => Best::Known(schedule, makespan, other),
-                Err(_) => Best::Unknown(schedule, other),
+                Ok(makespan) => BestChecked::Known(schedule, makespan, other),
+                Err(_) => BestChecked::Unknown(schedule, other),
             }
         }
-        Best::Known(best, shortest, room) => {
+        BestChecked::Known(best, shortest, room) => {
             let schedule = written(room, annealing);
             match check(project, &schedule) {
-                Ok(makespan) if makespan < shortest => Best::Known(schedule, makespan, best),
-                _ => Best::Known(best, shortest, schedule),
+                Ok(makespan) if makespan < shortest => BestChecked::Known(schedule, makespan, best),
+                _ => BestChecked::Known(best, shortest, schedule),
             }
         }
     }

@@ -5,7 +5,7 @@ ghost use Rattle.mrcpsp.specs.Schedule.{IsFeasible, makespan};
 ghost use Rattle.improve_search.specs.Improving.{fresh, IsNoLonger};
 
 use crate::annealing::{Annealing, Stocks};
-use crate::best::{Best, better};
+use crate::best::{BestChecked, better};
 use crate::budget::Budget;
 use mrcpsp::{Project, Schedule};
 use std::alloc::{AllocError, Global};
@@ -35,7 +35,7 @@ pub struct Improving {
     strict: u64,
     length: u64,
     begun: Option<u64>,
-    best: Best,
+    best: BestChecked,
 }
 
 impl Model for Improving {
@@ -63,7 +63,7 @@ impl Improving {
         let Some(annealing) = Annealing::new(alloc, project, seed)? else {
             return Ok(None);
         };
-        let best = Best::none(alloc, project.size())?;
+        let best = BestChecked::none(alloc, project.size())?;
         let strict = if annealing.has_ample_stocks() {
             0
         } else {
@@ -142,7 +142,7 @@ impl Improving {
         ensures most { self.new.most ≡ self.old.most }
         ensures no_longer { IsNoLonger self.old.project self.old.best self.new.best }
     {
-        let best = mem::replace(&mut self.best, Best::empty(self.alloc));
+        let best = mem::replace(&mut self.best, BestChecked::empty(self.alloc));
         self.best = better(best, &self.project, &self.annealing);
     }
 

@@ -2,12 +2,12 @@
 ghost use Rattle.std.specs.Prelude.{◌≡◌};
 ghost use Rattle.quanta_till.specs.declared.rule.TheConstants.{WORDS};
 
-use crate::rule::Words;
+use crate::rule::TillTable;
 
 /// The words of a till, and of which purse they are.
 #[derive(Drop)]
-pub(crate) struct Account {
-    pub(crate) table: Words,
+pub(crate) struct SharedTill {
+    pub(crate) table: TillTable,
     pub(crate) purse: u32,
     ghost has_words: { table.shared.table_id.words ≡ WORDS },
 }

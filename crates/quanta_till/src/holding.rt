@@ -3,7 +3,7 @@ ghost use Rattle.std.specs.Prelude.{◌≡◌, ◌+◌, ◌-◌, ◌<◌, ◌≤
 ghost use Rattle.quanta_till.specs.declared.rule.TheConstants.{WORDS};
 ghost use Rattle.quanta_till.specs.Till.{new_view};
 
-use crate::rule::{Draw, HandBack, POOL, SPENT, SeatView, Use, Words};
+use crate::rule::{Draw, HandBack, POOL, SPENT, SeatView, Use, TillTable};
 use atomic_table::Seat;
 use std::marker::Model;
 
@@ -57,7 +57,7 @@ impl Holding {
     }
 
     /// Draws `n` quanta from POOL.
-    pub(crate) fn draw(&mut self, words: &Words, n: u64)
+    pub(crate) fn draw(&mut self, words: &TillTable, n: u64)
         requires till { self.old.id ≡ words.now.shared.table_id }
         requires words { words.now.shared.table_id.words ≡ WORDS }
         requires limited { self.old.left + n ≤ LEASE_LIMIT }
@@ -68,7 +68,7 @@ impl Holding {
     }
 
     /// Uses `n` of those that are left: SPENT gains them.
-    pub(crate) fn use_up(&mut self, words: &Words, n: u64)
+    pub(crate) fn use_up(&mut self, words: &TillTable, n: u64)
         requires till { self.old.id ≡ words.now.shared.table_id }
         requires words { words.now.shared.table_id.words ≡ WORDS }
         requires left { n ≤ self.old.left }
@@ -79,7 +79,7 @@ impl Holding {
     }
 
     /// Hands back to POOL what is left.
-    pub(crate) fn settle(&mut self, words: &Words)
+    pub(crate) fn settle(&mut self, words: &TillTable)
         requires till { self.old.id ≡ words.now.shared.table_id }
         requires words { words.now.shared.table_id.words ≡ WORDS }
         ensures { self.new ≡ record self.old { back = self.old.back + self.old.left; left = 0 } }
@@ -92,7 +92,7 @@ impl Holding {
     }
 
     /// The end of a holding, at its own till: what was drawn was used or handed back. Its seat tells how much.
-    pub(crate) fn end(self, words: &Words) -> Seat<(), SeatView>
+    pub(crate) fn end(self, words: &TillTable) -> Seat<(), SeatView>
         requires till { self.id ≡ words.now.shared.table_id }
         requires empty { self.left ≡ 0 }
         requires counted { self.drawn ≡ self.used + self.back }

@@ -3,7 +3,7 @@ ghost use Rattle.std.specs.Prelude.{◌≡◌, ◌+◌, ◌<◌, ◌≤◌};
 ghost use Rattle.std.specs.Arc.{arc_value};
 ghost use Rattle.quanta_till.specs.Lease.{after_draw, after_use, after_settle};
 
-use crate::account::Account;
+use crate::account::SharedTill;
 use crate::holding::{Holding, LEASE_LIMIT};
 use crate::lease::Lease;
 use crate::rule::SeatView;
@@ -16,7 +16,7 @@ use std::sync::Arc;
 /// that owns one is dropped only by a drop of its own that ends it. It shares the till, so what owns it borrows nothing, and
 /// may move to another thread. Its calls take no memory and no lock, and cannot fail.
 pub struct Owned {
-    account: Arc<Account, Global>,
+    account: Arc<SharedTill, Global>,
     tenant: u32,
     holding: Holding,
 }
@@ -65,7 +65,7 @@ impl Model for Owned {
 }
 
 impl Owned {
-    pub(crate) fn new(account: Arc<Account, Global>, tenant: u32, holding: Holding) -> Owned
+    pub(crate) fn new(account: Arc<SharedTill, Global>, tenant: u32, holding: Holding) -> Owned
         requires { holding.id ≡ (arc_value account).table.shared.table_id }
         ensures { result ≡ record {
           id = holding.id;

@@ -47,7 +47,7 @@ impl TableRule<(), SeatView, u64> for Balance {
 }
 
 /// One till's words, in the heap.
-pub(crate) type Words = Table<(), SeatView, u64, Balance, Global>;
+pub(crate) type TillTable = Table<(), SeatView, u64, Balance, Global>;
 
 /// A seat is made: it knows what the till was granted, and has done nothing.
 pub(crate) struct NewSeat;

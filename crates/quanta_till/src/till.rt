@@ -3,12 +3,12 @@ ghost use Rattle.std.specs.Prelude.{◌≡◌, IfOk, OnOk, OnErr};
 ghost use Rattle.quanta_till.specs.Desk.{new_desk, after_seat, after_words};
 ghost use Rattle.quanta_till.specs.Lease.{empty_lease};
 
-use crate::account::Account;
+use crate::account::SharedTill;
 use crate::holding::Holding;
 use crate::lease::Lease;
 use crate::owned::Owned;
 use crate::rule::{
-    GRANTED, LoadGranted, LoadPool, LoadSpent, NewSeat, POOL, SPENT, SeatView, WORDS, Words,
+    GRANTED, LoadGranted, LoadPool, LoadSpent, NewSeat, POOL, SPENT, SeatView, WORDS, TillTable,
 };
 use atomic_table::Seat;
 use std::alloc::{AllocError, Global};
@@ -19,7 +19,7 @@ use std::sync::Arc;
 /// GRANTED, what it was opened with.
 #[derive(Drop)]
 pub struct Till {
-    account: Arc<Account, Global>,
+    account: Arc<SharedTill, Global>,
 }
 
 impl Model for Till {
@@ -86,8 +86,8 @@ impl Till {
         let mut words = [0; WORDS];
         words[POOL] = granted;
         words[GRANTED] = granted;
-        let (table, seat) = Words::of_words(alloc, &words, &granted)?;
-        let account = Arc::new(alloc, Account { table, purse })?;
+        let (table, seat) = TillTable::of_words(alloc, &words, &granted)?;
+        let account = Arc::new(alloc, SharedTill { table, purse })?;
         Ok((Till { account }, Desk { purse, seat }))
     }
 

@@ -14,7 +14,7 @@ use std::mem;
 
 /// The best schedule of the passes that have ended.
 #[derive(Drop)]
-pub(crate) enum Best {
+pub(crate) enum BestPass {
     /// No pass has been a schedule yet. This one is only memory.
     Unknown(Schedule),
     /// The shortest schedule, and its makespan.
@@ -23,13 +23,13 @@ pub(crate) enum Best {
     Taken,
 }
 
-impl Best {
+impl BestPass {
     /// The schedule, until it is handed out.
     pub(crate) fn schedule(&self) -> Option<&Schedule>
         ensures { option_copied result ≡ best_in self.now }
     {
         match self {
-            Best::Known(schedule, _) => Some(schedule),
+            BestPass::Known(schedule, _) => Some(schedule),
             _ => None,
         }
     }
@@ -39,7 +39,7 @@ impl Best {
         ensures { (p : ProjectData) → IsKept p self.now → result ≡ option_map (greatest_finish p) (best_in self.now) }
     {
         match self {
-            Best::Known(_, makespan) => Some(*makespan),
+            BestPass::Known(_, makespan) => Some(*makespan),
             _ => None,
         }
     }
@@ -47,10 +47,10 @@ impl Best {
     /// Hands out the schedule.
     pub(crate) fn take(&mut self) -> Option<Schedule>
         ensures best { result ≡ best_in self.old }
-        ensures taken { self.new ≡ Best.Taken }
+        ensures taken { self.new ≡ BestPass.Taken }
     {
-        match mem::replace(self, Best::Taken) {
-            Best::Known(schedule, _) => Some(schedule),
+        match mem::replace(self, BestPass::Taken) {
+            BestPass::Known(schedule, _) => Some(schedule),
             _ => None,
         }
     }
@@ -71,7 +71,7 @@ fn rewritten(room: Schedule, pass: &Pass) -> Schedule
 
 /// The best schedule after a pass that has ended: the pass's where that is shorter than the best one so far, or there is
 /// none. Takes no memory.
-pub(crate) fn better(best: Best, pass: &Pass) -> Best
+pub(crate) fn better(best: BestPass, pass: &Pass) -> BestPass
     requires kept { IsKept pass.now.project best }
     requires whole { IfSome pass.now.placed (λ placed. length placed ≡ size pass.now.project) }
     ensures kept { IsKept pass.now.project result }
@@ -84,14 +84,14 @@ pub(crate) fn better(best: Best, pass: &Pass) -> Best
         return best;
     };
     match best {
-        Best::Unknown(room) => Best::Known(rewritten(room, pass), makespan),
-        Best::Known(schedule, shortest) => {
+        BestPass::Unknown(room) => BestPass::Known(rewritten(room, pass), makespan),
+        BestPass::Known(schedule, shortest) => {
             if makespan < shortest {
-                Best::Known(rewritten(schedule, pass), makespan)
+                BestPass::Known(rewritten(schedule, pass), makespan)
             } else {
-                Best::Known(schedule, shortest)
+                BestPass::Known(schedule, shortest)
             }
         }
-        Best::Taken => Best::Taken,
+        BestPass::Taken => BestPass::Taken,
     }
 }

@@ -5,7 +5,7 @@ ghost use Rattle.strategy.specs.Words.{word_at};
 ghost use Rattle.sample_search.specs.Draw.{AreMeasures, drawn_candidate, after_words};
 
 use crate::draw::{draw_activity, draw_mode};
-use crate::words::Words;
+use crate::words::RandomWords;
 use measures::Measures;
 use serial_pass::{Candidate, Pass};
 
@@ -35,7 +35,7 @@ fn run_drawn(pass: &mut Pass, measures: &Measures, first: u32, second: u32)
 }
 
 /// Runs one node of a pass with the next two words. A void pass draws its words too. Takes no memory.
-pub(crate) fn run_node(pass: &mut Pass, measures: &Measures, words: &mut Words)
+pub(crate) fn run_node(pass: &mut Pass, measures: &Measures, words: &mut RandomWords)
     ghost project: { ProjectData }
     requires project { pass.old.project ≡ project }
     requires measures { AreMeasures project measures.now }

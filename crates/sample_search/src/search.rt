@@ -9,9 +9,9 @@ ghost use Rattle.serial_pass.specs.Pass as passes;
 ghost use Rattle.sample_search.specs.Best.{best_in, is_taken, IsKept};
 ghost use Rattle.sample_search.specs.Search.{IsSample, StandsAt};
 
-use crate::best::{Best, better};
+use crate::best::{BestPass, better};
 use crate::node::run_node;
-use crate::words::Words;
+use crate::words::RandomWords;
 use measures::Measures;
 use mrcpsp::{Project, Schedule};
 use paid_search::{Nodes, Paid};
@@ -29,10 +29,10 @@ pub type SampleSearch = Paid<SamplePasses>;
 #[derive(Drop)]
 pub struct SamplePasses {
     measures: Measures,
-    words: Words,
+    words: RandomWords,
     pass: Pass,
     nodes: u64,
-    best: Best,
+    best: BestPass,
 }
 
 /// What takes the memory of a search.
@@ -79,7 +79,7 @@ fn are_whole_passes(nodes: u64, activities: usize) -> bool
 }
 
 /// Ends a pass: keeps its schedule where that is the best so far, and begins the next pass.
-fn end_pass(pass: &mut Pass, best: &mut Best)
+fn end_pass(pass: &mut Pass, best: &mut BestPass)
     requires kept { IsKept pass.old.project best.old }
     requires whole { IfSome pass.old.placed (λ placed. length placed ≡ size pass.old.project) }
     ensures pass { pass.new ≡ passes.fresh pass.old.project }
@@ -89,7 +89,7 @@ fn end_pass(pass: &mut Pass, best: &mut Best)
         → best_in best.new ≡ better pass.old.project (best_in best.old)
         (option_map (schedule_of (size pass.old.project)) pass.old.placed) }
 {
-    let last = mem::replace(best, Best::Taken);
+    let last = mem::replace(best, BestPass::Taken);
     *best = better(last, pass);
     pass.restart();
 }
@@ -105,13 +105,13 @@ impl Nodes for SamplePasses {
             pass,
             room,
         } = make_tools(alloc, &plan.project)?;
-        let words = Words::new(seed(plan.kind));
+        let words = RandomWords::new(seed(plan.kind));
         Ok(SamplePasses {
             measures,
             words,
             pass,
             nodes: 0,
-            best: Best::Unknown(room),
+            best: BestPass::Unknown(room),
         })
     }
 

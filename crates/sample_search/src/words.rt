@@ -11,13 +11,13 @@ const STREAM: u64 = 54;
 
 /// The words of a seed, one after another. Contracts see the seed and how many words were drawn.
 #[derive(Drop)]
-pub(crate) struct Words {
+pub(crate) struct RandomWords {
     seed: u64,
     drawn: u64,
     generator: Pcg32,
 }
 
-impl Model for Words {
+impl Model for RandomWords {
     ghost use Rattle.std.specs.Prelude.{◌≡◌};
     ghost use Rattle.sample_search.specs.Words.{WordsData, generator_at};
 
@@ -28,12 +28,12 @@ impl Model for Words {
     ghost invariant = { λ w. w.generator ≡ generator_at w.seed w.drawn };
 }
 
-impl Words {
+impl RandomWords {
     /// The words of a seed, none of them drawn.
-    pub(crate) fn new(seed: u64) -> Words
+    pub(crate) fn new(seed: u64) -> RandomWords
         ensures { result ≡ record { seed = seed; drawn = 0 } }
     {
-        Words {
+        RandomWords {
             seed,
             drawn: 0,
             generator: Pcg32::new(seed, STREAM),

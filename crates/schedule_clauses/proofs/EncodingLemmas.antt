@@ -15,7 +15,7 @@ use Rattle.schedule_clauses.specs.Satisfied.{SatisfiedByShort, SatisfiedByFeasib
 use Rattle.clause_proof.specs.Clauses.{literal_true, clause_true, Satisfies, IsUnsatisfiable}
 use Rattle.schedule_clauses.specs.Meaning.{IsWithin, IsValid, holds, term_true, some_true}
 use Rattle.schedule_clauses.specs.Encoding.{intended, IsTold, IsGood, AreGood, Extends}
-use Rattle.schedule_clauses.specs.declared.meaning.Meaning.{Meaning}
+use Rattle.schedule_clauses.specs.declared.meaning.Fact.{Fact}
 use Rattle.schedule_clauses.specs.declared.meaning.Term.{Term}
 
 pub even_is : (x : ℕ) → ((2 * x) % 2 == 0) ≡ true
@@ -41,33 +41,33 @@ term_holds p s a h =
     ⊎_elim (λ (f : holds p s a.meaning ≡ true). absurd (true≢false (sym (rw (e, f) at h)))) (λ (f : holds p s a.meaning ≡ false). f ∙ sym e) (cases_Bool (holds p s a.meaning)))
     (cases_Bool a.positive)
 
-pub extends-refl : (a : List Meaning) → Extends a a
+pub extends-refl : (a : List Fact) → Extends a a
 extends-refl a = record { each = λ x m e. e }
 
-pub extends-trans : (a b d : List Meaning) → Extends a b → Extends b d → Extends a d
+pub extends-trans : (a b d : List Fact) → Extends a b → Extends b d → Extends a d
 extends-trans a b d p q = record { each = λ x m e. q.each x m (p.each x m e) }
 
-good-extends : (p : ProjectData) (s : ScheduleData) (a b : List Meaning) (c : List ℕ) → Extends a b → IsGood p s a c → IsGood p s b c
+good-extends : (p : ProjectData) (s : ScheduleData) (a b : List Fact) (c : List ℕ) → Extends a b → IsGood p s a c → IsGood p s b c
 good-extends p s a b c e g = record { place = g.place; inside = g.inside; told = record { meaning = g.told.meaning; stands = e.each (get_or c g.place 0 / 2) g.told.meaning g.told.stands; holds = g.told.holds } }
 
-good-old : (p : ProjectData) (s : ScheduleData) (a : List Meaning) (c : List ℕ) (l : ℕ) → IsGood p s a c → IsGood p s a (c ++ l ∷ [])
+good-old : (p : ProjectData) (s : ScheduleData) (a : List Fact) (c : List ℕ) (l : ℕ) → IsGood p s a c → IsGood p s a (c ++ l ∷ [])
 good-old p s a c l g = record {
   place = g.place;
   inside = simp (length-append c (l ∷ [])) (let h = g.inside in omega arith);
   told = let h : g.place < length c = g.inside in rw (get_or_append_left c (l ∷ []) 0 g.place h) g.told;
 }
 
-good-new : (p : ProjectData) (s : ScheduleData) (a : List Meaning) (c : List ℕ) (l : ℕ) → IsTold p s a l → IsGood p s a (c ++ l ∷ [])
+good-new : (p : ProjectData) (s : ScheduleData) (a : List Fact) (c : List ℕ) (l : ℕ) → IsTold p s a l → IsGood p s a (c ++ l ∷ [])
 good-new p s a c l t = record {
   place = length c;
   inside = simp (length-append c (l ∷ [])) (omega arith);
   told = rw (get_or-append_seam c l [] 0) t;
 }
 
-pub good-none : (p : ProjectData) (a : List Meaning) (c : List ℕ) (terms : List Term) (s : ScheduleData) → some_true p s (take 0 terms) ≡ true → IsGood p s a c
+pub good-none : (p : ProjectData) (a : List Fact) (c : List ℕ) (terms : List Term) (s : ScheduleData) → some_true p s (take 0 terms) ≡ true → IsGood p s a c
 good-none p a c terms s h = absurd (true≢false (sym h))
 
-pub good-more : (p : ProjectData) (before after : List Meaning) (c : List ℕ) (l : ℕ) (terms : List Term) (i : ℕ) (d : Term) → i < length terms → Extends before after → slice_get after (l / 2) ≡ Some ((get_or terms i d).meaning) → (l % 2 == 0) ≡ (get_or terms i d).positive → ((s : ScheduleData) → some_true p s (take i terms) ≡ true → IsGood p s before c) → (s : ScheduleData) → some_true p s (take (i + 1) terms) ≡ true → IsGood p s after (c ++ l ∷ [])
+pub good-more : (p : ProjectData) (before after : List Fact) (c : List ℕ) (l : ℕ) (terms : List Term) (i : ℕ) (d : Term) → i < length terms → Extends before after → slice_get after (l / 2) ≡ Some ((get_or terms i d).meaning) → (l % 2 == 0) ≡ (get_or terms i d).positive → ((s : ScheduleData) → some_true p s (take i terms) ≡ true → IsGood p s before c) → (s : ScheduleData) → some_true p s (take (i + 1) terms) ≡ true → IsGood p s after (c ++ l ∷ [])
 good-more p before after c l terms i d inside extends stands sign so_far s h =
     ⊎_elim
     (λ (old : list_any (term_true p s) (take i terms) ≡ true). good-old p s after c l (good-extends p s before after c extends (so_far s old)))
@@ -79,7 +79,7 @@ single c d zero h = refl
 single c d (suc k) h = absurd (omega arith)
 
 -- one more clause, after more variables
-pub are-good-more : (p : ProjectData) (limit : Option ℕ) (before after : List Meaning) (clauses : List (Vec ℕ Global)) (c : Vec ℕ Global) (terms : List Term) → AreGood p limit before clauses → Extends before after → IsValid p limit terms → ((s : ScheduleData) → some_true p s (take (length terms) terms) ≡ true → IsGood p s after c.items) → AreGood p limit after (clauses ++ c ∷ [])
+pub are-good-more : (p : ProjectData) (limit : Option ℕ) (before after : List Fact) (clauses : List (Vec ℕ Global)) (c : Vec ℕ Global) (terms : List Term) → AreGood p limit before clauses → Extends before after → IsValid p limit terms → ((s : ScheduleData) → some_true p s (take (length terms) terms) ≡ true → IsGood p s after c.items) → AreGood p limit after (clauses ++ c ∷ [])
 are-good-more p limit before after clauses c terms good extends valid so_far = record {
   each = λ s short.
       All-append (λ (c : Vec ℕ Global). IsGood p s after c.items) clauses (c ∷ [])
@@ -87,13 +87,13 @@ are-good-more p limit before after clauses c terms good extends valid so_far = r
       (λ k d inside. rw (single c d k inside) (so_far s (rw (take_all (length terms) terms (omega arith)) (valid.sure s short))));
 }
 
-pub are-good-none : (p : ProjectData) (limit : Option ℕ) (a : List Meaning) → AreGood p limit a []
+pub are-good-none : (p : ProjectData) (limit : Option ℕ) (a : List Fact) → AreGood p limit a []
 are-good-none p limit a = record { each = λ s short k d inside. absurd (omega arith) }
 
 pub ruleset add_rules = (extends-refl, extends-trans, good-none)
 
 -- a good clause is true at the intended values
-literal_is : (p : ProjectData) (s : ScheduleData) (a : List Meaning) (l : ℕ) → IsTold p s a l → literal_true (intended p s a) l ≡ true
+literal_is : (p : ProjectData) (s : ScheduleData) (a : List Fact) (l : ℕ) → IsTold p s a l → literal_true (intended p s a) l ≡ true
 unfolding literal_true intended
 literal_is p s a l t =
     ⊎_elim
@@ -101,23 +101,23 @@ literal_is p s a l t =
     (λ (e : (l % 2 == 0) ≡ false). rw (e, t.stands) (ap not (t.holds ∙ e)))
     (cases_Bool (l % 2 == 0))
 
-clause_is : (p : ProjectData) (s : ScheduleData) (a : List Meaning) (c : List ℕ) → IsGood p s a c → clause_true (intended p s a) c ≡ true
+clause_is : (p : ProjectData) (s : ScheduleData) (a : List Fact) (c : List ℕ) → IsGood p s a c → clause_true (intended p s a) c ≡ true
 unfolding clause_true
 clause_is p s a c g = list_any_at (literal_true (intended p s a)) c g.place 0 g.inside (literal_is p s a (get_or c g.place 0) g.told)
 
-pub satisfied : (p : ProjectData) (limit : Option ℕ) (a : List Meaning) (clauses : List (Vec ℕ Global)) (s : ScheduleData) → AreGood p limit a clauses → IsWithin p limit s → Satisfies (intended p s a) clauses
+pub satisfied : (p : ProjectData) (limit : Option ℕ) (a : List Fact) (clauses : List (Vec ℕ Global)) (s : ScheduleData) → AreGood p limit a clauses → IsWithin p limit s → Satisfies (intended p s a) clauses
 satisfied p limit a clauses s good within = record { each = λ k d inside. clause_is p s a (get_or clauses k d).items (good.each s within k d inside) }
 
 some_same : (a b : ℕ) → Some a ≡ Some b → a ≡ b
 some_same a b e = ap (λ (o : Option ℕ). unwrap_or o 0) e
 
 -- a short schedule is within the bound as a limit, and each feasible one where there is none
-pub by-short : (p : ProjectData) (bound : ℕ) (a : List Meaning) (clauses : List (Vec ℕ Global)) → AreGood p (Some bound) a clauses → SatisfiedByShort p bound clauses
+pub by-short : (p : ProjectData) (bound : ℕ) (a : List Fact) (clauses : List (Vec ℕ Global)) → AreGood p (Some bound) a clauses → SatisfiedByShort p bound clauses
 by-short p bound a clauses good = record {
   values = λ s feasible short. (intended p s a, satisfied p (Some bound) a clauses s good (record { feasible = feasible; short = λ b e. rw (some_same bound b e) at short }));
 }
 
-pub by-feasible : (p : ProjectData) (a : List Meaning) (clauses : List (Vec ℕ Global)) → AreGood p None a clauses → SatisfiedByFeasible p clauses
+pub by-feasible : (p : ProjectData) (a : List Fact) (clauses : List (Vec ℕ Global)) → AreGood p None a clauses → SatisfiedByFeasible p clauses
 by-feasible p a clauses good = record {
   values = λ s feasible. (intended p s a, satisfied p None a clauses s good (record { feasible = feasible; short = λ b e. cc }));
 }

@@ -15,8 +15,8 @@ use Rattle.schedule_clauses.specs.Meaning.{IsWithin, IsValid, term_true, use_amo
 use Rattle.schedule_clauses.specs.Surrogate.{weight, weight_below, capacity_weight, IsLightest}
 use Rattle.schedule_clauses.proofs.ActivityLemmas.{part-le, all-le, one-le, part-and-one}
 use Rattle.schedule_clauses.proofs.SurrogateLemmas.{weight-fits}
-use Rattle.schedule_clauses.specs.declared.meaning.Meaning.{Meaning}
-use Rattle.schedule_clauses.specs.declared.meaning.Meaning.TheVariants.{StartsBy, InMode, Runs, UseWithin, ConsumptionWithin, WeightWithin}
+use Rattle.schedule_clauses.specs.declared.meaning.Fact.{Fact}
+use Rattle.schedule_clauses.specs.declared.meaning.Fact.TheVariants.{StartsBy, InMode, Runs, UseWithin, ConsumptionWithin, WeightWithin}
 use Rattle.schedule_clauses.specs.declared.meaning.Term.{Term}
 
 -- clauses of up to four tests
@@ -39,10 +39,10 @@ last false h = h
 le_false : (a b : ℕ) → nat_le a b ≡ false → b < a
 le_false a b e = ⊎_elim (λ (h : b < a). h) (λ (h : a ≤ b). absurd (true≢false (sym (le-leb a b h) ∙ e))) (cases_lt b a)
 
-abbrev pub yes_of : Meaning → Term
+abbrev pub yes_of : Fact → Term
 yes_of x = record { meaning = x; positive = true }
 
-abbrev pub not_of : Meaning → Term
+abbrev pub not_of : Fact → Term
 not_of x = record { meaning = x; positive = false }
 
 pub valid-exclude : (p : ProjectData) (limit : Option ℕ) (j m k : ℕ) → (m ≡ k → ⊥) → IsValid p limit (not_of (InMode j m) ∷ not_of (InMode j k) ∷ [])

@@ -5,31 +5,31 @@ use Rattle.mrcpsp.specs.Project.{ProjectData}
 use Rattle.mrcpsp.specs.Schedule.{ScheduleData}
 use Rattle.schedule_clauses.specs.Meaning.{IsWithin, holds}
 use Rattle.schedule_clauses.specs.declared.encoding.Encoding.{Encoding}
-use Rattle.schedule_clauses.specs.declared.meaning.Meaning.{Meaning}
+use Rattle.schedule_clauses.specs.declared.meaning.Fact.{Fact}
 
 -- what a variable says holds; one without a meaning says nothing
-abbrev pub told : ProjectData → ScheduleData → Option Meaning → Bool
+abbrev pub told : ProjectData → ScheduleData → Option Fact → Bool
 told p s None = false
 told p s (Some x) = holds p s x
 
 -- the values of the variables at a schedule
-unfoldable pub intended : ProjectData → ScheduleData → List Meaning → ℕ → Bool
+unfoldable pub intended : ProjectData → ScheduleData → List Fact → ℕ → Bool
 intended p s meanings x = told p s (slice_get meanings x)
 
 -- the literal is that of a variable with a meaning, and true
-pub record IsTold (p : ProjectData) (s : ScheduleData) (meanings : List Meaning) (l : ℕ) : Type 0 where
-  pub meaning : Meaning
+pub record IsTold (p : ProjectData) (s : ScheduleData) (meanings : List Fact) (l : ℕ) : Type 0 where
+  pub meaning : Fact
   pub stands : slice_get meanings (l / 2) ≡ Some meaning
   pub holds : holds p s meaning ≡ (l % 2 == 0)
 
 -- one of the clause's literals is
-pub record IsGood (p : ProjectData) (s : ScheduleData) (meanings : List Meaning) (clause : List ℕ) : Type 0 where
+pub record IsGood (p : ProjectData) (s : ScheduleData) (meanings : List Fact) (clause : List ℕ) : Type 0 where
   pub place : ℕ
   pub inside : place < length clause
   pub told : IsTold p s meanings (slice_index clause place)
 
 -- each clause is, for each schedule within the limit
-pub record AreGood (p : ProjectData) (limit : Option ℕ) (meanings : List Meaning) (clauses : List (Vec ℕ Global)) : Type 0 where
+pub record AreGood (p : ProjectData) (limit : Option ℕ) (meanings : List Fact) (clauses : List (Vec ℕ Global)) : Type 0 where
   pub each : (s : ScheduleData) → IsWithin p limit s → All (λ c. IsGood p s meanings c.items) clauses
 
 -- each clause of an encoding is
@@ -37,5 +37,5 @@ abbrev pub AllGood : ProjectData → Option ℕ → Encoding → Type 0
 AllGood p limit encoding = AreGood p limit encoding.formula.meanings.items encoding.formula.clauses.items
 
 -- what had a meaning still has it
-pub record Extends (before after : List Meaning) : Type 0 where
-  pub each : (x : ℕ) (m : Meaning) → slice_get before x ≡ Some m → slice_get after x ≡ Some m
+pub record Extends (before after : List Fact) : Type 0 where
+  pub each : (x : ℕ) (m : Fact) → slice_get before x ≡ Some m → slice_get after x ≡ Some m

@@ -6,8 +6,8 @@ use Rattle.mrcpsp.specs.Project.{ProjectData, size, duration, consumption}
 use Rattle.mrcpsp.specs.Schedule.{ScheduleData, IsFeasible, makespan, mode_of, start_of, load}
 use Rattle.schedule_clauses.specs.Activities.{sum_among}
 use Rattle.schedule_clauses.specs.Surrogate.{weight_below}
-use Rattle.schedule_clauses.specs.declared.meaning.Meaning.{Meaning}
-use Rattle.schedule_clauses.specs.declared.meaning.Meaning.TheVariants.{StartsBy, InMode, Runs, UseWithin, ConsumptionWithin, WeightWithin}
+use Rattle.schedule_clauses.specs.declared.meaning.Fact.{Fact}
+use Rattle.schedule_clauses.specs.declared.meaning.Fact.TheVariants.{StartsBy, InMode, Runs, UseWithin, ConsumptionWithin, WeightWithin}
 use Rattle.schedule_clauses.specs.declared.meaning.Term.{Term}
 
 -- a feasible schedule, and where there is a limit, one of at most this makespan
@@ -27,7 +27,7 @@ unfoldable pub runs : ProjectData → ScheduleData → ℕ → ℕ → ℕ → B
 runs p s j m t = (mode_of s j == m) && (nat_le (start_of s j) t && nat_lt t (start_of s j + duration p j m))
 
 -- what a variable says holds of the schedule
-abbrev pub holds : ProjectData → ScheduleData → Meaning → Bool
+abbrev pub holds : ProjectData → ScheduleData → Fact → Bool
 holds p s (StartsBy j t) = nat_le (start_of s j) t
 holds p s (InMode j m) = mode_of s j == m
 holds p s (Runs j m t) = runs p s j m t

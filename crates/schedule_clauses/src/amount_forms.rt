@@ -6,9 +6,9 @@ ghost use Rattle.schedule_clauses.specs.Activities.{Leaves};
 ghost use Rattle.schedule_clauses.specs.Encoding.{AllGood};
 
 use crate::activities::{Activities, is_among, is_part};
-use crate::diagram::Part;
+use crate::diagram::Demand;
 use crate::encoding::{Encoding, Scope};
-use crate::formula::Row;
+use crate::formula::CapacityRow;
 use crate::meaning::{Share, in_mode, runs_at, stock_within, use_within};
 use std::alloc::AllocError;
 
@@ -34,19 +34,19 @@ fn does_leave(from: Share, to: Share, activity: usize, amount: u32) -> bool
 pub(crate) fn all(
     encoding: &mut Encoding,
     scope: Scope<'_>,
-    row: Row,
+    row: CapacityRow,
     share: Share,
 ) -> Result<(), AllocError>
     requires good { AllGood scope.project.now scope.limit encoding.old }
     ensures { IfOk result (λ _. AllGood scope.entry.project.now scope.entry.limit encoding.new) }
 {
     match row {
-        Row::Use { resource, time }
+        CapacityRow::Use { resource, time }
             if resource < scope.project.renewables()
                 && scope.project.capacity(resource) <= share.most => {
             encoding.add(scope, &[use_within(resource, time, share)])
         }
-        Row::Stock { resource }
+        CapacityRow::Stock { resource }
             if resource < scope.project.nonrenewables()
                 && scope.project.stock(resource) <= share.most => {
             encoding.add(scope, &[stock_within(resource, share)])
@@ -60,7 +60,7 @@ pub(crate) fn all(
 pub(crate) fn fewer(
     encoding: &mut Encoding,
     scope: Scope<'_>,
-    row: Row,
+    row: CapacityRow,
     from: Share,
     to: Share,
 ) -> Result<(), AllocError>
@@ -71,11 +71,11 @@ pub(crate) fn fewer(
         return Ok(());
     }
     match row {
-        Row::Use { resource, time } => {
+        CapacityRow::Use { resource, time } => {
             let most = use_within(resource, time, from);
             encoding.add(scope, &[!most, use_within(resource, time, to)])
         }
-        Row::Stock { resource } => {
+        CapacityRow::Stock { resource } => {
             let most = stock_within(resource, from);
             encoding.add(scope, &[!most, stock_within(resource, to)])
         }
@@ -89,16 +89,16 @@ fn use_run(
     scope: Scope<'_>,
     resource: usize,
     time: u32,
-    part: Part,
+    demand: Demand,
     descent: Descent,
 ) -> Result<(), AllocError>
     requires good { AllGood scope.project.now scope.limit encoding.old }
     requires resource { resource < renewables scope.project.now }
-    requires activity { part.activity < size scope.project.now }
-    requires mode { part.mode < mode_count scope.project.now part.activity }
+    requires activity { demand.activity < size scope.project.now }
+    requires mode { demand.mode < mode_count scope.project.now demand.activity }
     ensures { IfOk result (λ _. AllGood scope.entry.project.now scope.entry.limit encoding.new) }
 {
-    let Part { activity, mode, .. } = part;
+    let Demand { activity, mode, .. } = demand;
     let Descent { from, to } = descent;
     let request = scope.project.request(activity, mode, resource);
     let used = use_within(resource, time, from);
@@ -120,16 +120,16 @@ fn stock_mode(
     encoding: &mut Encoding,
     scope: Scope<'_>,
     resource: usize,
-    part: Part,
+    demand: Demand,
     descent: Descent,
 ) -> Result<(), AllocError>
     requires good { AllGood scope.project.now scope.limit encoding.old }
     requires resource { resource < nonrenewables scope.project.now }
-    requires activity { part.activity < size scope.project.now }
-    requires mode { part.mode < mode_count scope.project.now part.activity }
+    requires activity { demand.activity < size scope.project.now }
+    requires mode { demand.mode < mode_count scope.project.now demand.activity }
     ensures { IfOk result (λ _. AllGood scope.entry.project.now scope.entry.limit encoding.new) }
 {
-    let Part { activity, mode, .. } = part;
+    let Demand { activity, mode, .. } = demand;
     let Descent { from, to } = descent;
     let consumption = scope.project.consumption(activity, mode, resource);
     let consumed = stock_within(resource, from);
@@ -145,27 +145,27 @@ fn stock_mode(
     }
 }
 
-/// A part of a row leaves the less to the activities below it, or cannot be.
+/// A demand on a row leaves the less to the activities below it, or cannot be.
 pub(crate) fn take(
     encoding: &mut Encoding,
     scope: Scope<'_>,
-    row: Row,
-    part: Part,
+    row: CapacityRow,
+    demand: Demand,
     descent: Descent,
 ) -> Result<(), AllocError>
     requires good { AllGood scope.project.now scope.limit encoding.old }
     ensures { IfOk result (λ _. AllGood scope.entry.project.now scope.entry.limit encoding.new) }
 {
     let project = scope.project;
-    if part.activity >= project.size() || part.mode >= project.mode_count(part.activity) {
+    if demand.activity >= project.size() || demand.mode >= project.mode_count(demand.activity) {
         return Ok(());
     }
     match row {
-        Row::Use { resource, time } if resource < project.renewables() => {
-            use_run(encoding, scope, resource, time, part, descent)
+        CapacityRow::Use { resource, time } if resource < project.renewables() => {
+            use_run(encoding, scope, resource, time, demand, descent)
         }
-        Row::Stock { resource } if resource < project.nonrenewables() => {
-            stock_mode(encoding, scope, resource, part, descent)
+        CapacityRow::Stock { resource } if resource < project.nonrenewables() => {
+            stock_mode(encoding, scope, resource, demand, descent)
         }
         _ => Ok(()),
     }

@@ -4,9 +4,9 @@ ghost use Rattle.mrcpsp.specs.Project.{size, mode_count, renewables};
 ghost use Rattle.schedule_clauses.specs.Encoding.{AllGood};
 
 use crate::chains::Chains;
-use crate::diagram::{Diagram, Part};
+use crate::diagram::{Diagram, Demand};
 use crate::encoding::{Encoding, Scope};
-use crate::formula::{Kind, Row};
+use crate::formula::{Kind, CapacityRow};
 use crate::mode_forms::{exclude, executable, modes};
 use crate::rows::{Room, row_clauses};
 use crate::windows::Windows;
@@ -63,16 +63,16 @@ pub(crate) fn mode_section(encoding: &mut Encoding, scope: Scope<'_>) -> Result<
 }
 
 /// What may use a renewable resource in a period.
-fn use_parts(
+fn use_demands(
     alloc: Global,
     project: &Project,
     windows: &Windows,
     resource: usize,
     time: u32,
-) -> Result<Vec<Part>, AllocError> {
-    let mut parts = Vec::new(alloc);
+) -> Result<Vec<Demand>, AllocError> {
+    let mut demands = Vec::new(alloc);
     if resource >= project.renewables() {
-        return Ok(parts);
+        return Ok(demands);
     }
     for activity in 0..project.size() {
         let window = windows.of(activity);
@@ -80,7 +80,7 @@ fn use_parts(
             let amount = project.request(activity, mode, resource);
             let over = window.last.saturating_add(project.duration(activity, mode));
             if amount > 0 && window.first <= time && time < over {
-                parts.push(Part {
+                demands.push(Demand {
                     level: activity,
                     activity,
                     mode,
@@ -89,20 +89,20 @@ fn use_parts(
             }
         }
     }
-    Ok(parts)
+    Ok(demands)
 }
 
 /// What consumes a nonrenewable resource.
-fn stock_parts(alloc: Global, project: &Project, resource: usize) -> Result<Vec<Part>, AllocError> {
-    let mut parts = Vec::new(alloc);
+fn stock_demands(alloc: Global, project: &Project, resource: usize) -> Result<Vec<Demand>, AllocError> {
+    let mut demands = Vec::new(alloc);
     if resource >= project.nonrenewables() {
-        return Ok(parts);
+        return Ok(demands);
     }
     for activity in 0..project.size() {
         for mode in 0..project.mode_count(activity) {
             let amount = project.consumption(activity, mode, resource);
             if amount > 0 {
-                parts.push(Part {
+                demands.push(Demand {
                     level: activity,
                     activity,
                     mode,
@@ -111,7 +111,7 @@ fn stock_parts(alloc: Global, project: &Project, resource: usize) -> Result<Vec<
             }
         }
     }
-    Ok(parts)
+    Ok(demands)
 }
 
 /// What runs before the bound fits the capacity of a renewable resource: a chain of activities a level. Periods in which the
@@ -133,12 +133,12 @@ fn use_section(
     let capacity = project.capacity(resource);
     let mut diagram = Diagram::new(alloc, capacity, Vec::new(alloc), 0)?;
     for time in 0..windows.bound {
-        let parts = use_parts(alloc, project, windows, resource, time)?;
-        let parts = chains.in_levels(alloc, parts)?;
-        if !diagram.is_of(&parts) {
-            diagram = Diagram::new(alloc, capacity, parts, room.most())?;
+        let demands = use_demands(alloc, project, windows, resource, time)?;
+        let demands = chains.in_levels(alloc, demands)?;
+        if !diagram.is_of(&demands) {
+            diagram = Diagram::new(alloc, capacity, demands, room.most())?;
         }
-        let row = Row::Use { resource, time };
+        let row = CapacityRow::Use { resource, time };
         row_clauses(encoding, scope, row, &diagram, room)?;
     }
     Ok(())
@@ -173,10 +173,10 @@ pub(crate) fn nonrenewable_section(
     let project = scope.project;
     let mut room = Room::of(project.nonrenewables());
     for resource in 0..project.nonrenewables() {
-        let parts = stock_parts(encoding.alloc, project, resource)?;
+        let demands = stock_demands(encoding.alloc, project, resource)?;
         let stock = project.stock(resource);
-        let diagram = Diagram::new(encoding.alloc, stock, parts, room.most())?;
-        let row = Row::Stock { resource };
+        let diagram = Diagram::new(encoding.alloc, stock, demands, room.most())?;
+        let row = CapacityRow::Stock { resource };
         row_clauses(encoding, scope, row, &diagram, &mut room)?;
     }
     encoding.end_section(Kind::Nonrenewable)

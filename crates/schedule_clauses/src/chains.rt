@@ -1,6 +1,6 @@
 //! Activities in few chains of precedences, so that at most one of each chain runs in a period. They are hints alone.
 use crate::activities::{Activities, add_all, add_one, is_among};
-use crate::diagram::Part;
+use crate::diagram::Demand;
 use mrcpsp::Project;
 use std::alloc::{AllocError, Global};
 
@@ -56,24 +56,24 @@ impl Chains {
         Ok(lasts.len() - 1)
     }
 
-    /// Puts parts that are sorted by activity into levels of one chain each.
+    /// Puts demands that are sorted by activity into levels of one chain each.
     pub(crate) fn in_levels(
         &self,
         alloc: Global,
-        parts: Vec<Part>,
-    ) -> Result<Vec<Part>, AllocError> {
-        let mut parts = parts;
+        demands: Vec<Demand>,
+    ) -> Result<Vec<Demand>, AllocError> {
+        let mut demands = demands;
         let mut lasts = Vec::new(alloc);
-        for at in 0..parts.len() {
-            let activity = parts[at].activity;
-            let level = if at > 0 && parts[at - 1].activity == activity {
-                parts[at - 1].level
+        for at in 0..demands.len() {
+            let activity = demands[at].activity;
+            let level = if at > 0 && demands[at - 1].activity == activity {
+                demands[at - 1].level
             } else {
                 self.place(&mut lasts, activity)?
             };
-            parts[at].level = level;
+            demands[at].level = level;
         }
-        parts.sort_by_key(|part| part.level)?;
-        Ok(parts)
+        demands.sort_by_key(|demand| demand.level)?;
+        Ok(demands)
     }
 }

@@ -5,8 +5,8 @@ ghost use Rattle.schedule_clauses.specs.Encoding.{AllGood, Extends};
 
 use crate::activities::Activities;
 use crate::diagram::number_at;
-use crate::formula::{Formula, Kind, Row, Section};
-use crate::meaning::{Meaning, Term};
+use crate::formula::{Formula, Kind, CapacityRow, Section};
+use crate::meaning::{Fact, Term};
 use mrcpsp::Project;
 use std::alloc::{AllocError, Global};
 
@@ -42,16 +42,16 @@ fn mix_all(sum: u64, activities: Activities) -> u64 {
     sum
 }
 
-fn hash(meaning: Meaning) -> u64 {
+fn hash(meaning: Fact) -> u64 {
     match meaning {
-        Meaning::StartsBy { activity, time } => mix(mix(1, activity as u64), time as u64),
-        Meaning::InMode { activity, mode } => mix(mix(2, activity as u64), mode as u64),
-        Meaning::Runs {
+        Fact::StartsBy { activity, time } => mix(mix(1, activity as u64), time as u64),
+        Fact::InMode { activity, mode } => mix(mix(2, activity as u64), mode as u64),
+        Fact::Runs {
             activity,
             mode,
             time,
         } => mix(mix(mix(3, activity as u64), mode as u64), time as u64),
-        Meaning::UseWithin {
+        Fact::UseWithin {
             resource,
             time,
             activities,
@@ -60,12 +60,12 @@ fn hash(meaning: Meaning) -> u64 {
             mix(mix(mix(4, resource as u64), time as u64), most as u64),
             activities,
         ),
-        Meaning::ConsumptionWithin {
+        Fact::ConsumptionWithin {
             resource,
             activities,
             most,
         } => mix_all(mix(mix(5, resource as u64), most as u64), activities),
-        Meaning::WeightWithin {
+        Fact::WeightWithin {
             weights: _,
             count,
             most,
@@ -74,7 +74,7 @@ fn hash(meaning: Meaning) -> u64 {
 }
 
 /// The variable with this meaning in a chain, if it is there.
-fn find(meanings: &[Meaning], nexts: &[u32], first: u32, meaning: Meaning) -> Option<u32>
+fn find(meanings: &[Fact], nexts: &[u32], first: u32, meaning: Fact) -> Option<u32>
     ensures { IfSome result (λ x. slice_get meanings.now x ≡ Some meaning) }
 {
     let mut number = first;
@@ -99,7 +99,7 @@ impl Encoding {
         let mut heads = Vec::with_capacity(alloc, 65536)?;
         heads.resize(65536, NONE)?;
         let mut meanings = Vec::new(alloc);
-        meanings.push(Meaning::InMode {
+        meanings.push(Fact::InMode {
             activity: 0,
             mode: 0,
         })?;
@@ -120,7 +120,7 @@ impl Encoding {
     }
 
     /// The place of a meaning's chain in the index.
-    fn chain_of(&self, meaning: Meaning) -> usize {
+    fn chain_of(&self, meaning: Fact) -> usize {
         let chains = self.heads.len() as u64;
         if chains == 0 {
             return 0;
@@ -129,7 +129,7 @@ impl Encoding {
     }
 
     /// Puts a variable at the front of its chain.
-    fn link(&mut self, meaning: Meaning, variable: usize) -> Result<(), AllocError>
+    fn link(&mut self, meaning: Fact, variable: usize) -> Result<(), AllocError>
         ensures { self.new.formula ≡ self.old.formula }
     {
         let chain = self.chain_of(meaning);
@@ -170,7 +170,7 @@ impl Encoding {
     }
 
     /// The variable with this meaning; it is made where there is none. No more than 1,000,000,000 are.
-    fn variable(&mut self, meaning: Meaning) -> Result<u32, AllocError>
+    fn variable(&mut self, meaning: Fact) -> Result<u32, AllocError>
         ensures extends { IfOk result (λ _. Extends self.old.formula.meanings.items self.new.formula.meanings.items) }
         ensures stands { IfOk result (λ x. slice_get self.new.formula.meanings.items x ≡ Some meaning) }
         ensures same { self.new.formula.clauses ≡ self.old.formula.clauses }
@@ -241,7 +241,7 @@ impl Encoding {
     }
 
     /// A row is left out.
-    pub(crate) fn leave_out(&mut self, row: Row) -> Result<(), AllocError>
+    pub(crate) fn leave_out(&mut self, row: CapacityRow) -> Result<(), AllocError>
         ensures meanings { self.new.formula.meanings ≡ self.old.formula.meanings }
         ensures clauses { self.new.formula.clauses ≡ self.old.formula.clauses }
     {

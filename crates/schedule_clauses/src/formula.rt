@@ -1,6 +1,6 @@
 //! The clauses of a project, and what each run of them says.
 
-use crate::meaning::Meaning;
+use crate::meaning::Fact;
 
 /// What a run of clauses says.
 #[derive(Clone, Copy, Debug, PartialEq, Eq)]
@@ -34,7 +34,7 @@ pub struct Section {
 
 /// A capacity row: a renewable resource in a period, or a nonrenewable one. Resources are named by their places, from 0.
 #[derive(Clone, Copy, Debug, PartialEq, Eq)]
-pub enum Row {
+pub enum CapacityRow {
     /// What is used of a renewable resource in a period.
     Use {
         /// Its place.
@@ -55,9 +55,9 @@ pub struct Formula {
     /// The clauses, each a list of literals.
     pub clauses: Vec<Vec<u32>>,
     /// What each variable says of a schedule. There is no variable 0, and the first meaning is none's.
-    pub meanings: Vec<Meaning>,
+    pub meanings: Vec<Fact>,
     /// What the clauses say, section by section.
     pub sections: Vec<Section>,
     /// The rows whose clauses would be too many and are left out. Without them a proof may not exist.
-    pub left_out: Vec<Row>,
+    pub left_out: Vec<CapacityRow>,
 }

@@ -3,9 +3,9 @@ ghost use Rattle.std.specs.Prelude.{IfOk};
 ghost use Rattle.schedule_clauses.specs.Encoding.{AllGood};
 
 use crate::amount_forms::{Descent, all, fewer, take};
-use crate::diagram::{Diagram, Level, Part, in_order};
+use crate::diagram::{Diagram, Level, Demand, in_order};
 use crate::encoding::{Encoding, Scope};
-use crate::formula::Row;
+use crate::formula::CapacityRow;
 use std::alloc::AllocError;
 
 /// The most clauses of all rows together, half a gigabyte of them.
@@ -13,53 +13,53 @@ const MOST_ROW_CLAUSES: usize = 8_000_000;
 
 /// A capacity row and its diagram, at a level.
 #[derive(Clone, Copy)]
-struct Place<'a> {
-    row: Row,
+struct RowLevel<'a> {
+    row: CapacityRow,
     diagram: &'a Diagram,
     level: Level,
 }
 
-/// The clauses of a part at a node: it leaves the less to the activities below it, or cannot be.
-fn part_clauses(
+/// The clauses of a demand at a node: it leaves the less to the activities below it, or cannot be.
+fn demand_clauses(
     encoding: &mut Encoding,
     scope: Scope<'_>,
-    place: Place<'_>,
-    part: Part,
+    place: RowLevel<'_>,
+    demand: Demand,
     amount: u32,
     below: &mut Vec<u32>,
 ) -> Result<(), AllocError>
     requires good { AllGood scope.project.now scope.limit encoding.old }
     ensures { IfOk result (λ _. AllGood scope.entry.project.now scope.entry.limit encoding.new) }
 {
-    let Place {
+    let RowLevel {
         row,
         diagram,
         level,
     } = place;
     let from = level.up_to(amount);
-    if amount < part.amount {
-        return take(encoding, scope, row, part, Descent { from, to: None });
+    if amount < demand.amount {
+        return take(encoding, scope, row, demand, Descent { from, to: None });
     }
-    let Some(most) = diagram.greatest(level.place, amount - part.amount) else {
+    let Some(most) = diagram.greatest(level.place, amount - demand.amount) else {
         return Ok(());
     };
     below.push(most)?;
     let to = Some(level.under(most));
-    take(encoding, scope, row, part, Descent { from, to })
+    take(encoding, scope, row, demand, Descent { from, to })
 }
 
 /// The activities up to a level take no less than those below it.
 fn skip_clauses(
     encoding: &mut Encoding,
     scope: Scope<'_>,
-    place: Place<'_>,
+    place: RowLevel<'_>,
     amount: u32,
     below: &mut Vec<u32>,
 ) -> Result<(), AllocError>
     requires good { AllGood scope.project.now scope.limit encoding.old }
     ensures { IfOk result (λ _. AllGood scope.entry.project.now scope.entry.limit encoding.new) }
 {
-    let Place {
+    let RowLevel {
         row,
         diagram,
         level,
@@ -76,7 +76,7 @@ fn skip_clauses(
 fn node_clauses(
     encoding: &mut Encoding,
     scope: Scope<'_>,
-    place: Place<'_>,
+    place: RowLevel<'_>,
     amount: u32,
     below: &mut Vec<u32>,
 ) -> Result<(), AllocError>
@@ -84,8 +84,8 @@ fn node_clauses(
     ensures { IfOk result (λ _. AllGood scope.entry.project.now scope.entry.limit encoding.new) }
 {
     skip_clauses(encoding, scope, place, amount, below)?;
-    for part in place.diagram.parts_of(place.level) {
-        part_clauses(encoding, scope, place, *part, amount, below)?;
+    for demand in place.diagram.demands_of(place.level) {
+        demand_clauses(encoding, scope, place, *demand, amount, below)?;
     }
     Ok(())
 }
@@ -94,7 +94,7 @@ fn node_clauses(
 fn level_clauses(
     encoding: &mut Encoding,
     scope: Scope<'_>,
-    place: Place<'_>,
+    place: RowLevel<'_>,
     amounts: &[u32],
 ) -> Result<Vec<u32>, AllocError>
     requires good { AllGood scope.project.now scope.limit encoding.old }
@@ -139,7 +139,7 @@ impl Room {
 fn diagram_clauses(
     encoding: &mut Encoding,
     scope: Scope<'_>,
-    row: Row,
+    row: CapacityRow,
     diagram: &Diagram,
 ) -> Result<(), AllocError>
     requires good { AllGood scope.project.now scope.limit encoding.old }
@@ -156,7 +156,7 @@ fn diagram_clauses(
     let mut amounts = Vec::new(encoding.alloc);
     amounts.push(most)?;
     for level in diagram.levels.iter().rev() {
-        let place = Place {
+        let place = RowLevel {
             row,
             diagram,
             level: *level,
@@ -170,7 +170,7 @@ fn diagram_clauses(
 pub(crate) fn row_clauses(
     encoding: &mut Encoding,
     scope: Scope<'_>,
-    row: Row,
+    row: CapacityRow,
     diagram: &Diagram,
     room: &mut Room,
 ) -> Result<(), AllocError>

@@ -4,7 +4,7 @@ ghost use Rattle.std.specs.Prelude.{◌≡◌, ◌<◌, IfOk};
 ghost use Rattle.mrcpsp.specs.Project.{size};
 ghost use Rattle.schedule_clauses.specs.Encoding.{AllGood};
 
-use crate::diagram::{Diagram, Level, Part, in_order, number_at};
+use crate::diagram::{Diagram, Level, Demand, in_order, number_at};
 use crate::encoding::{Encoding, Scope};
 use crate::formula::Kind;
 use crate::meaning::Weights;
@@ -66,14 +66,14 @@ impl Surrogate {
     }
 
     /// What each mode weighs above the lightest of its activity.
-    fn parts(&self, alloc: Global, project: &Project) -> Result<Vec<Part>, AllocError> {
-        let mut parts = Vec::new(alloc);
+    fn demands(&self, alloc: Global, project: &Project) -> Result<Vec<Demand>, AllocError> {
+        let mut demands = Vec::new(alloc);
         for activity in 0..project.size() {
             let least = least_weight_of(project, self.weights, activity);
             for mode in 0..project.mode_count(activity) {
                 let weight = weight_of(project, self.weights, activity, mode);
                 let amount = weight.saturating_sub(least).min(u32::MAX as u64) as u32;
-                parts.push(Part {
+                demands.push(Demand {
                     level: activity,
                     activity,
                     mode,
@@ -81,7 +81,7 @@ impl Surrogate {
                 })?;
             }
         }
-        Ok(parts)
+        Ok(demands)
     }
 }
 
@@ -132,23 +132,23 @@ fn any_clauses(
 
 /// The clauses of a mode at a node, unless it is the lightest, of which those of any mode say as much. What it leaves to the
 /// activities before it goes to `below`. A mode that leaves less than these weigh at least is excluded by [`low_clauses`].
-fn part_clauses(
+fn demand_clauses(
     encoding: &mut Encoding,
     scope: Scope<'_>,
     drawn: &Drawn,
-    part: Part,
+    demand: Demand,
     above: u32,
     below: &mut Vec<u32>,
 ) -> Result<(), AllocError>
     requires good { AllGood scope.project.now scope.limit encoding.old }
     ensures { IfOk result (λ _. AllGood scope.entry.project.now scope.entry.limit encoding.new) }
 {
-    let Part {
+    let Demand {
         activity,
         mode,
         amount,
         ..
-    } = part;
+    } = demand;
     let project = scope.project;
     if amount == 0 || activity >= project.size() || mode >= project.mode_count(activity) {
         return Ok(());
@@ -178,8 +178,8 @@ fn node_clauses(
     ensures { IfOk result (λ _. AllGood scope.entry.project.now scope.entry.limit encoding.new) }
 {
     any_clauses(encoding, scope, drawn, level, above, below)?;
-    for part in drawn.diagram.parts_of(level) {
-        part_clauses(encoding, scope, drawn, *part, above, below)?;
+    for demand in drawn.diagram.demands_of(level) {
+        demand_clauses(encoding, scope, drawn, *demand, above, below)?;
     }
     Ok(())
 }
@@ -268,8 +268,8 @@ pub(crate) fn surrogate_section(
         low_clauses(encoding, scope, &row)?;
         weigh_all(encoding, scope, row.weights, low - 1)?;
     } else {
-        let parts = row.parts(alloc, project)?;
-        let diagram = Diagram::new(alloc, row.most - low, parts, MOST_CLAUSES)?;
+        let demands = row.demands(alloc, project)?;
+        let diagram = Diagram::new(alloc, row.most - low, demands, MOST_CLAUSES)?;
         diagram_clauses(encoding, scope, &Drawn { row, diagram })?;
     }
     encoding.end_section(Kind::Surrogate)

@@ -1,9 +1,9 @@
 //! The earliest start by its definition: period by period, with sums over what is placed.
 use mrcpsp::Project;
-use serial_sgs::{Board, Place};
+use serial_sgs::{Board, Placement};
 
 /// The period in which a placed activity has finished.
-fn finish(project: &Project, place: Place) -> u32 {
+fn finish(project: &Project, place: Placement) -> u32 {
     if project.size() <= place.activity || project.mode_count(place.activity) <= place.mode {
         return 0;
     }
@@ -13,7 +13,7 @@ fn finish(project: &Project, place: Place) -> u32 {
 }
 
 /// What a placed activity uses of a renewable resource in a period.
-fn load(project: &Project, place: Place, resource: usize, time: u32) -> u32 {
+fn load(project: &Project, place: Placement, resource: usize, time: u32) -> u32 {
     if project.size() <= place.activity || project.mode_count(place.activity) <= place.mode {
         return 0;
     }
@@ -36,7 +36,7 @@ fn left(board: &Board, resource: usize, time: u32) -> u32 {
 }
 
 /// Whether there is room for the activity in a period.
-fn has_room(board: &Board, own: Place, time: u32) -> bool {
+fn has_room(board: &Board, own: Placement, time: u32) -> bool {
     for resource in 0..board.project().renewables() {
         if left(board, resource, time) < load(board.project(), own, resource, time) {
             return false;
@@ -46,7 +46,7 @@ fn has_room(board: &Board, own: Place, time: u32) -> bool {
 }
 
 /// Whether the placed predecessors of the activity have finished by its start.
-fn is_ready(board: &Board, own: Place) -> bool {
+fn is_ready(board: &Board, own: Placement) -> bool {
     for place in board.placed() {
         let size = board.project().size();
         if place.activity < size
@@ -61,7 +61,7 @@ fn is_ready(board: &Board, own: Place) -> bool {
 }
 
 /// Whether the activity may start when it does.
-fn may_start(board: &Board, own: Place) -> bool {
+fn may_start(board: &Board, own: Placement) -> bool {
     for time in own.start..finish(board.project(), own) {
         if !has_room(board, own, time) {
             return false;
@@ -73,7 +73,7 @@ fn may_start(board: &Board, own: Place) -> bool {
 /// The first period, from `from` on and before 10,000, in which the activity may start, or none.
 pub(crate) fn first_start(board: &Board, activity: usize, mode: usize, from: u32) -> Option<u32> {
     for start in from..10_000 {
-        let own = Place {
+        let own = Placement {
             activity,
             mode,
             start,

@@ -5,25 +5,25 @@ use Rattle.mrcpsp.specs.declared.limits.TheConstants.{MOST_RESOURCES}
 use Rattle.mrcpsp.specs.Project.{ProjectData, size, mode_count, duration, request, consumption, capacity, stock}
 use Rattle.mrcpsp.specs.Values.{least}
 use Rattle.mrcpsp.specs.Placed.{is_executable}
-use Rattle.serial_sgs.specs.declared.rows.Row.{Row}
+use Rattle.serial_sgs.specs.declared.rows.ModeRow.{ModeRow}
 use Rattle.serial_sgs.specs.declared.rows.Rows.{Rows}
 
-abbrev pub no_row : Row
+abbrev pub no_row : ModeRow
 no_row = record { extra = []; request = []; duration = 0; is_executable = false }
 
 -- it says what the project says of mode m of activity j, and its consumption beyond the least of the activity
-pub record IsRow (p : ProjectData) (j m : ℕ) (row : Row) : Type 0 where
+pub record IsRow (p : ProjectData) (j m : ℕ) (row : ModeRow) : Type 0 where
   pub extra : (r : ℕ) → r < MOST_RESOURCES → get_or row.extra r 0 + least p j r ≡ consumption p j m r
   pub request : (r : ℕ) → r < MOST_RESOURCES → get_or row.request r 0 ≡ request p j m r
   pub duration : row.duration ≡ duration p j m
   pub executable : row.is_executable ≡ is_executable p j m
 
 -- a row for each of the first modes of activity j
-pub record AreRows (p : ProjectData) (j bound : ℕ) (rows : List Row) : Type 0 where
+pub record AreRows (p : ProjectData) (j bound : ℕ) (rows : List ModeRow) : Type 0 where
   pub count : length rows ≡ bound
   pub each : (m : ℕ) → m < bound → IsRow p j m (get_or rows m no_row)
 
-pub record HasRows (p : ProjectData) (bound : ℕ) (table : List (List Row)) : Type 0 where
+pub record HasRows (p : ProjectData) (bound : ℕ) (table : List (List ModeRow)) : Type 0 where
   pub count : length table ≡ bound
   pub each : (j : ℕ) → j < bound → AreRows p j (mode_count p j) (get_or table j [])
 

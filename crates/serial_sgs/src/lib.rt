@@ -30,4 +30,4 @@ mod waiting;
 mod walk;
 
 pub use board::Board;
-pub use place::Place;
+pub use place::Placement;

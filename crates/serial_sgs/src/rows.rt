@@ -16,7 +16,7 @@ use std::alloc::{AllocError, Global};
 /// What an activity takes in a mode. There are numbers for as many resources of either kind as a project may have: those
 /// that it does not have stand at 0.
 #[derive(Clone, Copy, Debug)]
-pub(crate) struct Row {
+pub(crate) struct ModeRow {
     /// What it consumes of each nonrenewable resource beyond the least of the activity.
     pub(crate) extra: Amounts,
     /// What it uses of each renewable resource in each of its periods.
@@ -30,7 +30,7 @@ pub(crate) struct Row {
 /// A row for each mode of each activity, and what there is of each resource.
 #[derive(Drop)]
 pub(crate) struct Rows {
-    rows: Vec<Sequence<Row>>,
+    rows: Vec<Sequence<ModeRow>>,
     pub(crate) capacities: Amounts,
     pub(crate) stocks: Amounts,
 }
@@ -69,14 +69,14 @@ fn extras_of(project: &Project, measures: &Measures, activity: usize, mode: usiz
 }
 
 /// The row of a mode.
-fn row_of(project: &Project, measures: &Measures, activity: usize, mode: usize) -> Row
+fn row_of(project: &Project, measures: &Measures, activity: usize, mode: usize) -> ModeRow
     requires project { IsProject project.now }
     requires measured { measures.now ≡ measures_of project.now }
     requires activity { activity < size project.now }
     requires mode { mode < mode_count project.now activity }
     ensures { IsRow project.now activity mode result }
 {
-    Row {
+    ModeRow {
         extra: extras_of(project, measures, activity, mode),
         request: requests_of(project, activity, mode),
         duration: project.duration(activity, mode),
@@ -90,7 +90,7 @@ fn rows_of(
     project: &Project,
     measures: &Measures,
     activity: usize,
-) -> Result<Vec<Row>, AllocError>
+) -> Result<Vec<ModeRow>, AllocError>
     requires project { IsProject project.now }
     requires measured { measures.now ≡ measures_of project.now }
     requires activity { activity < size project.now }
@@ -108,7 +108,7 @@ fn all_rows(
     alloc: Global,
     project: &Project,
     measures: &Measures,
-) -> Result<Vec<Sequence<Row>>, AllocError>
+) -> Result<Vec<Sequence<ModeRow>>, AllocError>
     requires project { IsProject project.now }
     requires measured { measures.now ≡ measures_of project.now }
     ensures { IfOk result (λ table. HasRows project.now (size project.now) table.items) }
@@ -178,7 +178,7 @@ impl Rows {
     }
 
     /// The row of a mode of an activity.
-    pub(crate) fn row(&self, activity: usize, mode: usize) -> &Row
+    pub(crate) fn row(&self, activity: usize, mode: usize) -> &ModeRow
         requires { (p : ProjectData) × IsTable p self.now × (activity < size p) × (mode < mode_count p activity) }
         ensures { (p : ProjectData) → IsTable p self.now → activity < size p → mode < mode_count p activity
             → IsRow p activity mode result.now }

@@ -8,7 +8,7 @@ use Rattle.solve_cli.specs.Several.{IsFoundByEach}
 use Rattle.solve_cli.specs.Verified.{IsVerified}
 use Rattle.solve_cli.specs.declared.ending.TheConstants.{MOST_TEXT}
 use Rattle.solve_cli.specs.declared.search_kinds.SearchKind.{SearchKind}
-use Rattle.solve_cli.specs.declared.searching.Found.{Found}
+use Rattle.solve_cli.specs.declared.searching.SearchResult.{SearchResult}
 use Rattle.solve_cli.specs.declared.verifying.Verified.{Verified}
 
 -- what holds of the fronts that were read of both
@@ -34,7 +34,7 @@ shown (Some x) None Tells v line before after is tells wrote = tt
 shown (Some x) (Some y) Tells v line before after is tells wrote = record { verified = v; is = is; shown = line; tells = tells; wrote = wrote }
 
 -- what was found of the project that was read was written
-pub solved : (file : Option (List ℕ)) (is_json : Bool) (kinds : List SearchKind) (most : ℕ) (p : ProjectData) (found : Found) (text : List ℕ) (before after : Option (List ℕ))
+pub solved : (file : Option (List ℕ)) (is_json : Bool) (kinds : List SearchKind) (most : ℕ) (p : ProjectData) (found : SearchResult) (text : List ℕ) (before after : Option (List ℕ))
     → IfSome file (λ all. reading (take MOST_TEXT all) ≡ Ok p) → IsFoundByEach p kinds most found → text ≡ told_text is_json found → Appends before after text
     → IfSome file (λ bytes. IsSolved is_json kinds most (take MOST_TEXT bytes) before after)
 solved None is_json kinds most p found text before after read finds told wrote = tt

@@ -8,7 +8,7 @@ use Rattle.strategy.specs.Outcome.{is_closed}
 use Rattle.strategy.specs.Search.{Meaning, shown_closed, ran_on, nodes_within}
 use Rattle.strategy.specs.declared.plan.Plan.{Plan}
 use Rattle.solve_cli.specs.Found.{IsAt, IsBegun, IsOver, IsShown, IsFound}
-use Rattle.solve_cli.specs.declared.searching.Found.{Found}
+use Rattle.solve_cli.specs.declared.searching.SearchResult.{SearchResult}
 
 from_most : (test : ℕ → Bool) (k t : ℕ) → first_from test k t ≤ t + k
 from_most test zero t = omega arith
@@ -106,7 +106,7 @@ nodes_of of most begun over is ran end =
     is.left
 
 -- what it shows then is what is found
-pub found_of : (of : Plan) (most : ℕ) (begun over : Meaning) (f : Found) → IsBegun of most begun → IsAt begun over → IsOver over → IsShown over f → IsFound of most f
+pub found_of : (of : Plan) (most : ℕ) (begun over : Meaning) (f : SearchResult) → IsBegun of most begun → IsAt begun over → IsOver over → IsShown over f → IsFound of most f
 found_of of most begun over f is ran end shown =
     let plan : over.plan ≡ of = ran.plan ∙ is.plan in
     record {
@@ -116,7 +116,7 @@ found_of of most begun over f is ran end shown =
       verdict = rw (plan, ← shown.nodes) at shown.verdict;
     }
 
-pub found_few : (plan : Plan) (most : ℕ) (f : Found) → IsFound plan most f → f.nodes ≤ most
+pub found_few : (plan : Plan) (most : ℕ) (f : SearchResult) → IsFound plan most f → f.nodes ≤ most
 found_few plan most f is = omega (arith, is.nodes, from_most (is_closed plan) most 0)
 
 -- what is known of a value, if there is one, is known of the one that is there

@@ -17,7 +17,7 @@ use Rattle.solve_cli.specs.Several.{is_decided, stronger, joined, nothing, is_sh
 use Rattle.solve_cli.specs.Laws.{SeveralAreTrue, OneIsItself}
 use Rattle.solve_cli.specs.declared.search_kinds.SearchKind.{SearchKind}
 use Rattle.solve_cli.specs.declared.search_kinds.SearchKind.TheVariants.{Planned, Improve}
-use Rattle.solve_cli.specs.declared.searching.Found.{Found}
+use Rattle.solve_cli.specs.declared.searching.SearchResult.{SearchResult}
 use Rattle.solve_cli.proofs.SearchLemmas.{found_few}
 
 -- the better one is the shorter one
@@ -70,7 +70,7 @@ stronger_infeasible Ended w e = inr e
 nothing_true : (p : ProjectData) → IsTrueOf p nothing
 nothing_true p = record { feasible = tt; makespan = refl; optimal = λ e. cc; infeasible = λ e. cc }
 
-joined_true : (p : ProjectData) (one other : Found) → IsTrueOf p one → IsTrueOf p other → IsTrueOf p (joined p one other)
+joined_true : (p : ProjectData) (one other : SearchResult) → IsTrueOf p one → IsTrueOf p other → IsTrueOf p (joined p one other)
 joined_true p one other a b = record {
   feasible = better_feasible p one.best other.best a.feasible b.feasible;
   makespan = refl;
@@ -81,7 +81,7 @@ joined_true p one other a b = record {
   infeasible = λ e. ⊎_elim (λ x. a.infeasible x) (λ x. b.infeasible x) (stronger_infeasible one.verdict other.verdict e);
 }
 
-found_true : (plan : Plan) → IsTrue (is_project plan.project) → (most : ℕ) (found : Found) → IsFound plan most found → IsTrueOf plan.project found
+found_true : (plan : Plan) → IsTrue (is_project plan.project) → (most : ℕ) (found : SearchResult) → IsFound plan most found → IsTrueOf plan.project found
 found_true plan kept most found is = record {
   feasible = rw is.best (each_best plan kept found.nodes);
   makespan = is.makespan;
@@ -89,7 +89,7 @@ found_true plan kept most found is = record {
   infeasible = λ e. infeasible_is_true plan kept found.nodes (sym is.verdict ∙ e);
 }
 
-improved_true : (p : ProjectData) (most : ℕ) (found : Found) → IsImproved p most found → IsTrueOf p found
+improved_true : (p : ProjectData) (most : ℕ) (found : SearchResult) → IsImproved p most found → IsTrueOf p found
 improved_true p most found is =
     let open_still : found.verdict ≡ Going = is.untold in
     record {
@@ -99,15 +99,15 @@ improved_true p most found is =
       infeasible = λ e. cc;
     }
 
-by_true : (p : ProjectData) → IsTrue (is_project p) → (kind : SearchKind) (most : ℕ) (found : Found) → IsFoundBy p kind most found → IsTrueOf p found
+by_true : (p : ProjectData) → IsTrue (is_project p) → (kind : SearchKind) (most : ℕ) (found : SearchResult) → IsFoundBy p kind most found → IsTrueOf p found
 by_true p kept (Planned kind) most found is = found_true (record { project = p; kind = kind }) kept most found is
 by_true p kept (Improve seed) most found is = improved_true p most found is
 
-pub by_few : (p : ProjectData) (kind : SearchKind) (most : ℕ) (f : Found) → IsFoundBy p kind most f → f.nodes ≤ most
+pub by_few : (p : ProjectData) (kind : SearchKind) (most : ℕ) (f : SearchResult) → IsFoundBy p kind most f → f.nodes ≤ most
 by_few p (Planned kind) most f is = found_few (record { project = p; kind = kind }) most f is
 by_few p (Improve seed) most f is = is.nodes
 
-all_true : (p : ProjectData) → IsTrue (is_project p) → (kinds : List SearchKind) (most : ℕ) (each : List Found) (before : Found) → IsTrueOf p before → AreFound p kinds most each → IsTrueOf p (fold (joined p) before each)
+all_true : (p : ProjectData) → IsTrue (is_project p) → (kinds : List SearchKind) (most : ℕ) (each : List SearchResult) (before : SearchResult) → IsTrueOf p before → AreFound p kinds most each → IsTrueOf p (fold (joined p) before each)
 all_true p kept [] most each before h e = rw e h
 all_true p kept (kind ∷ kinds) most [] before h e = absurd e
 all_true p kept (kind ∷ kinds) most (found ∷ rest) before h (is, next) =
@@ -121,7 +121,7 @@ nothing_is_best : (p : ProjectData) (o : Option ScheduleData) → better p None 
 nothing_is_best p None = refl
 nothing_is_best p (Some s) = refl
 
-joined_to_nothing : (p : ProjectData) (kind : Kind) (most : ℕ) (f : Found) → IsFound (record { project = p; kind = kind }) most f → IsFound (record { project = p; kind = kind }) most (joined p nothing f)
+joined_to_nothing : (p : ProjectData) (kind : Kind) (most : ℕ) (f : SearchResult) → IsFound (record { project = p; kind = kind }) most f → IsFound (record { project = p; kind = kind }) most (joined p nothing f)
 joined_to_nothing p kind most f is =
     let n : 0 + f.nodes ≡ f.nodes = zero-add f.nodes in
     let b = nothing_is_best p f.best in
@@ -132,7 +132,7 @@ joined_to_nothing p kind most f is =
       verdict = rw n is.verdict;
     }
 
-one_alone : (p : ProjectData) (kind : Kind) (most : ℕ) (each : List Found) → AreFound p (Planned kind ∷ []) most each → IsFound (record { project = p; kind = kind }) most (fold (joined p) nothing each)
+one_alone : (p : ProjectData) (kind : Kind) (most : ℕ) (each : List SearchResult) → AreFound p (Planned kind ∷ []) most each → IsFound (record { project = p; kind = kind }) most (fold (joined p) nothing each)
 one_alone p kind most [] h = absurd h
 one_alone p kind most (f ∷ rest) (is, next) =
     let e : rest ≡ [] = ⊎_elim (λ x. x.1) (λ x. x.1) next in
@@ -142,16 +142,16 @@ pub one_is_itself : OneIsItself
 one_is_itself p kind most found is = rw is.whole (one_alone p kind most is.each is.run)
 
 -- whatever later searches find, all have found it together with what was found
-abbrev pub IsLeading : ProjectData → List SearchKind → List SearchKind → ℕ → Found → Type 0
-IsLeading p kinds later most before = (rest : List Found) → AreFound p later most rest → IsFoundByEach p kinds most (fold (joined p) before rest)
+abbrev pub IsLeading : ProjectData → List SearchKind → List SearchKind → ℕ → SearchResult → Type 0
+IsLeading p kinds later most before = (rest : List SearchResult) → AreFound p later most rest → IsFoundByEach p kinds most (fold (joined p) before rest)
 
 -- one more search, which decides the project,
-last_search : (p : ProjectData) (kinds : List SearchKind) (kind : SearchKind) (later : List SearchKind) (most : ℕ) (before f : Found)
+last_search : (p : ProjectData) (kinds : List SearchKind) (kind : SearchKind) (later : List SearchKind) (most : ℕ) (before f : SearchResult)
     → IsLeading p kinds (kind ∷ later) most before → IsFoundBy p kind most f → is_decided f.verdict ≡ true → IsFoundByEach p kinds most (joined p before f)
 last_search p kinds kind later most before f leads is e = leads (f ∷ []) (is, inl (e, refl))
 
 -- or does not
-next_search : (p : ProjectData) (kinds : List SearchKind) (kind : SearchKind) (later : List SearchKind) (most : ℕ) (before f : Found)
+next_search : (p : ProjectData) (kinds : List SearchKind) (kind : SearchKind) (later : List SearchKind) (most : ℕ) (before f : SearchResult)
     → IsLeading p kinds (kind ∷ later) most before → IsFoundBy p kind most f → is_decided f.verdict ≡ false → IsLeading p kinds later most (joined p before f)
 next_search p kinds kind later most before f leads is e = λ rest r. leads (f ∷ rest) (is, inr (e, r))
 
@@ -159,21 +159,21 @@ cut_at : (kinds : List SearchKind) (i : ℕ) (d : SearchKind) → i < length kin
 cut_at kinds i d h = rw (add-one, drop-cons kinds i d) refl
 
 -- the search of the kind at a place, which decides the project,
-pub last_at : (p : ProjectData) (kinds : List SearchKind) (i : ℕ) (d : SearchKind) (most : ℕ) (before f now : Found) → i < length kinds → IsLeading p kinds (drop i kinds) most before
+pub last_at : (p : ProjectData) (kinds : List SearchKind) (i : ℕ) (d : SearchKind) (most : ℕ) (before f now : SearchResult) → i < length kinds → IsLeading p kinds (drop i kinds) most before
     → IsFoundBy p (get_or kinds i d) most f → is_decided f.verdict ≡ true → now ≡ joined p before f → IsFoundByEach p kinds most now
 last_at p kinds i d most before f now small leads is e j =
     let here = subst (λ (l : List SearchKind). IsLeading p kinds l most before) (cut_at kinds i d small) leads in
-    subst (λ (x : Found). IsFoundByEach p kinds most x) (sym j) (last_search p kinds (get_or kinds i d) (drop (i + 1) kinds) most before f here is e)
+    subst (λ (x : SearchResult). IsFoundByEach p kinds most x) (sym j) (last_search p kinds (get_or kinds i d) (drop (i + 1) kinds) most before f here is e)
 
 -- or does not
-pub next_at : (p : ProjectData) (kinds : List SearchKind) (i : ℕ) (d : SearchKind) (most : ℕ) (before f now : Found) → i < length kinds → IsLeading p kinds (drop i kinds) most before
+pub next_at : (p : ProjectData) (kinds : List SearchKind) (i : ℕ) (d : SearchKind) (most : ℕ) (before f now : SearchResult) → i < length kinds → IsLeading p kinds (drop i kinds) most before
     → IsFoundBy p (get_or kinds i d) most f → is_decided f.verdict ≡ false → now ≡ joined p before f → IsLeading p kinds (drop (i + 1) kinds) most now
 next_at p kinds i d most before f now small leads is e j =
     let here = subst (λ (l : List SearchKind). IsLeading p kinds l most before) (cut_at kinds i d small) leads in
-    subst (λ (x : Found). IsLeading p kinds (drop (i + 1) kinds) most x) (sym j) (next_search p kinds (get_or kinds i d) (drop (i + 1) kinds) most before f here is e)
+    subst (λ (x : SearchResult). IsLeading p kinds (drop (i + 1) kinds) most x) (sym j) (next_search p kinds (get_or kinds i d) (drop (i + 1) kinds) most before f here is e)
 
 -- no search is left
-pub all_at : (p : ProjectData) (kinds : List SearchKind) (i : ℕ) (most : ℕ) (before : Found) → length kinds ≤ i → IsLeading p kinds (drop i kinds) most before → IsFoundByEach p kinds most before
+pub all_at : (p : ProjectData) (kinds : List SearchKind) (i : ℕ) (most : ℕ) (before : SearchResult) → length kinds ≤ i → IsLeading p kinds (drop i kinds) most before → IsFoundByEach p kinds most before
 all_at p kinds i most before h leads =
     let here = subst (λ (l : List SearchKind). IsLeading p kinds l most before) (drop_all i kinds h) leads in
     here [] refl

@@ -16,7 +16,7 @@ use Rattle.solve_cli.specs.declared.fault.InputFault.{InputFault}
 use Rattle.solve_cli.specs.declared.fault.InputFault.TheVariants.{File, Text, Verify}
 use Rattle.solve_cli.specs.declared.fault.VerifyFault.TheVariants as verify
 use Rattle.solve_cli.specs.declared.search_kinds.SearchKind.{SearchKind}
-use Rattle.solve_cli.specs.declared.searching.Found.{Found}
+use Rattle.solve_cli.specs.declared.searching.SearchResult.{SearchResult}
 use Rattle.solve_cli.specs.declared.verifying.Verified.{Verified}
 use Rattle.solve_cli.specs.declared.watches.Watches.{Watches}
 
@@ -83,7 +83,7 @@ IsUnsolved (Verify (verify.Breach breach)) seen file = ⊥
 IsUnsolved (Verify verify.NoMemory) seen file = ⊤
 
 -- as JSON or as lines
-abbrev pub told_text : Bool → Found → List ℕ
+abbrev pub told_text : Bool → SearchResult → List ℕ
 told_text true found = found_json found
 told_text false found = found_text found
 
@@ -91,7 +91,7 @@ told_text false found = found_text found
 pub record IsSolved (is_json : Bool) (kinds : List SearchKind) (most : ℕ) (file : List ℕ) (before after : Option (List ℕ)) : Type 0 where
   pub project : ProjectData
   pub read : reading file ≡ Ok project
-  pub found : Found
+  pub found : SearchResult
   pub finds : IsFoundByEach project kinds most found
   pub wrote : Appends before after (told_text is_json found)
 

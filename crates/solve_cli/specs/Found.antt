@@ -5,10 +5,10 @@ use Rattle.mrcpsp.specs.Schedule as schedule
 use Rattle.strategy.specs.Outcome.{best_after, is_closed, verdict_after}
 use Rattle.strategy.specs.Search.{Meaning, shown_closed}
 use Rattle.strategy.specs.declared.plan.Plan.{Plan}
-use Rattle.solve_cli.specs.declared.searching.Found.{Found}
+use Rattle.solve_cli.specs.declared.searching.SearchResult.{SearchResult}
 
 -- what the search of the plan gives after the first number of nodes at which it is over, or after so many where it is not over before
-pub record IsFound (plan : Plan) (most : ℕ) (f : Found) : Type 0 where
+pub record IsFound (plan : Plan) (most : ℕ) (f : SearchResult) : Type 0 where
   pub nodes : f.nodes ≡ first_from (is_closed plan) most 0
   pub best : f.best ≡ best_after plan f.nodes
   pub makespan : f.makespan ≡ option_map (schedule.makespan plan.project) f.best
@@ -39,7 +39,7 @@ pub record IsBegun (of : Plan) (most : ℕ) (m : Meaning) : Type 0 where
   pub left : ((shown_closed m ≡ true) × (m.left ≡ 0)) ⊎ (m.left ≡ most)
 
 -- what a search shows whose best was not taken
-pub record IsShown (m : Meaning) (f : Found) : Type 0 where
+pub record IsShown (m : Meaning) (f : SearchResult) : Type 0 where
   pub nodes : f.nodes ≡ m.nodes
   pub best : f.best ≡ best_after m.plan m.nodes
   pub makespan : f.makespan ≡ option_map (schedule.makespan m.plan.project) (best_after m.plan m.nodes)

@@ -4,7 +4,7 @@ use Rattle.mrcpsp.specs.Schedule.{ScheduleData}
 use Rattle.schedule_text.specs.ScheduleText.{schedule_text}
 use Rattle.strategy.specs.declared.verdict.Verdict.{Verdict}
 use Rattle.strategy.specs.declared.verdict.Verdict.TheVariants.{Going, Optimal, Infeasible, Ended}
-use Rattle.solve_cli.specs.declared.searching.Found.{Found}
+use Rattle.solve_cli.specs.declared.searching.SearchResult.{SearchResult}
 
 abbrev pub verdict_text : Verdict → List ℕ
 verdict_text Going = codes "open"
@@ -22,16 +22,16 @@ places_of None = []
 places_of (Some schedule) = schedule_text schedule
 
 -- a makespan and a verdict
-abbrev pub shown_text : Found → List ℕ
+abbrev pub shown_text : SearchResult → List ℕ
 shown_text f = best_text f.makespan ++ codes " " ++ verdict_text f.verdict
 
-abbrev pub nodes_line : Found → List ℕ
+abbrev pub nodes_line : SearchResult → List ℕ
 nodes_line f = codes "nodes " ++ decimal f.nodes ++ codes " best " ++ shown_text f ++ 10 ∷ []
 
-abbrev pub result_line : Found → List ℕ
+abbrev pub result_line : SearchResult → List ℕ
 result_line f = codes "makespan " ++ shown_text f ++ places_of f.best ++ 10 ∷ []
 
-abbrev pub found_text : Found → List ℕ
+abbrev pub found_text : SearchResult → List ℕ
 found_text f = nodes_line f ++ result_line f
 
 -- the line of this makespan and this schedule, as the best so far of a search that goes on
@@ -70,5 +70,5 @@ object_json nodes makespan word best =
     codes "{\"nodes\":" ++ decimal nodes ++ codes ",\"makespan\":" ++ makespan_json makespan
     ++ codes ",\"verdict\":\"" ++ word ++ codes "\",\"schedule\":" ++ schedule_json best ++ codes "}" ++ 10 ∷ []
 
-abbrev pub found_json : Found → List ℕ
+abbrev pub found_json : SearchResult → List ℕ
 found_json f = object_json f.nodes f.makespan (verdict_text f.verdict) f.best

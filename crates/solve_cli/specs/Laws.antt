@@ -9,13 +9,13 @@ use Rattle.solve_cli.specs.Found.{IsFound}
 use Rattle.solve_cli.specs.Several.{IsFoundByEach, IsTrueOf}
 use Rattle.solve_cli.specs.declared.search_kinds.SearchKind.{SearchKind}
 use Rattle.solve_cli.specs.declared.search_kinds.SearchKind.TheVariants.{Planned}
-use Rattle.solve_cli.specs.declared.searching.Found.{Found}
+use Rattle.solve_cli.specs.declared.searching.SearchResult.{SearchResult}
 
 abbrev pub SeveralAreTrue : Type 0
-SeveralAreTrue = (p : ProjectData) → IsTrue (is_project p) → (kinds : List SearchKind) (most : ℕ) (found : Found) → IsFoundByEach p kinds most found → IsTrueOf p found
+SeveralAreTrue = (p : ProjectData) → IsTrue (is_project p) → (kinds : List SearchKind) (most : ℕ) (found : SearchResult) → IsFoundByEach p kinds most found → IsTrueOf p found
 
 abbrev pub OneIsItself : Type 0
-OneIsItself = (p : ProjectData) (kind : Kind) (most : ℕ) (found : Found) → IsFoundByEach p (Planned kind ∷ []) most found → IsFound (record { project = p; kind = kind }) most found
+OneIsItself = (p : ProjectData) (kind : Kind) (most : ℕ) (found : SearchResult) → IsFoundByEach p (Planned kind ∷ []) most found → IsFound (record { project = p; kind = kind }) most found
 
 -- A project's file has at most 1,048,576 bytes.
 abbrev pub FilesAreLimited : Type 0

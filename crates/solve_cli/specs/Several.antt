@@ -9,7 +9,7 @@ use Rattle.solve_cli.specs.Found.{IsFound}
 use Rattle.solve_cli.specs.Improved.{IsImproved}
 use Rattle.solve_cli.specs.declared.search_kinds.SearchKind.{SearchKind}
 use Rattle.solve_cli.specs.declared.search_kinds.SearchKind.TheVariants.{Planned, Improve}
-use Rattle.solve_cli.specs.declared.searching.Found.{Found}
+use Rattle.solve_cli.specs.declared.searching.SearchResult.{SearchResult}
 
 -- whether a verdict decides the project
 abbrev pub is_decided : Verdict → Bool
@@ -35,7 +35,7 @@ is_shorter None (Some other) = true
 is_shorter (Some one) (Some other) = nat_lt other one
 
 -- what two searches of a project have found, the best of the first one where both are equally long
-abbrev pub joined : ProjectData → Found → Found → Found
+abbrev pub joined : ProjectData → SearchResult → SearchResult → SearchResult
 joined p one other =
     record {
       nodes = one.nodes + other.nodes;
@@ -45,16 +45,16 @@ joined p one other =
     }
 
 -- no search
-abbrev pub nothing : Found
+abbrev pub nothing : SearchResult
 nothing = record { nodes = 0; best = None; makespan = None; verdict = Ended }
 
 -- what a search of this kind finds
-abbrev pub IsFoundBy : ProjectData → SearchKind → ℕ → Found → Type 0
+abbrev pub IsFoundBy : ProjectData → SearchKind → ℕ → SearchResult → Type 0
 IsFoundBy p (Planned kind) most f = IsFound (record { project = p; kind = kind }) most f
 IsFoundBy p (Improve seed) most f = IsImproved p most f
 
 -- a search of each kind, in order, and none after the first that decides the project
-abbrev pub AreFound : ProjectData → List SearchKind → ℕ → List Found → Type 0
+abbrev pub AreFound : ProjectData → List SearchKind → ℕ → List SearchResult → Type 0
 AreFound p [] most each = each ≡ []
 AreFound p (kind ∷ kinds) most [] = ⊥
 AreFound p (kind ∷ kinds) most (found ∷ rest) =
@@ -62,13 +62,13 @@ AreFound p (kind ∷ kinds) most (found ∷ rest) =
     × (((is_decided found.verdict ≡ true) × (rest ≡ [])) ⊎ ((is_decided found.verdict ≡ false) × AreFound p kinds most rest))
 
 -- what these searches have found together
-pub record IsFoundByEach (p : ProjectData) (kinds : List SearchKind) (most : ℕ) (found : Found) : Type 0 where
-  pub each : List Found
+pub record IsFoundByEach (p : ProjectData) (kinds : List SearchKind) (most : ℕ) (found : SearchResult) : Type 0 where
+  pub each : List SearchResult
   pub run : AreFound p kinds most each
   pub whole : found ≡ fold (joined p) nothing each
 
 -- the best schedule is feasible, with the makespan that is told, and a verdict that decides the project is true of it
-pub record IsTrueOf (p : ProjectData) (found : Found) : Type 0 where
+pub record IsTrueOf (p : ProjectData) (found : SearchResult) : Type 0 where
   pub feasible : IfSome found.best (IsFeasible p)
   pub makespan : found.makespan ≡ option_map (makespan p) found.best
   pub optimal : found.verdict ≡ Optimal → IsSomeAnd found.best (IsOptimal p)

@@ -10,7 +10,7 @@ use std::alloc::{AllocError, Global};
 #[derive(Clone, Copy, Debug, PartialEq, Eq)]
 pub(crate) enum Task<'a> {
     /// Tell whether a schedule is feasible, and which breaches it has.
-    Verify(Paths<'a>, Told),
+    Verify(Paths<'a>, Listing),
     /// Search for a schedule.
     Solve(Solving<'a>),
     /// Draw a feasible schedule, with its rows in this order.
@@ -19,7 +19,7 @@ pub(crate) enum Task<'a> {
 
 /// Which breaches of a schedule are told.
 #[derive(Clone, Copy, Debug, PartialEq, Eq)]
-pub(crate) enum Told {
+pub(crate) enum Listing {
     /// The first one.
     First,
     /// Each one, with its amount.
@@ -161,9 +161,9 @@ pub(crate) fn task_of<'a>(matches: &ArgMatches<'a>) -> Option<Task<'a>> {
                 text: chosen.get_str("SCHEDULE")?,
             };
             let told = if chosen.get_flag("all") {
-                Told::All
+                Listing::All
             } else {
-                Told::First
+                Listing::First
             };
             Some(Task::Verify(paths, told))
         }

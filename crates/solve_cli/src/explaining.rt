@@ -3,7 +3,7 @@ ghost use Rattle.std.specs.Prelude.{◌≡◌, IfOk};
 ghost use Rattle.mrcpsp.specs.Values.{bound};
 
 use crate::fault::VerifyFault;
-use crate::searching::Found;
+use crate::searching::SearchResult;
 use explain::{all_breaches, why_breach_of, why_file, why_infeasible, why_no_schedule};
 use measures::Measures;
 use mrcpsp::Project;
@@ -47,7 +47,7 @@ pub(crate) fn chain_of(alloc: Global, project: &Project) -> Result<u32, AllocErr
 }
 
 /// What a search that is not over leaves to do, and why an infeasible project is.
-pub(crate) fn next_step(alloc: Global, project: &Project, found: &Found) -> Option<String> {
+pub(crate) fn next_step(alloc: Global, project: &Project, found: &SearchResult) -> Option<String> {
     if found.verdict == Verdict::Infeasible {
         return why_infeasible(alloc, project);
     }

@@ -1,6 +1,6 @@
 //! Better schedules, printed when they are found.
 use crate::progress::Progress;
-use crate::searching::Watch;
+use crate::searching::Observer;
 use crate::telling::{tell_better, tell_better_json};
 use mrcpsp::{Project, Schedule, check};
 use std::alloc::{AllocError, Global};
@@ -79,7 +79,7 @@ impl<'a, R: Runtime + AllocGlobal> Improvements<'a, R> {
     }
 }
 
-impl<'a, R: Runtime + AllocGlobal> Watch for Improvements<'a, R> {
+impl<'a, R: Runtime + AllocGlobal> Observer for Improvements<'a, R> {
     fn look(&mut self, project: &Project, nodes: u64, best: Option<&Schedule>) {
         self.progress.look(project, nodes, best);
         if let Some(schedule) = best {

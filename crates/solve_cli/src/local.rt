@@ -2,30 +2,30 @@
 ghost use Rattle.std.specs.Prelude.{◌≡◌, ◌≤◌, IfOk};
 ghost use Rattle.solve_cli.specs.Improved.{IsImproved};
 
-use crate::searching::{CHUNK, Found, Watch};
+use crate::searching::{CHUNK, SearchResult, Observer};
 use improve_search::Improving;
 use mrcpsp::Project;
 use std::alloc::{AllocError, Global};
 use strategy::Verdict;
 
 /// Runs a search to its end, and lets it be looked at.
-fn run_all<W: Watch>(search: &mut Improving, project: &Project, watch: &mut W)
+fn run_all<W: Observer>(search: &mut Improving, project: &Project, observer: &mut W)
     ensures project { search.new.project ≡ search.old.project }
     ensures most { search.new.most ≡ search.old.most }
 {
     while search.run(CHUNK) {
-        watch.look(project, search.spent(), search.best());
+        observer.look(project, search.spent(), search.best());
     }
-    watch.look(project, search.spent(), search.best());
+    observer.look(project, search.spent(), search.best());
 }
 
 /// What a local search has found, at its end.
-fn found_by(search: Improving) -> Found
+fn found_by(search: Improving) -> SearchResult
     ensures { IsImproved search.project search.most result }
 {
     let nodes = search.spent();
     let makespan = search.makespan();
-    Found {
+    SearchResult {
         nodes,
         best: search.into_best(),
         makespan,
@@ -34,21 +34,21 @@ fn found_by(search: Improving) -> Found
 }
 
 /// Runs the local search of a seed for at most so many schedules, and tells what it has found then. An error is want of memory.
-pub fn improve<W: Watch>(
+pub fn improve<W: Observer>(
     alloc: Global,
     project: &Project,
     seed: u64,
     most: u64,
-    watch: &mut W,
-) -> Result<Found, AllocError>
+    observer: &mut W,
+) -> Result<SearchResult, AllocError>
     ensures { IfOk result (λ found. IsImproved project.now most found) }
 {
     match Improving::new(alloc, project, seed, most)? {
         Some(mut search) => {
-            run_all(&mut search, project, watch);
+            run_all(&mut search, project, observer);
             Ok(found_by(search))
         }
-        None => Ok(Found {
+        None => Ok(SearchResult {
             nodes: 0,
             best: None,
             makespan: None,

@@ -3,7 +3,7 @@ ghost use Rattle.std.specs.Prelude.{◌≡◌, ◌≤◌, IfOk, IfErr, vec_len};
 ghost use Rattle.std.specs.Process.{exit_status};
 ghost use Rattle.mrcpsp.specs.Schedule.{IsFeasible};
 
-use crate::arguments::{Solving, Task, Told, solve_commands, task_of};
+use crate::arguments::{Solving, Task, Listing, solve_commands, task_of};
 use crate::ending::Paths;
 use crate::explaining::chain_of;
 use crate::improvements::{Improvements, Style};
@@ -13,7 +13,7 @@ use crate::search_kinds::SearchKind;
 use crate::searching::MOST_NODES;
 use crate::several::MOST_SEARCHES;
 use crate::showing::{draw_to, verify_to};
-use crate::solving::{Asked, solve_to};
+use crate::solving::{SolveOptions, solve_to};
 use crate::verifying::Verified;
 use crate::watches::Watches;
 use explain::{why_no_search, why_words};
@@ -148,7 +148,7 @@ fn open_path<R: Runtime>(rt: &R, path: &str) -> Option<Source<R::Reader, R::File
 }
 
 /// Prints whether a schedule is feasible.
-fn run_verify<R: Runtime + AllocGlobal>(rt: &R, paths: Paths<'_>, told: Told) -> ExitCode
+fn run_verify<R: Runtime + AllocGlobal>(rt: &R, paths: Paths<'_>, told: Listing) -> ExitCode
     ensures { exit_status result ≤ 1 }
 {
     let Some(file) = open_path(rt, paths.file) else {
@@ -158,7 +158,7 @@ fn run_verify<R: Runtime + AllocGlobal>(rt: &R, paths: Paths<'_>, told: Told) ->
         return ExitCode::FAILURE;
     };
     let mut watches = Watches::new();
-    watches.lists_all = told == Told::All;
+    watches.lists_all = told == Listing::All;
     verify_to(rt, paths, file, text, &mut io::writer(rt), &mut watches)
 }
 
@@ -233,7 +233,7 @@ fn run_solve<R: Runtime + AllocGlobal>(rt: &R, solving: Solving<'_>) -> ExitCode
     let most = each.saturating_mul(kinds.len() as u64);
     let progress = Progress::new(rt, telling, most);
     let mut looks = Improvements::new(rt, style, progress);
-    let asked = Asked {
+    let asked = SolveOptions {
         kinds: kinds.as_slice(),
         most: each.min(MOST_NODES),
         is_json: solving.is_json,

@@ -1,6 +1,6 @@
 //! How far a search has come, told now and then.
 use crate::explaining::chain_of;
-use crate::searching::Watch;
+use crate::searching::Observer;
 use mrcpsp::{Project, Schedule, check};
 use std::fmt;
 use std::io::Eprint;
@@ -98,7 +98,7 @@ impl<'a, R: Runtime + AllocGlobal> Progress<'a, R> {
     }
 }
 
-impl<'a, R: Runtime + AllocGlobal> Watch for Progress<'a, R> {
+impl<'a, R: Runtime + AllocGlobal> Observer for Progress<'a, R> {
     fn look(&mut self, project: &Project, nodes: u64, best: Option<&Schedule>) {
         let Some(seconds) = self.due() else {
             return;

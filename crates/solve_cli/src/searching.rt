@@ -18,12 +18,12 @@ use tree_search::TreeSearch;
 /// The most nodes that a search is given.
 pub const MOST_NODES: u64 = 1_000_000_000_000;
 
-/// How many nodes a search runs between two looks of its watch.
+/// How many nodes a search runs between two looks of its observer.
 pub(crate) const CHUNK: u64 = 65_536;
 
 /// What a search has found.
 #[derive(Debug, Drop)]
-pub struct Found {
+pub struct SearchResult {
     /// How many nodes it has run.
     pub nodes: u64,
     /// The best schedule.
@@ -35,7 +35,7 @@ pub struct Found {
 }
 
 /// Who looks at a search now and then.
-pub trait Watch {
+pub trait Observer {
     /// Looks at a search of a project that has run so many nodes and knows this best schedule.
     fn look(&mut self, project: &Project, nodes: u64, best: Option<&Schedule>);
 
@@ -54,13 +54,13 @@ fn run_chunk<S: Strategy>(search: &mut S)
 }
 
 /// Runs a search to its end, or until it has no quanta left.
-fn run_nodes<S: Strategy, W: Watch>(search: &mut S, watch: &mut W)
+fn run_nodes<S: Strategy, W: Observer>(search: &mut S, observer: &mut W)
     ensures at { IsAt (S.meaning search.old) (S.meaning search.new) }
     ensures over { IsOver (S.meaning search.new) }
 {
     while !search.closed() && search.left() > 0 {
         run_chunk(search);
-        watch.look(&search.plan().project, search.nodes(), search.best());
+        observer.look(&search.plan().project, search.nodes(), search.best());
     }
 }
 
@@ -92,14 +92,14 @@ fn makespan_of(plan: &Plan, nodes: u64, best: Option<&Schedule>) -> Option<u32>
 }
 
 /// What a search shows, at its end.
-fn shown_by<S: Strategy>(mut search: S) -> Found
+fn shown_by<S: Strategy>(mut search: S) -> SearchResult
     requires { (S.meaning search).taken ≡ false }
     ensures { IsShown (S.meaning search) result }
 {
     let makespan = makespan_of(search.plan(), search.nodes(), search.best());
     let nodes = search.nodes();
     let verdict = search.verdict();
-    Found {
+    SearchResult {
         nodes,
         best: search.take_best(),
         makespan,
@@ -108,23 +108,23 @@ fn shown_by<S: Strategy>(mut search: S) -> Found
 }
 
 /// What a search finds within so many nodes.
-fn found_by<S: Strategy, W: Watch>(mut search: S, most: u64, watch: &mut W) -> Found
+fn found_by<S: Strategy, W: Observer>(mut search: S, most: u64, observer: &mut W) -> SearchResult
     requires fresh { IsFresh (S.meaning search) }
     requires few { most ≤ MOST_NODES }
     ensures { IsFound (S.meaning search).plan most result }
 {
     begin(&mut search, most);
-    run_nodes(&mut search, watch);
+    run_nodes(&mut search, observer);
     shown_by(search)
 }
 
 /// Runs the search of a plan for at most so many nodes, and tells what it has found then. An error is want of memory.
-pub fn solve<W: Watch>(
+pub fn solve<W: Observer>(
     alloc: Global,
     plan: Plan,
     most: u64,
-    watch: &mut W,
-) -> Result<Found, AllocError>
+    observer: &mut W,
+) -> Result<SearchResult, AllocError>
     requires { most ≤ MOST_NODES }
     ensures { IfOk result (λ found. IsFound plan most found) }
 {
@@ -132,15 +132,15 @@ pub fn solve<W: Watch>(
     let lease = till.lease(&mut desk, 0)?;
     match plan.kind {
         Kind::Tree => match TreeSearch::new(alloc, plan, lease) {
-            Ok(search) => Ok(found_by(search, most, watch)),
+            Ok(search) => Ok(found_by(search, most, observer)),
             Err(_) => Err(AllocError),
         },
         Kind::Sample(_) => match SampleSearch::new(alloc, plan, lease) {
-            Ok(search) => Ok(found_by(search, most, watch)),
+            Ok(search) => Ok(found_by(search, most, observer)),
             Err(_) => Err(AllocError),
         },
         _ => match RuleSearch::new(alloc, plan, lease) {
-            Ok(search) => Ok(found_by(search, most, watch)),
+            Ok(search) => Ok(found_by(search, most, observer)),
             Err(_) => Err(AllocError),
         },
     }

@@ -5,7 +5,7 @@ ghost use Rattle.solve_cli.specs.Several.{is_decided, is_shorter, stronger, join
 
 use crate::local::improve;
 use crate::search_kinds::SearchKind;
-use crate::searching::{Found, MOST_NODES, Watch, solve};
+use crate::searching::{SearchResult, MOST_NODES, Observer, solve};
 use mrcpsp::Project;
 use std::alloc::{AllocError, Global};
 use strategy::{Plan, Verdict};
@@ -49,7 +49,7 @@ fn is_shorter(one: Option<u32>, other: Option<u32>) -> bool
 }
 
 /// What two searches of a project have found together.
-fn joined(_project: &Project, one: Found, other: Found) -> Found
+fn joined(_project: &Project, one: SearchResult, other: SearchResult) -> SearchResult
     requires one { one.makespan ≡ option_map (makespan _project.now) one.best }
     requires other { other.makespan ≡ option_map (makespan _project.now) other.best }
     requires few { one.nodes + other.nodes < 2 ^ 64 }
@@ -59,7 +59,7 @@ fn joined(_project: &Project, one: Found, other: Found) -> Found
     let nodes = one.nodes + other.nodes;
     let verdict = stronger(one.verdict, other.verdict);
     let shorter = if is_shorter { other } else { one };
-    Found {
+    SearchResult {
         nodes,
         verdict,
         best: shorter.best,
@@ -68,47 +68,47 @@ fn joined(_project: &Project, one: Found, other: Found) -> Found
 }
 
 /// Runs a search of this kind for at most so many nodes, and tells what it has found then. An error is want of memory.
-fn solve_by<W: Watch>(
+fn solve_by<W: Observer>(
     alloc: Global,
     project: &Project,
     kind: SearchKind,
     most: u64,
-    watch: &mut W,
-) -> Result<Found, AllocError>
+    observer: &mut W,
+) -> Result<SearchResult, AllocError>
     requires { most ≤ MOST_NODES }
     ensures { IfOk result (λ found. IsFoundBy project.now kind most found) }
 {
     match kind {
         SearchKind::Planned(kind) => {
             let project = project.clone_in(alloc)?;
-            solve(alloc, Plan { project, kind }, most, watch)
+            solve(alloc, Plan { project, kind }, most, observer)
         }
-        SearchKind::Improve(seed) => improve(alloc, project, seed, most, watch),
+        SearchKind::Improve(seed) => improve(alloc, project, seed, most, observer),
     }
 }
 
 /// Runs a search of each kind, one after another, each for at most so many nodes, and tells what they have found together. None
 /// runs after one that has decided the project. An error is want of memory.
-pub fn solve_each<W: Watch>(
+pub fn solve_each<W: Observer>(
     alloc: Global,
     project: &Project,
     kinds: &[SearchKind],
     most: u64,
-    watch: &mut W,
-) -> Result<Found, AllocError>
+    observer: &mut W,
+) -> Result<SearchResult, AllocError>
     requires few { most ≤ MOST_NODES }
     requires short { length kinds.now ≤ MOST_SEARCHES }
     ensures { IfOk result (λ found. IsFoundByEach project.now kinds.now most found) }
 {
-    let mut found = Found {
+    let mut found = SearchResult {
         nodes: 0,
         best: None,
         makespan: None,
         verdict: Verdict::Ended,
     };
     for kind in kinds {
-        let next = solve_by(alloc, project, *kind, most, watch)?;
-        watch.end(next.nodes);
+        let next = solve_by(alloc, project, *kind, most, observer)?;
+        observer.end(next.nodes);
         let is_decided = is_decided(next.verdict);
         found = joined(project, found, next);
         if is_decided {

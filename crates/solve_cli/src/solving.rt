@@ -8,7 +8,7 @@ use crate::ending::{MOST_TEXT, Paths, end_command};
 use crate::explaining::next_step;
 use crate::fault::{CommandFault, InputFault, VerifyFault};
 use crate::search_kinds::SearchKind;
-use crate::searching::{Found, MOST_NODES, Watch};
+use crate::searching::{SearchResult, MOST_NODES, Observer};
 use crate::several::{MOST_SEARCHES, solve_each};
 use crate::telling::{tell, tell_json};
 use crate::watches::Watches;
@@ -22,7 +22,7 @@ use std::process::ExitCode;
 
 /// Which searches of a project are asked for, and how they are told.
 #[derive(Clone, Copy, Debug)]
-pub struct Asked<'a> {
+pub struct SolveOptions<'a> {
     /// The kinds of the searches, in their order.
     pub kinds: &'a [SearchKind],
     /// The most nodes of each search.
@@ -55,7 +55,7 @@ fn read_project<S: Read + Drop>(
 }
 
 /// What was found, as lines or as JSON.
-fn told(alloc: Global, is_json: bool, found: &Found) -> Result<String, AllocError>
+fn told(alloc: Global, is_json: bool, found: &SearchResult) -> Result<String, AllocError>
     ensures { IfOk result (λ text. string_bytes text ≡ told_text is_json found.now) }
 {
     if is_json {
@@ -67,10 +67,10 @@ fn told(alloc: Global, is_json: bool, found: &Found) -> Result<String, AllocErro
 
 /// Writes what the searches find that are asked for, of the project whose file a reader gives. But for a fault of the writer nothing
 /// was written at an error.
-pub fn solve_read<S: Read + Drop, W: Write, L: Watch>(
+pub fn solve_read<S: Read + Drop, W: Write, L: Observer>(
     alloc: Global,
     file: S,
-    asked: Asked<'_>,
+    asked: SolveOptions<'_>,
     looks: &mut L,
     writer: &mut W,
     watches: &mut Watches,
@@ -105,11 +105,11 @@ pub fn solve_read<S: Read + Drop, W: Write, L: Watch>(
 
 /// The same with a status: 0 where the text was written, and 1 where its fault was told on standard error. The reader is of the file
 /// at the path.
-pub fn solve_to<R: AllocGlobal + Env + Eprint, S: Read + Drop, W: Write, L: Watch>(
+pub fn solve_to<R: AllocGlobal + Env + Eprint, S: Read + Drop, W: Write, L: Observer>(
     rt: &R,
     path: &str,
     file: S,
-    asked: Asked<'_>,
+    asked: SolveOptions<'_>,
     looks: &mut L,
     writer: &mut W,
     watches: &mut Watches,

@@ -4,7 +4,7 @@ ghost use Rattle.std.specs.Option.{option_copied};
 ghost use Rattle.solve_cli.specs.FoundText.{verdict_text, best_text, places_of, shown_text, better_line, found_text};
 ghost use Rattle.solve_cli.specs.FoundText.{comma_before, next_json, places_json, schedule_json, makespan_json, object_json, found_json};
 
-use crate::searching::Found;
+use crate::searching::SearchResult;
 use mrcpsp::Schedule;
 use schedule_text::put_schedule;
 use std::alloc::{AllocError, Global};
@@ -34,7 +34,7 @@ pub fn put_best(text: &mut String, makespan: Option<u32>) -> Result<(), AllocErr
 }
 
 /// Adds the makespan and the verdict.
-fn put_shown(text: &mut String, found: &Found) -> Result<(), AllocError>
+fn put_shown(text: &mut String, found: &SearchResult) -> Result<(), AllocError>
     ensures { IfOk result (λ _. string_bytes text.new ≡ string_bytes text.old ++ shown_text found.now) }
 {
     let word = verdict_word(found.verdict);
@@ -54,7 +54,7 @@ fn put_places(text: &mut String, best: Option<&Schedule>) -> Result<(), AllocErr
 }
 
 /// A line of a search's nodes and a line of its best schedule. An error is want of memory.
-pub fn tell(alloc: Global, found: &Found) -> Result<String, AllocError>
+pub fn tell(alloc: Global, found: &SearchResult) -> Result<String, AllocError>
     ensures { IfOk result (λ text. string_bytes text ≡ found_text found.now) }
 {
     let nodes = found.nodes;
@@ -165,7 +165,7 @@ fn put_object(
 }
 
 /// What `tell` says, as one JSON object on one line: `nodes`, `makespan`, `verdict` and `schedule`.
-pub fn tell_json(alloc: Global, found: &Found) -> Result<String, AllocError>
+pub fn tell_json(alloc: Global, found: &SearchResult) -> Result<String, AllocError>
     ensures { IfOk result (λ text. string_bytes text ≡ found_json found.now) }
 {
     let word = verdict_word(found.verdict);

@@ -24,7 +24,7 @@ const HELD: u64 = 1;
 /// How often a pass tries to take the turn before it gives its processor away between two tries.
 const TRIES: u32 = 64;
 
-type Words<T> = Table<
+type LockTable<T> = Table<
     Option<T>,
     View<<T as Kept>::Opening, <T as Kept>::Event>,
     Snapshot<T>,
@@ -37,7 +37,7 @@ type Chair<T> = Seat<Option<T>, View<<T as Kept>::Opening, <T as Kept>::Event>>;
 /// A value that threads call one at a time, and the history of their calls.
 #[derive(Drop)]
 pub struct TurnLock<T: Kept> {
-    table: Words<T>,
+    table: LockTable<T>,
 }
 
 impl<T: Kept> Model for TurnLock<T> {

@@ -1,5 +1,5 @@
 use Rattle.std.proofs.Common.{◌≡◌, ℕ, ◌<◌, length, get_or}
-use Rattle.schedule_clauses.specs.declared.meaning.Meaning.TheVariants.{InMode}
+use Rattle.schedule_clauses.specs.declared.meaning.Fact.TheVariants.{InMode}
 use Rattle.schedule_clauses.specs.declared.meaning.Term.{Term}
 use Rattle.schedule_clauses.proofs.FormLemmas.{yes_of}
 use Rattle.schedule_clauses.proofs.mode_forms.modes.Given as goal

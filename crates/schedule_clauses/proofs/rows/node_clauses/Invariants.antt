@@ -1,5 +1,5 @@
 use Rattle.schedule_clauses.specs.Encoding.{AllGood}
 use Rattle.schedule_clauses.proofs.rows.node_clauses.Given as goal
 
-abbrev pub invariant-loop-part : goal.invariant-loop-part
-invariant-loop-part l = AllGood l.scope.project.now l.scope.limit l.encoding
+abbrev pub invariant-loop-demand : goal.invariant-loop-demand
+invariant-loop-demand l = AllGood l.scope.project.now l.scope.limit l.encoding

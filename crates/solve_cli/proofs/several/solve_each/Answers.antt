@@ -1,7 +1,7 @@
 use Rattle.std.proofs.Common.{◌≡◌, ◌+◌, ap, arith, refl, sym, ◌∙◌}
 use Rattle.strategy.specs.declared.kind.Kind.TheVariants.{Tree}
 use Rattle.solve_cli.specs.declared.search_kinds.SearchKind.TheVariants.{Planned}
-use Rattle.solve_cli.specs.declared.searching.Found.{Found}
+use Rattle.solve_cli.specs.declared.searching.SearchResult.{SearchResult}
 use Rattle.solve_cli.proofs.SeveralLemmas.{by_few, last_at, next_at, all_at}
 use Rattle.solve_cli.proofs.several.solve_each.Goals as goal
 
@@ -16,7 +16,7 @@ joined-found-requires-clause-few g c =
 
 pub loop-kind-preserved : goal.loop-kind-preserved
 loop-kind-preserved g c =
-    let n : c.joined-found.result.nodes ≡ c.loop-kind.found.nodes + c.in_ok-next.next.nodes = ap (λ (x : Found). x.nodes) c.joined-found.ensures in
+    let n : c.joined-found.result.nodes ≡ c.loop-kind.found.nodes + c.in_ok-next.next.nodes = ap (λ (x : SearchResult). x.nodes) c.joined-found.ensures in
     record {
       few = omega (arith, n, by_few _ _ _ _ c.in_ok-next.ensures, c.requires.few, c.loop-kind.invariant.few);
       made = rw c.joined-found.ensures refl;
