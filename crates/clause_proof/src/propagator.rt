@@ -3,7 +3,7 @@
 use crate::assignment::Assignment;
 use crate::clause_list::{ClauseList, Entry, NO_CLAUSE, NO_LITERAL, Span, State};
 use crate::replay::negated;
-use crate::watches::{Watch, WatchLists};
+use crate::watches::{Watcher, WatchLists};
 use std::alloc::{AllocError, Global};
 
 /// The greatest place of a clause that is watched, so that a watch's code fits.
@@ -99,9 +99,9 @@ impl Propagator {
         let (one, other) = (self.clauses.literal(start), self.clauses.literal(start + 1));
         let code = 2 * start as u32 + (end - start == 2) as u32;
         let blocker = other;
-        self.watches.add(one, Watch { code, blocker }, false)?;
+        self.watches.add(one, Watcher { code, blocker }, false)?;
         let blocker = one;
-        self.watches.add(other, Watch { code, blocker }, false)
+        self.watches.add(other, Watcher { code, blocker }, false)
     }
 
     /// Watches the clauses anew that take part and are not of the core.
@@ -141,7 +141,7 @@ impl Propagator {
     /// Keeps the watch of a false literal, among those of the core if the clause has come to be of it.
     fn keep(
         &mut self,
-        watch: Watch,
+        watch: Watcher,
         falsified: u32,
         moves_to_core: bool,
     ) -> Result<Visit, AllocError> {
@@ -155,8 +155,8 @@ impl Propagator {
     }
 
     /// Visits a clause whose watched literal `falsified` is false and whose blocker is not true.
-    fn visit(&mut self, watch: Watch, falsified: u32, is_core: bool) -> Result<Visit, AllocError> {
-        let Watch { code, blocker } = watch;
+    fn visit(&mut self, watch: Watcher, falsified: u32, is_core: bool) -> Result<Visit, AllocError> {
+        let Watcher { code, blocker } = watch;
         let Entry {
             clause,
             state,
@@ -172,11 +172,11 @@ impl Propagator {
             self.look(span, falsified)
         };
         match look {
-            Look::IsTrue(blocker) => self.keep(Watch { code, blocker }, falsified, moves_to_core),
+            Look::IsTrue(blocker) => self.keep(Watcher { code, blocker }, falsified, moves_to_core),
             Look::Moves { literal, other } => {
                 let blocker = other;
                 self.watches
-                    .add(literal, Watch { code, blocker }, state == State::Core)?;
+                    .add(literal, Watcher { code, blocker }, state == State::Core)?;
                 Ok(Visit::Gone)
             }
             Look::Forces(blocker) => {
@@ -184,7 +184,7 @@ impl Propagator {
                     return Ok(Visit::Conflict { clause });
                 }
                 self.assignment.assign(blocker, clause)?;
-                self.keep(Watch { code, blocker }, falsified, moves_to_core)
+                self.keep(Watcher { code, blocker }, falsified, moves_to_core)
             }
         }
     }
@@ -192,7 +192,7 @@ impl Propagator {
     /// Visits the clauses that watch a literal which is false now. Returns a clause of which all literals are false.
     fn visit_all(
         &mut self,
-        list: &mut Vec<Watch>,
+        list: &mut Vec<Watcher>,
         falsified: u32,
         is_core: bool,
     ) -> Result<u32, AllocError> {
@@ -208,7 +208,7 @@ impl Propagator {
                     Visit::Conflict { clause } => conflict = clause,
                 }
             }
-            list[kept] = Watch {
+            list[kept] = Watcher {
                 code: watch.code,
                 blocker,
             };

@@ -4,7 +4,7 @@ use std::mem;
 
 /// A clause that watches a literal.
 #[derive(Clone, Copy)]
-pub(crate) struct Watch {
+pub(crate) struct Watcher {
     /// 2 · the place of the clause's first literal, and 1 more if the clause has two literals.
     pub(crate) code: u32,
     /// Another literal of the clause.
@@ -14,7 +14,7 @@ pub(crate) struct Watch {
 /// For each literal the clauses of the core that watch it, and right behind them in memory the others that do.
 #[derive(Drop)]
 pub(crate) struct WatchLists {
-    lists: Vec<Vec<Watch>>,
+    lists: Vec<Vec<Watcher>>,
 }
 
 /// The place of a literal's list.
@@ -37,7 +37,7 @@ impl WatchLists {
     pub(crate) fn add(
         &mut self,
         literal: u32,
-        watch: Watch,
+        watch: Watcher,
         is_core: bool,
     ) -> Result<(), AllocError> {
         let at = place_of(literal, is_core);
@@ -53,7 +53,7 @@ impl WatchLists {
         alloc: Global,
         literal: u32,
         is_core: bool,
-    ) -> Option<Vec<Watch>> {
+    ) -> Option<Vec<Watcher>> {
         let at = place_of(literal, is_core);
         if at < self.lists.len() && !self.lists[at].is_empty() {
             Some(mem::replace(&mut self.lists[at], Vec::new(alloc)))
@@ -63,7 +63,7 @@ impl WatchLists {
     }
 
     /// Puts a list of a literal back.
-    pub(crate) fn put(&mut self, literal: u32, list: Vec<Watch>, is_core: bool) {
+    pub(crate) fn put(&mut self, literal: u32, list: Vec<Watcher>, is_core: bool) {
         let at = place_of(literal, is_core);
         if at < self.lists.len() {
             self.lists[at] = list;
