@@ -1,6 +1,5 @@
 //! By how much a schedule breaks what it breaks.
-use mrcpsp::{Breach, Mode, Project, Schedule};
-use schedule_breaches::breaches_of;
+use mrcpsp::{Breach, Mode, Project, Schedule, breaches_of};
 use schedule_text::read_schedule;
 use std::alloc::{AllocError, Global};
 
