@@ -4,8 +4,8 @@ use Rattle.mrcpsp.specs.Project.{ProjectData}
 use Rattle.mrcpsp.specs.Schedule.{ScheduleData}
 use Rattle.psplib_mm.specs.Gives.{Fails}
 use Rattle.psplib_mm.specs.Reading.{reading}
-use Rattle.schedule_text.specs.ScheduleText.{Tells}
-use Rattle.schedule_text.specs.declared.reading.TheConstants.{MOST_BYTES}
+use Rattle.schedule_files.specs.ScheduleText.{Tells}
+use Rattle.schedule_files.specs.declared.reading.TheConstants.{MOST_BYTES}
 use Rattle.schedule_clauses.specs.declared.certificate.CertificateFault.{CertificateFault}
 use Rattle.schedule_clauses.specs.Fault.{IsOfBound, IsOfStocks, IsOfSchedule}
 use Rattle.watched_io.specs.Failure.{HasFailed}

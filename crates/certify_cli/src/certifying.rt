@@ -12,7 +12,7 @@ use crate::fault::CertifyFault;
 use mrcpsp::Project;
 use psplib_mm::read;
 use schedule_clauses::{clauses, stock_clauses};
-use schedule_text::{MOST_BYTES, read_schedule};
+use schedule_files::{MOST_BYTES, read_schedule};
 use std::alloc::Global;
 use std::io::Write;
 use watched_io::Watch;

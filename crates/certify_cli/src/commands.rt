@@ -8,7 +8,7 @@ use crate::ending::{MOST_PROOF, MOST_TEXT, Paths, end_command};
 use crate::explaining::{why_not_infeasible, why_uncertified};
 use crate::fault::CommandFault;
 use crate::watches::Watches;
-use schedule_text::MOST_BYTES;
+use schedule_files::MOST_BYTES;
 use std::alloc::Global;
 use std::env::Env;
 use std::io::{Eprint, Read, Write};

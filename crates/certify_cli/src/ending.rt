@@ -4,7 +4,7 @@ ghost use Rattle.std.specs.Process.{exit_status};
 ghost use Rattle.certify_cli.specs.Commands.{command_status};
 
 use crate::fault::CommandFault;
-use schedule_text::MOST_BYTES;
+use schedule_files::MOST_BYTES;
 use std::env::Env;
 use std::io::Eprint;
 use std::process::ExitCode;

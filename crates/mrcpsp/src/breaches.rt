@@ -1,8 +1,9 @@
 //! All breaches of a schedule, and not its first one alone.
 //!
-//! [`breaches_of`] lists nothing that is not broken, and has a line of all that is: the shape alone, or else modes alone, or
-//! else precedences and resources. A renewable resource is listed in each period in which it is overused and an activity
-//! starts; in all its other periods of overuse one before has a line.
+//! [`breaches_of`] lists nothing that is not broken, and has a line of all that is: the shape
+//! alone, or else modes alone, or else precedences and resources. A renewable resource is listed in
+//! each period in which it is overused and an activity starts; in all its other periods of overuse
+//! one before has a line.
 ghost use Rattle.std.specs.Prelude.{◌≡◌, ◌<◌, ◌↔◌, IfOk, IsTrue, length};
 ghost use Rattle.std.specs.List.{Contains};
 ghost use Rattle.mrcpsp.specs.Project.{size, renewables, nonrenewables, capacity, stock};
@@ -203,8 +204,9 @@ fn push_all_overused(
     Ok(())
 }
 
-/// All that a schedule breaks, in the order of kinds and numbers: its shape alone, or else modes alone, or else precedences and
-/// resources, a renewable one in each period in which it is overused and an activity starts. An error is want of memory.
+/// All that a schedule breaks, in the order of kinds and numbers: its shape alone, or else modes
+/// alone, or else precedences and resources. A renewable one is listed in each period in which it
+/// is overused and an activity starts. An error is want of memory.
 pub fn breaches_of(
     alloc: Global,
     project: &Project,

@@ -5,7 +5,7 @@ ghost use Rattle.solve_cli.specs.Commands.{command_status};
 
 use crate::fault::{CommandFault, InputFault};
 use crate::watches::Watches;
-use schedule_text::MOST_BYTES;
+use schedule_files::MOST_BYTES;
 use std::env::Env;
 use std::io::Eprint;
 use std::process::ExitCode;

@@ -17,7 +17,7 @@ use crate::solving::{Asked, solve_to};
 use crate::verifying::Verified;
 use crate::watches::Watches;
 use explain::{why_no_search, why_words};
-use schedule_picture::{Heading, Order, draw};
+use schedule_files::{Heading, Order, draw};
 use std::alloc::{AllocError, Global};
 use std::env::Env;
 use std::io;

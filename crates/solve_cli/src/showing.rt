@@ -10,7 +10,7 @@ use crate::explaining::{list_of, why_unverified};
 use crate::fault::{CommandFault, InputFault};
 use crate::verifying::{Verified, verify};
 use crate::watches::Watches;
-use schedule_text::MOST_BYTES;
+use schedule_files::MOST_BYTES;
 use std::alloc::{AllocError, Global};
 use std::env::Env;
 use std::io::{Eprint, Read, Write};

@@ -91,7 +91,8 @@ impl Watch {
         }
     }
 
-    /// Returns the first bytes of a reader, at most `most` of them. An error is the reader's, or want of memory.
+    /// Reads a reader to its end, or to `most` bytes, and notes an error: the reader's, or want of
+    /// memory.
     pub fn read_front<R: Read + Drop>(
         &mut self,
         alloc: Global,
