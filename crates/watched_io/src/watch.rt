@@ -13,7 +13,7 @@ use std::marker::Model;
 
 /// A count of the reads and writes that failed through it, modulo 2^64. Contracts of `Read` and
 /// `Write` do not say when a call fails: that a failure which is noted was the reader's or the
-/// writer's is seen in the bodies of `read`, `write` and `flush` alone.
+/// writer's, or want of memory for what was read, is seen in the bodies of its methods alone.
 #[derive(Debug, Drop)]
 pub struct Watch {
     failures: u64,
@@ -35,7 +35,8 @@ impl Watch {
         Watch { failures: 0 }
     }
 
-    /// Reads bytes, as `Read::read` does, and notes an error. A read that a signal interrupts is made again, and fails only where it never comes to an end.
+    /// Reads bytes, as `Read::read` does, and notes an error. A read that a signal interrupts is
+    /// made again, and fails only if it never comes to an end.
     pub fn read<R: Read>(&mut self, reader: &mut R, room: &mut [u8]) -> io::Result<usize>
         ensures bound { ReadsAtMost result room.new }
         ensures bytes { ReadConsumes (R.remaining reader.old) (R.remaining reader.new) result room.new }
@@ -54,8 +55,9 @@ impl Watch {
         self.note(Error::from(ErrorKind::Interrupted))
     }
 
-    /// Writes bytes, as `Write::write` does, and notes an error. Where there are bytes, at least one is taken: to take none is an error too.
-    /// A write that a signal interrupts is made again, and fails only where it never comes to an end.
+    /// Writes bytes, as `Write::write` does, and notes an error. Of some bytes at least one is
+    /// taken: to take none is an error too. A write that a signal interrupts is made again, and
+    /// fails only if it never comes to an end.
     pub fn write<W: Write>(&mut self, writer: &mut W, bytes: &[u8]) -> io::Result<usize>
         ensures bound { WritesAtMost result bytes.now }
         ensures bytes { WriteAppends (W.contents writer.old) (W.contents writer.new) result bytes.now }
