@@ -59,12 +59,12 @@ IsOfProofAlone why.Write = ⊤
 
 -- nothing was written, or a write failed
 abbrev pub IsStopped : CertifyFault → Type 0 → Option (List ℕ) → Option (List ℕ) → Type 0
-IsStopped (why.File fault) failed before after = after ≡ before
-IsStopped why.Words failed before after = after ≡ before
-IsStopped why.TooLong failed before after = after ≡ before
-IsStopped (why.Certificate fault) failed before after = after ≡ before
-IsStopped why.NoMemory failed before after = after ≡ before
-IsStopped why.Write failed before after = failed
+IsStopped (why.File fault) Failed before after = after ≡ before
+IsStopped why.Words Failed before after = after ≡ before
+IsStopped why.TooLong Failed before after = after ≡ before
+IsStopped (why.Certificate fault) Failed before after = after ≡ before
+IsStopped why.NoMemory Failed before after = after ≡ before
+IsStopped why.Write Failed before after = Failed
 
 -- how a command ends: a line was written of a certificate; or an input could not be read; or nothing is certified of the file. By what
 -- its watches had counted before it and count then

@@ -33,10 +33,10 @@ pub record IsPartlyWritten (text : List ℕ) (from seen : Watches) (refuses : Bo
 -- how a replay of a script's reader under the text of a configuration ends, with what its writer held before and holds after, by whether one of the
 -- replies is a refusal and whether the last send failed
 abbrev pub IsReplayOf : Result ⊤ ReplayStop → List ℕ → Watches → Watches → Bool → Type 0 → Option (List ℕ) → Option (List ℕ) → Option (List ℕ) → Type 0
-IsReplayOf (Ok done) text from seen refuses failed script before after = IsPlayed (Ok tt) text from seen refuses script before after
-IsReplayOf (Err (stop.Config fault)) text from seen refuses failed script before after = HasFault text fault × (after ≡ before)
-IsReplayOf (Err (stop.Fault fault)) text from seen refuses failed script before after = IsPlayed (Err fault) text from seen refuses script before after
-IsReplayOf (Err stop.Unsent) text from seen refuses failed script before after = failed × IsPartlyWritten text from seen refuses script before after
+IsReplayOf (Ok done) text from seen refuses Failed script before after = IsPlayed (Ok tt) text from seen refuses script before after
+IsReplayOf (Err (stop.Config fault)) text from seen refuses Failed script before after = HasFault text fault × (after ≡ before)
+IsReplayOf (Err (stop.Fault fault)) text from seen refuses Failed script before after = IsPlayed (Err fault) text from seen refuses script before after
+IsReplayOf (Err stop.Unsent) text from seen refuses Failed script before after = Failed × IsPartlyWritten text from seen refuses script before after
 
 abbrev pub stop_status : Result ⊤ ReplayStop → Bool → Bool → ℕ
 stop_status (Ok done) is_strict refuses = replay_status is_strict refuses
