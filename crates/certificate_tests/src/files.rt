@@ -57,16 +57,7 @@ const TEXTS: [(&[u8], Result<(), CertifyFault>); 8] = [
 fn certifies_texts(rt: HostRuntime) -> Result<(), AllocError> {
     for (text, said) in TEXTS {
         let mut written = Vec::new(rt.alloc());
-        assert!(rt;
-            certify(
-                rt.alloc(),
-                FILE,
-                text,
-                b"",
-                &mut written,
-                &mut Watch::new()
-            ) == said
-        );
+        assert!(rt; certify(rt.alloc(), FILE, text, b"", &mut written, &mut Watch::new()) == said);
         let wanted: &[u8] = if said.is_ok() { b"optimal 4\n" } else { b"" };
         assert!(rt; written.as_slice() == wanted);
     }

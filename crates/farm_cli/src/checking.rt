@@ -68,7 +68,10 @@ pub fn check<S: Read + Drop, W: Write>(
     match read(alloc, &text) {
         Ok(project) => {
             let summary = summarize(&project);
-            match watches.writes.write_text(writer, format_args!("{summary}\n")) {
+            match watches
+                .writes
+                .write_text(writer, format_args!("{summary}\n"))
+            {
                 Ok(()) => Ok(()),
                 Err(_) => Err(CheckFault::Write),
             }

@@ -54,12 +54,7 @@ fn is_early(project: &Project, schedule: &Schedule, before: usize, after: usize)
 }
 
 /// Whether a renewable resource is used above its capacity in a period.
-fn is_overused(
-    project: &Project,
-    schedule: &Schedule,
-    resource: usize,
-    period: u32,
-) -> bool
+fn is_overused(project: &Project, schedule: &Schedule, resource: usize, period: u32) -> bool
     requires shape { HasShape project.now schedule.now }
     requires modes { HasModes project.now schedule.now }
     requires resource { resource < renewables project.now }
