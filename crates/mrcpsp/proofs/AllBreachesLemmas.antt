@@ -1,5 +1,5 @@
 -- All that is broken has its line.
-use Rattle.std.proofs.Common.{◌≡◌, ◌⊎◌, ⊎_elim, ℕ, zero, suc, ◌+◌, ◌-◌, ◌<◌, ◌≤◌, true, List, [], ◌∷◌, All, length, get_or, refl, sym, ◌∙◌, arith}
+use Rattle.std.proofs.Common.{◌≡◌, ⊎_elim, ℕ, zero, suc, ◌+◌, ◌-◌, ◌<◌, ◌≤◌, List, [], ◌∷◌, All, get_or, refl, ◌∙◌, arith}
 use Rattle.std.specs.List.{Contains}
 use Rattle.std.proofs.lemmas.List.{get_or_default}
 use Rattle.mrcpsp.specs.Project.{ProjectData, size, renewables, nonrenewables, capacity}
@@ -8,7 +8,7 @@ use Rattle.mrcpsp.specs.Breach.{HasShape, HasModes, IsBroken}
 use Rattle.mrcpsp.specs.declared.breach.Breach.{Breach}
 use Rattle.mrcpsp.specs.declared.breach.Breach.TheVariants.{Shape, Mode, Precedence, Renewable, Nonrenewable}
 use Rattle.mrcpsp.proofs.BreachLemmas.{use-le-at-start, broken-infeasible}
-use Rattle.mrcpsp.specs.Breaches.{AreBreaches, HasLine, IsMore, IsMode, IsPair, IsAfter, IsUse, IsAnyUse, IsStock}
+use Rattle.mrcpsp.specs.Breaches.{AreBreaches, HasLine, IsMore, IsMode, IsPair, IsAnyUse, IsStock}
 
 none_told : (p : ProjectData) (s : ScheduleData) (told : List Breach) → All (IsBroken p s) told → HasShape p s → IsFeasible p s → told ≡ []
 none_told p s [] broken shape feasible = refl

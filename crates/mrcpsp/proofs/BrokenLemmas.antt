@@ -1,8 +1,8 @@
 -- What is broken, by the places of activities and resources; and lists that get one more of it.
-use Rattle.std.proofs.Common.{◌≡◌, ◌⊎◌, ⊎_elim, ℕ, ◌+◌, ◌-◌, ◌<◌, ◌≤◌, true, List, [], ◌∷◌, ◌++◌, get_or, length, arith}
-use Rattle.mrcpsp.specs.Project.{ProjectData, size, renewables, nonrenewables, capacity, stock, precedes}
-use Rattle.mrcpsp.specs.Schedule.{ScheduleData, HasMode, start_of, finish, use_of, consumed}
-use Rattle.mrcpsp.specs.Breach.{IsBroken, StartsEarly}
+use Rattle.std.proofs.Common.{◌≡◌, ℕ, ◌+◌, ◌-◌, ◌<◌, List, [], ◌∷◌, ◌++◌, get_or, length, arith}
+use Rattle.mrcpsp.specs.Project.{ProjectData, size, renewables, nonrenewables, capacity, stock}
+use Rattle.mrcpsp.specs.Schedule.{ScheduleData, HasMode, use_of, consumed}
+use Rattle.mrcpsp.specs.Breach.{StartsEarly}
 use Rattle.mrcpsp.specs.declared.breach.Breach.{Breach}
 use Rattle.mrcpsp.specs.declared.breach.Breach.TheVariants.{Mode, Precedence, Renewable, Nonrenewable}
 use Rattle.mrcpsp.specs.Breaches.{IsMore, IsMode, IsAfter, IsPair, IsUse, IsAnyUse, IsStock}

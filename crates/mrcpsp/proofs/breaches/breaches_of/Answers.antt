@@ -1,6 +1,6 @@
-use Rattle.std.proofs.Common.{◌≡◌, [], refl, ap, sym, subst}
-use Rattle.mrcpsp.specs.Project.{size, renewables, nonrenewables}
-use Rattle.mrcpsp.specs.Breaches.{IsMore, IsPair, IsAnyUse, IsStock}
+use Rattle.std.proofs.Common.{[], refl, subst}
+use Rattle.mrcpsp.specs.Project.{size, renewables}
+use Rattle.mrcpsp.specs.Breaches.{IsMore, IsPair, IsAnyUse}
 use Rattle.mrcpsp.proofs.AllBreachesLemmas.{all_others}
 use Rattle.mrcpsp.proofs.breaches.breaches_of.Goals as goal
 
