@@ -126,7 +126,8 @@ pub fn replay_to<R: AllocGlobal + Env + Eprint, S: Read + Drop, W: Write + Drop>
     notes: &mut Notes,
 ) -> ExitCode
     requires { writer_buffer output.old ≡ [] }
-    ensures { IsReplayed (exit_status result) is_strict (is_some notes.new.refused) text.now watches.old watches.new sends.new
+    ensures { IsReplayed (exit_status result) is_strict (is_some notes.new.refused) text.now watches.old watches.new
+        (HasFailed sends.old sends.new)
         (S.remaining script)
         (W.contents (writer_inner output.old))
         (W.contents (writer_inner output.new)) }
