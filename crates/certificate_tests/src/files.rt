@@ -6,7 +6,7 @@ use clause_proof::ProofFault::{self, Unfinished, Unproved, Word};
 use mrcpsp::Breach;
 use schedule_clauses::CertificateFault::{Horizon, Proof, Schedule};
 use std::alloc::AllocError;
-use watched_files::FileWatch;
+use watched_io::Watch;
 
 const FILE: &[u8] = b"jobs (incl. supersource/sink ): 4
 - renewable : 1 R
@@ -57,16 +57,7 @@ const TEXTS: [(&[u8], Result<(), CertifyFault>); 8] = [
 fn certifies_texts(rt: HostRuntime) -> Result<(), AllocError> {
     for (text, said) in TEXTS {
         let mut written = Vec::new(rt.alloc());
-        assert!(rt;
-            certify(
-                rt.alloc(),
-                FILE,
-                text,
-                b"",
-                &mut written,
-                &mut FileWatch::new()
-            ) == said
-        );
+        assert!(rt; certify(rt.alloc(), FILE, text, b"", &mut written, &mut Watch::new()) == said);
         let wanted: &[u8] = if said.is_ok() { b"optimal 4\n" } else { b"" };
         assert!(rt; written.as_slice() == wanted);
     }
@@ -76,7 +67,7 @@ fn certifies_texts(rt: HostRuntime) -> Result<(), AllocError> {
 #[test]
 fn refuses_what_is_feasible_and_too_long(rt: HostRuntime) -> Result<(), AllocError> {
     let mut written = Vec::new(rt.alloc());
-    let said = certify_infeasible(rt.alloc(), FILE, b"", &mut written, &mut FileWatch::new());
+    let said = certify_infeasible(rt.alloc(), FILE, b"", &mut written, &mut Watch::new());
     assert!(rt; said == Err(Certificate(Proof(Unfinished))));
     let said = write_clauses(rt.alloc(), FILE, Some(8), &mut written);
     assert!(rt; said == Err(Certificate(Horizon(7))));
@@ -102,7 +93,7 @@ const REFUSED: [(&[u8], ProofFault); 9] = [
 fn tells_the_fault_of_a_proof(rt: HostRuntime) -> Result<(), AllocError> {
     for (proof, fault) in REFUSED {
         let mut written = Vec::new(rt.alloc());
-        let mut watch = FileWatch::new();
+        let mut watch = Watch::new();
         let said = certify(rt.alloc(), FILE, LATE, proof, &mut written, &mut watch);
         assert!(rt; said == Err(Certificate(Proof(fault))));
         let said = certify_infeasible(rt.alloc(), FILE, proof, &mut written, &mut watch);

@@ -5,7 +5,7 @@ use Rattle.mrcpsp.specs.Project.{ProjectData}
 use Rattle.mrcpsp.specs.Schedule.{ScheduleData, IsFeasible, IsOptimal, IsInfeasible, makespan}
 use Rattle.mrcpsp.specs.Values.{bound}
 use Rattle.psplib_mm.specs.Reading.{reading}
-use Rattle.schedule_text.specs.ScheduleText.{Tells}
+use Rattle.schedule_files.specs.ScheduleText.{Tells}
 
 abbrev pub optimal_line : ℕ → List ℕ
 optimal_line makespan = codes "optimal " ++ decimal makespan ++ 10 ∷ []

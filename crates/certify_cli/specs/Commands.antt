@@ -1,14 +1,14 @@
 -- What the commands of certificates write of the bytes that are read, and with which status they end.
-use Rattle.std.specs.Prelude.{◌≡◌, ℕ, ◌-◌, ◌<◌, ◌≤◌, true, List, length, ⊤, Option, Result, Ok, Err, IfSome, take}
+use Rattle.std.specs.Prelude.{◌≡◌, ℕ, ◌-◌, ◌<◌, ◌≤◌, List, length, ⊤, Option, Result, Ok, Err, IfSome, take}
 use Rattle.mrcpsp.specs.Project.{ProjectData}
 use Rattle.mrcpsp.specs.Schedule.{ScheduleData}
 use Rattle.psplib_mm.specs.Gives.{Fails}
 use Rattle.psplib_mm.specs.Reading.{reading}
-use Rattle.schedule_text.specs.ScheduleText.{Tells}
-use Rattle.schedule_text.specs.declared.reading.TheConstants.{MOST_BYTES}
+use Rattle.schedule_files.specs.ScheduleText.{Tells}
+use Rattle.schedule_files.specs.declared.reading.TheConstants.{MOST_BYTES}
 use Rattle.schedule_clauses.specs.declared.certificate.CertificateFault.{CertificateFault}
 use Rattle.schedule_clauses.specs.Fault.{IsOfBound, IsOfStocks, IsOfSchedule}
-use Rattle.watched_files.specs.declared.watch.FileWatch.{FileWatch}
+use Rattle.watched_io.specs.Failure.{HasFailed}
 use Rattle.certify_cli.specs.Certified.{CertifiesOptimal, CertifiesInfeasible, CertifiesBound, CertifiesChain}
 use Rattle.certify_cli.specs.declared.ending.TheConstants.{MOST_TEXT}
 use Rattle.certify_cli.specs.declared.fault.CertifyFault.{CertifyFault}
@@ -58,22 +58,23 @@ IsOfProofAlone why.NoMemory = ⊤
 IsOfProofAlone why.Write = ⊤
 
 -- nothing was written, or a write failed
-abbrev pub IsStopped : CertifyFault → FileWatch → Option (List ℕ) → Option (List ℕ) → Type 0
-IsStopped (why.File fault) seen before after = after ≡ before
-IsStopped why.Words seen before after = after ≡ before
-IsStopped why.TooLong seen before after = after ≡ before
-IsStopped (why.Certificate fault) seen before after = after ≡ before
-IsStopped why.NoMemory seen before after = after ≡ before
-IsStopped why.Write seen before after = seen.failed ≡ true
+abbrev pub IsStopped : CertifyFault → Type 0 → Option (List ℕ) → Option (List ℕ) → Type 0
+IsStopped (why.File fault) Failed before after = after ≡ before
+IsStopped why.Words Failed before after = after ≡ before
+IsStopped why.TooLong Failed before after = after ≡ before
+IsStopped (why.Certificate fault) Failed before after = after ≡ before
+IsStopped why.NoMemory Failed before after = after ≡ before
+IsStopped why.Write Failed before after = Failed
 
--- how a command ends: a line was written of a certificate; or an input could not be read; or nothing is certified of the file
-abbrev pub IsEndOf : Type 0 → Result ⊤ CommandFault → Watches → Option (List ℕ) → Option (List ℕ) → Option (List ℕ) → Type 0
-IsEndOf written (Ok done) seen file before after = written
-IsEndOf written (Err (File kind)) seen file before after = (after ≡ before) × (seen.file.failed ≡ true)
-IsEndOf written (Err (Text kind)) seen file before after = (after ≡ before) × (seen.text.failed ≡ true)
-IsEndOf written (Err (Proof kind)) seen file before after = (after ≡ before) × (seen.proof.failed ≡ true)
-IsEndOf written (Err (Certify fault)) seen file before after =
-    IfSome file (λ bytes. IsOfFile fault (take MOST_TEXT bytes)) × IsStopped fault seen.output before after
+-- how a command ends: a line was written of a certificate; or an input could not be read; or nothing is certified of the file. By what
+-- its watches had counted before it and count then
+abbrev pub IsEndOf : Type 0 → Result ⊤ CommandFault → Watches → Watches → Option (List ℕ) → Option (List ℕ) → Option (List ℕ) → Type 0
+IsEndOf written (Ok done) from seen file before after = written
+IsEndOf written (Err (File kind)) from seen file before after = (after ≡ before) × HasFailed from.file seen.file
+IsEndOf written (Err (Text kind)) from seen file before after = (after ≡ before) × HasFailed from.text seen.text
+IsEndOf written (Err (Proof kind)) from seen file before after = (after ≡ before) × HasFailed from.proof seen.proof
+IsEndOf written (Err (Certify fault)) from seen file before after =
+    IfSome file (λ bytes. IsOfFile fault (take MOST_TEXT bytes)) × IsStopped fault (HasFailed from.output seen.output) before after
 
 -- of which schedule a certificate's fault is
 abbrev pub IsJudged : Result ⊤ CommandFault → Option (List ℕ) → Option (List ℕ) → Type 0
@@ -84,9 +85,9 @@ IsJudged (Err (Proof kind)) file text = ⊤
 IsJudged (Err (Certify fault)) file text = IfSome file (λ bytes. IfSome text (λ words. IsOfText fault (take MOST_TEXT bytes) (take MOST_TEXT words)))
 
 -- of a file and of a schedule's text no more than so many bytes are read
-abbrev pub IsCertifyOf : Result ⊤ CommandFault → Watches → Option (List ℕ) → Option (List ℕ) → Option (List ℕ) → Option (List ℕ) → Type 0
-IsCertifyOf ended seen file text before after =
-    IsEndOf (IfSome file (λ bytes. IfSome text (λ words. CertifiesOptimal (take MOST_TEXT bytes) (take MOST_TEXT words) before after))) ended seen file before after × IsJudged ended file text
+abbrev pub IsCertifyOf : Result ⊤ CommandFault → Watches → Watches → Option (List ℕ) → Option (List ℕ) → Option (List ℕ) → Option (List ℕ) → Type 0
+IsCertifyOf ended from seen file text before after =
+    IsEndOf (IfSome file (λ bytes. IfSome text (λ words. CertifiesOptimal (take MOST_TEXT bytes) (take MOST_TEXT words) before after))) ended from seen file before after × IsJudged ended file text
 
 -- where no schedule is asked for, its text is never what could not be read
 abbrev pub IsJudgedAlone : Result ⊤ CommandFault → Type 0
@@ -96,9 +97,9 @@ IsJudgedAlone (Err (Text kind)) = ⊥
 IsJudgedAlone (Err (Proof kind)) = ⊤
 IsJudgedAlone (Err (Certify fault)) = IsOfProofAlone fault
 
-abbrev pub IsInfeasibleOf : Result ⊤ CommandFault → Watches → Option (List ℕ) → Option (List ℕ) → Option (List ℕ) → Type 0
-IsInfeasibleOf ended seen file before after =
-    IsEndOf (IfSome file (λ bytes. CertifiesInfeasible (take MOST_TEXT bytes) before after)) ended seen file before after × IsJudgedAlone ended
+abbrev pub IsInfeasibleOf : Result ⊤ CommandFault → Watches → Watches → Option (List ℕ) → Option (List ℕ) → Option (List ℕ) → Type 0
+IsInfeasibleOf ended from seen file before after =
+    IsEndOf (IfSome file (λ bytes. CertifiesInfeasible (take MOST_TEXT bytes) before after)) ended from seen file before after × IsJudgedAlone ended
 
 -- this is why no proof shows that each feasible schedule of the file's project takes so many periods
 pub record IsUnbounded (file : List ℕ) (periods : ℕ) (fault : CertificateFault) : Type 0 where
@@ -123,14 +124,14 @@ IsJudgedBound (Err (Text kind)) file periods = ⊥
 IsJudgedBound (Err (Proof kind)) file periods = ⊤
 IsJudgedBound (Err (Certify fault)) file periods = IfSome file (λ bytes. IsOfPeriods fault (take MOST_TEXT bytes) periods)
 
-abbrev pub IsBoundOf : Result ⊤ CommandFault → ℕ → Watches → Option (List ℕ) → Option (List ℕ) → Option (List ℕ) → Type 0
-IsBoundOf ended periods seen file before after =
-    IsEndOf (IfSome file (λ bytes. CertifiesBound (take MOST_TEXT bytes) periods before after)) ended seen file before after × IsJudgedBound ended file periods
+abbrev pub IsBoundOf : Result ⊤ CommandFault → ℕ → Watches → Watches → Option (List ℕ) → Option (List ℕ) → Option (List ℕ) → Type 0
+IsBoundOf ended periods from seen file before after =
+    IsEndOf (IfSome file (λ bytes. CertifiesBound (take MOST_TEXT bytes) periods before after)) ended from seen file before after × IsJudgedBound ended file periods
 
 -- of the chain, only the file can be at fault
-abbrev pub IsChainOf : Result ⊤ CommandFault → Watches → Option (List ℕ) → Option (List ℕ) → Option (List ℕ) → Type 0
-IsChainOf ended seen file before after =
-    IsEndOf (IfSome file (λ bytes. CertifiesChain (take MOST_TEXT bytes) before after)) ended seen file before after
+abbrev pub IsChainOf : Result ⊤ CommandFault → Watches → Watches → Option (List ℕ) → Option (List ℕ) → Option (List ℕ) → Type 0
+IsChainOf ended from seen file before after =
+    IsEndOf (IfSome file (λ bytes. CertifiesChain (take MOST_TEXT bytes) before after)) ended from seen file before after
 
 abbrev pub command_status : Result ⊤ CommandFault → ℕ
 command_status (Ok done) = 0

@@ -21,7 +21,7 @@ pub fn bound_read<S: Read + Drop, P: Read + Drop, W: Write>(
     writer: &mut W,
     watches: &mut Watches,
 ) -> Result<(), CommandFault>
-    ensures { IsBoundOf result periods watches.new (S.remaining file) (W.contents writer.old) (W.contents writer.new) }
+    ensures { IsBoundOf result periods watches.old watches.new (S.remaining file) (W.contents writer.old) (W.contents writer.new) }
 {
     let bytes = match watches.file.read_front(alloc, file, MOST_TEXT) {
         Ok(bytes) => bytes,
@@ -47,7 +47,7 @@ pub fn chain_read<S: Read + Drop, W: Write>(
     writer: &mut W,
     watches: &mut Watches,
 ) -> Result<(), CommandFault>
-    ensures { IsChainOf result watches.new (S.remaining file) (W.contents writer.old) (W.contents writer.new) }
+    ensures { IsChainOf result watches.old watches.new (S.remaining file) (W.contents writer.old) (W.contents writer.new) }
 {
     let bytes = match watches.file.read_front(alloc, file, MOST_TEXT) {
         Ok(bytes) => bytes,
@@ -74,7 +74,7 @@ pub fn bound_to<R: AllocGlobal + Env + Eprint, S: Read + Drop, P: Read + Drop, W
     watches: &mut Watches,
 ) -> ExitCode
     ensures { Ends
-        (λ ended. IsBoundOf ended periods watches.new (S.remaining file) (W.contents writer.old) (W.contents writer.new))
+        (λ ended. IsBoundOf ended periods watches.old watches.new (S.remaining file) (W.contents writer.old) (W.contents writer.new))
         (exit_status result) }
 {
     let ended = bound_read(rt.alloc(), file, periods, proof, writer, watches);
@@ -90,7 +90,7 @@ pub fn chain_to<R: AllocGlobal + Env + Eprint, S: Read + Drop, W: Write>(
     watches: &mut Watches,
 ) -> ExitCode
     ensures { Ends
-        (λ ended. IsChainOf ended watches.new (S.remaining file) (W.contents writer.old) (W.contents writer.new))
+        (λ ended. IsChainOf ended watches.old watches.new (S.remaining file) (W.contents writer.old) (W.contents writer.new))
         (exit_status result) }
 {
     let ended = chain_read(rt.alloc(), file, writer, watches);

@@ -1,6 +1,7 @@
 //! Lower bounds of a file's project, with and without a proof.
 ghost use Rattle.std.specs.Prelude.{◌-◌, IfOk, IfErr};
 ghost use Rattle.schedule_clauses.specs.Fault.{IsOfBound};
+ghost use Rattle.watched_io.specs.Failure.{HasFailed};
 ghost use Rattle.certify_cli.specs.Certified.{CertifiesBound, CertifiesChain, TakesAtLeast};
 ghost use Rattle.certify_cli.specs.Commands.{IsStopped, IsOfFile, IsOfPeriods};
 
@@ -12,7 +13,7 @@ use psplib_mm::read;
 use schedule_clauses::CertificateFault;
 use std::alloc::Global;
 use std::io::Write;
-use watched_files::FileWatch;
+use watched_io::Watch;
 
 /// Checks a proof that no feasible schedule takes fewer periods. None takes fewer than 0.
 fn exceeded(
@@ -40,16 +41,16 @@ pub fn certify_bound<W: Write>(
     periods: u32,
     proof: &[u8],
     writer: &mut W,
-    watch: &mut FileWatch,
+    watch: &mut Watch,
 ) -> Result<(), CertifyFault>
     ensures ok { IfOk result (λ _. CertifiesBound file.now periods (W.contents writer.old) (W.contents writer.new)) }
     ensures judged { IfErr result (λ fault. IsOfPeriods fault file.now periods) }
     ensures fault { IfErr result (λ fault.
-        IsOfFile fault file.now × IsStopped fault watch.new (W.contents writer.old) (W.contents writer.new)) }
+        IsOfFile fault file.now × IsStopped fault (HasFailed watch.old watch.new) (W.contents writer.old) (W.contents writer.new)) }
 {
     let project = read(alloc, file).map_err(CertifyFault::File)?;
     match exceeded(alloc, &project, periods, proof) {
-        Ok(()) => match watch.write(writer, format_args!("at least {periods}\n")) {
+        Ok(()) => match watch.write_text(writer, format_args!("at least {periods}\n")) {
             Ok(()) => Ok(()),
             Err(_) => Err(CertifyFault::Write),
         },
@@ -64,11 +65,11 @@ pub fn certify_chain<W: Write>(
     alloc: Global,
     file: &[u8],
     writer: &mut W,
-    watch: &mut FileWatch,
+    watch: &mut Watch,
 ) -> Result<(), CertifyFault>
     ensures ok { IfOk result (λ _. CertifiesChain file.now (W.contents writer.old) (W.contents writer.new)) }
     ensures fault { IfErr result (λ fault.
-        IsOfFile fault file.now × IsStopped fault watch.new (W.contents writer.old) (W.contents writer.new)) }
+        IsOfFile fault file.now × IsStopped fault (HasFailed watch.old watch.new) (W.contents writer.old) (W.contents writer.new)) }
 {
     none_is_below_the_bound();
     let project = read(alloc, file).map_err(CertifyFault::File)?;
@@ -77,7 +78,7 @@ pub fn certify_chain<W: Write>(
         return Err(CertifyFault::NoMemory);
     };
     let periods = measures.bound();
-    match watch.write(writer, format_args!("at least {periods}\n")) {
+    match watch.write_text(writer, format_args!("at least {periods}\n")) {
         Ok(()) => Ok(()),
         Err(_) => Err(CertifyFault::Write),
     }

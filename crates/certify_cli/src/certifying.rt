@@ -3,6 +3,7 @@ ghost use Rattle.std.specs.Prelude.{◌≡◌, ◌⊎◌, IfOk, IfErr};
 ghost use Rattle.psplib_mm.specs.Gives.{Gives};
 ghost use Rattle.psplib_mm.specs.Reading.{reading};
 ghost use Rattle.mrcpsp.specs.Schedule.{IsInfeasible};
+ghost use Rattle.watched_io.specs.Failure.{HasFailed};
 ghost use Rattle.certify_cli.specs.Certified.{CertifiesOptimal, CertifiesInfeasible};
 ghost use Rattle.certify_cli.specs.Commands.{IsStopped, IsOfFile, IsOfText, IsOfProofAlone};
 
@@ -11,10 +12,10 @@ use crate::fault::CertifyFault;
 use mrcpsp::Project;
 use psplib_mm::read;
 use schedule_clauses::{clauses, stock_clauses};
-use schedule_text::{MOST_BYTES, read_schedule};
+use schedule_files::{MOST_BYTES, read_schedule};
 use std::alloc::Global;
 use std::io::Write;
-use watched_files::FileWatch;
+use watched_io::Watch;
 
 /// Checks a schedule of a file's project, and a proof that no schedule is shorter, and writes `optimal M` with its makespan
 /// and a line feed. An error is the first fault, in the order of the file, the text, the schedule and the proof; but for a
@@ -25,12 +26,12 @@ pub fn certify<W: Write>(
     text: &[u8],
     proof: &[u8],
     writer: &mut W,
-    watch: &mut FileWatch,
+    watch: &mut Watch,
 ) -> Result<(), CertifyFault>
     ensures ok { IfOk result (λ _. CertifiesOptimal file.now text.now (W.contents writer.old) (W.contents writer.new)) }
     ensures judged { IfErr result (λ fault. IsOfText fault file.now text.now) }
     ensures fault { IfErr result (λ fault.
-        IsOfFile fault file.now × IsStopped fault watch.new (W.contents writer.old) (W.contents writer.new)) }
+        IsOfFile fault file.now × IsStopped fault (HasFailed watch.old watch.new) (W.contents writer.old) (W.contents writer.new)) }
 {
     let project = read(alloc, file).map_err(CertifyFault::File)?;
     let schedule = match read_schedule(alloc, text) {
@@ -40,7 +41,7 @@ pub fn certify<W: Write>(
         Err(_) => return Err(CertifyFault::NoMemory),
     };
     match schedule_clauses::certify(alloc, &project, &schedule, proof) {
-        Ok(makespan) => match watch.write(writer, format_args!("optimal {makespan}\n")) {
+        Ok(makespan) => match watch.write_text(writer, format_args!("optimal {makespan}\n")) {
             Ok(()) => Ok(()),
             Err(_) => Err(CertifyFault::Write),
         },
@@ -56,16 +57,16 @@ pub fn certify_infeasible<W: Write>(
     file: &[u8],
     proof: &[u8],
     writer: &mut W,
-    watch: &mut FileWatch,
+    watch: &mut Watch,
 ) -> Result<(), CertifyFault>
     ensures ok { IfOk result (λ _. CertifiesInfeasible file.now (W.contents writer.old) (W.contents writer.new)) }
     ensures judged { IfErr result (λ fault. IsOfProofAlone fault) }
     ensures fault { IfErr result (λ fault.
-        IsOfFile fault file.now × IsStopped fault watch.new (W.contents writer.old) (W.contents writer.new)) }
+        IsOfFile fault file.now × IsStopped fault (HasFailed watch.old watch.new) (W.contents writer.old) (W.contents writer.new)) }
 {
     let project = read(alloc, file).map_err(CertifyFault::File)?;
     match schedule_clauses::certify_infeasible(alloc, &project, proof) {
-        Ok(()) => match watch.write(writer, "infeasible\n") {
+        Ok(()) => match watch.write_text(writer, "infeasible\n") {
             Ok(()) => Ok(()),
             Err(_) => Err(CertifyFault::Write),
         },

@@ -8,7 +8,7 @@ use crate::ending::{MOST_PROOF, MOST_TEXT, Paths, end_command};
 use crate::explaining::{why_not_infeasible, why_uncertified};
 use crate::fault::CommandFault;
 use crate::watches::Watches;
-use schedule_text::MOST_BYTES;
+use schedule_files::MOST_BYTES;
 use std::alloc::Global;
 use std::env::Env;
 use std::io::{Eprint, Read, Write};
@@ -26,7 +26,7 @@ pub fn certify_read<S: Read + Drop, T: Read + Drop, P: Read + Drop, W: Write>(
     watches: &mut Watches,
 ) -> Result<(), CommandFault>
     ensures longer { MOST_BYTES < MOST_TEXT }
-    ensures ended { IsCertifyOf result watches.new (S.remaining file) (T.remaining text)
+    ensures ended { IsCertifyOf result watches.old watches.new (S.remaining file) (T.remaining text)
         (W.contents writer.old)
         (W.contents writer.new) }
 {
@@ -60,7 +60,7 @@ pub fn infeasible_read<S: Read + Drop, P: Read + Drop, W: Write>(
     writer: &mut W,
     watches: &mut Watches,
 ) -> Result<(), CommandFault>
-    ensures { IsInfeasibleOf result watches.new (S.remaining file) (W.contents writer.old) (W.contents writer.new) }
+    ensures { IsInfeasibleOf result watches.old watches.new (S.remaining file) (W.contents writer.old) (W.contents writer.new) }
 {
     let bytes = match watches.file.read_front(alloc, file, MOST_TEXT) {
         Ok(bytes) => bytes,
@@ -97,7 +97,7 @@ pub fn certify_to<
     watches: &mut Watches,
 ) -> ExitCode
     ensures { Ends
-        (λ ended. IsCertifyOf ended watches.new (S.remaining file) (T.remaining text)
+        (λ ended. IsCertifyOf ended watches.old watches.new (S.remaining file) (T.remaining text)
         (W.contents writer.old)
         (W.contents writer.new))
         (exit_status result) }
@@ -116,7 +116,7 @@ pub fn infeasible_to<R: AllocGlobal + Env + Eprint, S: Read + Drop, P: Read + Dr
     watches: &mut Watches,
 ) -> ExitCode
     ensures { Ends
-        (λ ended. IsInfeasibleOf ended watches.new (S.remaining file) (W.contents writer.old) (W.contents writer.new))
+        (λ ended. IsInfeasibleOf ended watches.old watches.new (S.remaining file) (W.contents writer.old) (W.contents writer.new))
         (exit_status result) }
 {
     let ended = infeasible_read(rt.alloc(), file, proof, writer, watches);

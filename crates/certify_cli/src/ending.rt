@@ -4,11 +4,11 @@ ghost use Rattle.std.specs.Process.{exit_status};
 ghost use Rattle.certify_cli.specs.Commands.{command_status};
 
 use crate::fault::CommandFault;
-use file_words::{reason, tell_unread, tell_why};
-use schedule_text::MOST_BYTES;
+use schedule_files::MOST_BYTES;
 use std::env::Env;
 use std::io::Eprint;
 use std::process::ExitCode;
+use watched_io::{reason, tell_unread, tell_why};
 
 /// The most bytes that are read of a project's file or of a schedule's text: one more than a file may have.
 pub const MOST_TEXT: u64 = MOST_BYTES as u64 + 1;

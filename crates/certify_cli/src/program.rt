@@ -10,13 +10,12 @@ use crate::ending::{MOST_TEXT, Paths};
 use crate::explaining::why_uncertified;
 use crate::fault::CertifyFault;
 use crate::watches::Watches;
-use file_words::{explains, reason, tell_unread, tell_why};
 use std::env::Env;
 use std::io;
 use std::io::{BufWriter, Eprint, Write};
 use std::process::ExitCode;
 use std::rt::Runtime;
-use watched_files::{FileWatch, Source, open};
+use watched_io::{Source, Watch, explains, open, reason, tell_unread, tell_why};
 
 /// The status of a command, with its fault on standard error.
 fn end<R: Eprint>(rt: &R, ended: Result<(), CertifyFault>) -> ExitCode
@@ -191,7 +190,7 @@ pub fn run_clauses<R: Runtime + AllocGlobal>(rt: &R, file: &str, bound: &str) ->
     let Some(source) = open_path(rt, file) else {
         return ExitCode::FAILURE;
     };
-    let read = FileWatch::new().read_front(rt.alloc(), source, MOST_TEXT);
+    let read = Watch::new().read_front(rt.alloc(), source, MOST_TEXT);
     let Some(project) = told(rt, file, read) else {
         return ExitCode::FAILURE;
     };

@@ -1,19 +1,19 @@
 //! Whether a command of certificates could not read its inputs, or not write its line.
-ghost use Rattle.std.specs.Prelude.{◌≡◌, false};
+ghost use Rattle.std.specs.Prelude.{◌≡◌};
 
-use watched_files::FileWatch;
+use watched_io::Watch;
 
-/// The watches through which a command reads and writes: after a fault they tell contracts whether a read or a write has failed.
+/// The watches through which a command reads and writes: they count the reads and writes that failed, as contracts see it.
 #[derive(Debug, Drop)]
 pub struct Watches {
     /// Of the project's file.
-    pub(crate) file: FileWatch,
+    pub(crate) file: Watch,
     /// Of the schedule's text.
-    pub(crate) text: FileWatch,
+    pub(crate) text: Watch,
     /// Of the proof.
-    pub(crate) proof: FileWatch,
+    pub(crate) proof: Watch,
     /// Of what is written.
-    pub(crate) output: FileWatch,
+    pub(crate) output: Watch,
     /// What a second line on standard error says of a fault.
     pub(crate) why: Option<String>,
 }
@@ -21,16 +21,16 @@ pub struct Watches {
 impl Watches {
     /// Watches through which nothing has failed.
     pub fn new() -> Watches
-        ensures file { result.file.failed ≡ false }
-        ensures text { result.text.failed ≡ false }
-        ensures proof { result.proof.failed ≡ false }
-        ensures output { result.output.failed ≡ false }
+        ensures file { result.file ≡ 0 }
+        ensures text { result.text ≡ 0 }
+        ensures proof { result.proof ≡ 0 }
+        ensures output { result.output ≡ 0 }
     {
         Watches {
-            file: FileWatch::new(),
-            text: FileWatch::new(),
-            proof: FileWatch::new(),
-            output: FileWatch::new(),
+            file: Watch::new(),
+            text: Watch::new(),
+            proof: Watch::new(),
+            output: Watch::new(),
             why: None,
         }
     }

@@ -1,7 +1,6 @@
 //! By how much a schedule breaks what it breaks.
-use mrcpsp::{Breach, Mode, Project, Schedule};
-use schedule_breaches::breaches_of;
-use schedule_text::read_schedule;
+use mrcpsp::{Breach, Mode, Project, Schedule, breaches_of};
+use schedule_files::read_schedule;
 use std::alloc::{AllocError, Global};
 
 /// The mode in which a schedule runs the activity at this place.

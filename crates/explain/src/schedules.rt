@@ -1,6 +1,6 @@
 //! Why a text tells no schedule.
 use crate::lines::{Piece, number, shown_word};
-use schedule_text::MOST_BYTES;
+use schedule_files::MOST_BYTES;
 use serde_json::Value;
 use std::alloc::{AllocError, Global};
 

@@ -1,9 +1,10 @@
 -- What `farm check` writes of the bytes of a file, and with which status it ends.
-use Rattle.std.specs.Prelude.{◌≡◌, ℕ, true, List, [], ◌∷◌, ◌++◌, ⊤, Option, Result, Ok, Err, IfSome, take}
+use Rattle.std.specs.Prelude.{◌≡◌, ℕ, List, [], ◌∷◌, ◌++◌, ⊤, Option, Result, Ok, Err, IfSome, take}
 use Rattle.std.specs.Io.KnownBytes.{Appends}
 use Rattle.mrcpsp.specs.Project.{ProjectData}
 use Rattle.psplib_mm.specs.Gives.{Fails}
 use Rattle.psplib_mm.specs.Reading.{reading}
+use Rattle.watched_io.specs.Failure.{HasFailed}
 use Rattle.farm_cli.specs.Summary.{summary_of, summary_text}
 use Rattle.farm_cli.specs.declared.checking.CheckFault.{CheckFault}
 use Rattle.farm_cli.specs.declared.checking.CheckWatches.{CheckWatches}
@@ -21,19 +22,20 @@ pub record IsSummed (file : List ℕ) (before after : Option (List ℕ)) : Type 
   pub wrote : Appends before after (project_line project)
 
 -- how a check of a reader's bytes ends, of which no more than so many are read: with its project's line, or with a fault and, but for one of the
--- writer, nothing written. A fault of the reader and of the writer come only where a read and a write have failed
-abbrev pub IsCheckOf : Result ⊤ CheckFault → CheckWatches → Option (List ℕ) → Option (List ℕ) → Option (List ℕ) → Type 0
-IsCheckOf (Ok done) seen bytes before after = IfSome bytes (λ all. IsSummed (take MOST_READ all) before after)
-IsCheckOf (Err (fault.Read kind)) seen bytes before after = (after ≡ before) × (seen.reads.failed ≡ true)
-IsCheckOf (Err (fault.File f)) seen bytes before after = (after ≡ before) × IfSome bytes (λ all. Fails f (reading (take MOST_READ all)))
-IsCheckOf (Err fault.Write) seen bytes before after = seen.writes.failed ≡ true
+-- writer, nothing written. A fault of the reader or of the writer comes only if a read or a write failed, by what the
+-- watches of the check had counted before it and count then
+abbrev pub IsCheckOf : Result ⊤ CheckFault → CheckWatches → CheckWatches → Option (List ℕ) → Option (List ℕ) → Option (List ℕ) → Type 0
+IsCheckOf (Ok done) from seen bytes before after = IfSome bytes (λ all. IsSummed (take MOST_READ all) before after)
+IsCheckOf (Err (fault.Read kind)) from seen bytes before after = (after ≡ before) × HasFailed from.reads seen.reads
+IsCheckOf (Err (fault.File f)) from seen bytes before after = (after ≡ before) × IfSome bytes (λ all. Fails f (reading (take MOST_READ all)))
+IsCheckOf (Err fault.Write) from seen bytes before after = HasFailed from.writes seen.writes
 
 abbrev pub check_status : Result ⊤ CheckFault → ℕ
 check_status (Ok done) = 0
 check_status (Err fault) = 1
 
 -- the status is that of a check which ends so
-pub record IsChecked (status : ℕ) (seen : CheckWatches) (bytes before after : Option (List ℕ)) : Type 0 where
+pub record IsChecked (status : ℕ) (from seen : CheckWatches) (bytes before after : Option (List ℕ)) : Type 0 where
   pub ended : Result ⊤ CheckFault
-  pub is : IsCheckOf ended seen bytes before after
+  pub is : IsCheckOf ended from seen bytes before after
   pub ends : status ≡ check_status ended

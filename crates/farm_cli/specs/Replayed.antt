@@ -1,12 +1,11 @@
 -- What `farm replay` writes of the text of a configuration and the bytes of a script, and with which status it ends.
-use Rattle.std.specs.Prelude.{◌≡◌, ℕ, List, ⊤, Bool, true, Option, Result, Ok, Err, IfSome}
+use Rattle.std.specs.Prelude.{◌≡◌, ℕ, List, ⊤, Bool, Option, Result, Ok, Err, IfSome}
 use Rattle.std.specs.Io.KnownBytes.{append_known}
 use Rattle.farm_core.specs.Config.{ConfigData}
 use Rattle.farm_config.specs.Config.{Means, HasFault}
 use Rattle.farm_replay.specs.Output.{IsWritten, IsCutOff}
 use Rattle.farm_replay.specs.declared.script.ReplayFault.{ReplayFault}
 use Rattle.farm_replay.specs.declared.watches.Watches.{Watches}
-use Rattle.watched_files.specs.declared.watch.FileWatch.{FileWatch}
 use Rattle.farm_cli.specs.declared.replaying.ReplayStop.{ReplayStop}
 use Rattle.farm_cli.specs.declared.replaying.ReplayStop.TheVariants as stop
 use Rattle.farm_cli.specs.Strict.{replay_status}
@@ -32,19 +31,19 @@ pub record IsPartlyWritten (text : List ℕ) (from seen : Watches) (refuses : Bo
   pub front : gathered ≡ append_known after rest
 
 -- how a replay of a script's reader under the text of a configuration ends, with what its writer held before and holds after, by whether one of the
--- replies is a refusal and whether what was gathered could not be sent
-abbrev pub IsReplayOf : Result ⊤ ReplayStop → List ℕ → Watches → Watches → Bool → FileWatch → Option (List ℕ) → Option (List ℕ) → Option (List ℕ) → Type 0
-IsReplayOf (Ok done) text from seen refuses sends script before after = IsPlayed (Ok tt) text from seen refuses script before after
-IsReplayOf (Err (stop.Config fault)) text from seen refuses sends script before after = HasFault text fault × (after ≡ before)
-IsReplayOf (Err (stop.Fault fault)) text from seen refuses sends script before after = IsPlayed (Err fault) text from seen refuses script before after
-IsReplayOf (Err stop.Unsent) text from seen refuses sends script before after = (sends.failed ≡ true) × IsPartlyWritten text from seen refuses script before after
+-- replies is a refusal and whether the last send failed
+abbrev pub IsReplayOf : Result ⊤ ReplayStop → List ℕ → Watches → Watches → Bool → Type 0 → Option (List ℕ) → Option (List ℕ) → Option (List ℕ) → Type 0
+IsReplayOf (Ok done) text from seen refuses Failed script before after = IsPlayed (Ok tt) text from seen refuses script before after
+IsReplayOf (Err (stop.Config fault)) text from seen refuses Failed script before after = HasFault text fault × (after ≡ before)
+IsReplayOf (Err (stop.Fault fault)) text from seen refuses Failed script before after = IsPlayed (Err fault) text from seen refuses script before after
+IsReplayOf (Err stop.Unsent) text from seen refuses Failed script before after = Failed × IsPartlyWritten text from seen refuses script before after
 
 abbrev pub stop_status : Result ⊤ ReplayStop → Bool → Bool → ℕ
 stop_status (Ok done) is_strict refuses = replay_status is_strict refuses
 stop_status (Err stop) is_strict refuses = 1
 
 -- the status is that of a replay which ends so
-pub record IsReplayed (status : ℕ) (is_strict refuses : Bool) (text : List ℕ) (from seen : Watches) (sends : FileWatch) (script before after : Option (List ℕ)) : Type 0 where
+pub record IsReplayed (status : ℕ) (is_strict refuses : Bool) (text : List ℕ) (from seen : Watches) (Failed : Type 0) (script before after : Option (List ℕ)) : Type 0 where
   pub ended : Result ⊤ ReplayStop
-  pub is : IsReplayOf ended text from seen refuses sends script before after
+  pub is : IsReplayOf ended text from seen refuses Failed script before after
   pub ends : status ≡ stop_status ended is_strict refuses

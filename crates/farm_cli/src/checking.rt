@@ -1,18 +1,17 @@
 //! What is told of the project of a file, over any reader and writer.
-ghost use Rattle.std.specs.Prelude.{◌≡◌, false};
+ghost use Rattle.std.specs.Prelude.{◌≡◌};
 ghost use Rattle.std.specs.Process.{exit_status};
 ghost use Rattle.farm_cli.specs.Checked.{IsCheckOf, IsChecked, check_status};
 
 use crate::input::MOST_READ;
 use crate::summary::summarize;
 use explain::why_file;
-use file_words::{reason, tell_unread, tell_why};
 use psplib_mm::{MmFault, read};
 use std::alloc::Global;
 use std::env::Env;
 use std::io::{Eprint, ErrorKind, Read, Write};
 use std::process::ExitCode;
-use watched_files::FileWatch;
+use watched_io::{Watch, reason, tell_unread, tell_why};
 
 /// Why nothing is told of a project.
 #[derive(Clone, Copy, Debug, PartialEq, Eq)]
@@ -25,14 +24,14 @@ pub enum CheckFault {
     Write,
 }
 
-/// The watches through which a check reads its file and writes its line: after `Read` and `Write` they tell contracts whether
-/// that has failed.
+/// The watches through which a check reads its file and writes its line: they count the reads and writes that failed, as
+/// contracts see it.
 #[derive(Debug, Drop)]
 pub struct CheckWatches {
     /// Of the file.
-    pub(crate) reads: FileWatch,
+    pub(crate) reads: Watch,
     /// Of the line.
-    pub(crate) writes: FileWatch,
+    pub(crate) writes: Watch,
     /// What a second line on standard error says of a fault of the file.
     pub(crate) why: Option<String>,
 }
@@ -40,12 +39,12 @@ pub struct CheckWatches {
 impl CheckWatches {
     /// Watches through which nothing has failed.
     pub fn new() -> CheckWatches
-        ensures reads { result.reads.failed ≡ false }
-        ensures writes { result.writes.failed ≡ false }
+        ensures reads { result.reads ≡ 0 }
+        ensures writes { result.writes ≡ 0 }
     {
         CheckWatches {
-            reads: FileWatch::new(),
-            writes: FileWatch::new(),
+            reads: Watch::new(),
+            writes: Watch::new(),
             why: None,
         }
     }
@@ -60,7 +59,7 @@ pub fn check<S: Read + Drop, W: Write>(
     writer: &mut W,
     watches: &mut CheckWatches,
 ) -> Result<(), CheckFault>
-    ensures { IsCheckOf result watches.new (S.remaining reader) (W.contents writer.old) (W.contents writer.new) }
+    ensures { IsCheckOf result watches.old watches.new (S.remaining reader) (W.contents writer.old) (W.contents writer.new) }
 {
     let text = match watches.reads.read_front(alloc, reader, MOST_READ) {
         Ok(text) => text,
@@ -69,7 +68,10 @@ pub fn check<S: Read + Drop, W: Write>(
     match read(alloc, &text) {
         Ok(project) => {
             let summary = summarize(&project);
-            match watches.writes.write(writer, format_args!("{summary}\n")) {
+            match watches
+                .writes
+                .write_text(writer, format_args!("{summary}\n"))
+            {
                 Ok(()) => Ok(()),
                 Err(_) => Err(CheckFault::Write),
             }
@@ -111,7 +113,7 @@ pub fn check_to<R: AllocGlobal + Env + Eprint, S: Read + Drop, W: Write>(
     writer: &mut W,
     watches: &mut CheckWatches,
 ) -> ExitCode
-    ensures { IsChecked (exit_status result) watches.new (S.remaining reader)
+    ensures { IsChecked (exit_status result) watches.old watches.new (S.remaining reader)
         (W.contents writer.old)
         (W.contents writer.new) }
 {

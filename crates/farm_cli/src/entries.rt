@@ -1,9 +1,9 @@
 //! Which tenants have too few entries of the journal for their quanta.
 use farm_core::{Config, TenantLine};
-use file_words::explains;
 use std::env::Env;
 use std::io::Eprint;
 use std::str;
+use watched_io::explains;
 
 /// How many entries all turns of a tenant's quanta use, two for each.
 fn entries_of_turns(quanta: u64, slice: u64) -> u64 {

@@ -13,7 +13,6 @@ use farm_core::Config;
 use farm_pool::Settled;
 use farm_replay::{Notes, Watches};
 use farm_service::{ServeFault, serve};
-use file_words::{explains, reason, tell_unread, tell_why};
 use std::env::Env;
 use std::io::{BufWriter, Eprint, ErrorKind, Print, Read};
 use std::net::{Ipv4Addr, Net, SocketAddr, TcpListener, TcpStream};
@@ -22,7 +21,7 @@ use std::rt::{Files, Runtime};
 use std::sync::Wait;
 use std::thread::Threads;
 use std::{fs, io};
-use watched_files::FileWatch;
+use watched_io::{Watch, explains, reason, tell_unread, tell_why};
 
 /// Runs the program on these words, the first of which is its name. The status is 0, 1 for a fault, and 2 for a command line that is refused
 /// and for a request for help; where the text that tells so cannot be printed, it is 1.
@@ -160,7 +159,7 @@ fn print_replay<R: Runtime + AllocGlobal, S: Read + Drop>(
         return ExitCode::FAILURE;
     };
     let mut watches = Watches::new();
-    let mut sends = FileWatch::new();
+    let mut sends = Watch::new();
     let mut notes = Notes::default();
     replay_to(
         rt,

@@ -2,16 +2,16 @@
 ghost use Rattle.std.specs.Prelude.{◌≡◌, [], is_some, OnOk, OnErr};
 ghost use Rattle.std.specs.Io.Buffered.{writer_buffer, writer_contents, writer_inner};
 ghost use Rattle.std.specs.Process.{exit_status};
+ghost use Rattle.watched_io.specs.Failure.{HasFailed};
 ghost use Rattle.farm_cli.specs.Replayed.{IsReplayOf, IsReplayed, stop_status};
 
 use farm_config::{ConfigFault, place_of, read_config};
 use farm_replay::{Notes, ReplayFault, Watches, replay};
-use file_words::explains;
 use std::alloc::Global;
 use std::env::Env;
 use std::io::{BufWriter, Eprint, Read, Write};
 use std::process::ExitCode;
-use watched_files::FileWatch;
+use watched_io::{Watch, explains};
 
 /// Why a replay ended before its script.
 #[derive(Clone, Copy, Debug, PartialEq, Eq)]
@@ -32,11 +32,11 @@ pub fn replay_text<S: Read + Drop, W: Write + Drop>(
     script: S,
     output: &mut BufWriter<W>,
     watches: &mut Watches,
-    sends: &mut FileWatch,
+    sends: &mut Watch,
     notes: &mut Notes,
 ) -> Result<(), ReplayStop>
     requires { writer_buffer output.old ≡ [] }
-    ensures { IsReplayOf result text.now watches.old watches.new (is_some notes.new.refused) sends.new
+    ensures { IsReplayOf result text.now watches.old watches.new (is_some notes.new.refused) (HasFailed sends.old sends.new)
         (S.remaining script)
         (W.contents (writer_inner output.old))
         (W.contents (writer_inner output.new)) }
@@ -46,7 +46,7 @@ pub fn replay_text<S: Read + Drop, W: Write + Drop>(
         Err(fault) => return Err(ReplayStop::Config(fault)),
     };
     let ended = replay(alloc, &config, script, output, watches, notes);
-    match sends.flush(output) {
+    match sends.send_all(output) {
         Ok(()) => match ended {
             Ok(()) => Ok(()),
             Err(fault) => Err(ReplayStop::Fault(fault)),
@@ -122,11 +122,12 @@ pub fn replay_to<R: AllocGlobal + Env + Eprint, S: Read + Drop, W: Write + Drop>
     is_strict: bool,
     output: &mut BufWriter<W>,
     watches: &mut Watches,
-    sends: &mut FileWatch,
+    sends: &mut Watch,
     notes: &mut Notes,
 ) -> ExitCode
     requires { writer_buffer output.old ≡ [] }
-    ensures { IsReplayed (exit_status result) is_strict (is_some notes.new.refused) text.now watches.old watches.new sends.new
+    ensures { IsReplayed (exit_status result) is_strict (is_some notes.new.refused) text.now watches.old watches.new
+        (HasFailed sends.old sends.new)
         (S.remaining script)
         (W.contents (writer_inner output.old))
         (W.contents (writer_inner output.new)) }

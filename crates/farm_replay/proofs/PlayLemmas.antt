@@ -15,7 +15,7 @@ use Rattle.farm_core.specs.World.{World, opened, purse_in, place_in, purse, view
 use Rattle.farm_core.proofs.SeatLemmas.{each_view_is_a_seat}
 use Rattle.farm_replay.proofs.NumberLemmas.{known_number}
 use Rattle.farm_core.specs.Held.{FarmsAreReplayed}
-use Rattle.io_watch.specs.Failure.{HasFailed}
+use Rattle.watched_io.specs.Failure.{HasFailed}
 use Rattle.session_lines.specs.declared.request.Request.{Request}
 use Rattle.session_lines.specs.declared.request.What.{What}
 use Rattle.session_lines.specs.declared.request.LineFault.{LineFault}

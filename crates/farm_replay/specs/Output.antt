@@ -11,7 +11,7 @@ use Rattle.farm_core.specs.Step.{Step, Answer, Replied, Sent, step, has_room}
 use Rattle.farm_core.specs.Command.{is_line}
 use Rattle.farm_core.specs.World.{purse_in, place_in, opened_purse}
 use Rattle.farm_core.specs.Held.{nodes_out}
-use Rattle.io_watch.specs.Failure.{HasFailed}
+use Rattle.watched_io.specs.Failure.{HasFailed}
 use Rattle.session_lines.specs.declared.request.Request.{Request}
 use Rattle.session_lines.specs.declared.request.What.{What}
 use Rattle.session_lines.specs.declared.request.What.TheVariants.{Submit, Fund, Status, Fetch, Cancel, Forget, Ledger, Take, Give, Turn}

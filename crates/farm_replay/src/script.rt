@@ -1,7 +1,7 @@
 //! Scripts of requests, run one after another on a farm of one thread.
 ghost use Rattle.std.specs.Prelude.{◌≡◌, [], true, false, is_some, IfSome, IfErr, OnOk, OnErr};
 ghost use Rattle.farm_core.specs.World.{opened};
-ghost use Rattle.io_watch.specs.Failure.{HasFailed, IsNoted};
+ghost use Rattle.watched_io.specs.Failure.{HasFailed, IsNoted};
 ghost use Rattle.session_lines.specs.Known.{Writes};
 ghost use Rattle.session_lines.specs.ReplyText.{reply_line};
 ghost use Rattle.session_lines.specs.Script.{requests_of};
@@ -23,12 +23,12 @@ use crate::watches::Watches;
 use farm_core::laws::farms_are_replayed;
 use farm_core::{Config, Name};
 use farm_session::{Branch, Heard, Ready, branches, hear, open_tills};
-use io_watch::Watch;
 use session_lines::laws::requests_come_in_turn;
 use session_lines::{LineFault, Request, Said, read_request, write_reply};
 use std::alloc::Global;
 use std::io::{Read, Write};
 use strategy::{Kind, Strategy};
+use watched_io::Watch;
 
 /// The most requests of a script.
 const MOST_REQUESTS: u64 = 1_000_000;

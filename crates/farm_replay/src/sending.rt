@@ -1,13 +1,13 @@
 //! When replies go out: before a wait for more of the script, and before nodes are run.
 ghost use Rattle.std.specs.Prelude.{◌≡◌, IfErr};
 ghost use Rattle.std.specs.Io.KnownBytes.{Keeps};
-ghost use Rattle.io_watch.specs.Failure.{IsNoted};
+ghost use Rattle.watched_io.specs.Failure.{IsNoted};
 
 use crate::reader::Script;
 use crate::script::ReplayFault;
-use io_watch::Watch;
 use session_lines::What;
 use std::io::{Read, Write};
+use watched_io::Watch;
 
 /// Sends the replies that were gathered, where the next request may have to be waited for. Where they cannot be sent, the end of the
 /// replay or a later reply tells so.

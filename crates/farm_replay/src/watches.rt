@@ -1,7 +1,7 @@
 //! Whether the reader or the writer of a replay has failed.
 ghost use Rattle.std.specs.Prelude.{◌≡◌};
 
-use io_watch::Watch;
+use watched_io::Watch;
 
 /// The watches through which a replay reads its script and writes its replies: after `Read` and `Write` they tell contracts
 /// whether a read or a write failed during the call.

@@ -1,6 +1,6 @@
 //! One connection.
 ghost use Rattle.std.specs.Prelude.{◌≡◌, ◌<◌, length, Some};
-ghost use Rattle.io_watch.specs.Failure.{IsNoted};
+ghost use Rattle.watched_io.specs.Failure.{IsNoted};
 ghost use Rattle.quanta_till.specs.Lease.{empty_lease};
 ghost use Rattle.farm_core.specs.declared.entry.Event.TheVariants as event;
 ghost use Rattle.farm_session.specs.Branch.{tills_of, HasLeased, HasLeasedFor, HasLeasedBy};
@@ -16,12 +16,12 @@ use crate::lobby::Lobby;
 use crate::shared::Shared;
 use farm_core::{Config, Reply};
 use farm_session::{Branch, Heard, Ready, hear, search_of};
-use io_watch::Watch;
 use session_lines::{LineFault, Request, Said, What, WriteFault, read_request, write_reply};
 use std::alloc::Global;
 use std::io::{Read, Write};
 use std::sync::Wait;
 use strategy::Plan;
+use watched_io::Watch;
 
 /// What a request of a connection comes to: a line that only a script may have is no request.
 #[tactic(auto, using(crate::proofs::KnownLemmas::heard_known))]

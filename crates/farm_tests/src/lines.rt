@@ -1,13 +1,13 @@
 //! Request lines and reply lines where no file shows what is meant: readers that fail or are interrupted, writers that are full or
 //! interrupted, and lines that come only of want of memory.
 use farm_core::{Name, Reply};
-use io_watch::Watch;
 use psplib_mm::MmFault;
 use session_lines::{LineFault, Said, What, WriteFault, read_request, write_reply};
 use std::alloc::Global;
 use std::io;
 use std::io::{Error, ErrorKind, Read, Write};
 use std::test::Fail;
+use watched_io::Watch;
 
 // Gives the bytes three at a time, with an interrupted read before each, and fails where they end.
 #[derive(Drop)]

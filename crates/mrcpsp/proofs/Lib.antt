@@ -6,4 +6,7 @@ pub mod EarliestLemmas
 pub mod MeaningLemmas
 pub mod BoundLemmas
 pub mod BreachLemmas
+pub mod MoreBreachesLemmas
+pub mod BrokenLemmas
+pub mod AllBreachesLemmas
 pub mod Examples

@@ -9,3 +9,4 @@ pub mod Earliest
 pub mod Bound
 pub mod Breach
 pub mod BreachText
+pub mod Breaches

@@ -50,7 +50,7 @@ pub fn makespan(project: &Project, schedule: &Schedule) -> u32
     latest
 }
 
-fn has_shape(project: &Project, schedule: &Schedule) -> bool
+pub(crate) fn has_shape(project: &Project, schedule: &Schedule) -> bool
     ensures { IsTrue result ↔ HasShape project.now schedule.now }
 {
     schedule.modes.as_slice().len() == project.size()
@@ -74,7 +74,7 @@ fn place_of_mode(project: &Project, schedule: &Schedule, activity: usize) -> usi
     schedule.mode(activity) as usize - 1
 }
 
-fn start_at(project: &Project, schedule: &Schedule, activity: usize) -> u32
+pub(crate) fn start_at(project: &Project, schedule: &Schedule, activity: usize) -> u32
     requires shape { HasShape project.now schedule.now }
     requires activity { activity < size project.now }
     ensures exact { result ≡ start_of schedule.now activity }
@@ -84,7 +84,7 @@ fn start_at(project: &Project, schedule: &Schedule, activity: usize) -> u32
 }
 
 #[tactic(auto, unfolding(crate::specs::Schedule::finish))]
-fn finish_of(project: &Project, schedule: &Schedule, activity: usize) -> u32
+pub(crate) fn finish_of(project: &Project, schedule: &Schedule, activity: usize) -> u32
     requires shape { HasShape project.now schedule.now }
     requires modes { HasModes project.now schedule.now }
     requires activity { activity < size project.now }
@@ -141,7 +141,7 @@ fn broken_precedence(project: &Project, schedule: &Schedule) -> Option<Breach>
 
 /// What a schedule uses of a renewable resource in a period.
 #[tactic(auto, unfolding(crate::specs::Schedule::use_of, crate::specs::Schedule::load))]
-fn use_at(project: &Project, schedule: &Schedule, resource: usize, period: u32) -> u64
+pub(crate) fn use_at(project: &Project, schedule: &Schedule, resource: usize, period: u32) -> u64
     requires shape { HasShape project.now schedule.now }
     requires modes { HasModes project.now schedule.now }
     requires resource { resource < renewables project.now }
@@ -192,7 +192,7 @@ fn overused_renewable(project: &Project, schedule: &Schedule) -> Option<Breach>
 
 /// What a schedule consumes of a nonrenewable resource.
 #[tactic(auto, unfolding(crate::specs::Schedule::consumed))]
-fn consumption_of(project: &Project, schedule: &Schedule, resource: usize) -> u64
+pub(crate) fn consumption_of(project: &Project, schedule: &Schedule, resource: usize) -> u64
     requires shape { HasShape project.now schedule.now }
     requires modes { HasModes project.now schedule.now }
     requires resource { resource < nonrenewables project.now }

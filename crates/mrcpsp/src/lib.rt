@@ -12,11 +12,13 @@
 //! - `project`: `Project`, its readers by place, and `same`.
 //! - `breach`: what a schedule breaks, and its text.
 //! - `feasibility`: `check` and `makespan`.
+//! - `breaches`: `breaches_of`, all that a schedule breaks.
 //! - `laws`: that the earliest start is the least one at which nothing is broken.
 #![tactic(auto)]
 
 mod activity;
 mod breach;
+mod breaches;
 mod feasibility;
 pub mod laws;
 mod limits;
@@ -28,6 +30,7 @@ mod sequence;
 
 pub use activity::Activity;
 pub use breach::Breach;
+pub use breaches::breaches_of;
 pub use feasibility::{MOST_START, check, makespan};
 pub use limits::{
     MOST_ACTIVITIES, MOST_AMOUNT, MOST_DURATION, MOST_HORIZON, MOST_MODES, MOST_RESOURCES,

@@ -1,7 +1,7 @@
 //! Bytes and lines of a reader, with no memory.
 ghost use Rattle.std.specs.Prelude.{◌≡◌, ◌≢◌, ◌+◌, ◌<◌, Bool, true, false, not, ◌&&◌, ◌||◌, ◌==◌, take, [], ◌∷◌, ◌++◌, IfOk, OnOk, OnErr, MatchOption, nat_lt, length, if◌then◌else◌};
 ghost use Rattle.std.specs.Io.KnownBytes.{Consumes, IsAtEnd};
-ghost use Rattle.io_watch.specs.Failure.{HasFailed};
+ghost use Rattle.watched_io.specs.Failure.{HasFailed};
 ghost use Rattle.psplib_mm.specs.Text.{is_blank};
 ghost use Rattle.session_lines.specs.Cause.{HasCause, IsLonger};
 ghost use Rattle.session_lines.specs.Known.{Goes};
@@ -10,8 +10,8 @@ ghost use Rattle.session_lines.specs.Taken.{TakesLine};
 use crate::text::LONGEST;
 use crate::words::is_blank;
 use arrayvec::ArrayVec;
-use io_watch::Watch;
 use std::io::Read;
+use watched_io::Watch;
 
 /// The reader failed, or more bytes came than may.
 #[derive(Clone, Copy, Debug, PartialEq, Eq)]

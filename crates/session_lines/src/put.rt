@@ -1,12 +1,12 @@
 //! Bytes and numbers to a writer, with no memory.
 ghost use Rattle.std.specs.Prelude.{◌≡◌, decimal};
-ghost use Rattle.io_watch.specs.Failure.{IsNoted};
+ghost use Rattle.watched_io.specs.Failure.{IsNoted};
 ghost use Rattle.session_lines.specs.Known.{Writes};
 ghost use Rattle.session_lines.specs.Part.{part_text, parts_text};
 
-use io_watch::Watch;
 use itoa::Buffer;
 use std::io::Write;
+use watched_io::Watch;
 
 /// The writer failed, or took no byte.
 #[derive(Clone, Copy, Debug, PartialEq, Eq)]

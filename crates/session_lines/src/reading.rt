@@ -1,6 +1,6 @@
 //! Requests of a reader.
 ghost use Rattle.std.specs.Prelude.{◌≡◌, ◌≤◌, None, Some};
-ghost use Rattle.io_watch.specs.Failure.{HasFailed};
+ghost use Rattle.watched_io.specs.Failure.{HasFailed};
 ghost use Rattle.session_lines.specs.Cause.{IsReadGivenUp, HasReadWell};
 ghost use Rattle.session_lines.specs.Script.{Takes, opened_text};
 ghost use Rattle.session_lines.specs.Taken.{judged_by};
@@ -9,9 +9,9 @@ use crate::bytes::{Line, next_line};
 use crate::line::{Head, Meaning, read_line};
 use crate::request::{LineFault, Request};
 use crate::text::{Text, is_long, shown};
-use io_watch::Watch;
 use std::alloc::Global;
 use std::io::Read;
+use watched_io::Watch;
 
 /// The most bytes that a request may have, with the blank lines before it.
 pub const MOST_REQUEST_BYTES: u64 = 100_000_000;

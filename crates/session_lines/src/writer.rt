@@ -1,7 +1,7 @@
 //! Reply lines to a writer.
 ghost use Rattle.std.specs.Prelude.{◌≡◌, ◌++◌, codes, decimal};
 ghost use Rattle.psplib_mm.specs.FaultText.{section_text, limit_text};
-ghost use Rattle.io_watch.specs.Failure.{IsNoted};
+ghost use Rattle.watched_io.specs.Failure.{IsNoted};
 ghost use Rattle.session_lines.specs.Known.{Writes};
 ghost use Rattle.session_lines.specs.Part.{part_text, parts_text};
 ghost use Rattle.session_lines.specs.ReplyText.{verdict_text, best_text, line_text, place_text, places_text, schedule_text, book_text, reply_text, file_text, said_text, who_text, reply_line};
@@ -10,12 +10,12 @@ use crate::display::{phase_word, verdict_word};
 use crate::put::{Part, WriteFault, put, put_parts};
 use crate::said::Said;
 use farm_core::{Line, Name, Reply};
-use io_watch::Watch;
 use mrcpsp::Schedule;
 use psplib_mm::{LimitName, MmFault, SectionName};
 use std::io::Write;
 use strategy::Verdict;
 use tenant_book::Book;
+use watched_io::Watch;
 
 fn section_word(name: SectionName) -> &'static str
     ensures { result.now ≡ section_text name }

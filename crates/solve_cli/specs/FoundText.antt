@@ -1,7 +1,7 @@
 -- The text of what a search has found: in the words of a farm's replies, a line of its nodes and a line of its best schedule; or as JSON.
 use Rattle.std.specs.Prelude.{ℕ, ◌+◌, ◌==◌, cond, List, [], ◌∷◌, ◌++◌, Option, Some, None, codes, decimal}
 use Rattle.mrcpsp.specs.Schedule.{ScheduleData}
-use Rattle.schedule_text.specs.ScheduleText.{schedule_text}
+use Rattle.schedule_files.specs.ScheduleText.{schedule_text}
 use Rattle.strategy.specs.declared.verdict.Verdict.{Verdict}
 use Rattle.strategy.specs.declared.verdict.Verdict.TheVariants.{Going, Optimal, Infeasible, Ended}
 use Rattle.solve_cli.specs.declared.searching.SearchResult.{SearchResult}

@@ -6,8 +6,8 @@ use Rattle.mrcpsp.specs.Breach.{HasShape, IsFirstBreach}
 use Rattle.mrcpsp.specs.declared.breach.Breach.{Breach}
 use Rattle.psplib_mm.specs.Gives.{Fails}
 use Rattle.psplib_mm.specs.Reading.{reading}
-use Rattle.schedule_text.specs.ScheduleText.{Tells}
-use Rattle.schedule_text.specs.declared.reading.TheConstants.{MOST_BYTES}
+use Rattle.schedule_files.specs.ScheduleText.{Tells}
+use Rattle.schedule_files.specs.declared.reading.TheConstants.{MOST_BYTES}
 use Rattle.solve_cli.specs.declared.verifying.Verified.{Verified}
 use Rattle.solve_cli.specs.declared.fault.VerifyFault.{VerifyFault}
 use Rattle.solve_cli.specs.declared.fault.VerifyFault.TheVariants as fault

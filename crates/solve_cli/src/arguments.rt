@@ -3,7 +3,7 @@ use crate::ending::Paths;
 use crate::searching::MOST_NODES;
 use clap::builder::ValueParser;
 use clap::{Arg, ArgAction, ArgMatches, Command};
-use schedule_picture::Order;
+use schedule_files::Order;
 use std::alloc::{AllocError, Global};
 
 /// What the words of a command line ask for.

@@ -17,15 +17,14 @@ use crate::solving::{SolveOptions, solve_to};
 use crate::verifying::Verified;
 use crate::watches::Watches;
 use explain::{why_no_search, why_words};
-use file_words::{explains, reason, tell_unread, tell_why};
-use schedule_picture::{Heading, Order, draw};
+use schedule_files::{Heading, Order, draw};
 use std::alloc::{AllocError, Global};
 use std::env::Env;
 use std::io;
 use std::io::Eprint;
 use std::process::ExitCode;
 use std::rt::Runtime;
-use watched_files::{Source, open};
+use watched_io::{Source, explains, open, reason, tell_unread, tell_why};
 
 /// What the help on all commands says of those of this crate.
 pub const COMMANDS_HELP: &str = "\

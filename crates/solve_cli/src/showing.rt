@@ -10,7 +10,7 @@ use crate::explaining::{list_of, why_unverified};
 use crate::fault::{CommandFault, InputFault};
 use crate::verifying::{Verified, verify};
 use crate::watches::Watches;
-use schedule_text::MOST_BYTES;
+use schedule_files::MOST_BYTES;
 use std::alloc::{AllocError, Global};
 use std::env::Env;
 use std::io::{Eprint, Read, Write};
@@ -28,7 +28,8 @@ fn read_verified<S: Read + Drop, T: Read + Drop>(
         OfBoth (S.remaining file) (T.remaining text) (λ bytes words. IsVerified bytes words verified)) }
     ensures longer { MOST_BYTES < MOST_TEXT }
     ensures feasible { IfOk result (λ verified. IsFeasible verified.project verified.schedule) }
-    ensures fault { IfErr result (λ fault. IsUnverified fault watches.new (S.remaining file) (T.remaining text)) }
+    ensures kept { watches.new.output ≡ watches.old.output }
+    ensures fault { IfErr result (λ fault. IsUnverified fault watches.old watches.new (S.remaining file) (T.remaining text)) }
 {
     let bytes = match watches.file.read_front(alloc, file, MOST_TEXT) {
         Ok(bytes) => bytes,
@@ -59,7 +60,7 @@ pub fn verify_read<S: Read + Drop, T: Read + Drop, W: Write>(
     writer: &mut W,
     watches: &mut Watches,
 ) -> Result<(), CommandFault>
-    ensures { IsShowOf TellsMakespan result watches.new (S.remaining file) (T.remaining text)
+    ensures { IsShowOf TellsMakespan result watches.old watches.new (S.remaining file) (T.remaining text)
         (W.contents writer.old)
         (W.contents writer.new) }
 {
@@ -68,7 +69,7 @@ pub fn verify_read<S: Read + Drop, T: Read + Drop, W: Write>(
         Err(fault) => return Err(CommandFault::Input(fault)),
     };
     let line = format_args!("feasible makespan {makespan}\n");
-    match watches.output.write(writer, line) {
+    match watches.output.write_text(writer, line) {
         Ok(()) => Ok(()),
         Err(_) => Err(CommandFault::Write),
     }
@@ -89,7 +90,7 @@ pub fn draw_read<
     draw: D,
 ) -> Result<(), CommandFault>
     requires { (verified : Verified) → IsFeasible verified.project verified.schedule → D.pre draw verified }
-    ensures { IsShowOf (GivesText (D.post draw)) result watches.new (S.remaining file) (T.remaining text)
+    ensures { IsShowOf (GivesText (D.post draw)) result watches.old watches.new (S.remaining file) (T.remaining text)
         (W.contents writer.old)
         (W.contents writer.new) }
 {
@@ -101,7 +102,7 @@ pub fn draw_read<
         Ok(picture) => picture,
         Err(_) => return Err(CommandFault::NoMemory),
     };
-    match watches.output.write(writer, picture) {
+    match watches.output.write_text(writer, picture) {
         Ok(()) => Ok(()),
         Err(_) => Err(CommandFault::Write),
     }
@@ -118,7 +119,7 @@ pub fn verify_to<R: AllocGlobal + Env + Eprint, S: Read + Drop, T: Read + Drop, 
     watches: &mut Watches,
 ) -> ExitCode
     ensures { Ends
-        (λ ended. IsShowOf TellsMakespan ended watches.new (S.remaining file) (T.remaining text)
+        (λ ended. IsShowOf TellsMakespan ended watches.old watches.new (S.remaining file) (T.remaining text)
         (W.contents writer.old)
         (W.contents writer.new))
         (exit_status result) }
@@ -145,7 +146,7 @@ pub fn draw_to<
 ) -> ExitCode
     requires { (verified : Verified) → IsFeasible verified.project verified.schedule → D.pre draw verified }
     ensures { Ends
-        (λ ended. IsShowOf (GivesText (D.post draw)) ended watches.new (S.remaining file) (T.remaining text)
+        (λ ended. IsShowOf (GivesText (D.post draw)) ended watches.old watches.new (S.remaining file) (T.remaining text)
         (W.contents writer.old)
         (W.contents writer.new))
         (exit_status result) }

@@ -39,7 +39,8 @@ fn read_project<S: Read + Drop>(
 ) -> Result<Project, InputFault>
     ensures project { IfOk result (λ project.
         IfSome (S.remaining file) (λ all. reading (take MOST_TEXT all) ≡ Ok project)) }
-    ensures fault { IfErr result (λ fault. IsUnsolved fault watches.new (S.remaining file)) }
+    ensures kept { watches.new.output ≡ watches.old.output }
+    ensures fault { IfErr result (λ fault. IsUnsolved fault watches.old watches.new (S.remaining file)) }
 {
     let bytes = match watches.file.read_front(alloc, file, MOST_TEXT) {
         Ok(bytes) => bytes,
@@ -77,7 +78,7 @@ pub fn solve_read<S: Read + Drop, W: Write, L: Observer>(
 ) -> Result<(), CommandFault>
     requires few { asked.most ≤ MOST_NODES }
     requires short { length asked.kinds.now ≤ MOST_SEARCHES }
-    ensures { IsSolveOf asked.entry.is_json asked.entry.kinds.now asked.entry.most result watches.new
+    ensures { IsSolveOf asked.entry.is_json asked.entry.kinds.now asked.entry.most result watches.old watches.new
         (S.remaining file)
         (W.contents writer.old)
         (W.contents writer.new) }
@@ -94,7 +95,7 @@ pub fn solve_read<S: Read + Drop, W: Write, L: Observer>(
         Ok(text) => text,
         Err(_) => return Err(CommandFault::NoMemory),
     };
-    match watches.output.write(writer, text) {
+    match watches.output.write_text(writer, text) {
         Ok(()) => {
             watches.why = next_step(alloc, &project, &found);
             Ok(())
@@ -117,7 +118,7 @@ pub fn solve_to<R: AllocGlobal + Env + Eprint, S: Read + Drop, W: Write, L: Obse
     requires few { asked.most ≤ MOST_NODES }
     requires short { length asked.kinds.now ≤ MOST_SEARCHES }
     ensures { Ends
-        (λ ended. IsSolveOf asked.entry.is_json asked.entry.kinds.now asked.entry.most ended watches.new
+        (λ ended. IsSolveOf asked.entry.is_json asked.entry.kinds.now asked.entry.most ended watches.old watches.new
         (S.remaining file)
         (W.contents writer.old)
         (W.contents writer.new))

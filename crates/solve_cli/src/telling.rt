@@ -6,7 +6,7 @@ ghost use Rattle.solve_cli.specs.FoundText.{comma_before, next_json, places_json
 
 use crate::searching::SearchResult;
 use mrcpsp::Schedule;
-use schedule_text::put_schedule;
+use schedule_files::put_schedule;
 use std::alloc::{AllocError, Global};
 use strategy::Verdict;
 

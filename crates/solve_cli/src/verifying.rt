@@ -5,7 +5,7 @@ ghost use Rattle.solve_cli.specs.Verified.{IsVerified, IsAtFault};
 use crate::fault::VerifyFault;
 use mrcpsp::{Project, Schedule, check};
 use psplib_mm::read;
-use schedule_text::{MOST_BYTES, read_schedule};
+use schedule_files::{MOST_BYTES, read_schedule};
 use std::alloc::Global;
 
 /// A project, a feasible schedule of it, and that schedule's makespan in periods.

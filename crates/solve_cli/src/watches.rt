@@ -1,18 +1,18 @@
 //! Whether a command could not read its inputs, or not write its text.
-ghost use Rattle.std.specs.Prelude.{◌≡◌, false};
+ghost use Rattle.std.specs.Prelude.{◌≡◌};
 
 use std::alloc::AllocError;
-use watched_files::FileWatch;
+use watched_io::Watch;
 
-/// The watches through which a command reads and writes: after a fault they tell contracts whether a read or a write has failed.
+/// The watches through which a command reads and writes: they count the reads and writes that failed, as contracts see it.
 #[derive(Debug, Drop)]
 pub struct Watches {
     /// Of the project's file.
-    pub(crate) file: FileWatch,
+    pub(crate) file: Watch,
     /// Of the schedule's text.
-    pub(crate) text: FileWatch,
+    pub(crate) text: Watch,
     /// Of what is written.
-    pub(crate) output: FileWatch,
+    pub(crate) output: Watch,
     /// What a second line on standard error says of how the command ended.
     pub(crate) why: Option<String>,
     /// Whether all breaches of a schedule are asked for.
@@ -24,14 +24,14 @@ pub struct Watches {
 impl Watches {
     /// Watches through which nothing has failed.
     pub fn new() -> Watches
-        ensures file { result.file.failed ≡ false }
-        ensures text { result.text.failed ≡ false }
-        ensures output { result.output.failed ≡ false }
+        ensures file { result.file ≡ 0 }
+        ensures text { result.text ≡ 0 }
+        ensures output { result.output ≡ 0 }
     {
         Watches {
-            file: FileWatch::new(),
-            text: FileWatch::new(),
-            output: FileWatch::new(),
+            file: Watch::new(),
+            text: Watch::new(),
+            output: Watch::new(),
             why: None,
             lists_all: false,
             list: Ok(None),

@@ -6,12 +6,12 @@ use crate::fixtures::{A, Planned};
 use crate::gates::Open;
 use farm_core::{Name, Reply};
 use farm_pool::{Command, Pool, PoolPass};
-use io_watch::Watch;
 use session_lines::{Said, write_reply};
 use std::alloc::Global;
 use std::process::Abort;
 use std::sync::Wait;
 use strategy::Strategy;
+use watched_io::Watch;
 
 /// What is asked of a pool. Jobs are told by their numbers.
 #[derive(Clone, Copy)]

@@ -1,4 +1,4 @@
-use Rattle.io_watch.specs.Failure.{HasFailed}
+use Rattle.watched_io.specs.Failure.{HasFailed}
 use Rattle.farm_replay.proofs.PlayLemmas.{end_stops}
 use Rattle.farm_replay.proofs.script.end.Goals as goal
 

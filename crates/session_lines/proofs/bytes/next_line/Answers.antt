@@ -1,6 +1,6 @@
 use Rattle.std.proofs.Common.{◌≡◌, ◌+◌, [], ◌∷◌, ◌++◌, ◌==◌, false, not, length, ap, ◌∙◌, arith, ne_eqb}
 use Rattle.std.proofs.lemmas.List.{length_push}
-use Rattle.io_watch.specs.Failure.{HasFailed}
+use Rattle.watched_io.specs.Failure.{HasFailed}
 use Rattle.session_lines.proofs.LineLemmas.{Reads-push, Reads-feed, Reads-end}
 use Rattle.session_lines.proofs.CauseLemmas.{on_err, longer_line}
 use Rattle.session_lines.proofs.ScanLemmas.{Scans-more, Scans-feed, Scans-end, Goes-map, TakesLine-whole, some_with_feed, kept_some}

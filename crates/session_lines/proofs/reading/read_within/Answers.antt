@@ -1,5 +1,5 @@
 use Rattle.std.proofs.Common.{◌≡◌, ◌∙◌}
-use Rattle.io_watch.specs.Failure.{HasFailed}
+use Rattle.watched_io.specs.Failure.{HasFailed}
 use Rattle.session_lines.specs.declared.line.Meaning.TheVariants.{Blank, Whole, Opens, Long, Bad}
 use Rattle.session_lines.specs.Taken.{judged_by}
 use Rattle.session_lines.proofs.ReadLemmas.{after_line, after_blank, after_head, after_whole, after_long, after_bad, with_head}

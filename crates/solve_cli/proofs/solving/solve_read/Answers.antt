@@ -2,7 +2,7 @@ use Rattle.std.proofs.Common.{string_bytes}
 use Rattle.solve_cli.proofs.CommandLemmas.{solved}
 use Rattle.solve_cli.proofs.solving.solve_read.Goals as goal
 
-pub returns-in-Ok-write : goal.returns-in-Ok-write
-returns-in-Ok-write g c =
+pub returns-in-Ok-write_text : goal.returns-in-Ok-write_text
+returns-in-Ok-write_text g c =
     solved (g.S.Read.remaining c.args.file) c.args.asked.is_json c.args.asked.kinds.now c.args.asked.most c.in-Ok.project c.in-Ok-solve_each.found (string_bytes c.in-Ok-told.text)
-    (g.W.Write.contents c.args.writer.now) (g.W.Write.contents c.write.new.writer) c.in-Ok.ensures.project c.in-Ok-solve_each.ensures c.in-Ok-told.ensures c.in-Ok-write.ensures.bytes
+    (g.W.Write.contents c.args.writer.now) (g.W.Write.contents c.write_text.new.writer) c.in-Ok.ensures.project c.in-Ok-solve_each.ensures c.in-Ok-told.ensures c.in-Ok-write_text.ensures.bytes

@@ -2,7 +2,8 @@ use Rattle.std.proofs.Common.{◌≡◌, ◌+◌, ◌<◌, ◌≤◌, min, false
 use Rattle.quanta_till.specs.Lease.{after_use}
 use Rattle.strategy.specs.Outcome.{is_closed}
 use Rattle.strategy.specs.declared.plan.Plan.{Plan}
-use Rattle.paid_search.proofs.PaidLemmas.{nodes_from, going_from, over_closed, run_start, run_more, run_end, run_over}
+use Rattle.strategy.proofs.RunLemmas.{nodes_from, run_start, run_more}
+use Rattle.paid_search.proofs.PaidLemmas.{meaning_from, going_from, over_closed, run_end, run_over}
 use Rattle.paid_search.proofs.paid.PaidStrategy.run.Goals.{then-loop-ran-test+else-not-over, else-loop-ran-test}
 use Rattle.paid_search.proofs.paid.PaidStrategy.run.Goals as goal
 
@@ -13,7 +14,7 @@ loop-ran-init g c =
     let same : s.nodes + 0 ≡ s.nodes = omega arith in
     let limit : c.min-limit.result ≡ min c.args.most s.lease.left = omega (arith, c.min-limit.ensures, c.left.ensures.left) in
     let over : c.is_over-over.result ≡ is_closed s.plan s.nodes = c.is_over-over.ensures ∙ over_closed s.plan s.nodes s.shown c.self.invariant.shown in
-    (omega arith, rw same (c.self.invariant.here untaken), rw same over, run_start c.args.most c.min-limit.result s.plan s.lease s.nodes limit, refl, refl, refl, refl, refl)
+    (omega arith, rw same (c.self.invariant.here untaken), rw same over, rw limit (run_start c.args.most (meaning_from s.plan s.lease s.nodes)), refl, refl, refl, refl, refl)
 
 pub advance-requires : goal.advance-requires
 advance-requires g c =

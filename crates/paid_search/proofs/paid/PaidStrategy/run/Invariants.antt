@@ -1,7 +1,8 @@
 use Rattle.std.proofs.Common.{◌≡◌, ◌-◌, ◌+◌, ◌≤◌}
 use Rattle.strategy.specs.Outcome.{is_closed}
 use Rattle.strategy.specs.Search.{nodes_within}
-use Rattle.paid_search.proofs.PaidLemmas.{nodes_from, meaning_from}
+use Rattle.strategy.proofs.RunLemmas.{nodes_from}
+use Rattle.paid_search.proofs.PaidLemmas.{meaning_from}
 use Rattle.paid_search.proofs.paid.PaidStrategy.run.Given as goal
 
 -- the nodes stand so many further, `over` says whether the search is over there, and what runs in all is told from there; the

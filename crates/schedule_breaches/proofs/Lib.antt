@@ -1,3 +1,0 @@
-pub mod MoreLemmas
-pub mod BrokenLemmas
-pub mod AllLemmas

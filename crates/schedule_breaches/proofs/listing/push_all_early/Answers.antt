@@ -1,9 +1,0 @@
-use Rattle.mrcpsp.specs.Project.{size}
-use Rattle.schedule_breaches.proofs.BrokenLemmas.{pair_joined}
-use Rattle.schedule_breaches.proofs.listing.push_all_early.Goals as goal
-
-pub loop-before-preserved : goal.loop-before-preserved
-loop-before-preserved c =
-    let p = c.args.project.now in
-    pair_joined p c.args.schedule.now c.args.told.now.items c.loop-before.told.items c.push_early.new.told.items c.loop-before.before (size p)
-    c.loop-before.invariant c.in_ok-push_early.ensures

@@ -1,6 +1,0 @@
-use Rattle.mrcpsp.specs.Project.{size}
-use Rattle.schedule_breaches.specs.More.{IsMore, IsPair}
-use Rattle.schedule_breaches.proofs.listing.push_all_early.Given as goal
-
-abbrev pub invariant-loop-before : goal.invariant-loop-before
-invariant-loop-before l = IsMore l.project l.schedule (IsPair l.before (size l.project)) l.initial.told.items l.told.items

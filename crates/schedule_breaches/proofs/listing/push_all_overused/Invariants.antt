@@ -1,5 +1,0 @@
-use Rattle.schedule_breaches.specs.More.{IsMore, IsAnyUse}
-use Rattle.schedule_breaches.proofs.listing.push_all_overused.Given as goal
-
-abbrev pub invariant-loop-resource : goal.invariant-loop-resource
-invariant-loop-resource l = IsMore l.project l.schedule (IsAnyUse l.resource l.periods) l.initial.told.items l.told.items

@@ -1,5 +1,0 @@
-use Rattle.schedule_breaches.specs.More.{IsMore, IsMode}
-use Rattle.schedule_breaches.proofs.listing.push_modes.Given as goal
-
-abbrev pub invariant-loop-activity : goal.invariant-loop-activity
-invariant-loop-activity l = IsMore l.project l.schedule (IsMode l.activity) l.initial.told.items l.told.items

@@ -1,5 +1,0 @@
-use Rattle.schedule_breaches.specs.More.{IsMore, IsUse}
-use Rattle.schedule_breaches.proofs.listing.push_overused.Given as goal
-
-abbrev pub invariant-loop-period : goal.invariant-loop-period
-invariant-loop-period l = IsMore l.project l.schedule (IsUse l.resource l.periods l.period-index) l.initial.told.items l.told.items

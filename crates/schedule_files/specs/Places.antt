@@ -1,0 +1,25 @@
+-- The places of a schedule's activities: a number, a mode and a start for each.
+use Rattle.std.specs.Prelude.{◌≡◌, ℕ, ◌+◌, min, List, [], ◌∷◌, length, Option, Some, None}
+use Rattle.std.specs.List.Sorted.{IsPermutation}
+use Rattle.mrcpsp.specs.Schedule.{ScheduleData}
+use Rattle.schedule_files.specs.declared.places.Place.{Place}
+
+infixl 10 ◌>>=◌
+abbrev pub ◌>>=◌ : {A B : Type 0} → Option A → (A → Option B) → Option B
+None >>= f = None
+(Some x) >>= f = f x
+
+-- a number of a text counts as 4,294,967,295 if it is above: as that it is no mode of an activity, and too late a start
+abbrev pub counted : ℕ → ℕ
+counted n = min 4294967295 n
+
+-- the places of a schedule's activities, from number j on
+abbrev pub placed_from : ℕ → List ℕ → List ℕ → List Place
+placed_from j [] starts = []
+placed_from j (mode ∷ modes) [] = []
+placed_from j (mode ∷ modes) (start ∷ starts) = record { activity = j; mode = mode; start = start } ∷ placed_from (j + 1) modes starts
+
+-- these are a mode and a start for each activity, in any order
+pub record ArePlaces (places : List Place) (s : ScheduleData) : Type 0 where
+  pub even : length s.modes ≡ length s.starts
+  pub whole : IsPermutation places (placed_from 1 s.modes s.starts)

@@ -1,0 +1,61 @@
+-- The places that the words of a text write, as 3:1:7, and the lines of a text, as 3,1,7.
+use Rattle.std.specs.Prelude.{ℕ, ◌-◌, Bool, not, ◌&&◌, List, [], ◌∷◌, length, take, drop, Option, Some, None, ◌==◌, if◌then◌else◌}
+use Rattle.std.specs.Char.{is_ascii_digit, is_ascii_whitespace}
+use Rattle.std.specs.List.{filter, list_all, list_any, prefix_len, suffix_len, before_first, after_first, slice_split}
+use Rattle.std.specs.Str.Parse.{digits_value}
+use Rattle.schedule_files.specs.Places.{◌>>=◌, counted}
+use Rattle.schedule_files.specs.declared.places.Place.{Place}
+
+-- the words of a text: the longest runs of bytes that are no white space of ASCII
+abbrev pub is_word : List ℕ → Bool
+is_word part = not (length part == 0)
+
+abbrev pub words_of : List ℕ → List (List ℕ)
+words_of text = filter is_word (slice_split is_ascii_whitespace text)
+
+-- the rows of a text: its lines in which there is a digit, so neither a line of heads nor an empty one
+abbrev pub has_digit : List ℕ → Bool
+has_digit line = list_any is_ascii_digit line
+
+abbrev pub rows_of : List ℕ → List (List ℕ)
+rows_of text = filter has_digit (slice_split (λ b. b == 10) text)
+
+-- without the white space at both ends
+abbrev pub without_front : List ℕ → List ℕ
+without_front text = drop (prefix_len is_ascii_whitespace text) text
+
+abbrev pub without_back : List ℕ → List ℕ
+without_back text = take (length text - suffix_len is_ascii_whitespace text) text
+
+abbrev pub trimmed : List ℕ → List ℕ
+trimmed text = without_back (without_front text)
+
+-- the number that digits write, with white space around them or not
+abbrev pub number_of : List ℕ → Option ℕ
+number_of word = if not (length word == 0) && list_all is_ascii_digit word then Some (counted (digits_value 10 word)) else None
+
+abbrev pub number_in : List ℕ → Option ℕ
+number_in text = number_of (trimmed text)
+
+-- what stands before the first mark, and behind it
+abbrev pub before : ℕ → List ℕ → List ℕ
+before mark text = before_first (λ b. b == mark) text
+
+abbrev pub behind : ℕ → List ℕ → List ℕ
+behind mark text = after_first (λ b. b == mark) text
+
+-- an activity, its mode and its start, with a mark between each two
+abbrev pub place_at : ℕ → List ℕ → Option Place
+place_at mark text = do
+  activity ← number_in (before mark text)
+  mode ← number_in (before mark (behind mark text))
+  start ← number_in (behind mark (behind mark text))
+  Some (record { activity = activity; mode = mode; start = start })
+
+-- the places that all of these texts are
+abbrev pub places_at : ℕ → List (List ℕ) → Option (List Place)
+places_at mark [] = Some []
+places_at mark (text ∷ texts) = do
+  place ← place_at mark text
+  places ← places_at mark texts
+  Some (place ∷ places)

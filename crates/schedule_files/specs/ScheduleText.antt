@@ -1,0 +1,43 @@
+-- The text of a schedule: for each activity a word of its number, its mode and its start, with colons between them. What is
+-- read besides: words with other white space between them, rows with commas, and JSON.
+use Rattle.std.specs.Prelude.{◌≡◌, ◌⊎◌, ℕ, ◌+◌, ◌<◌, ◌≤◌, List, [], ◌∷◌, ◌++◌, length, Some, codes, decimal}
+use Rattle.mrcpsp.specs.Schedule.{ScheduleData}
+use Rattle.schedule_files.specs.Places.{placed_from, ArePlaces}
+use Rattle.schedule_files.specs.ScheduleJson.{TellsJson}
+use Rattle.schedule_files.specs.ScheduleRows.{words_of, rows_of, places_at}
+use Rattle.schedule_files.specs.declared.places.Place.{Place}
+use Rattle.schedule_files.specs.declared.reading.TheConstants.{MOST_BYTES}
+
+-- the word of activity j behind a blank
+abbrev pub place_text : ℕ → ℕ → ℕ → List ℕ
+place_text j mode start = codes " " ++ decimal j ++ codes ":" ++ decimal mode ++ codes ":" ++ decimal start
+
+-- the words of activities, from number j on
+abbrev pub places_text : ℕ → List ℕ → List ℕ → List ℕ
+places_text j [] starts = []
+places_text j (mode ∷ modes) [] = []
+places_text j (mode ∷ modes) (start ∷ starts) = place_text j mode start ++ places_text (j + 1) modes starts
+
+abbrev pub schedule_text : ScheduleData → List ℕ
+schedule_text s = places_text 1 s.modes s.starts
+
+-- the words of the text end with the places of all activities, in order
+pub record TellsWords (text : List ℕ) (s : ScheduleData) : Type 0 where
+  pub front : List (List ℕ)
+  pub words : List (List ℕ)
+  pub ends : words_of text ≡ front ++ words
+  pub places : places_at 58 words ≡ Some (placed_from 1 s.modes s.starts)
+  pub even : length s.modes ≡ length s.starts
+  pub some : 0 < length s.modes
+
+-- the rows of the text are the places of all activities, in any order
+pub record TellsRows (text : List ℕ) (s : ScheduleData) : Type 0 where
+  pub places : List Place
+  pub rows : places_at 44 (rows_of text) ≡ Some places
+  pub each : ArePlaces places s
+  pub some : 0 < length s.modes
+
+-- a text of at most 1,048,576 bytes tells the schedule as words, as rows or as JSON
+pub record Tells (text : List ℕ) (s : ScheduleData) : Type 0 where
+  pub short : length text ≤ MOST_BYTES
+  pub ways : TellsWords text s ⊎ (TellsRows text s ⊎ TellsJson text s)

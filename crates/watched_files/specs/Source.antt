@@ -1,9 +1,0 @@
--- What a source has left.
-use Rattle.std.specs.Prelude.{ℕ, List, [], Option, Some}
-use Rattle.watched_files.specs.declared.source.Source.{Source}
-use Rattle.watched_files.specs.declared.source.Source.TheVariants.{Standard, File, Nothing}
-
-abbrev pub source_rest : {S F : Type 0} → (S → Option (List ℕ)) → (F → Option (List ℕ)) → Source S F → Option (List ℕ)
-source_rest input_rest file_rest (Standard input) = input_rest input
-source_rest input_rest file_rest (File file) = file_rest file
-source_rest input_rest file_rest Nothing = Some []

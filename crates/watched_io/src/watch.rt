@@ -1,0 +1,149 @@
+//! `Watch`: what is read and written through it, byte by byte or whole.
+ghost use Rattle.std.specs.Prelude.{◌≡◌, ◌<◌, [], IfOk, IfSome, OnOk, length, take};
+ghost use Rattle.std.specs.Io.{ReadsAtMost, WritesAtMost};
+ghost use Rattle.std.specs.Io.Buffered.{writer_buffer, writer_contents};
+ghost use Rattle.std.specs.Io.KnownBytes.{Appends, Keeps, ReadConsumes, WriteAppends};
+ghost use Rattle.watched_io.specs.Failure.{HasFailed, IsNoted};
+
+use std::alloc::Global;
+use std::fmt::Display;
+use std::io;
+use std::io::{BufWriter, Error, ErrorKind, Read, Write};
+use std::marker::Model;
+
+/// A count of the reads and writes that failed through it, modulo 2^64. Contracts of `Read` and
+/// `Write` do not say when a call fails: that a failure which is noted was the reader's or the
+/// writer's, or want of memory for what was read, is seen in the bodies of its methods alone.
+#[derive(Debug, Drop)]
+pub struct Watch {
+    failures: u64,
+}
+
+impl Model for Watch {
+    ghost use Rattle.std.specs.Prelude.{ℕ};
+
+    ghost Value = { ℕ };
+
+    ghost view = { λ w. w.failures };
+}
+
+impl Watch {
+    /// A watch through which nothing has failed.
+    pub fn new() -> Watch
+        ensures { result ≡ 0 }
+    {
+        Watch { failures: 0 }
+    }
+
+    /// Reads bytes, as `Read::read` does, and notes an error. A read that a signal interrupts is
+    /// made again, and fails only if it never comes to an end.
+    pub fn read<R: Read>(&mut self, reader: &mut R, room: &mut [u8]) -> io::Result<usize>
+        ensures bound { ReadsAtMost result room.new }
+        ensures bytes { ReadConsumes (R.remaining reader.old) (R.remaining reader.new) result room.new }
+        ensures noted { IsNoted result self.old self.new }
+    {
+        for _ in 0..u64::MAX {
+            match reader.read(room) {
+                Ok(count) => return Ok(count),
+                Err(error) => {
+                    if error.kind() != ErrorKind::Interrupted {
+                        return self.note(error);
+                    }
+                }
+            }
+        }
+        self.note(Error::from(ErrorKind::Interrupted))
+    }
+
+    /// Writes bytes, as `Write::write` does, and notes an error. Of some bytes at least one is
+    /// taken: to take none is an error too. A write that a signal interrupts is made again, and
+    /// fails only if it never comes to an end.
+    pub fn write<W: Write>(&mut self, writer: &mut W, bytes: &[u8]) -> io::Result<usize>
+        ensures bound { WritesAtMost result bytes.now }
+        ensures bytes { WriteAppends (W.contents writer.old) (W.contents writer.new) result bytes.now }
+        ensures some { IfOk result (λ count. 0 < length bytes.now → 0 < count) }
+        ensures noted { IsNoted result self.old self.new }
+    {
+        for _ in 0..u64::MAX {
+            match writer.write(bytes) {
+                Ok(count) => {
+                    if count == 0 && !bytes.is_empty() {
+                        return self.note(Error::from(ErrorKind::WriteZero));
+                    }
+                    return Ok(count);
+                }
+                Err(error) => {
+                    if error.kind() != ErrorKind::Interrupted {
+                        return self.note(error);
+                    }
+                }
+            }
+        }
+        self.note(Error::from(ErrorKind::Interrupted))
+    }
+
+    /// Sends what was gathered, as `Write::flush` does, and notes an error.
+    pub fn flush<W: Write>(&mut self, writer: &mut W) -> io::Result<()>
+        ensures bytes { Keeps (W.contents writer.old) (W.contents writer.new) }
+        ensures noted { IsNoted result self.old self.new }
+    {
+        match writer.flush() {
+            Ok(()) => Ok(()),
+            Err(error) => self.note(error),
+        }
+    }
+
+    /// Reads a reader to its end, or to `most` bytes, and notes an error: the reader's, or want of
+    /// memory.
+    pub fn read_front<R: Read + Drop>(
+        &mut self,
+        alloc: Global,
+        reader: R,
+        most: u64,
+    ) -> io::Result<Vec<u8>>
+        ensures front { IfOk result (λ bytes. IfSome (R.remaining reader) (λ all. bytes.items ≡ take most all)) }
+        ensures noted { IsNoted result self.old self.new }
+    {
+        let mut bytes = Vec::new(alloc);
+        match reader.take(most).read_to_end(&mut bytes) {
+            Ok(_) => Ok(bytes),
+            Err(error) => self.note(error),
+        }
+    }
+
+    /// Writes a whole text, as `Write::write_fmt` does, and notes an error.
+    pub fn write_text<W: Write, D: Display + Drop>(
+        &mut self,
+        writer: &mut W,
+        text: D,
+    ) -> io::Result<()>
+        ensures bytes { OnOk result (IfSome (D.output text) (Appends (W.contents writer.old) (W.contents writer.new))) }
+        ensures noted { IsNoted result self.old self.new }
+    {
+        match writer.write_fmt(text) {
+            Ok(()) => Ok(()),
+            Err(error) => self.note(error),
+        }
+    }
+
+    /// Writes out all that a buffer holds, as its `flush` does, and notes an error.
+    pub fn send_all<W: Write + Drop>(&mut self, output: &mut BufWriter<W>) -> io::Result<()>
+        ensures bytes { Keeps (writer_contents W.contents output.old) (writer_contents W.contents output.new) }
+        ensures sent { OnOk result (writer_buffer output.new ≡ []) }
+        ensures noted { IsNoted result self.old self.new }
+    {
+        match output.flush() {
+            Ok(()) => Ok(()),
+            Err(error) => self.note(error),
+        }
+    }
+
+    /// Notes that something failed, and answers why.
+    fn note<T>(&mut self, error: Error) -> io::Result<T>
+        ensures noted { HasFailed self.old self.new }
+        ensures error { result ≡ Err error }
+    {
+        self.failures = self.failures.wrapping_add(1);
+        Err(error)
+    }
+}
