@@ -1,5 +1,5 @@
 -- A line that is read byte by byte, and what its first bytes tell.
-use Rattle.std.proofs.Common.{◌≡◌, ℕ, zero, suc, ◌-◌, ◌<◌, Bool, true, false, cond, not, ◌&&◌, ◌||◌, ◌==◌, nat_lt, List, [], ◌∷◌, ◌++◌, All, ◌≢◌, length, take, refl, sym, ap, ◌∙◌, arith, take_all, append-nil, append_assoc, ne_eqb}
+use Rattle.std.proofs.Common.{◌≡◌, ℕ, zero, suc, ◌-◌, ◌<◌, Bool, true, false, cond, not, ◌&&◌, ◌||◌, ◌==◌, nat_lt, List, [], ◌∷◌, ◌++◌, ◌≢◌, length, take, refl, sym, ap, ◌∙◌, arith, take_all, append-nil, append_assoc, ne_eqb}
 use Rattle.std.proofs.lemmas.Bool.{eqb-true, lt-ltb}
 use Rattle.std.proofs.lemmas.List.{length_push}
 use Rattle.std.proofs.lemmas.List.Folds.{list_all-append}
@@ -8,7 +8,6 @@ use Rattle.std.proofs.Math.Seq.{take-append_seam, get_or-append_seam}
 use Rattle.std.specs.List.{list_all}
 use Rattle.std.specs.Io.BufRead.{strip_last, ends_with_byte}
 use Rattle.psplib_mm.specs.Text.{is_blank}
-use Rattle.session_lines.specs.Script.{is_wordless}
 use Rattle.session_lines.specs.Taken.{Reads, IsFront, Extends}
 use Rattle.session_lines.specs.declared.bytes.Line.{Line}
 

@@ -53,7 +53,7 @@ gathers_written (Err e) a b d before text p q = record { ok = tt; err = part_aft
 pub gathers_unwritten : {T E : Type 0} (e : E) (a b : Option (List ℕ)) (before now text : List ℕ) → Writes {T = T} (Err e) a b before → Gathers {T = T} (Err e) a b before now text
 gathers_unwritten e a b before now text p = record { ok = tt; err = part_before a b before text p.err }
 
-gathers_both : (a b d : Option (List ℕ)) (k l m xs ys : List ℕ) → GathersAll a b k l xs → GathersAll b d l m ys → GathersAll a d k m (xs ++ ys)
+pub gathers_both : (a b d : Option (List ℕ)) (k l m xs ys : List ℕ) → GathersAll a b k l xs → GathersAll b d l m ys → GathersAll a d k m (xs ++ ys)
 gathers_both a b d k l m xs ys p q = record {
   gone = p.gone ++ q.gone;
   split = sym (append_assoc k xs ys) ∙ ap (λ z. z ++ ys) p.split ∙ append_assoc p.gone l ys ∙ ap (λ z. p.gone ++ z) q.split ∙ sym (append_assoc p.gone q.gone m);

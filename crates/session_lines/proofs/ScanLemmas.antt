@@ -5,7 +5,7 @@ use Rattle.std.proofs.lemmas.Bool.Decides.{nat_tests}
 use Rattle.std.proofs.BufReadLemmas.{take_through-append, drop_through-append, Consumes_shown}
 use Rattle.std.specs.List.{position}
 use Rattle.std.specs.Io.{StartsWith}
-use Rattle.std.specs.Io.KnownBytes.{Keeps, Consumes, IsAtEnd}
+use Rattle.std.specs.Io.KnownBytes.{Keeps, Consumes}
 use Rattle.std.specs.Io.BufRead.{take_through, drop_through, DropsConsumable}
 use Rattle.psplib_mm.specs.Text.{is_line_feed}
 use Rattle.session_lines.specs.Known.{Goes}

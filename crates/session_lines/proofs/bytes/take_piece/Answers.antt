@@ -1,4 +1,4 @@
-use Rattle.std.proofs.Common.{◌≡◌, [], ◌∷◌, ◌++◌, take, length, le_refl, sym, subst, ◌∙◌, rules, arith, take_all, length-take-le}
+use Rattle.std.proofs.Common.{◌≡◌, ◌+◌, ◌≤◌, take, length, le_refl, sym, subst, ◌∙◌, rules, arith, take_all, length-take-le}
 use Rattle.std.specs.Io.KnownBytes.{Consumes}
 use Rattle.std.specs.Io.BufRead.{FillKeeps}
 use Rattle.std.proofs.BufReadLemmas.{Consumes_shown}
@@ -37,8 +37,9 @@ returns-clause-taken g c =
     let rested = c.fill.follows.lender-at-none in
     let filled = subst (FillKeeps _ (g.R.Read.remaining rested) (g.R.BufRead.consumable_len rested)) c.in-Ok.is c.fill.follows.holds-at-none in
     let is = feed_some _ _ (sym c.feed_place.ensures.place ∙ c.in-Some.is) in
-    let moved = Consumes_shown _ _ _ _ shown _ (omega (arith, is.inside)) c.in-Ok.ensures.front c.in-Ok.ensures.end filled.0 filled.1 c.consume-2.ensures.bytes in
-    let long = length-take-le place shown (omega (arith, is.inside)) in (
+    let within : place + 1 ≤ length shown = omega (arith, is.inside) in
+    let moved = Consumes_shown _ _ _ _ shown (place + 1) within c.in-Ok.ensures.front c.in-Ok.ensures.end filled.0 filled.1 c.consume-2.ensures.bytes in
+    let long : length (take place shown) ≡ place = length-take-le place shown (omega (arith, is.inside)) in (
       take place shown,
       subst (Consumes (g.R.Read.remaining c.args.reader.now) (g.R.Read.remaining c.consume-2.new.self)) is.feed moved.0,
       c.extend-2.ensures is.before,

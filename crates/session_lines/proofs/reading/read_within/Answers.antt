@@ -1,6 +1,6 @@
 use Rattle.std.proofs.Common.{◌≡◌, ◌∙◌}
 use Rattle.io_watch.specs.Failure.{HasFailed}
-use Rattle.session_lines.proofs.ReadLemmas.{after_line, after_all, after_blank, after_head, after_whole, after_long, after_bad, with_head}
+use Rattle.session_lines.proofs.ReadLemmas.{after_line, after_blank, after_head, after_whole, after_long, after_bad, with_head}
 use Rattle.session_lines.proofs.CauseLemmas.{past_between, head_given_up}
 use Rattle.session_lines.proofs.reading.read_within.Goals as goal
 

@@ -19,3 +19,9 @@ returns-in-Successor-clause-gathers g c = gathers_same _ _ _ _ _ _ _ c.gather_br
 
 pub returns-in-Limit-clause-gathers : goal.returns-in-Limit-clause-gathers
 returns-in-Limit-clause-gathers g c = gathers_same _ _ _ _ _ _ _ c.gather_bracketed-in-Limit.ensures.gathers (search rules)
+
+pub returns-in-Header-clause-gathers : goal.returns-in-Header-clause-gathers
+returns-in-Header-clause-gathers g c = gathers_same _ _ _ _ _ _ _ c.gather-in-Header.ensures.gathers (search rules)
+
+pub returns-in-Doubly-clause-gathers : goal.returns-in-Doubly-clause-gathers
+returns-in-Doubly-clause-gathers g c = gathers_same _ _ _ _ _ _ _ c.gather-in-Doubly.ensures.gathers (search rules)

@@ -1,6 +1,5 @@
-use Rattle.std.proofs.Common.{◌≡◌, ◌∙◌, sym, ap, subst, arith}
+use Rattle.std.proofs.Common.{◌≡◌, ◌∙◌, sym, subst, arith}
 use Rattle.session_lines.specs.Part.{GathersAll}
-use Rattle.session_lines.specs.declared.put.WriteFault.{WriteFault}
 use Rattle.session_lines.proofs.PlaceLemmas.{places_more, places_split, places_whole}
 use Rattle.session_lines.proofs.PartLemmas.{gathers_then, gathers_part, gathers_same, gathers_both}
 use Rattle.session_lines.proofs.writer.gather_schedule.Goals as goal
