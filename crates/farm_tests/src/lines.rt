@@ -75,6 +75,17 @@ fn the_rest_is_left(rt: HostRuntime) {
     assert!(rt; bytes == b"\n@b ledger\n".as_slice());
 }
 
+#[test]
+fn lines_that_no_buffer_holds(rt: HostRuntime) -> Result<(), Fail> {
+    for capacity in 1..12 {
+        let bytes: &[u8] = b"@a ledger\r\n \r\n@a ledger";
+        let mut reader = BufReader::with_capacity(rt.alloc(), capacity, bytes)?;
+        assert!(rt; reads_ledger(rt.alloc(), &mut reader), "{capacity}");
+        assert!(rt; reads_ledger(rt.alloc(), &mut reader), "{capacity}");
+    }
+    Ok(())
+}
+
 // Takes so many bytes, each time at most three, with an interrupted write before each where it interrupts, and then none.
 #[derive(Drop)]
 struct Slow {
