@@ -1,10 +1,11 @@
 //! The bytes of a script: read ahead, and with the numbers of their lines.
-ghost use Rattle.std.specs.Prelude.{◌≡◌, IfOk, Some};
+ghost use Rattle.std.specs.Prelude.{◌≡◌, IfOk, Some, length};
+ghost use Rattle.std.specs.Io.Buffered.{reader_buffer};
 ghost use Rattle.farm_replay.specs.Reader.{script_rest};
 
 use std::alloc::Global;
 use std::io;
-use std::io::{BufReader, Read};
+use std::io::{BufRead, BufReader, Read};
 
 /// The lines of the bytes that were taken, and the first of them that is not blank since a request began.
 #[derive(Clone, Copy, Debug)]
@@ -123,5 +124,19 @@ impl<R: Read> Read for Script<R> {
         let count = self.input.read(bytes)?;
         self.lines.add_all(&bytes[..count]);
         Ok(count)
+    }
+}
+
+impl<R: Read> BufRead for Script<R> {
+    ghost consumable_len = { λ script. Some (length (reader_buffer script.input)) };
+
+    fn fill_buf(&mut self) -> io::Result<&[u8]> {
+        self.input.fill_buf()
+    }
+
+    fn consume(&mut self, amount: usize) {
+        let ahead = self.input.buffer();
+        self.lines.add_all(&ahead[..amount.min(ahead.len())]);
+        self.input.consume(amount);
     }
 }

@@ -26,7 +26,7 @@ use farm_session::{Branch, Heard, Ready, branches, hear, open_tills};
 use session_lines::laws::requests_come_in_turn;
 use session_lines::{LineFault, Request, Said, read_request, write_reply};
 use std::alloc::Global;
-use std::io::{Read, Write};
+use std::io::{BufRead, Read, Write};
 use strategy::{Kind, Strategy};
 use watched_io::Watch;
 
@@ -79,7 +79,7 @@ fn ended(read: Result<Request, LineFault>) -> Result<(), ReplayFault>
 }
 
 /// Whether a script ends here, or goes on past its last request that may be.
-fn end<R: Read>(alloc: Global, script: &mut R, watch: &mut Watch) -> Result<(), ReplayFault>
+fn end<R: BufRead>(alloc: Global, script: &mut R, watch: &mut Watch) -> Result<(), ReplayFault>
     ensures over { OnOk result (IfSome (R.remaining script.old) (λ bytes. requests_of bytes ≡ [])) }
     ensures fault { IfErr result (λ fault. IfSome (R.remaining script.old) (λ bytes.
         GoesOn fault (HasFailed watch.old watch.new) bytes)) }

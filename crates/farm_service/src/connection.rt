@@ -18,7 +18,7 @@ use farm_core::{Config, Reply};
 use farm_session::{Branch, Heard, Ready, hear, search_of};
 use session_lines::{LineFault, Request, Said, What, WriteFault, read_request, write_reply};
 use std::alloc::Global;
-use std::io::{Read, Write};
+use std::io::{BufRead, Write};
 use std::sync::Wait;
 use strategy::Plan;
 use watched_io::Watch;
@@ -180,7 +180,7 @@ fn reply<D: Shared, R: Wait, W: Write, M: Fn(Ready) -> Option<D::Search>>(
 
 /// Reads the next request of a connection, and tells it its line. Returns whether the session goes
 /// on: it ends if the input does, if it cannot be read, or if a line cannot be written.
-fn serve_next<D: Shared, R: Wait, I: Read, O: Write, M: Fn(Ready) -> Option<D::Search>>(
+fn serve_next<D: Shared, R: Wait, I: BufRead, O: Write, M: Fn(Ready) -> Option<D::Search>>(
     office: &Office<'_, R, D, M>,
     token: &mut D::Token,
     branches: &mut [Branch<'_>],
@@ -213,7 +213,7 @@ fn serve_next<D: Shared, R: Wait, I: Read, O: Write, M: Fn(Ready) -> Option<D::S
 /// Answers the requests of a connection, one line each, until it ends, cannot be read, or a reply
 /// cannot be written. The session makes the calls for which its requests ask, in their order, and
 /// no others.
-pub(crate) fn session<D: Shared, R: Wait, I: Read, O: Write, M: Fn(Ready) -> Option<D::Search>>(
+pub(crate) fn session<D: Shared, R: Wait, I: BufRead, O: Write, M: Fn(Ready) -> Option<D::Search>>(
     office: &Office<'_, R, D, M>,
     token: &mut D::Token,
     branches: &mut [Branch<'_>],

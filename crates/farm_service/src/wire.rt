@@ -1,7 +1,7 @@
 //! A connection's two directions, so that no reply waits behind a read.
 use std::cell::RefCell;
 use std::io;
-use std::io::{BufReader, BufWriter, Error, ErrorKind, Read, Write};
+use std::io::{BufRead, BufReader, BufWriter, Error, ErrorKind, Read, Write};
 
 /// The bytes that a client sends, read ahead. Before it waits for the client, it sends what the
 /// client is told; while bytes that were read ahead are left, it sends nothing.
@@ -26,6 +26,19 @@ impl<'a, R: Read, W: Write + Drop> Read for Incoming<'a, R, W> {
             send(self.told)?;
         }
         self.input.read(bytes)
+    }
+}
+
+impl<'a, R: Read, W: Write + Drop> BufRead for Incoming<'a, R, W> {
+    fn fill_buf(&mut self) -> io::Result<&[u8]> {
+        if self.input.buffer().is_empty() {
+            send(self.told)?;
+        }
+        self.input.fill_buf()
+    }
+
+    fn consume(&mut self, amount: usize) {
+        self.input.consume(amount);
     }
 }
 

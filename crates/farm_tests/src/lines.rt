@@ -5,7 +5,7 @@ use psplib_mm::MmFault;
 use session_lines::{LineFault, Said, What, WriteFault, read_request, write_reply};
 use std::alloc::Global;
 use std::io;
-use std::io::{Error, ErrorKind, Read, Write};
+use std::io::{BufRead, BufReader, Error, ErrorKind, Read, Write};
 use std::test::Fail;
 use watched_io::Watch;
 
@@ -33,7 +33,7 @@ impl<'a> Read for Cut<'a> {
 }
 
 // Whether the next request is tenant a's for its ledger.
-fn reads_ledger<R: Read>(alloc: Global, reader: &mut R) -> bool {
+fn reads_ledger<R: BufRead>(alloc: Global, reader: &mut R) -> bool {
     match read_request(alloc, reader, &mut Watch::new()) {
         Ok(request) => request.who.as_bytes() == b"a".as_slice()
             && matches!(&request.what, What::Ledger),
@@ -42,7 +42,7 @@ fn reads_ledger<R: Read>(alloc: Global, reader: &mut R) -> bool {
 }
 
 // Whether the next answer is that the reader failed.
-fn fails<R: Read>(alloc: Global, reader: &mut R) -> bool {
+fn fails<R: BufRead>(alloc: Global, reader: &mut R) -> bool {
     match read_request(alloc, reader, &mut Watch::new()) {
         Err(LineFault::Read) => true,
         _ => false,
@@ -50,19 +50,22 @@ fn fails<R: Read>(alloc: Global, reader: &mut R) -> bool {
 }
 
 #[test]
-fn a_reader_that_fails(rt: HostRuntime) {
-    let mut line = Cut {
+fn a_reader_that_fails(rt: HostRuntime) -> Result<(), Fail> {
+    let line = Cut {
         rest: b"@a ledger\n@a led",
         interrupts: false,
     };
+    let mut line = BufReader::new(rt.alloc(), line)?;
     assert!(rt; reads_ledger(rt.alloc(), &mut line));
     assert!(rt; fails(rt.alloc(), &mut line));
     assert!(rt; fails(rt.alloc(), &mut line));
-    let mut text = Cut {
+    let text = Cut {
         rest: b"@a submit tree 6 2\nx\ny",
         interrupts: false,
     };
+    let mut text = BufReader::new(rt.alloc(), text)?;
     assert!(rt; fails(rt.alloc(), &mut text));
+    Ok(())
 }
 
 #[test]
@@ -70,6 +73,17 @@ fn the_rest_is_left(rt: HostRuntime) {
     let mut bytes: &[u8] = b"\n\r\n@a ledger\n\n@b ledger\n";
     assert!(rt; reads_ledger(rt.alloc(), &mut bytes));
     assert!(rt; bytes == b"\n@b ledger\n".as_slice());
+}
+
+#[test]
+fn lines_that_no_buffer_holds(rt: HostRuntime) -> Result<(), Fail> {
+    for capacity in 1..12 {
+        let bytes: &[u8] = b"@a ledger\r\n \r\n@a ledger";
+        let mut reader = BufReader::with_capacity(rt.alloc(), capacity, bytes)?;
+        assert!(rt; reads_ledger(rt.alloc(), &mut reader), "{capacity}");
+        assert!(rt; reads_ledger(rt.alloc(), &mut reader), "{capacity}");
+    }
+    Ok(())
 }
 
 // Takes so many bytes, each time at most three, with an interrupted write before each where it interrupts, and then none.

@@ -1,6 +1,8 @@
 -- Why a request is not read.
-use Rattle.std.proofs.Common.{◌≡◌, ◌≢◌, ℕ, suc, ◌+◌, ◌<◌, ◌≤◌, inl, inr, Bool, true, false, cond, eqb, List, [], ◌∷◌, length, Option, Some, None, Result, Ok, Err, OnErr, refl, sym, ap, ◌∙◌, arith, length-append}
-use Rattle.std.proofs.lemmas.Bool.{lt-ltb, ltb-true}
+use Rattle.std.proofs.Common.{◌≡◌, ◌≢◌, ℕ, suc, ◌+◌, ◌<◌, ◌≤◌, inl, inr, Bool, true, false, cond, eqb, List, [], ◌∷◌, ◌++◌, All, length, take, drop, Option, Some, None, IfSome, Result, Ok, Err, OnErr, refl, sym, ap, subst, ◌∙◌, arith, append_assoc, length-append, length-take-le, take-append-drop}
+use Rattle.std.specs.Io.{StartsWith}
+use Rattle.std.specs.Io.KnownBytes.{Keeps}
+use Rattle.std.proofs.BufReadLemmas.{take_through-append}
 use Rattle.std.specs.Io.BufRead.{take_through, drop_through}
 use Rattle.session_lines.specs.declared.request.Request.{Request}
 use Rattle.session_lines.specs.declared.request.LineFault.{LineFault}
@@ -10,7 +12,8 @@ use Rattle.session_lines.specs.Cause.{HasCause, IsLonger, size_of, lines_after, 
 use Rattle.session_lines.specs.Known.{Goes}
 use Rattle.session_lines.specs.Script.{TextData, Item, onto, lines_of, after, first_or, first}
 use Rattle.session_lines.proofs.ReadLemmas.{lines-step, GoesOn, InText}
-use Rattle.session_lines.proofs.ScanLemmas.{InLine, Scans, some_through}
+use Rattle.session_lines.proofs.FeedLemmas.{IsFeed}
+use Rattle.session_lines.proofs.ScanLemmas.{InLine, Scans}
 
 -- ---- how many bytes lines have
 
@@ -66,16 +69,44 @@ cause_before Failed None b P Q R f p (inr q) = inr tt
 cause_before Failed (Some xs) (Some ys) P Q R f p (inr q) = inr (f xs ys p q)
 cause_before Failed (Some xs) None P Q R f p (inr q) = absurd p
 
--- a byte that is one too many, after those of its line
-longer : (before left : ℕ) (raw xs ys : List ℕ) → length raw + left ≡ before → InLine raw xs ys → (left ≡ 0) × (ys ≢ []) → IsLonger before xs
-longer before left raw xs [] paid line (none, some) = absurd (some refl)
-longer before left raw xs (y ∷ ys) paid line (none, some) =
-    let here : 0 < length (take_through 10 (y ∷ ys)) = ltb-true 0 (length (take_through 10 (y ∷ ys))) (sym (some_through (y ∷ ys)) ∙ lt-ltb 0 (suc (length ys)) (omega arith)) in
-    let all : length (take_through 10 xs) ≡ length raw + length (take_through 10 (y ∷ ys)) = ap length line.through ∙ length-append raw (take_through 10 (y ∷ ys)) in
-    omega (arith, here, all, paid, none)
+-- bytes that are too many, after those of their line
+longer : (before left : ℕ) (raw xs ys : List ℕ) → length raw + left ≡ before → InLine raw xs ys → IsLonger left ys → IsLonger before xs
+longer before left raw xs ys paid line long =
+    let all : length (take_through 10 xs) ≡ length raw + length (take_through 10 ys) = ap length line.through ∙ length-append raw (take_through 10 ys) in
+    omega (arith, all, paid, long)
 
-pub longer_line : (Failed : Type 0) (before left : ℕ) (raw : List ℕ) (a b : Option (List ℕ)) → length raw + left ≡ before → Scans raw a b → HasCause Failed b (λ bytes. (left ≡ 0) × (bytes ≢ [])) → HasCause Failed a (IsLonger before)
+pub longer_line : (Failed : Type 0) (before left : ℕ) (raw : List ℕ) (a b : Option (List ℕ)) → length raw + left ≡ before → Scans raw a b → HasCause Failed b (IsLonger left) → HasCause Failed a (IsLonger before)
 longer_line Failed before left raw a b paid = cause_before Failed a b (InLine raw) _ _ (λ xs ys. longer before left raw xs ys paid)
+
+-- bytes that are shown, and are too many
+pub shown_long : (Failed : Type 0) (a : Option (List ℕ)) (left size : ℕ) (shown : List ℕ) → IfSome a (λ xs. StartsWith xs shown) → ((zs : List ℕ) → size ≤ length (take_through 10 (shown ++ zs))) → left < size → HasCause Failed a (IsLonger left)
+shown_long Failed None left size shown front long less = inr tt
+shown_long Failed (Some xs) left size shown front long less =
+    let parts : xs ≡ shown ++ drop (length shown) xs = sym (take-append-drop (length shown) xs) ∙ ap (λ t. t ++ drop (length shown) xs) front in
+    let more = long (drop (length shown) xs) in
+    let same : length (take_through 10 xs) ≡ length (take_through 10 (shown ++ drop (length shown) xs)) = ap (λ l. length (take_through 10 l)) parts in
+    inr (omega (arith, more, same, less))
+
+pub long_inside : (shown zs : List ℕ) → All (λ x. x ≢ 10) shown → length shown ≤ length (take_through 10 (shown ++ zs))
+long_inside shown zs none =
+    let e : length (take_through 10 (shown ++ zs)) ≡ length shown + length (take_through 10 zs) = ap length (take_through-append 10 shown zs none) ∙ length-append shown (take_through 10 zs) in
+    omega (arith, e)
+
+pub long_last : (shown : List ℕ) (place : ℕ) (zs : List ℕ) → IsFeed shown place → place + 1 ≤ length (take_through 10 (shown ++ zs))
+long_last shown place zs is =
+    let rest = drop (place + 1) shown ++ zs in
+    let parts : shown ++ zs ≡ take place shown ++ (10 ∷ rest) =
+    ap (λ l. l ++ zs) (sym (take-append-drop (place + 1) shown)) ∙ append_assoc (take (place + 1) shown) (drop (place + 1) shown) zs ∙ ap (λ l. l ++ rest) is.feed ∙ append_assoc (take place shown) (10 ∷ []) rest in
+    let e : length (take_through 10 (shown ++ zs)) ≡ length (take place shown) + 1 =
+    ap (λ l. length (take_through 10 l)) parts ∙ ap length (take_through-append 10 (take place shown) (10 ∷ rest) is.before) ∙ length-append (take place shown) (10 ∷ []) in
+    let long : length (take place shown) ≡ place = length-take-le place shown (omega (arith, is.inside)) in
+    omega (arith, e, long)
+
+pub cause_kept : (Failed : Type 0) (a b : Option (List ℕ)) (P : List ℕ → Type 0) → Keeps a b → HasCause Failed b P → HasCause Failed a P
+cause_kept Failed a b P k (inl h) = inl h
+cause_kept Failed None b P k (inr p) = inr tt
+cause_kept Failed (Some xs) None P k (inr p) = absurd k
+cause_kept Failed (Some xs) (Some ys) P k (inr p) = inr (subst P k p)
 
 pub past_between : (Failed : Type 0) (now : Option TextData) (most left : ℕ) (a b : Option (List ℕ)) → Goes a b (GoesOn now most left) → HasCause Failed b (IsLonger left) → HasCause Failed a (λ xs. IsPast most None (lines_of xs))
 past_between Failed now most left a b = cause_before Failed a b (GoesOn now most left) _ _ (λ xs ys p. past None now most left xs ys p.same p.paid)

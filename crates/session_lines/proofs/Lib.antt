@@ -2,6 +2,7 @@ pub mod PartLemmas
 pub mod PlaceLemmas
 pub mod WordLemmas
 pub mod LineLemmas
+pub mod FeedLemmas
 pub mod ScanLemmas
 pub mod TextLemmas
 pub mod ReadLemmas

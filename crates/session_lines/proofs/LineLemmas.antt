@@ -1,13 +1,15 @@
 -- A line that is read byte by byte, and what its first bytes tell.
-use Rattle.std.proofs.Common.{◌≡◌, ℕ, zero, suc, ◌-◌, ◌<◌, Bool, true, false, cond, not, ◌&&◌, ◌||◌, ◌==◌, nat_lt, List, [], ◌∷◌, ◌++◌, length, take, refl, sym, ap, ◌∙◌, arith, take_all}
+use Rattle.std.proofs.Common.{◌≡◌, ℕ, zero, suc, ◌-◌, ◌<◌, Bool, true, false, cond, not, ◌&&◌, ◌||◌, ◌==◌, nat_lt, List, [], ◌∷◌, ◌++◌, ◌≢◌, length, take, refl, sym, ap, ◌∙◌, arith, take_all, append-nil, append_assoc, ne_eqb}
 use Rattle.std.proofs.lemmas.Bool.{eqb-true, lt-ltb}
 use Rattle.std.proofs.lemmas.List.{length_push}
 use Rattle.std.proofs.lemmas.List.Folds.{list_all-append}
+use Rattle.std.proofs.lemmas.List.Elements.{All-nil, All-push}
 use Rattle.std.proofs.Math.Seq.{take-append_seam, get_or-append_seam}
 use Rattle.std.specs.List.{list_all}
 use Rattle.std.specs.Io.BufRead.{strip_last, ends_with_byte}
 use Rattle.psplib_mm.specs.Text.{is_blank}
-use Rattle.session_lines.specs.Script.{is_wordless}
+use Rattle.session_lines.specs.Taken.{Reads, IsFront, Extends}
+use Rattle.session_lines.specs.declared.bytes.Line.{Line}
 
 -- ---- the first bytes
 
@@ -41,14 +43,6 @@ strip-other : (c : ℕ) (raw : List ℕ) → ends_with_byte c raw ≡ false → 
 strip-other c raw h = rw h refl
 
 -- ---- a line so far
-
--- raw was read, and has no line feed at its end: its first bytes are kept, and it is known whether it has a byte of a word, but
--- for a carriage return at its end
-pub record Reads (kept : List ℕ) (blank returns : Bool) (raw : List ℕ) : Type 0 where
-  pub front : kept ≡ take 4099 raw
-  pub blanks : list_all is_blank raw ≡ (blank && not returns)
-  pub wordless : blank ≡ list_all is_blank (strip_last 13 raw)
-  pub inside : ends_with_byte 10 raw ≡ false
 
 pub Reads-start : Reads [] true false []
 Reads-start = record { front = refl; blanks = refl; wordless = refl; inside = refl }
@@ -90,12 +84,25 @@ Reads-push kept blank returns raw b other r =
 
 -- by a line feed
 pub Reads-feed : (kept : List ℕ) (blank returns : Bool) (raw : List ℕ) → Reads kept blank returns raw
-    → (take 4099 (kept ++ 10 ∷ []) ≡ take 4099 (raw ++ 10 ∷ [])) × (blank ≡ is_wordless (raw ++ 10 ∷ []))
-Reads-feed kept blank returns raw r = (
-  ap (λ l. take 4099 (l ++ 10 ∷ [])) r.front ∙ take_kept 4099 raw 10,
-  r.wordless ∙ ap (λ l. list_all is_blank (strip_last 13 l)) (sym (strip-push 10 raw 10)),
-)
+    → IsFront (take 4099 (kept ++ 10 ∷ [])) blank (raw ++ 10 ∷ [])
+Reads-feed kept blank returns raw r = record {
+  front = ap (λ l. take 4099 (l ++ 10 ∷ [])) r.front ∙ take_kept 4099 raw 10;
+  wordless = r.wordless ∙ ap (λ l. list_all is_blank (strip_last 13 l)) (sym (strip-push 10 raw 10));
+}
 
 -- by the end of the input
-pub Reads-end : (kept : List ℕ) (blank returns : Bool) (raw : List ℕ) → Reads kept blank returns raw → (kept ≡ take 4099 raw) × (blank ≡ is_wordless raw)
-Reads-end kept blank returns raw r = (r.front, r.wordless ∙ ap (λ l. list_all is_blank (strip_last 13 l)) (sym (strip-other 10 raw r.inside)))
+pub Reads-end : (kept : List ℕ) (blank returns : Bool) (raw : List ℕ) → Reads kept blank returns raw → IsFront kept blank raw
+Reads-end kept blank returns raw r = record { front = r.front; wordless = r.wordless ∙ ap (λ l. list_all is_blank (strip_last 13 l)) (sym (strip-other 10 raw r.inside)) }
+
+-- ---- bytes that are added
+
+pub Extends-start : (line : Line) → Extends [] line line
+Extends-start line = record { inside = All-nil (λ x. x ≢ 10); reads = λ raw r. rw (append-nil raw) r }
+
+pub Extends-more : (bytes : List ℕ) (b : ℕ) (old mid new : Line) → b ≢ 10 → Extends bytes old mid
+    → new.kept.items ≡ take 4099 (mid.kept.items ++ b ∷ []) → new.is_blank ≡ ((mid.is_blank && not mid.returns) && ((b == 13) || is_blank b)) → new.returns ≡ (b == 13)
+    → Extends (bytes ++ b ∷ []) old new
+Extends-more bytes b old mid new other e kept blank returns = record {
+  inside = All-push (λ x. x ≢ 10) bytes b e.inside other;
+  reads = λ raw r. rw (← append_assoc raw bytes (b ∷ []), kept, blank, returns) (Reads-push _ _ _ (raw ++ bytes) b (ne_eqb b 10 other) (e.reads raw r));
+}

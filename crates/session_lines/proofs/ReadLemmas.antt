@@ -1,5 +1,5 @@
 -- A reader in the middle of a request.
-use Rattle.std.proofs.Common.{◌≡◌, ℕ, suc, ◌+◌, ◌-◌, ◌<◌, ◌≤◌, Bool, true, false, cond, ◌||◌, ◌==◌, eqb, nat_lt, List, [], ◌∷◌, ◌++◌, length, take, Option, Some, None, Result, Ok, Err, refl, sym, ap, ◌∙◌, subst, arith, inl, inr, take_all, length-take}
+use Rattle.std.proofs.Common.{◌≡◌, ℕ, ◌+◌, ◌-◌, ◌<◌, ◌≤◌, Bool, true, false, cond, ◌||◌, ◌==◌, eqb, List, [], ◌∷◌, ◌++◌, length, take, Option, Some, None, Result, Ok, Err, refl, sym, ap, ◌∙◌, arith, inl, inr, take_all, length-take}
 use Rattle.std.proofs.lemmas.Bool.{cases_lt, lt-ltb, false≢true}
 use Rattle.std.specs.Io.BufRead.{strip_last, ends_with_byte, take_through, drop_through}
 use Rattle.session_lines.specs.declared.request.Request.{Request}
@@ -11,7 +11,7 @@ use Rattle.session_lines.specs.declared.line.Meaning.TheVariants.{Blank, Whole, 
 use Rattle.session_lines.specs.declared.text.Text.{Text}
 use Rattle.session_lines.specs.Known.{Goes}
 use Rattle.session_lines.specs.Script.{lines_of, onto, shown, is_long, is_wordless, judged, TextData, opened_text, with_line, whole_text, cut_text, Found, found, plain, After, outside_text, first_or, first, IsAnswerFor, Cuts, Takes}
-use Rattle.session_lines.specs.Taken.{TakesLine, judged_by, IsText}
+use Rattle.session_lines.specs.Taken.{IsFront, TakesLine, TakesNone, judged_by, IsText, Adds}
 use Rattle.session_lines.proofs.ScanLemmas.{Goes-map, Goes-trans}
 
 -- ---- what the first bytes of a line tell
@@ -34,6 +34,10 @@ kept-cases raw far near = elim (cases_lt 4099 (length raw)) [
 
 judged-kept : (raw : List ℕ) → judged_by (take 4099 raw) (is_wordless raw) ≡ judged raw
 judged-kept raw = kept-cases raw (λ p q. rw (p, q) refl) (λ e. ap (λ k. judged_by k (is_wordless raw)) e)
+
+-- what a line means is what its first bytes tell
+pub front_judged : (kept : List ℕ) (blank : Bool) (line : List ℕ) → IsFront kept blank line → judged_by kept blank ≡ judged line
+front_judged kept blank line f = ap (λ k. judged_by k blank) f.front ∙ ap (judged_by (take 4099 line)) f.wordless ∙ judged-kept line
 
 -- ---- a line, and those after it
 
@@ -63,20 +67,17 @@ pub record Begins (meaning : Meaning) (before after : ℕ) (xs ys : List ℕ) : 
   pub same : first None (lines_of xs) ≡ began meaning (lines_of ys)
   pub paid : length xs + after ≡ length ys + before
 
-line-begins : (kept : List ℕ) (blank : Bool) (before after : ℕ) (xs ys : List ℕ) → TakesLine kept blank true before after xs ys
-    → first None (lines_of xs) ≡ began (judged_by kept blank) (lines_of ys)
-line-begins kept blank before after [] ys t = absurd (false≢true (sym t.some))
-line-begins kept blank before after (x ∷ xs) ys t =
-    let says : judged (take_through 10 (x ∷ xs)) ≡ judged_by kept blank = sym (judged-kept (take_through 10 (x ∷ xs))) ∙ rw (← t.front, ← t.wordless) refl in
+line-begins : (m : Meaning) (before after : ℕ) (xs ys : List ℕ) → TakesLine (λ line. m ≡ judged line) before after xs ys → first None (lines_of xs) ≡ began m (lines_of ys)
+line-begins m before after [] ys t = absurd (omega (arith, t.some))
+line-begins m before after (x ∷ xs) ys t =
     ap (first None) (lines-step x xs)
-    ∙ ap (λ m. began m (lines_of (drop_through 10 (x ∷ xs)))) says
-    ∙ ap (λ z. began (judged_by kept blank) (lines_of z)) (sym t.rest)
+    ∙ ap (λ k. began k (lines_of (drop_through 10 (x ∷ xs)))) (sym t.line)
+    ∙ ap (λ z. began m (lines_of z)) (sym t.rest)
 
-pub after_line : (a b d : Option (List ℕ)) (kept : List ℕ) (blank seen : Bool) (m : Meaning) (before mid after : ℕ) → Goes a b (GoesOn None before mid) → Goes b d (TakesLine kept blank seen mid after) → seen ≡ true → judged_by kept blank ≡ m
-    → Goes a d (Begins m before after)
-after_line a b d kept blank seen m before mid after so_far line was says =
+pub after_line : (a b d : Option (List ℕ)) (m : Meaning) (before mid after : ℕ) → Goes a b (GoesOn None before mid) → Goes b d (TakesLine (λ line. m ≡ judged line) mid after) → Goes a d (Begins m before after)
+after_line a b d m before mid after so_far line =
     Goes-trans a b d _ _ _ (λ xs ys zs p t. record {
-      same = p.same ∙ line-begins kept blank mid after ys zs (subst (λ s. TakesLine kept blank s mid after ys zs) was t) ∙ ap (λ k. began k (lines_of zs)) says;
+      same = p.same ∙ line-begins m mid after ys zs t;
       paid = let q = t.paid in let r = p.paid in omega arith;
     }) so_far line
 
@@ -98,18 +99,12 @@ pub after_bad : (a d : Option (List ℕ)) (who : Option (List ℕ)) (before afte
 after_bad a d who before after = Goes-map a d _ _ (λ xs ys b. let q = b.paid in record { item = plain (Err (Syntax who)); cut = b.same; answers = refl; within = omega arith })
 
 -- no line is left
-no_line : (xs : List ℕ) → false ≡ nat_lt 0 (length xs) → xs ≡ []
-no_line [] e = refl
-no_line (x ∷ xs) e = absurd (false≢true (e ∙ lt-ltb 0 (suc (length xs)) (omega arith)))
-
-pub after_all : (a b d : Option (List ℕ)) (kept : List ℕ) (blank seen : Bool) (before mid after : ℕ) → Goes a b (GoesOn None before mid) → Goes b d (TakesLine kept blank seen mid after) → seen ≡ false → Takes before None a d (Err Eof)
-after_all a b d kept blank seen before mid after so_far line was =
+pub after_all : (a b d : Option (List ℕ)) (before mid : ℕ) → Goes a b (GoesOn None before mid) → Goes b d TakesNone → Takes before None a d (Err Eof)
+after_all a b d before mid so_far line =
     Goes-trans a b d _ _ _ (λ xs ys zs p t.
-    let none : ys ≡ [] = no_line ys (sym was ∙ t.some) in
-    let over : zs ≡ [] = t.rest ∙ ap (drop_through 10) none in
-    let short : length ys ≡ 0 = ap length none in
+    let short : length ys ≡ 0 = ap length t.none in
     let q = p.paid in
-    record { none = p.same ∙ ap (λ l. first None (lines_of l)) none; over = over; within = omega arith }) so_far line
+    record { none = p.same ∙ ap (λ l. first None (lines_of l)) t.none; over = t.over; within = omega arith }) so_far line
 
 -- ---- in a text
 
@@ -134,10 +129,9 @@ grown_before text ys is_last = first_or (grown text is_last).whole (lines_of ys)
 abbrev pub went_on : TextData → List ℕ → Option Found
 went_on more ys = grown_before more ys (more.left == 0)
 
-text-line : (said : TextData) (kept : List ℕ) (blank : Bool) (before after : ℕ) (xs ys : List ℕ) → TakesLine kept blank true before after xs ys
-    → first (Some said) (lines_of xs) ≡ went_on (with_line said (take_through 10 xs)) ys
-text-line said kept blank before after [] ys t = absurd (false≢true (sym t.some))
-text-line said kept blank before after (x ∷ xs) ys t =
+text-line : (said : TextData) (P : List ℕ → Type 0) (before after : ℕ) (xs ys : List ℕ) → TakesLine P before after xs ys → first (Some said) (lines_of xs) ≡ went_on (with_line said (take_through 10 xs)) ys
+text-line said P before after [] ys t = absurd (omega (arith, t.some))
+text-line said P before after (x ∷ xs) ys t =
     ap (first (Some said)) (lines-step x xs) ∙ ap (went_on (with_line said (take_through 10 (x ∷ xs)))) (sym t.rest)
 
 long-kept : (raw : List ℕ) → is_long (take 4099 raw) ≡ is_long raw
@@ -151,22 +145,24 @@ or_parts : (p q : Bool) → (p || q) ≡ false → p ≡ false
 or_parts true q e = absurd (false≢true (sym e))
 or_parts false q e = refl
 
--- a line was added to the text
-pub record Adds (old new : Text) (line : List ℕ) : Type 0 where
-  pub head : new.head ≡ old.head
-  pub left : new.left ≡ old.left - 1
-  pub long : new.is_long ≡ (old.is_long || is_long line)
-  pub refused : new.is_refused ≡ false → old.is_refused ≡ false
-  pub bytes : (whole : List ℕ) → old.bytes.items ≡ take 1048577 whole → new.is_refused ≡ false → new.is_long ≡ false → new.bytes.items ≡ take 1048577 (whole ++ line)
-
-IsText-more : (old new : Text) (said : TextData) (raw : List ℕ) → IsText old said → Adds old new (take 4099 raw) → IsText new (with_line said raw)
+IsText-more : (old new : Text) (said : TextData) (raw : List ℕ) → IsText old said → Adds old new raw → IsText new (with_line said raw)
 IsText-more old new said raw t adds = record {
   head = adds.head ∙ t.head;
   left = adds.left ∙ ap (λ n. n - 1) t.left;
-  long = adds.long ∙ ap (λ b. b || is_long (take 4099 raw)) t.long ∙ ap (λ b. said.is_long || b) (long-kept raw);
-  bytes = λ refused short. kept-cases raw
+  long = adds.long ∙ ap (λ b. b || is_long raw) t.long;
+  bytes = λ refused short. adds.bytes said.bytes (t.bytes (adds.refused refused) (or_parts old.is_long (is_long raw) (sym adds.long ∙ short))) refused short;
+}
+
+-- the first bytes of a line add what the line does
+pub Adds-front : (old new : Text) (raw : List ℕ) → Adds old new (take 4099 raw) → Adds old new raw
+Adds-front old new raw adds = record {
+  head = adds.head;
+  left = adds.left;
+  long = adds.long ∙ ap (λ b. old.is_long || b) (long-kept raw);
+  refused = adds.refused;
+  bytes = λ whole so_far refused short. kept-cases raw
       (λ p q. absurd (false≢true (sym short ∙ adds.long ∙ ap (λ b. old.is_long || b) p ∙ or_true old.is_long)))
-      (λ e. adds.bytes said.bytes (t.bytes (adds.refused refused) (or_parts old.is_long (is_long (take 4099 raw)) (sym adds.long ∙ short))) refused short ∙ ap (λ l. take 1048577 (said.bytes ++ l)) e);
+      (λ e. adds.bytes whole so_far refused short ∙ ap (λ l. take 1048577 (whole ++ l)) e);
 }
 
 -- the lines before those of ys are in the text, the last of them just now
@@ -176,17 +172,15 @@ pub record Added (text : Option TextData) (kept : Text) (before after : ℕ) (xs
   pub same : first text (lines_of xs) ≡ went_on said ys
   pub paid : length xs + after ≡ length ys + before
 
-pub after_add : (a b d : Option (List ℕ)) (text : Option TextData) (old new : Text) (kept : List ℕ) (blank seen : Bool) (before mid after : ℕ) → Goes a b (InText text old before mid) → Goes b d (TakesLine kept blank seen mid after) → seen ≡ true → Adds old new kept
-    → Goes a d (Added text new before after)
-after_add a b d text old new kept blank seen before mid after so_far line was adds =
+pub after_add : (a b d : Option (List ℕ)) (text : Option TextData) (old new : Text) (before mid after : ℕ) → Goes a b (InText text old before mid) → Goes b d (TakesLine (Adds old new) mid after) → Goes a d (Added text new before after)
+after_add a b d text old new before mid after so_far line =
     Goes-trans a b d _ _ _ (λ xs ys zs p t.
-    let taken : TakesLine kept blank true mid after ys zs = subst (λ s. TakesLine kept blank s mid after ys zs) was t in
     let q = t.paid in
     let r = p.paid in
     record {
       said = with_line p.said (take_through 10 ys);
-      is = IsText-more old new p.said (take_through 10 ys) p.is (subst (λ l. Adds old new l) t.front adds);
-      same = p.same ∙ text-line p.said kept blank mid after ys zs taken;
+      is = IsText-more old new p.said (take_through 10 ys) p.is t.line;
+      same = p.same ∙ text-line p.said (Adds old new) mid after ys zs t;
       paid = omega arith;
     }) so_far line
 
@@ -219,16 +213,14 @@ after_text a d text kept before after answer none gives p = takes_cut before tex
     }) p)
 
 -- the input's end cuts the text
-pub after_cut : (a b d : Option (List ℕ)) (text : Option TextData) (old : Text) (kept : List ℕ) (blank seen : Bool) (before mid after : ℕ) (answer : Result Request LineFault) → ((said : TextData) → IsText old said → IsAnswerFor (cut_text said) answer)
-    → Goes a b (InText text old before mid) → Goes b d (TakesLine kept blank seen mid after) → seen ≡ false → Takes before text a d answer
-after_cut a b d text old kept blank seen before mid after answer gives so_far line was = takes_cut before text a d answer (Goes-trans a b d _ _ _ (λ xs ys zs p t.
-    let none : ys ≡ [] = no_line ys (sym was ∙ t.some) in
-    let over : zs ≡ [] = t.rest ∙ ap (drop_through 10) none in
-    let short : length ys ≡ 0 = ap length none in
+pub after_cut : (a b d : Option (List ℕ)) (text : Option TextData) (old : Text) (before mid : ℕ) (answer : Result Request LineFault) → ((said : TextData) → IsText old said → IsAnswerFor (cut_text said) answer)
+    → Goes a b (InText text old before mid) → Goes b d TakesNone → Takes before text a d answer
+after_cut a b d text old before mid answer gives so_far line = takes_cut before text a d answer (Goes-trans a b d _ _ _ (λ xs ys zs p t.
+    let short : length ys ≡ 0 = ap length t.none in
     let q = p.paid in
     record {
       item = cut_text p.said;
-      cut = p.same ∙ ap (λ l. first (Some p.said) (lines_of l)) none ∙ ap (λ l. found (cut_text p.said) (lines_of l)) (sym over);
+      cut = p.same ∙ ap (λ l. first (Some p.said) (lines_of l)) t.none ∙ ap (λ l. found (cut_text p.said) (lines_of l)) (sym t.over);
       answers = gives p.said p.is;
       within = omega arith;
     }) so_far line)

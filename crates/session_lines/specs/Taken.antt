@@ -1,26 +1,70 @@
 -- What the reader of requests keeps of a line and of a text. Only contracts of private functions name these.
-use Rattle.std.specs.Prelude.{◌≡◌, ℕ, ◌+◌, Bool, false, nat_lt, List, length, take, if◌then◌else◌}
-use Rattle.std.specs.Io.BufRead.{take_through, drop_through}
+use Rattle.std.specs.Prelude.{◌≡◌, ◌≢◌, ℕ, ◌+◌, ◌-◌, ◌<◌, Bool, true, false, not, ◌&&◌, ◌||◌, List, [], ◌∷◌, ◌++◌, All, length, take, if◌then◌else◌, Option, Some, None}
+use Rattle.std.specs.List.{list_all}
+use Rattle.std.specs.Io.BufRead.{take_through, drop_through, strip_last, ends_with_byte}
+use Rattle.std.specs.Io.KnownBytes.{Consumes}
+use Rattle.psplib_mm.specs.Text.{is_blank}
 use Rattle.psplib_mm.specs.declared.fault.MmFault.{MmFault}
 use Rattle.psplib_mm.specs.declared.fault.MmFault.TheVariants as fault
 use Rattle.session_lines.specs.declared.bytes.TheConstants.{KEPT_OF_LINE}
+use Rattle.session_lines.specs.declared.bytes.Line.{Line}
+use Rattle.session_lines.specs.declared.bytes.Piece.{Piece}
+use Rattle.session_lines.specs.declared.bytes.Piece.TheVariants.{End, Inside, Last}
 use Rattle.session_lines.specs.declared.request.LineFault.{LineFault}
 use Rattle.session_lines.specs.declared.request.LineFault.TheVariants.{File, NoMemory}
 use Rattle.session_lines.specs.declared.line.Meaning.{Meaning}
 use Rattle.session_lines.specs.declared.line.Meaning.TheVariants.{Blank, Long}
 use Rattle.session_lines.specs.declared.text.Text.{Text}
 use Rattle.session_lines.specs.declared.text.TheConstants.{KEPT_OF_TEXT}
+use Rattle.session_lines.specs.Known.{Goes}
 use Rattle.session_lines.specs.RequestLine.{meaning_of}
-use Rattle.session_lines.specs.Script.{TextData, shown, is_long, is_wordless}
+use Rattle.session_lines.specs.Script.{TextData, shown, is_long, is_wordless, judged}
 
--- the first line of xs was taken, ys are left; as many of the line's first bytes are kept as it takes to tell a long one, and whether it has no word; found tells
--- whether there was one. Of the bytes that the request may have, before are spent to after
-pub record TakesLine (kept : List ℕ) (blank found : Bool) (before after : ℕ) (xs ys : List ℕ) : Type 0 where
-  pub front : kept ≡ take KEPT_OF_LINE (take_through 10 xs)
-  pub wordless : blank ≡ is_wordless (take_through 10 xs)
+-- raw was read, and has no line feed at its end: as many of its first bytes are kept as it takes to tell a long line, and it is
+-- known whether it has a byte of a word, but for a carriage return at its end
+pub record Reads (kept : List ℕ) (blank returns : Bool) (raw : List ℕ) : Type 0 where
+  pub front : kept ≡ take KEPT_OF_LINE raw
+  pub blanks : list_all is_blank raw ≡ (blank && not returns)
+  pub wordless : blank ≡ list_all is_blank (strip_last 13 raw)
+  pub inside : ends_with_byte 10 raw ≡ false
+
+-- these bytes, of which none is a line feed, were added to a line
+pub record Extends (bytes : List ℕ) (old new : Line) : Type 0 where
+  pub inside : All (λ x. x ≢ 10) bytes
+  pub reads : (raw : List ℕ) → Reads old.kept.items old.is_blank old.returns raw → Reads new.kept.items new.is_blank new.returns (raw ++ bytes)
+
+-- a line of which these first bytes are kept, and of which it is known whether it has no word
+pub record IsFront (kept : List ℕ) (blank : Bool) (line : List ℕ) : Type 0 where
+  pub front : kept ≡ take KEPT_OF_LINE line
+  pub wordless : blank ≡ is_wordless line
+
+-- the first line of xs was taken, of which P holds, and ys are left
+pub record TakesLine (P : List ℕ → Type 0) (before after : ℕ) (xs ys : List ℕ) : Type 0 where
+  pub some : 0 < length xs
+  pub line : P (take_through 10 xs)
   pub rest : ys ≡ drop_through 10 xs
-  pub some : found ≡ nat_lt 0 (length xs)
   pub paid : length xs + after ≡ length ys + before
+
+-- there was no line
+pub record TakesNone (xs ys : List ℕ) : Type 0 where
+  pub none : xs ≡ []
+  pub over : ys ≡ []
+
+-- what was taken of a line: nothing at the end of the input; bytes of its inside; or bytes of its inside and its line feed. Of the
+-- bytes that the request may have, before are spent to after
+abbrev pub TakesPiece : Piece → Line → Line → ℕ → ℕ → Option (List ℕ) → Option (List ℕ) → Type 0
+TakesPiece End line new before after a b = Goes a b TakesNone × (new ≡ line) × (after ≡ before)
+TakesPiece Inside line new before after a b = (bytes : List ℕ) × Consumes a b bytes × Extends bytes line new × (length bytes + after ≡ before) × (0 < length bytes)
+TakesPiece Last line new before after a b = (bytes : List ℕ) × Consumes a b (bytes ++ 10 ∷ []) × Extends bytes line new × (length bytes + 1 + after ≡ before)
+
+abbrev pub TakesIf : Bool → (List ℕ → Type 0) → ℕ → ℕ → Option (List ℕ) → Option (List ℕ) → Type 0
+TakesIf true P before after a b = Goes a b (TakesLine P before after)
+TakesIf false P before after a b = Goes a b TakesNone
+
+-- a line was taken that means this, or there was none
+abbrev pub TakesMeaning : Option Meaning → ℕ → ℕ → Option (List ℕ) → Option (List ℕ) → Type 0
+TakesMeaning (Some meaning) before after a b = Goes a b (TakesLine (λ line. meaning ≡ judged line) before after)
+TakesMeaning None before after a b = Goes a b TakesNone
 
 -- what a line means, as its first bytes and whether it has no word tell
 abbrev pub judged_by : List ℕ → Bool → Meaning
@@ -37,3 +81,11 @@ pub record IsText (text : Text) (said : TextData) : Type 0 where
 abbrev pub unread : List ℕ → MmFault → LineFault
 unread who fault.NoMemory = NoMemory who
 unread who fault = File who fault
+
+-- a line was added to the text
+pub record Adds (old new : Text) (line : List ℕ) : Type 0 where
+  pub head : new.head ≡ old.head
+  pub left : new.left ≡ old.left - 1
+  pub long : new.is_long ≡ (old.is_long || is_long line)
+  pub refused : new.is_refused ≡ false → old.is_refused ≡ false
+  pub bytes : (whole : List ℕ) → old.bytes.items ≡ take KEPT_OF_TEXT whole → new.is_refused ≡ false → new.is_long ≡ false → new.bytes.items ≡ take KEPT_OF_TEXT (whole ++ line)

@@ -1,17 +1,16 @@
-//! Bytes and lines of a reader, with no memory.
-ghost use Rattle.std.specs.Prelude.{◌≡◌, ◌≢◌, ◌+◌, ◌<◌, Bool, true, false, not, ◌&&◌, ◌||◌, ◌==◌, take, [], ◌∷◌, ◌++◌, IfOk, OnOk, OnErr, MatchOption, nat_lt, length, if◌then◌else◌};
-ghost use Rattle.std.specs.Io.KnownBytes.{Consumes, IsAtEnd};
+//! Lines of a reader, with no memory: the place of a line's end, and lines that no buffer holds whole.
+ghost use Rattle.std.specs.Prelude.{◌≡◌, ◌≢◌, ◌<◌, true, false, not, ◌&&◌, ◌||◌, ◌==◌, take, [], ◌∷◌, ◌++◌, All, IfOk, IfSome, OnOk, OnErr, length};
+ghost use Rattle.std.specs.List.{position};
 ghost use Rattle.watched_io.specs.Failure.{HasFailed};
-ghost use Rattle.psplib_mm.specs.Text.{is_blank};
+ghost use Rattle.psplib_mm.specs.Text.{is_blank, is_line_feed};
 ghost use Rattle.session_lines.specs.Cause.{HasCause, IsLonger};
-ghost use Rattle.session_lines.specs.Known.{Goes};
-ghost use Rattle.session_lines.specs.Taken.{TakesLine};
+ghost use Rattle.session_lines.specs.Taken.{Extends, TakesPiece, TakesIf, IsFront};
 
 use crate::text::LONGEST;
 use crate::words::is_blank;
 use arrayvec::ArrayVec;
-use std::io::Read;
-use watched_io::Watch;
+use watched_io::{Watch, fill};
+use std::io::BufRead;
 
 /// The reader failed, or more bytes came than may.
 #[derive(Clone, Copy, Debug, PartialEq, Eq)]
@@ -20,7 +19,7 @@ pub struct ReadFault;
 /// As many bytes of a line as it takes to tell a long one: one more than it may have, a carriage return and a line feed.
 pub const KEPT_OF_LINE: usize = LONGEST + 3;
 
-/// A line that is read: its first bytes, with its end where that is among them.
+/// A line that is gathered: its first bytes, with its end where that is among them.
 #[derive(Debug, Drop)]
 pub struct Line {
     /// The first `KEPT_OF_LINE` bytes.
@@ -67,39 +66,77 @@ impl Line {
         self.is_blank = self.is_blank && !self.returns && (byte == b'\r' || is_blank(byte));
         self.returns = byte == b'\r';
     }
-}
 
-/// The next byte, or `None` at the end. `left` is how many bytes may still come.
-pub fn next_byte<R: Read>(
-    reader: &mut R,
-    watch: &mut Watch,
-    left: &mut u64,
-) -> Result<Option<u8>, ReadFault>
-    ensures byte { IfOk result (λ found. MatchOption found
-        (Consumes (R.remaining reader.old) (R.remaining reader.new) []
-        × IsAtEnd (R.remaining reader.new) × (left.new ≡ left.old))
-        (λ b. Consumes (R.remaining reader.old) (R.remaining reader.new) (b ∷ [])
-        × (left.new + 1 ≡ left.old))) }
-    ensures kept { OnOk result (watch.new ≡ watch.old) }
-    ensures cause { OnErr result (HasCause (HasFailed watch.old watch.new) (R.remaining reader.old)
-        (λ bytes. (left.old ≡ 0) × (bytes ≢ []))) }
-{
-    let mut one = [0u8; 1];
-    match watch.read(reader, &mut one) {
-        Ok(0) => Ok(None),
-        Ok(_) => {
-            if *left == 0 {
-                return Err(ReadFault);
-            }
-            *left -= 1;
-            Ok(Some(one[0]))
+    // More bytes, of which none is a line feed.
+    fn extend(&mut self, bytes: &[u8])
+        ensures { All (λ x. x ≢ 10) bytes.now → Extends bytes.now self.old self.new }
+    {
+        for byte in bytes {
+            self.push(*byte);
         }
-        Err(_) => Err(ReadFault),
     }
 }
 
-/// Takes the next line. `false` where there is none: the input is at its end.
-pub fn next_line<R: Read>(
+/// What a reader gives of a line.
+#[derive(Clone, Copy, Debug, PartialEq, Eq)]
+pub enum Piece {
+    /// Nothing: the input is at its end.
+    End,
+    /// Bytes of it, and not its line feed.
+    Inside,
+    /// Bytes of it up to its line feed, which is taken too.
+    Last,
+}
+
+/// Where the first line feed is.
+pub fn feed_place(bytes: &[u8]) -> Option<usize>
+    ensures place { result ≡ position is_line_feed bytes.now }
+    ensures within { IfSome result (λ place. place < length bytes.now) }
+{
+    bytes.iter().position(|byte| *byte == b'\n')
+}
+
+// Adds to the line what the reader shows, up to a line feed.
+fn take_piece<R: BufRead>(
+    reader: &mut R,
+    watch: &mut Watch,
+    left: &mut u64,
+    line: &mut Line,
+) -> Result<Piece, ReadFault>
+    ensures taken { IfOk result (λ piece. TakesPiece piece line.old line.new left.old left.new
+        (R.remaining reader.old) (R.remaining reader.new)) }
+    ensures kept { OnOk result (watch.new ≡ watch.old) }
+    ensures cause { OnErr result (HasCause (HasFailed watch.old watch.new) (R.remaining reader.old)
+        (IsLonger left.old)) }
+{
+    let Ok(shown) = fill(reader, watch) else {
+        return Err(ReadFault);
+    };
+    if shown.is_empty() {
+        return Ok(Piece::End);
+    }
+    let Some(place) = feed_place(shown) else {
+        let size = shown.len();
+        if *left < size as u64 {
+            return Err(ReadFault);
+        }
+        *left -= size as u64;
+        line.extend(shown);
+        reader.consume(size);
+        return Ok(Piece::Inside);
+    };
+    let size = place + 1;
+    if *left < size as u64 {
+        return Err(ReadFault);
+    }
+    *left -= size as u64;
+    line.extend(&shown[..place]);
+    reader.consume(size);
+    Ok(Piece::Last)
+}
+
+/// Gathers the next line. `false` where there is none: the input is at its end.
+pub fn gather_line<R: BufRead>(
     reader: &mut R,
     watch: &mut Watch,
     left: &mut u64,
@@ -108,21 +145,22 @@ pub fn next_line<R: Read>(
     requires kept { line.old.kept.items ≡ [] }
     requires blank { line.old.is_blank ≡ true }
     requires returns { line.old.returns ≡ false }
-    ensures taken { IfOk result (λ found. Goes (R.remaining reader.old) (R.remaining reader.new)
-        (TakesLine line.new.kept.items line.new.is_blank found left.old left.new)) }
+    ensures taken { IfOk result (λ found. TakesIf found (IsFront line.new.kept.items line.new.is_blank)
+        left.old left.new (R.remaining reader.old) (R.remaining reader.new)) }
     ensures fewer { IfOk result (λ found. found ≡ true → left.new < left.old) }
     ensures kept { OnOk result (watch.new ≡ watch.old) }
     ensures cause { OnErr result (HasCause (HasFailed watch.old watch.new) (R.remaining reader.old)
         (IsLonger left.old)) }
 {
     loop {
-        match next_byte(reader, watch, left)? {
-            None => return Ok(!line.kept.is_empty()),
-            Some(b'\n') => {
+        match take_piece(reader, watch, left, line) {
+            Err(fault) => return Err(fault),
+            Ok(Piece::End) => return Ok(!line.kept.is_empty()),
+            Ok(Piece::Inside) => {}
+            Ok(Piece::Last) => {
                 line.keep(b'\n');
                 return Ok(true);
             }
-            Some(byte) => line.push(byte),
         }
     }
 }

@@ -1,16 +1,23 @@
-//! Bytes and numbers to a writer, with no memory.
+//! Bytes and numbers to a writer, with no memory: gathered, and written at once.
 ghost use Rattle.std.specs.Prelude.{◌≡◌, decimal};
 ghost use Rattle.watched_io.specs.Failure.{IsNoted};
 ghost use Rattle.session_lines.specs.Known.{Writes};
-ghost use Rattle.session_lines.specs.Part.{part_text, parts_text};
+ghost use Rattle.session_lines.specs.Part.{Gathers, part_text, parts_text};
 
+use arrayvec::ArrayVec;
+use watched_io::Watch;
 use itoa::Buffer;
 use std::io::Write;
-use watched_io::Watch;
 
 /// The writer failed, or took no byte.
 #[derive(Clone, Copy, Debug, PartialEq, Eq)]
 pub struct WriteFault;
+
+/// How many bytes are gathered before they are written. A reply without a schedule has fewer.
+const ROOM: usize = 256;
+
+/// Bytes that are still to be written.
+pub type Gathered = ArrayVec<u8, ROOM>;
 
 /// A part of a line.
 #[derive(Clone, Copy, Debug)]
@@ -36,28 +43,64 @@ pub fn put<W: Write>(writer: &mut W, watch: &mut Watch, bytes: &[u8]) -> Result<
     Ok(())
 }
 
-fn put_part<W: Write>(writer: &mut W, watch: &mut Watch, part: Part<'_>) -> Result<(), WriteFault>
-    ensures writes { Writes result (W.contents writer.old) (W.contents writer.new) (part_text part.entry) }
+/// Gathers bytes. If they do not fit behind the gathered ones, both are written, and none is left.
+pub fn gather<W: Write>(
+    writer: &mut W,
+    watch: &mut Watch,
+    gathered: &mut Gathered,
+    bytes: &[u8],
+) -> Result<(), WriteFault>
+    ensures gathers { Gathers result (W.contents writer.old) (W.contents writer.new)
+        gathered.old.items gathered.new.items bytes.now }
+    ensures noted { IsNoted result watch.old watch.new }
+{
+    if gathered.try_extend_from_slice(bytes).is_ok() {
+        return Ok(());
+    }
+    if let Err(fault) = put(writer, watch, gathered.as_slice()) {
+        return Err(fault);
+    }
+    gathered.clear();
+    put(writer, watch, bytes)
+}
+
+fn gather_part<W: Write>(
+    writer: &mut W,
+    watch: &mut Watch,
+    gathered: &mut Gathered,
+    part: Part<'_>,
+) -> Result<(), WriteFault>
+    ensures gathers { Gathers result (W.contents writer.old) (W.contents writer.new)
+        gathered.old.items gathered.new.items (part_text part.entry) }
     ensures noted { IsNoted result watch.old watch.new }
 {
     match part {
-        Part::Text(bytes) => put(writer, watch, bytes),
-        Part::Number(number) => put(writer, watch, Buffer::new().format(number).as_bytes()),
+        Part::Text(bytes) => gather(writer, watch, gathered, bytes),
+        Part::Number(number) => {
+            gather(
+                writer,
+                watch,
+                gathered,
+                Buffer::new().format(number).as_bytes(),
+            )
+        }
     }
 }
 
-/// Writes parts, one after the other. After a fault some bytes of them may have gone out, from the
+/// Gathers parts, one after the other. After a fault some bytes of them may have gone out, from the
 /// front.
-pub fn put_parts<W: Write>(
+pub fn gather_parts<W: Write>(
     writer: &mut W,
     watch: &mut Watch,
+    gathered: &mut Gathered,
     parts: &[Part<'_>],
 ) -> Result<(), WriteFault>
-    ensures writes { Writes result (W.contents writer.old) (W.contents writer.new) (parts_text parts.now) }
+    ensures gathers { Gathers result (W.contents writer.old) (W.contents writer.new)
+        gathered.old.items gathered.new.items (parts_text parts.now) }
     ensures noted { IsNoted result watch.old watch.new }
 {
     for part in parts {
-        if let Err(fault) = put_part(writer, watch, *part) {
+        if let Err(fault) = gather_part(writer, watch, gathered, *part) {
             return Err(fault);
         }
     }

@@ -1,23 +1,45 @@
 //! Requests of a reader.
-ghost use Rattle.std.specs.Prelude.{◌≡◌, ◌≤◌, None, Some};
+ghost use Rattle.std.specs.Prelude.{◌≡◌, ◌<◌, true, false, None, Some, is_some, IfOk, OnOk, OnErr};
 ghost use Rattle.watched_io.specs.Failure.{HasFailed};
-ghost use Rattle.session_lines.specs.Cause.{IsReadGivenUp, HasReadWell};
-ghost use Rattle.session_lines.specs.Script.{Takes, opened_text};
-ghost use Rattle.session_lines.specs.Taken.{judged_by};
+ghost use Rattle.session_lines.specs.Cause.{HasCause, IsLonger, IsReadGivenUp, HasReadWell};
+ghost use Rattle.session_lines.specs.Script.{Takes, opened_text, is_wordless, judged};
+ghost use Rattle.session_lines.specs.Taken.{TakesIf, TakesMeaning, Adds, judged_by};
 
-use crate::bytes::{Line, next_line};
+use crate::bytes::{Line, ReadFault, feed_place, gather_line};
 use crate::line::{Head, Meaning, read_line};
 use crate::request::{LineFault, Request};
 use crate::text::{Text, is_long, shown};
+use crate::words::is_blank;
+use watched_io::{Watch, fill};
 use std::alloc::Global;
-use std::io::Read;
-use watched_io::Watch;
+use std::io::BufRead;
 
 /// The most bytes that a request may have, with the blank lines before it.
 pub const MOST_REQUEST_BYTES: u64 = 100_000_000;
 
+// Whether a line has no byte of a word.
+fn is_wordless(line: &[u8]) -> bool
+    ensures { result ≡ is_wordless line.now }
+{
+    shown(line).iter().all(|byte| is_blank(*byte))
+}
+
 // What a line means.
-fn judge(line: &Line) -> Meaning
+fn judge(line: &[u8]) -> Meaning
+    ensures { result ≡ judged line.now }
+{
+    if !is_long(line) {
+        return read_line(shown(line));
+    }
+    if is_wordless(line) {
+        Meaning::Blank
+    } else {
+        Meaning::Long
+    }
+}
+
+// What a line that was gathered means.
+fn judge_gathered(line: &Line) -> Meaning
     ensures { result ≡ judged_by line.now.kept.items line.now.is_blank }
 {
     let kept = line.kept.as_slice();
@@ -31,8 +53,121 @@ fn judge(line: &Line) -> Meaning
     }
 }
 
+// Takes a line that the reader does not show whole.
+fn gather_meaning<R: BufRead>(
+    reader: &mut R,
+    watch: &mut Watch,
+    left: &mut u64,
+) -> Result<Option<Meaning>, ReadFault>
+    ensures taken { IfOk result (λ found. TakesMeaning found left.old left.new
+        (R.remaining reader.old) (R.remaining reader.new)) }
+    ensures fewer { IfOk result (λ found. is_some found ≡ true → left.new < left.old) }
+    ensures kept { OnOk result (watch.new ≡ watch.old) }
+    ensures cause { OnErr result (HasCause (HasFailed watch.old watch.new) (R.remaining reader.old)
+        (IsLonger left.old)) }
+{
+    let mut line = Line::new();
+    match gather_line(reader, watch, left, &mut line) {
+        Err(fault) => Err(fault),
+        Ok(false) => Ok(None),
+        Ok(true) => Ok(Some(judge_gathered(&line))),
+    }
+}
+
+// Takes the next line, and tells what it means. It is judged where it lies if the reader shows it whole.
+fn next_meaning<R: BufRead>(
+    reader: &mut R,
+    watch: &mut Watch,
+    left: &mut u64,
+) -> Result<Option<Meaning>, ReadFault>
+    ensures taken { IfOk result (λ found. TakesMeaning found left.old left.new
+        (R.remaining reader.old) (R.remaining reader.new)) }
+    ensures fewer { IfOk result (λ found. is_some found ≡ true → left.new < left.old) }
+    ensures kept { OnOk result (watch.new ≡ watch.old) }
+    ensures cause { OnErr result (HasCause (HasFailed watch.old watch.new) (R.remaining reader.old)
+        (IsLonger left.old)) }
+{
+    let Ok(ahead) = fill(reader, watch) else {
+        return Err(ReadFault);
+    };
+    if ahead.is_empty() {
+        return Ok(None);
+    }
+    let Some(place) = feed_place(ahead) else {
+        return gather_meaning(reader, watch, left);
+    };
+    let size = place + 1;
+    if *left < size as u64 {
+        return Err(ReadFault);
+    }
+    let meaning = judge(&ahead[..size]);
+    reader.consume(size);
+    *left -= size as u64;
+    Ok(Some(meaning))
+}
+
+// Adds a line to a text that the reader does not show whole. `false` where there is none.
+fn gather_text_line<R: BufRead>(
+    reader: &mut R,
+    watch: &mut Watch,
+    left: &mut u64,
+    text: &mut Text,
+) -> Result<bool, ReadFault>
+    ensures taken { IfOk result (λ found. TakesIf found (Adds text.old text.new) left.old left.new
+        (R.remaining reader.old) (R.remaining reader.new)) }
+    ensures stays { IfOk result (λ found. found ≡ false → text.new ≡ text.old) }
+    ensures fewer { IfOk result (λ found. found ≡ true → left.new < left.old) }
+    ensures kept { OnOk result (watch.new ≡ watch.old) }
+    ensures cause { OnErr result (HasCause (HasFailed watch.old watch.new) (R.remaining reader.old)
+        (IsLonger left.old)) }
+{
+    let mut line = Line::new();
+    match gather_line(reader, watch, left, &mut line) {
+        Err(fault) => Err(fault),
+        Ok(false) => Ok(false),
+        Ok(true) => {
+            text.add(line.kept.as_slice());
+            Ok(true)
+        }
+    }
+}
+
+// Adds the next line to a text. `false` where there is none: the input is at its end.
+fn next_text_line<R: BufRead>(
+    reader: &mut R,
+    watch: &mut Watch,
+    left: &mut u64,
+    text: &mut Text,
+) -> Result<bool, ReadFault>
+    ensures taken { IfOk result (λ found. TakesIf found (Adds text.old text.new) left.old left.new
+        (R.remaining reader.old) (R.remaining reader.new)) }
+    ensures stays { IfOk result (λ found. found ≡ false → text.new ≡ text.old) }
+    ensures fewer { IfOk result (λ found. found ≡ true → left.new < left.old) }
+    ensures kept { OnOk result (watch.new ≡ watch.old) }
+    ensures cause { OnErr result (HasCause (HasFailed watch.old watch.new) (R.remaining reader.old)
+        (IsLonger left.old)) }
+{
+    let Ok(ahead) = fill(reader, watch) else {
+        return Err(ReadFault);
+    };
+    if ahead.is_empty() {
+        return Ok(false);
+    }
+    let Some(place) = feed_place(ahead) else {
+        return gather_text_line(reader, watch, left, text);
+    };
+    let size = place + 1;
+    if *left < size as u64 {
+        return Err(ReadFault);
+    }
+    text.add(&ahead[..size]);
+    reader.consume(size);
+    *left -= size as u64;
+    Ok(true)
+}
+
 // Takes the lines of a submit's text.
-fn read_text<R: Read>(
+fn read_text<R: BufRead>(
     alloc: Global,
     reader: &mut R,
     watch: &mut Watch,
@@ -48,14 +183,12 @@ fn read_text<R: Read>(
 {
     let mut text = Text::new(alloc, head);
     loop {
-        let mut line = Line::new();
-        let Ok(found) = next_line(reader, watch, left, &mut line) else {
+        let Ok(found) = next_text_line(reader, watch, left, &mut text) else {
             return Err(LineFault::Read);
         };
         if !found {
             return Err(text.cut());
         }
-        text.add(line.kept.as_slice());
         if text.is_whole() {
             return text.submit(alloc);
         }
@@ -63,7 +196,7 @@ fn read_text<R: Read>(
 }
 
 /// Takes the bytes of the next request, which may have so many.
-pub fn read_within<R: Read>(
+pub fn read_within<R: BufRead>(
     alloc: Global,
     reader: &mut R,
     watch: &mut Watch,
@@ -75,14 +208,13 @@ pub fn read_within<R: Read>(
 {
     let mut left = most;
     loop {
-        let mut line = Line::new();
-        let Ok(found) = next_line(reader, watch, &mut left, &mut line) else {
+        let Ok(found) = next_meaning(reader, watch, &mut left) else {
             return Err(LineFault::Read);
         };
-        if !found {
+        let Some(meaning) = found else {
             return Err(LineFault::Eof);
-        }
-        match judge(&line) {
+        };
+        match meaning {
             Meaning::Blank => {}
             Meaning::Whole(request) => return Ok(request),
             Meaning::Opens(head) => return read_text(alloc, reader, watch, &mut left, head),
@@ -94,9 +226,9 @@ pub fn read_within<R: Read>(
 
 /// Takes the bytes of the next request, with the blank lines before it, through a watch, and leaves the rest. Where a
 /// line or a text is no request, its bytes are taken too; what is left after `LineFault::Read` is not known. It comes
-/// only if a read fails during the call or the request has more than 100,000,000 bytes. Only a submit takes memory. It reads
-/// byte by byte, so hand in a reader that reads ahead.
-pub fn read_request<R: Read>(
+/// only if a read fails during the call or the request has more than 100,000,000 bytes. Only a submit takes memory. A line is
+/// judged where it lies in the reader's buffer if it lies there whole.
+pub fn read_request<R: BufRead>(
     alloc: Global,
     reader: &mut R,
     watch: &mut Watch,

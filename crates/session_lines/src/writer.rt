@@ -3,12 +3,13 @@ ghost use Rattle.std.specs.Prelude.{◌≡◌, ◌++◌, codes, decimal};
 ghost use Rattle.psplib_mm.specs.FaultText.{section_text, limit_text};
 ghost use Rattle.watched_io.specs.Failure.{IsNoted};
 ghost use Rattle.session_lines.specs.Known.{Writes};
-ghost use Rattle.session_lines.specs.Part.{part_text, parts_text};
+ghost use Rattle.session_lines.specs.Part.{Gathers, part_text, parts_text};
 ghost use Rattle.session_lines.specs.ReplyText.{verdict_text, best_text, line_text, place_text, places_text, schedule_text, book_text, reply_text, file_text, said_text, who_text, reply_line};
 
 use crate::display::{phase_word, verdict_word};
-use crate::put::{Part, WriteFault, put, put_parts};
+use crate::put::{Gathered, Part, WriteFault, gather, gather_parts, put};
 use crate::said::Said;
+use arrayvec::ArrayVec;
 use farm_core::{Line, Name, Reply};
 use mrcpsp::Schedule;
 use psplib_mm::{LimitName, MmFault, SectionName};
@@ -52,33 +53,46 @@ fn best_part(best: Option<u32>) -> Part<'static>
 }
 
 // `@`, the tenant's name or a question mark, and a space.
-fn put_who<W: Write>(writer: &mut W, watch: &mut Watch, who: Option<Name>) -> Result<(), WriteFault>
-    ensures writes { Writes result (W.contents writer.old) (W.contents writer.new)
-        (who_text who) }
+fn gather_who<W: Write>(
+    writer: &mut W,
+    watch: &mut Watch,
+    gathered: &mut Gathered,
+    who: Option<Name>,
+) -> Result<(), WriteFault>
+    ensures gathers { Gathers result (W.contents writer.old) (W.contents writer.new)
+        gathered.old.items gathered.new.items (who_text who) }
     ensures noted { IsNoted result watch.old watch.new }
 {
     match &who {
-        Some(name) => put_parts(
+        Some(name) => gather_parts(
             writer,
             watch,
+            gathered,
             &[
                 Part::Text(b"@"),
                 Part::Text(name.as_bytes()),
                 Part::Text(b" "),
             ],
         ),
-        None => put(writer, watch, b"@? "),
+        None => gather(writer, watch, gathered, b"@? "),
     }
 }
 
 // What is known of a job, below its number.
-fn put_line<W: Write>(writer: &mut W, watch: &mut Watch, line: &Line) -> Result<(), WriteFault>
-    ensures writes { Writes result (W.contents writer.old) (W.contents writer.new) (line_text line.now) }
+fn gather_line<W: Write>(
+    writer: &mut W,
+    watch: &mut Watch,
+    gathered: &mut Gathered,
+    line: &Line,
+) -> Result<(), WriteFault>
+    ensures gathers { Gathers result (W.contents writer.old) (W.contents writer.new)
+        gathered.old.items gathered.new.items (line_text line.now) }
     ensures noted { IsNoted result watch.old watch.new }
 {
-    put_parts(
+    gather_parts(
         writer,
         watch,
+        gathered,
         &[
             Part::Text(phase_word(line.phase).as_bytes()),
             Part::Text(b" nodes "),
@@ -94,29 +108,37 @@ fn put_line<W: Write>(writer: &mut W, watch: &mut Watch, line: &Line) -> Result<
 }
 
 // Parts, and what is known of a job.
-fn put_job<W: Write>(
+fn gather_job<W: Write>(
     writer: &mut W,
     watch: &mut Watch,
+    gathered: &mut Gathered,
     parts: &[Part<'_>],
     line: &Line,
 ) -> Result<(), WriteFault>
-    ensures writes { Writes result (W.contents writer.old) (W.contents writer.new)
-        (parts_text parts.now ++ line_text line.now) }
+    ensures gathers { Gathers result (W.contents writer.old) (W.contents writer.new)
+        gathered.old.items gathered.new.items (parts_text parts.now ++ line_text line.now) }
     ensures noted { IsNoted result watch.old watch.new }
 {
-    if let Err(fault) = put_parts(writer, watch, parts) {
+    if let Err(fault) = gather_parts(writer, watch, gathered, parts) {
         return Err(fault);
     }
-    put_line(writer, watch, line)
+    gather_line(writer, watch, gathered, line)
 }
 
-fn put_book<W: Write>(writer: &mut W, watch: &mut Watch, book: &Book) -> Result<(), WriteFault>
-    ensures writes { Writes result (W.contents writer.old) (W.contents writer.new) (book_text book.now) }
+fn gather_book<W: Write>(
+    writer: &mut W,
+    watch: &mut Watch,
+    gathered: &mut Gathered,
+    book: &Book,
+) -> Result<(), WriteFault>
+    ensures gathers { Gathers result (W.contents writer.old) (W.contents writer.new)
+        gathered.old.items gathered.new.items (book_text book.now) }
     ensures noted { IsNoted result watch.old watch.new }
 {
-    put_parts(
+    gather_parts(
         writer,
         watch,
+        gathered,
         &[
             Part::Text(b"ledger granted "),
             Part::Number(book.granted()),
@@ -131,116 +153,144 @@ fn put_book<W: Write>(writer: &mut W, watch: &mut Watch, book: &Book) -> Result<
 }
 
 // Why a text is no project.
-fn put_file<W: Write>(writer: &mut W, watch: &mut Watch, fault: MmFault) -> Result<(), WriteFault>
-    ensures writes { Writes result (W.contents writer.old) (W.contents writer.new) (file_text fault) }
+fn gather_file<W: Write>(
+    writer: &mut W,
+    watch: &mut Watch,
+    gathered: &mut Gathered,
+    fault: MmFault,
+) -> Result<(), WriteFault>
+    ensures gathers { Gathers result (W.contents writer.old) (W.contents writer.new)
+        gathered.old.items gathered.new.items (file_text fault) }
     ensures noted { IsNoted result watch.old watch.new }
 {
     match fault {
-        MmFault::TooLong => put(writer, watch, b"no file TooLong"),
-        MmFault::Header => put(writer, watch, b"no file Header"),
-        MmFault::Projects => put(writer, watch, b"no file Projects"),
-        MmFault::Doubly => put(writer, watch, b"no file Doubly"),
+        MmFault::TooLong => gather(writer, watch, gathered, b"no file TooLong"),
+        MmFault::Header => gather(writer, watch, gathered, b"no file Header"),
+        MmFault::Projects => gather(writer, watch, gathered, b"no file Projects"),
+        MmFault::Doubly => gather(writer, watch, gathered, b"no file Doubly"),
         MmFault::Section(name) => {
-            put_bracketed(
+            gather_bracketed(
                 writer,
                 watch,
+                gathered,
                 b"no file Section(",
                 Part::Text(section_word(name).as_bytes()),
             )
         }
         MmFault::Number(line) => {
-            put_bracketed(
+            gather_bracketed(
                 writer,
                 watch,
+                gathered,
                 b"no file Number(",
                 Part::Number(u64::from(line)),
             )
         }
         MmFault::Count(name) => {
-            put_bracketed(
+            gather_bracketed(
                 writer,
                 watch,
+                gathered,
                 b"no file Count(",
                 Part::Text(section_word(name).as_bytes()),
             )
         }
         MmFault::Numbering(line) => {
-            put_bracketed(
+            gather_bracketed(
                 writer,
                 watch,
+                gathered,
                 b"no file Numbering(",
                 Part::Number(u64::from(line)),
             )
         }
         MmFault::Successor(line) => {
-            put_bracketed(
+            gather_bracketed(
                 writer,
                 watch,
+                gathered,
                 b"no file Successor(",
                 Part::Number(u64::from(line)),
             )
         }
         MmFault::Limit(name) => {
-            put_bracketed(
+            gather_bracketed(
                 writer,
                 watch,
+                gathered,
                 b"no file Limit(",
                 Part::Text(limit_word(name).as_bytes()),
             )
         }
-        MmFault::NoMemory => put(writer, watch, b"no memory"),
+        MmFault::NoMemory => gather(writer, watch, gathered, b"no memory"),
     }
 }
 
 // A text that ends with an opening bracket, what stands in the brackets, and the closing one.
-fn put_bracketed<'a, W: Write>(
+fn gather_bracketed<'a, W: Write>(
     writer: &mut W,
     watch: &mut Watch,
+    gathered: &mut Gathered,
     text: &'a [u8],
     inside: Part<'a>,
 ) -> Result<(), WriteFault>
-    ensures writes { Writes result (W.contents writer.old) (W.contents writer.new)
-        (text.entry.now ++ part_text inside.entry ++ codes ")") }
+    ensures gathers { Gathers result (W.contents writer.old) (W.contents writer.new)
+        gathered.old.items gathered.new.items (text.entry.now ++ part_text inside.entry ++ codes ")") }
     ensures noted { IsNoted result watch.old watch.new }
 {
-    put_parts(writer, watch, &[Part::Text(text), inside, Part::Text(b")")])
+    gather_parts(
+        writer,
+        watch,
+        gathered,
+        &[Part::Text(text), inside, Part::Text(b")")],
+    )
 }
 
 // The places of a schedule's activities.
-fn put_schedule<W: Write>(
+fn gather_schedule<W: Write>(
     writer: &mut W,
     watch: &mut Watch,
+    gathered: &mut Gathered,
     schedule: &Schedule,
 ) -> Result<(), WriteFault>
-    ensures writes { Writes result (W.contents writer.old) (W.contents writer.new)
-        (places_text 1 schedule.now.modes schedule.now.starts) }
+    ensures gathers { Gathers result (W.contents writer.old) (W.contents writer.new)
+        gathered.old.items gathered.new.items (places_text 1 schedule.now.modes schedule.now.starts) }
     ensures noted { IsNoted result watch.old watch.new }
 {
     let modes = schedule.modes.as_slice();
     let starts = schedule.starts.as_slice();
     let count = modes.len().min(starts.len());
     for place in 0..count {
-        if let Err(fault) = put_place(writer, watch, place + 1, modes[place], starts[place]) {
+        if let Err(fault) = gather_place(
+            writer,
+            watch,
+            gathered,
+            place + 1,
+            modes[place],
+            starts[place],
+        ) {
             return Err(fault);
         }
     }
     Ok(())
 }
 
-fn put_place<W: Write>(
+fn gather_place<W: Write>(
     writer: &mut W,
     watch: &mut Watch,
+    gathered: &mut Gathered,
     number: usize,
     mode: u32,
     start: u32,
 ) -> Result<(), WriteFault>
-    ensures writes { Writes result (W.contents writer.old) (W.contents writer.new)
-        (place_text number mode start) }
+    ensures gathers { Gathers result (W.contents writer.old) (W.contents writer.new)
+        gathered.old.items gathered.new.items (place_text number mode start) }
     ensures noted { IsNoted result watch.old watch.new }
 {
-    put_parts(
+    gather_parts(
         writer,
         watch,
+        gathered,
         &[
             Part::Text(b" "),
             Part::Number(number as u64),
@@ -253,31 +303,33 @@ fn put_place<W: Write>(
 }
 
 // The places of a schedule's activities, where there is one.
-fn put_places<W: Write>(
+fn gather_places<W: Write>(
     writer: &mut W,
     watch: &mut Watch,
+    gathered: &mut Gathered,
     schedule: &Option<Schedule>,
 ) -> Result<(), WriteFault>
-    ensures writes { Writes result (W.contents writer.old) (W.contents writer.new)
-        (schedule_text schedule.now) }
+    ensures gathers { Gathers result (W.contents writer.old) (W.contents writer.new)
+        gathered.old.items gathered.new.items (schedule_text schedule.now) }
     ensures noted { IsNoted result watch.old watch.new }
 {
     match schedule {
-        Some(schedule) => put_schedule(writer, watch, schedule),
+        Some(schedule) => gather_schedule(writer, watch, gathered, schedule),
         None => Ok(()),
     }
 }
 
 // A job's best makespan and its verdict.
-fn put_front<W: Write>(
+fn gather_front<W: Write>(
     writer: &mut W,
     watch: &mut Watch,
+    gathered: &mut Gathered,
     seq: u64,
     best: Option<u32>,
     verdict: Verdict,
 ) -> Result<(), WriteFault>
-    ensures writes { Writes result (W.contents writer.old) (W.contents writer.new)
-        (codes "job " ++ decimal seq ++ codes " makespan " ++ best_text best ++ codes " "
+    ensures gathers { Gathers result (W.contents writer.old) (W.contents writer.new)
+        gathered.old.items gathered.new.items (codes "job " ++ decimal seq ++ codes " makespan " ++ best_text best ++ codes " "
         ++ verdict_text verdict) }
     ensures noted { IsNoted result watch.old watch.new }
 {
@@ -289,32 +341,17 @@ fn put_front<W: Write>(
         Part::Text(b" "),
         Part::Text(verdict_word(verdict).as_bytes()),
     ];
-    put_parts(writer, watch, &parts)
+    gather_parts(writer, watch, gathered, &parts)
 }
 
-// The same, and the best schedule.
-fn put_best<W: Write>(
+fn gather_forgotten<W: Write>(
     writer: &mut W,
     watch: &mut Watch,
+    gathered: &mut Gathered,
     seq: u64,
-    schedule: &Option<Schedule>,
-    best: Option<u32>,
-    verdict: Verdict,
 ) -> Result<(), WriteFault>
-    ensures writes { Writes result (W.contents writer.old) (W.contents writer.new)
-        (codes "job " ++ decimal seq ++ codes " makespan " ++ best_text best ++ codes " "
-        ++ verdict_text verdict ++ schedule_text schedule.now) }
-    ensures noted { IsNoted result watch.old watch.new }
-{
-    if let Err(fault) = put_front(writer, watch, seq, best, verdict) {
-        return Err(fault);
-    }
-    put_places(writer, watch, schedule)
-}
-
-fn put_forgotten<W: Write>(writer: &mut W, watch: &mut Watch, seq: u64) -> Result<(), WriteFault>
-    ensures writes { Writes result (W.contents writer.old) (W.contents writer.new)
-        (codes "job " ++ decimal seq ++ codes " forgotten") }
+    ensures gathers { Gathers result (W.contents writer.old) (W.contents writer.new)
+        gathered.old.items gathered.new.items (codes "job " ++ decimal seq ++ codes " forgotten") }
     ensures noted { IsNoted result watch.old watch.new }
 {
     let parts = [
@@ -322,22 +359,33 @@ fn put_forgotten<W: Write>(writer: &mut W, watch: &mut Watch, seq: u64) -> Resul
         Part::Number(seq),
         Part::Text(b" forgotten"),
     ];
-    put_parts(writer, watch, &parts)
+    gather_parts(writer, watch, gathered, &parts)
 }
 
-fn put_reply<W: Write>(writer: &mut W, watch: &mut Watch, reply: &Reply) -> Result<(), WriteFault>
-    ensures writes { Writes result (W.contents writer.old) (W.contents writer.new) (reply_text reply.now) }
+fn gather_reply<W: Write>(
+    writer: &mut W,
+    watch: &mut Watch,
+    gathered: &mut Gathered,
+    reply: &Reply,
+) -> Result<(), WriteFault>
+    ensures gathers { Gathers result (W.contents writer.old) (W.contents writer.new)
+        gathered.old.items gathered.new.items (reply_text reply.now) }
     ensures noted { IsNoted result watch.old watch.new }
 {
     match reply {
-        Reply::Job(seq) => put_parts(writer, watch, &[Part::Text(b"job "), Part::Number(*seq)]),
+        Reply::Job(seq) => gather_parts(
+            writer,
+            watch,
+            gathered,
+            &[Part::Text(b"job "), Part::Number(*seq)],
+        ),
         Reply::Line(line) => {
             let parts = [
                 Part::Text(b"job "),
                 Part::Number(line.seq),
                 Part::Text(b" "),
             ];
-            put_job(writer, watch, &parts, line)
+            gather_job(writer, watch, gathered, &parts, line)
         }
         Reply::Ran(ran, line) => {
             let parts = [
@@ -347,48 +395,79 @@ fn put_reply<W: Write>(writer: &mut W, watch: &mut Watch, reply: &Reply) -> Resu
                 Part::Number(*ran),
                 Part::Text(b" "),
             ];
-            put_job(writer, watch, &parts, line)
+            gather_job(writer, watch, gathered, &parts, line)
         }
         Reply::Best(seq, schedule, best, verdict) => {
-            put_best(writer, watch, *seq, schedule, *best, *verdict)
+            if let Err(fault) = gather_front(writer, watch, gathered, *seq, *best, *verdict) {
+                return Err(fault);
+            }
+            gather_places(writer, watch, gathered, schedule)
         }
-        Reply::Forgotten(seq) => put_forgotten(writer, watch, *seq),
-        Reply::Ledger(book) => put_book(writer, watch, book),
-        Reply::NoRoom => put(writer, watch, b"no room"),
-        Reply::NoUnknown => put(writer, watch, b"no unknown"),
-        Reply::NoBusy => put(writer, watch, b"no busy"),
-        Reply::NoOver => put(writer, watch, b"no over"),
-        Reply::NoAmount => put(writer, watch, b"no amount"),
-        Reply::NoJobs => put(writer, watch, b"no jobs"),
+        Reply::Forgotten(seq) => gather_forgotten(writer, watch, gathered, *seq),
+        Reply::Ledger(book) => gather_book(writer, watch, gathered, book),
+        Reply::NoRoom => gather(writer, watch, gathered, b"no room"),
+        Reply::NoUnknown => gather(writer, watch, gathered, b"no unknown"),
+        Reply::NoBusy => gather(writer, watch, gathered, b"no busy"),
+        Reply::NoOver => gather(writer, watch, gathered, b"no over"),
+        Reply::NoAmount => gather(writer, watch, gathered, b"no amount"),
+        Reply::NoJobs => gather(writer, watch, gathered, b"no jobs"),
         Reply::NoShort(free) => {
-            put_parts(
+            gather_parts(
                 writer,
                 watch,
+                gathered,
                 &[Part::Text(b"no short "), Part::Number(*free)],
             )
         }
-        Reply::NoMemory => put(writer, watch, b"no memory"),
+        Reply::NoMemory => gather(writer, watch, gathered, b"no memory"),
     }
 }
 
-fn put_said<W: Write>(writer: &mut W, watch: &mut Watch, said: &Said) -> Result<(), WriteFault>
-    ensures writes { Writes result (W.contents writer.old) (W.contents writer.new) (said_text said.now) }
+fn gather_said<W: Write>(
+    writer: &mut W,
+    watch: &mut Watch,
+    gathered: &mut Gathered,
+    said: &Said,
+) -> Result<(), WriteFault>
+    ensures gathers { Gathers result (W.contents writer.old) (W.contents writer.new)
+        gathered.old.items gathered.new.items (said_text said.now) }
     ensures noted { IsNoted result watch.old watch.new }
 {
     match said {
-        Said::Reply(reply) => put_reply(writer, watch, reply),
-        Said::NoTurn => put(writer, watch, b"no turn"),
-        Said::NoTenant => put(writer, watch, b"no tenant"),
-        Said::Syntax => put(writer, watch, b"no syntax"),
-        Said::LongLine => put(writer, watch, b"no line"),
-        Said::File(fault) => put_file(writer, watch, *fault),
+        Said::Reply(reply) => gather_reply(writer, watch, gathered, reply),
+        Said::NoTurn => gather(writer, watch, gathered, b"no turn"),
+        Said::NoTenant => gather(writer, watch, gathered, b"no tenant"),
+        Said::Syntax => gather(writer, watch, gathered, b"no syntax"),
+        Said::LongLine => gather(writer, watch, gathered, b"no line"),
+        Said::File(fault) => gather_file(writer, watch, gathered, *fault),
     }
+}
+
+// The line of a reply.
+fn gather_reply_line<W: Write>(
+    writer: &mut W,
+    watch: &mut Watch,
+    gathered: &mut Gathered,
+    who: Option<Name>,
+    said: &Said,
+) -> Result<(), WriteFault>
+    ensures gathers { Gathers result (W.contents writer.old) (W.contents writer.new)
+        gathered.old.items gathered.new.items (reply_line who said.now) }
+    ensures noted { IsNoted result watch.old watch.new }
+{
+    if let Err(fault) = gather_who(writer, watch, gathered, who) {
+        return Err(fault);
+    }
+    if let Err(fault) = gather_said(writer, watch, gathered, said) {
+        return Err(fault);
+    }
+    gather(writer, watch, gathered, b"\n")
 }
 
 /// Writes the one line of a reply, with its line feed, through a watch: `@`, the tenant's name, a space and the reply's
 /// text. Where no tenant is known, a question mark stands for the name. After a fault, which comes only if a write of this
-/// call fails or takes nothing, an unknown part of the line has gone out, from its front. Takes no memory; the line goes out
-/// in small pieces, so hand in a writer that gathers them.
+/// call fails or takes nothing, an unknown part of the line has gone out, from its front. Takes no memory. A line of at most
+/// 256 bytes goes out in one write, a longer one in pieces.
 pub fn write_reply<W: Write>(
     writer: &mut W,
     watch: &mut Watch,
@@ -399,11 +478,9 @@ pub fn write_reply<W: Write>(
         (reply_line who said.now) }
     ensures noted { IsNoted result watch.old watch.new }
 {
-    if let Err(fault) = put_who(writer, watch, who) {
+    let mut gathered = ArrayVec::new();
+    if let Err(fault) = gather_reply_line(writer, watch, &mut gathered, who, said) {
         return Err(fault);
     }
-    if let Err(fault) = put_said(writer, watch, said) {
-        return Err(fault);
-    }
-    put(writer, watch, b"\n")
+    put(writer, watch, gathered.as_slice())
 }

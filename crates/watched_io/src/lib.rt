@@ -5,7 +5,7 @@
 //! of what is read and written through it. A function that is handed a watch can promise that it
 //! reports a failed read only if the count has grown during the call (`specs/Failure.antt`).
 //!
-//! - `watch`: `Watch`.
+//! - `watch`: `Watch`; `fill`, what a reader shows of what it has read ahead.
 //! - `source`: `Source`, what a path names: standard input or a file.
 //! - `words`: why a file could not be read, and the second line of a fault.
 #![tactic(auto)]
@@ -15,5 +15,5 @@ mod watch;
 mod words;
 
 pub use source::{Source, open};
-pub use watch::Watch;
+pub use watch::{Watch, fill};
 pub use words::{explains, reason, tell_unread, tell_why};

@@ -1,14 +1,16 @@
 //! `Watch`: what is read and written through it, byte by byte or whole.
+ghost use types.Logic.{sem};
 ghost use Rattle.std.specs.Prelude.{◌≡◌, ◌<◌, [], IfOk, IfSome, OnOk, length, take};
-ghost use Rattle.std.specs.Io.{ReadsAtMost, WritesAtMost};
+ghost use Rattle.std.specs.Io.{ReadsAtMost, WritesAtMost, StartsWith};
+ghost use Rattle.std.specs.Io.BufRead.{Rests, FillKeeps};
 ghost use Rattle.std.specs.Io.Buffered.{writer_buffer, writer_contents};
-ghost use Rattle.std.specs.Io.KnownBytes.{Appends, Keeps, ReadConsumes, WriteAppends};
+ghost use Rattle.std.specs.Io.KnownBytes.{Appends, Keeps, IsAtEnd, ReadConsumes, WriteAppends};
 ghost use Rattle.watched_io.specs.Failure.{HasFailed, IsNoted};
 
 use std::alloc::Global;
 use std::fmt::Display;
 use std::io;
-use std::io::{BufWriter, Error, ErrorKind, Read, Write};
+use std::io::{BufRead, BufWriter, Error, ErrorKind, Read, Write};
 use std::marker::Model;
 
 /// A count of the reads and writes that failed through it, modulo 2^64. Contracts of `Read` and
@@ -45,6 +47,25 @@ impl Watch {
         for _ in 0..u64::MAX {
             match reader.read(room) {
                 Ok(count) => return Ok(count),
+                Err(error) => {
+                    if error.kind() != ErrorKind::Interrupted {
+                        return self.note(error);
+                    }
+                }
+            }
+        }
+        self.note(Error::from(ErrorKind::Interrupted))
+    }
+
+    /// Reads ahead if nothing was read ahead. Returns how many bytes the reader shows then: none at the end.
+    fn wait<R: BufRead>(&mut self, reader: &mut R) -> io::Result<usize>
+        ensures kept { Keeps (R.remaining reader.old) (R.remaining reader.new) }
+        ensures end { IfOk result (λ count. count ≡ 0 → IsAtEnd (R.remaining reader.old)) }
+        ensures noted { IsNoted result self.old self.new }
+    {
+        for _ in 0..u64::MAX {
+            match reader.fill_buf() {
+                Ok(shown) => return Ok(shown.len()),
                 Err(error) => {
                     if error.kind() != ErrorKind::Interrupted {
                         return self.note(error);
@@ -138,12 +159,42 @@ impl Watch {
         }
     }
 
+    /// Notes that something failed.
+    fn count(&mut self)
+        ensures { HasFailed self.old self.new }
+    {
+        self.failures = self.failures.wrapping_add(1);
+    }
+
     /// Notes that something failed, and answers why.
     fn note<T>(&mut self, error: Error) -> io::Result<T>
         ensures noted { HasFailed self.old self.new }
         ensures error { result ≡ Err error }
     {
-        self.failures = self.failures.wrapping_add(1);
+        self.count();
         Err(error)
+    }
+}
+
+/// Shows bytes that were read ahead, as `BufRead::fill_buf` does, through a watch, which notes an
+/// error. A read that a signal interrupts is made again, and fails only where it never comes to an
+/// end. At the end of the input the reader is asked once.
+pub fn fill<'a, R: BufRead>(reader: &'a mut R, watch: &mut Watch) -> io::Result<&'a [u8]>
+    ensures front { IfSome (R.remaining reader.old) (λ xs. IfOk result (λ s. StartsWith xs s.now)) }
+    ensures end { IfSome (R.remaining reader.old)
+        (λ xs. IfOk result (λ s. length s.now ≡ 0 → xs ≡ [])) }
+    ensures* after_borrow { sem 𝓛 (Rests R.row reader.entry (λ new.
+        FillKeeps (R.remaining reader.old) (R.remaining new) (R.consumable_len new) result)) }
+    ensures noted { IsNoted result watch.old watch.new }
+{
+    if watch.wait(reader)? == 0 {
+        return Ok(b"");
+    }
+    match reader.fill_buf() {
+        Ok(shown) => Ok(shown),
+        Err(error) => {
+            watch.count();
+            Err(error)
+        }
     }
 }
