@@ -15,7 +15,7 @@ use Rattle.certify_cli.specs.declared.fault.CertifyFault.{CertifyFault}
 use Rattle.certify_cli.specs.declared.fault.CertifyFault.TheVariants as why
 use Rattle.certify_cli.specs.declared.fault.CommandFault.{CommandFault}
 use Rattle.certify_cli.specs.declared.fault.CommandFault.TheVariants.{File, Text, Proof, Certify}
-use Rattle.certify_cli.specs.declared.watches.Watches.{Watches}
+use Rattle.certify_cli.specs.declared.watches.CertifyWatches.{CertifyWatches}
 
 -- the file is of a project
 pub record IsFile (file : List ℕ) : Type 0 where
@@ -68,7 +68,7 @@ IsStopped why.Write Failed before after = Failed
 
 -- how a command ends: a line was written of a certificate; or an input could not be read; or nothing is certified of the file. By what
 -- its watches had counted before it and count then
-abbrev pub IsEndOf : Type 0 → Result ⊤ CommandFault → Watches → Watches → Option (List ℕ) → Option (List ℕ) → Option (List ℕ) → Type 0
+abbrev pub IsEndOf : Type 0 → Result ⊤ CommandFault → CertifyWatches → CertifyWatches → Option (List ℕ) → Option (List ℕ) → Option (List ℕ) → Type 0
 IsEndOf written (Ok done) from seen file before after = written
 IsEndOf written (Err (File kind)) from seen file before after = (after ≡ before) × HasFailed from.file seen.file
 IsEndOf written (Err (Text kind)) from seen file before after = (after ≡ before) × HasFailed from.text seen.text
@@ -85,7 +85,7 @@ IsJudged (Err (Proof kind)) file text = ⊤
 IsJudged (Err (Certify fault)) file text = IfSome file (λ bytes. IfSome text (λ words. IsOfText fault (take MOST_TEXT bytes) (take MOST_TEXT words)))
 
 -- of a file and of a schedule's text no more than so many bytes are read
-abbrev pub IsCertifyOf : Result ⊤ CommandFault → Watches → Watches → Option (List ℕ) → Option (List ℕ) → Option (List ℕ) → Option (List ℕ) → Type 0
+abbrev pub IsCertifyOf : Result ⊤ CommandFault → CertifyWatches → CertifyWatches → Option (List ℕ) → Option (List ℕ) → Option (List ℕ) → Option (List ℕ) → Type 0
 IsCertifyOf ended from seen file text before after =
     IsEndOf (IfSome file (λ bytes. IfSome text (λ words. CertifiesOptimal (take MOST_TEXT bytes) (take MOST_TEXT words) before after))) ended from seen file before after × IsJudged ended file text
 
@@ -97,7 +97,7 @@ IsJudgedAlone (Err (Text kind)) = ⊥
 IsJudgedAlone (Err (Proof kind)) = ⊤
 IsJudgedAlone (Err (Certify fault)) = IsOfProofAlone fault
 
-abbrev pub IsInfeasibleOf : Result ⊤ CommandFault → Watches → Watches → Option (List ℕ) → Option (List ℕ) → Option (List ℕ) → Type 0
+abbrev pub IsInfeasibleOf : Result ⊤ CommandFault → CertifyWatches → CertifyWatches → Option (List ℕ) → Option (List ℕ) → Option (List ℕ) → Type 0
 IsInfeasibleOf ended from seen file before after =
     IsEndOf (IfSome file (λ bytes. CertifiesInfeasible (take MOST_TEXT bytes) before after)) ended from seen file before after × IsJudgedAlone ended
 
@@ -124,12 +124,12 @@ IsJudgedBound (Err (Text kind)) file periods = ⊥
 IsJudgedBound (Err (Proof kind)) file periods = ⊤
 IsJudgedBound (Err (Certify fault)) file periods = IfSome file (λ bytes. IsOfPeriods fault (take MOST_TEXT bytes) periods)
 
-abbrev pub IsBoundOf : Result ⊤ CommandFault → ℕ → Watches → Watches → Option (List ℕ) → Option (List ℕ) → Option (List ℕ) → Type 0
+abbrev pub IsBoundOf : Result ⊤ CommandFault → ℕ → CertifyWatches → CertifyWatches → Option (List ℕ) → Option (List ℕ) → Option (List ℕ) → Type 0
 IsBoundOf ended periods from seen file before after =
     IsEndOf (IfSome file (λ bytes. CertifiesBound (take MOST_TEXT bytes) periods before after)) ended from seen file before after × IsJudgedBound ended file periods
 
 -- of the chain, only the file can be at fault
-abbrev pub IsChainOf : Result ⊤ CommandFault → Watches → Watches → Option (List ℕ) → Option (List ℕ) → Option (List ℕ) → Type 0
+abbrev pub IsChainOf : Result ⊤ CommandFault → CertifyWatches → CertifyWatches → Option (List ℕ) → Option (List ℕ) → Option (List ℕ) → Type 0
 IsChainOf ended from seen file before after =
     IsEndOf (IfSome file (λ bytes. CertifiesChain (take MOST_TEXT bytes) before after)) ended from seen file before after
 

@@ -6,7 +6,7 @@ use crate::bounding::{certify_bound, certify_chain};
 use crate::ending::{MOST_PROOF, MOST_TEXT, Paths, end_command};
 use crate::explaining::why_uncertified;
 use crate::fault::CommandFault;
-use crate::watches::Watches;
+use crate::watches::CertifyWatches;
 use std::alloc::Global;
 use std::env::Env;
 use std::io::{Eprint, Read, Write};
@@ -19,7 +19,7 @@ pub fn bound_read<S: Read + Drop, P: Read + Drop, W: Write>(
     periods: u32,
     proof: P,
     writer: &mut W,
-    watches: &mut Watches,
+    watches: &mut CertifyWatches,
 ) -> Result<(), CommandFault>
     ensures { IsBoundOf result periods watches.old watches.new (S.remaining file) (W.contents writer.old) (W.contents writer.new) }
 {
@@ -45,7 +45,7 @@ pub fn chain_read<S: Read + Drop, W: Write>(
     alloc: Global,
     file: S,
     writer: &mut W,
-    watches: &mut Watches,
+    watches: &mut CertifyWatches,
 ) -> Result<(), CommandFault>
     ensures { IsChainOf result watches.old watches.new (S.remaining file) (W.contents writer.old) (W.contents writer.new) }
 {
@@ -71,7 +71,7 @@ pub fn bound_to<R: AllocGlobal + Env + Eprint, S: Read + Drop, P: Read + Drop, W
     periods: u32,
     proof: P,
     writer: &mut W,
-    watches: &mut Watches,
+    watches: &mut CertifyWatches,
 ) -> ExitCode
     ensures { Ends
         (λ ended. IsBoundOf ended periods watches.old watches.new (S.remaining file) (W.contents writer.old) (W.contents writer.new))
@@ -87,7 +87,7 @@ pub fn chain_to<R: AllocGlobal + Env + Eprint, S: Read + Drop, W: Write>(
     paths: Paths<'_>,
     file: S,
     writer: &mut W,
-    watches: &mut Watches,
+    watches: &mut CertifyWatches,
 ) -> ExitCode
     ensures { Ends
         (λ ended. IsChainOf ended watches.old watches.new (S.remaining file) (W.contents writer.old) (W.contents writer.new))

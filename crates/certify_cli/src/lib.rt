@@ -39,4 +39,4 @@ pub use commands::{certify_read, certify_to, infeasible_read, infeasible_to};
 pub use ending::{MOST_PROOF, MOST_TEXT, Paths};
 pub use fault::{CertifyFault, CommandFault};
 pub use program::{run_bound, run_certify, run_clauses, run_infeasible};
-pub use watches::Watches;
+pub use watches::CertifyWatches;

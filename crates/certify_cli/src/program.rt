@@ -9,7 +9,7 @@ use crate::commands::{certify_to, infeasible_to};
 use crate::ending::{MOST_TEXT, Paths};
 use crate::explaining::why_uncertified;
 use crate::fault::CertifyFault;
-use crate::watches::Watches;
+use crate::watches::CertifyWatches;
 use std::env::Env;
 use std::io;
 use std::io::{BufWriter, Eprint, Write};
@@ -91,7 +91,7 @@ pub fn run_certify<R: Runtime + AllocGlobal>(
         return ExitCode::FAILURE;
     };
     let mut output = io::writer(rt);
-    let mut watches = Watches::new();
+    let mut watches = CertifyWatches::new();
     certify_to(rt, paths, project, text, steps, &mut output, &mut watches)
 }
 
@@ -111,7 +111,7 @@ pub fn run_infeasible<R: Runtime + AllocGlobal>(rt: &R, file: &str, proof: &str)
         return ExitCode::FAILURE;
     };
     let mut output = io::writer(rt);
-    let mut watches = Watches::new();
+    let mut watches = CertifyWatches::new();
     infeasible_to(rt, paths, project, steps, &mut output, &mut watches)
 }
 
@@ -128,7 +128,7 @@ fn run_chain<R: Runtime + AllocGlobal>(rt: &R, file: &str) -> ExitCode
         return ExitCode::FAILURE;
     };
     let mut output = io::writer(rt);
-    let mut watches = Watches::new();
+    let mut watches = CertifyWatches::new();
     chain_to(rt, paths, project, &mut output, &mut watches)
 }
 
@@ -160,7 +160,7 @@ pub fn run_bound<R: Runtime + AllocGlobal>(
         return ExitCode::FAILURE;
     };
     let mut output = io::writer(rt);
-    let mut watches = Watches::new();
+    let mut watches = CertifyWatches::new();
     bound_to(
         rt,
         paths,

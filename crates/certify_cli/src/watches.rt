@@ -5,7 +5,7 @@ use watched_io::Watch;
 
 /// The watches through which a command reads and writes: they count the reads and writes that failed, as contracts see it.
 #[derive(Debug, Drop)]
-pub struct Watches {
+pub struct CertifyWatches {
     /// Of the project's file.
     pub(crate) file: Watch,
     /// Of the schedule's text.
@@ -18,15 +18,15 @@ pub struct Watches {
     pub(crate) why: Option<String>,
 }
 
-impl Watches {
-    /// Watches through which nothing has failed.
-    pub fn new() -> Watches
+impl CertifyWatches {
+    /// CertifyWatches through which nothing has failed.
+    pub fn new() -> CertifyWatches
         ensures file { result.file ≡ 0 }
         ensures text { result.text ≡ 0 }
         ensures proof { result.proof ≡ 0 }
         ensures output { result.output ≡ 0 }
     {
-        Watches {
+        CertifyWatches {
             file: Watch::new(),
             text: Watch::new(),
             proof: Watch::new(),

@@ -37,7 +37,7 @@ pub struct CheckWatches {
 }
 
 impl CheckWatches {
-    /// Watches through which nothing has failed.
+    /// ReplayWatches through which nothing has failed.
     pub fn new() -> CheckWatches
         ensures reads { result.reads ≡ 0 }
         ensures writes { result.writes ≡ 0 }

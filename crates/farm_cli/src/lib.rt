@@ -29,7 +29,7 @@ mod summary;
 pub use arguments::{Task, farm_command, parse_words};
 pub use checking::{CheckFault, CheckWatches, check, check_to};
 pub use farm_config::{ConfigFault, Key, read_config};
-pub use farm_replay::{Notes, ReplayFault, Watches, replay};
+pub use farm_replay::{Notes, ReplayFault, ReplayWatches, replay};
 pub use farm_service::{ServeFault, serve};
 pub use input::{MOST_READ, read_front, read_whole};
 pub use program::{run_words, tell_refused};

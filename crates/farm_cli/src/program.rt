@@ -11,7 +11,7 @@ use explain::{why_no_port, why_words};
 use farm_config::read_config;
 use farm_core::Config;
 use farm_pool::Settled;
-use farm_replay::{Notes, Watches};
+use farm_replay::{Notes, ReplayWatches};
 use farm_service::{ServeFault, serve};
 use std::env::Env;
 use std::io::{BufWriter, Eprint, ErrorKind, Print, Read};
@@ -158,7 +158,7 @@ fn print_replay<R: Runtime + AllocGlobal, S: Read + Drop>(
         let _ = eprintln!(rt; "farm: replay NoMemory");
         return ExitCode::FAILURE;
     };
-    let mut watches = Watches::new();
+    let mut watches = ReplayWatches::new();
     let mut sends = Watch::new();
     let mut notes = Notes::default();
     replay_to(

@@ -6,7 +6,7 @@ ghost use Rattle.watched_io.specs.Failure.{HasFailed};
 ghost use Rattle.farm_cli.specs.Replayed.{IsReplayOf, IsReplayed, stop_status};
 
 use farm_config::{ConfigFault, place_of, read_config};
-use farm_replay::{Notes, ReplayFault, Watches, replay};
+use farm_replay::{Notes, ReplayFault, ReplayWatches, replay};
 use std::alloc::Global;
 use std::env::Env;
 use std::io::{BufWriter, Eprint, Read, Write};
@@ -31,7 +31,7 @@ pub fn replay_text<S: Read + Drop, W: Write + Drop>(
     text: &[u8],
     script: S,
     output: &mut BufWriter<W>,
-    watches: &mut Watches,
+    watches: &mut ReplayWatches,
     sends: &mut Watch,
     notes: &mut Notes,
 ) -> Result<(), ReplayStop>
@@ -121,7 +121,7 @@ pub fn replay_to<R: AllocGlobal + Env + Eprint, S: Read + Drop, W: Write + Drop>
     script: S,
     is_strict: bool,
     output: &mut BufWriter<W>,
-    watches: &mut Watches,
+    watches: &mut ReplayWatches,
     sends: &mut Watch,
     notes: &mut Notes,
 ) -> ExitCode

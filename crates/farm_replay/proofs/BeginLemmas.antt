@@ -12,8 +12,8 @@ use Rattle.strategy.specs.declared.kind.Kind.{Kind}
 use Rattle.farm_core.specs.Config.{ConfigData}
 use Rattle.farm_core.specs.Name.{is_letter, is_mark, begins_well, is_name, same_bytes}
 use Rattle.session_lines.specs.declared.line.Head.{Head}
-use Rattle.session_lines.specs.declared.line.Meaning.{Meaning}
-use Rattle.session_lines.specs.declared.line.Meaning.TheVariants.{Blank, Whole, Opens, Long, Bad}
+use Rattle.session_lines.specs.declared.line.LineMeaning.{LineMeaning}
+use Rattle.session_lines.specs.declared.line.LineMeaning.TheVariants.{Blank, Whole, Opens, Long, Bad}
 use Rattle.session_lines.specs.declared.request.What.{What}
 use Rattle.session_lines.specs.declared.request.Request.{Request}
 use Rattle.session_lines.specs.declared.request.LineFault.{LineFault}
@@ -82,14 +82,14 @@ tenant_named : (word : List ℕ) → IsNamed (tenant_in word)
 tenant_named [] = tt
 tenant_named (b ∷ name) = elim (b == 64) as (λ t. IsNamed (if t then name_in name else None)) [ true ↦ name_named name | false ↦ tt ]
 
-abbrev IsNamedMeaning : Meaning → Type 0
+abbrev IsNamedMeaning : LineMeaning → Type 0
 IsNamedMeaning Blank = ⊤
 IsNamedMeaning (Whole request) = is_name request.who ≡ true
 IsNamedMeaning (Opens head) = is_name head.who ≡ true
 IsNamedMeaning Long = ⊤
 IsNamedMeaning (Bad who) = IsNamed who
 
-one_named : (b : Bool) (one other : Meaning) → IsNamedMeaning one → IsNamedMeaning other → IsNamedMeaning (if b then one else other)
+one_named : (b : Bool) (one other : LineMeaning) → IsNamedMeaning one → IsNamedMeaning other → IsNamedMeaning (if b then one else other)
 one_named true one other h k = h
 one_named false one other h k = k
 
@@ -161,7 +161,7 @@ lines_named (Some text) [] h = (cut_named text h, tt)
 lines_named None (line ∷ lines) h =
     go (judged line) (judged_named line) (lines_named None lines tt) (λ head named. lines_named (Some (opened_text head)) lines named)
   where
-    go : (meaning : Meaning) → IsNamedMeaning meaning → AreNamed (requests None lines) → ((head : Head) → is_name head.who ≡ true → AreNamed (requests (Some (opened_text head)) lines))
+    go : (meaning : LineMeaning) → IsNamedMeaning meaning → AreNamed (requests None lines) → ((head : Head) → is_name head.who ≡ true → AreNamed (requests (Some (opened_text head)) lines))
         → AreNamed (before (outside_text meaning).whole (requests (outside_text meaning).text lines))
     go Blank h later inside = later
     go (Whole request) h later inside = ((h, tt), later)

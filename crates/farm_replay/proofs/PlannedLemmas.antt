@@ -8,8 +8,8 @@ use Rattle.psplib_mm.specs.Text.{words_of, is_same}
 use Rattle.psplib_mm.specs.declared.fault.MmFault.{MmFault}
 use Rattle.strategy.specs.declared.kind.Kind.{Kind}
 use Rattle.session_lines.specs.declared.line.Head.{Head}
-use Rattle.session_lines.specs.declared.line.Meaning.{Meaning}
-use Rattle.session_lines.specs.declared.line.Meaning.TheVariants.{Blank, Whole, Opens, Long, Bad}
+use Rattle.session_lines.specs.declared.line.LineMeaning.{LineMeaning}
+use Rattle.session_lines.specs.declared.line.LineMeaning.TheVariants.{Blank, Whole, Opens, Long, Bad}
 use Rattle.session_lines.specs.declared.request.Request.{Request}
 use Rattle.session_lines.specs.declared.request.What.{What}
 use Rattle.session_lines.specs.declared.request.What.TheVariants.{Submit, Fund, Status, Fetch, Cancel, Forget, Ledger, Take, Give, Turn}
@@ -62,7 +62,7 @@ turn_planned verb words =
     (by_test (is_same verb (codes "give")) _ _ (by_map Give (λ n. tt) (one_number words))
     (by_test (is_same verb (codes "turn")) (option_map (λ (p : ℕ × ℕ). Turn p.0 p.1) (two_numbers words)) None (by_map (λ (p : ℕ × ℕ). Turn p.0 p.1) (λ p. tt) (two_numbers words)) tt))
 
-abbrev IsPlannedMeaning : Meaning → Type 0
+abbrev IsPlannedMeaning : LineMeaning → Type 0
 IsPlannedMeaning Blank = ⊤
 IsPlannedMeaning (Whole request) = IsPlannedWhat request.what
 IsPlannedMeaning (Opens head) = ⊤
@@ -77,7 +77,7 @@ opens_planned : (who : List ℕ) (submit : Option (Kind × ℕ × ℕ)) → IsPl
 opens_planned who None = tt
 opens_planned who (Some submit) = tt
 
-one_planned : (b : Bool) (one other : Meaning) → IsPlannedMeaning one → IsPlannedMeaning other → IsPlannedMeaning (if b then one else other)
+one_planned : (b : Bool) (one other : LineMeaning) → IsPlannedMeaning one → IsPlannedMeaning other → IsPlannedMeaning (if b then one else other)
 one_planned true one other h k = h
 one_planned false one other h k = k
 
@@ -134,7 +134,7 @@ lines_planned projects (Some text) [] = (cut_planned text, tt)
 lines_planned projects None (line ∷ lines) =
     go (judged line) (judged_planned line) (lines_planned projects None lines) (λ head. lines_planned projects (Some (opened_text head)) lines)
   where
-    go : (meaning : Meaning) → IsPlannedMeaning meaning → AreItemsPlanned (requests None lines) → ((head : Head) → AreItemsPlanned (requests (Some (opened_text head)) lines))
+    go : (meaning : LineMeaning) → IsPlannedMeaning meaning → AreItemsPlanned (requests None lines) → ((head : Head) → AreItemsPlanned (requests (Some (opened_text head)) lines))
         → AreItemsPlanned (before (outside_text meaning).whole (requests (outside_text meaning).text lines))
     go Blank h later inside = later
     go (Whole request) h later inside = (h, later)

@@ -23,4 +23,4 @@ mod watches;
 
 pub use notes::{Notes, is_refused};
 pub use script::{ReplayFault, replay};
-pub use watches::Watches;
+pub use watches::ReplayWatches;

@@ -19,7 +19,7 @@ use crate::laws::{each_line_is_true, outputs_are_isolated};
 use crate::notes::Notes;
 use crate::reader::Script;
 use crate::sending::{send_before_nodes, send_before_wait};
-use crate::watches::Watches;
+use crate::watches::ReplayWatches;
 use farm_core::laws::farms_are_replayed;
 use farm_core::{Config, Name};
 use farm_session::{Branch, Heard, Ready, branches, hear, open_tills};
@@ -96,7 +96,7 @@ fn play<J: Strategy, R: Read, W: Write, M: Fn(Ready) -> Option<J>>(
     branches: &mut [Branch<'_>],
     script: &mut Script<R>,
     writer: &mut W,
-    watches: &mut Watches,
+    watches: &mut ReplayWatches,
     notes: &mut Notes,
     make: &M,
 ) -> Result<(), ReplayFault>
@@ -152,7 +152,7 @@ pub fn replay<R: Read + Drop, W: Write>(
     config: &Config,
     reader: R,
     writer: &mut W,
-    watches: &mut Watches,
+    watches: &mut ReplayWatches,
     notes: &mut Notes,
 ) -> Result<(), ReplayFault>
     ensures written { OnOk result (IfSome (R.remaining reader) (λ script.

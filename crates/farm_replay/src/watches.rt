@@ -6,20 +6,20 @@ use watched_io::Watch;
 /// The watches through which a replay reads its script and writes its replies: after `Read` and `Write` they tell contracts
 /// whether a read or a write failed during the call.
 #[derive(Debug, Drop)]
-pub struct Watches {
+pub struct ReplayWatches {
     /// Of the script's reader.
     pub(crate) reads: Watch,
     /// Of the replies' writer.
     pub(crate) writes: Watch,
 }
 
-impl Watches {
-    /// Watches through which nothing has failed.
-    pub fn new() -> Watches
+impl ReplayWatches {
+    /// ReplayWatches through which nothing has failed.
+    pub fn new() -> ReplayWatches
         ensures reads { result.reads ≡ 0 }
         ensures writes { result.writes ≡ 0 }
     {
-        Watches {
+        ReplayWatches {
             reads: Watch::new(),
             writes: Watch::new(),
         }

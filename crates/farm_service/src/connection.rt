@@ -42,15 +42,15 @@ fn heard(config: &Config, read: Result<Request, LineFault>) -> Heard
 
 /// The watches through which a connection is read and written.
 #[derive(Drop)]
-struct Watches {
+struct ConnectionWatches {
     reads: Watch,
     writes: Watch,
 }
 
-impl Watches {
-    /// Watches through which nothing has failed.
-    fn new() -> Watches {
-        Watches {
+impl ConnectionWatches {
+    /// ConnectionWatches through which nothing has failed.
+    fn new() -> ConnectionWatches {
+        ConnectionWatches {
             reads: Watch::new(),
             writes: Watch::new(),
         }
@@ -186,7 +186,7 @@ fn serve_next<D: Shared, R: Wait, I: BufRead, O: Write, M: Fn(Ready) -> Option<D
     branches: &mut [Branch<'_>],
     reader: &mut I,
     writer: &mut O,
-    watches: &mut Watches,
+    watches: &mut ConnectionWatches,
 ) -> bool
     requires own { D.owns office.now.shared.now token.old }
     requires config { D.config office.now.shared.now ≡ office.now.config.now }
@@ -231,7 +231,7 @@ pub(crate) fn session<D: Shared, R: Wait, I: BufRead, O: Write, M: Fn(Ready) -> 
         (stand token.old branches.old (I.remaining reader.old) (O.contents writer.old))
         (stand token.new branches.new (I.remaining reader.new) (O.contents writer.new)) }
 {
-    let mut watches = Watches::new();
+    let mut watches = ConnectionWatches::new();
     for _ in 0..u64::MAX {
         if !serve_next(office, token, branches, reader, writer, &mut watches) {
             break;

@@ -55,7 +55,7 @@ pub(crate) struct Placed(pub(crate) usize, pub(crate) [(u32, u32); 4]);
 
 /// What is answered to a call.
 #[derive(Clone, Copy, PartialEq)]
-pub(crate) enum Answer {
+pub(crate) enum CallAnswer {
     /// A job of this number was made.
     Job(u64),
     /// What is known of a job.
@@ -123,24 +123,24 @@ fn placed_by(schedule: &Schedule) -> Placed {
 }
 
 /// What a reply says.
-fn answer_of(reply: Reply) -> Answer {
+fn answer_of(reply: Reply) -> CallAnswer {
     match reply {
-        Reply::Job(seq) => Answer::Job(seq),
-        Reply::Line(line) => Answer::Told(shown_of(&line)),
-        Reply::Ran(ran, line) => Answer::Ran(ran, shown_of(&line)),
+        Reply::Job(seq) => CallAnswer::Job(seq),
+        Reply::Line(line) => CallAnswer::Told(shown_of(&line)),
+        Reply::Ran(ran, line) => CallAnswer::Ran(ran, shown_of(&line)),
         Reply::Best(seq, best, makespan, verdict) => {
-            Answer::Best(seq, best.as_ref().map(placed_by), makespan, verdict)
+            CallAnswer::Best(seq, best.as_ref().map(placed_by), makespan, verdict)
         }
-        Reply::Forgotten(seq) => Answer::Forgotten(seq),
-        Reply::Ledger(book) => Answer::Books(numbers_of(&book)),
-        Reply::NoRoom => Answer::NoRoom,
-        Reply::NoUnknown => Answer::NoUnknown,
-        Reply::NoBusy => Answer::NoBusy,
-        Reply::NoOver => Answer::NoOver,
-        Reply::NoAmount => Answer::NoAmount,
-        Reply::NoJobs => Answer::NoJobs,
-        Reply::NoShort(free) => Answer::NoShort(free),
-        Reply::NoMemory => Answer::NoMemory,
+        Reply::Forgotten(seq) => CallAnswer::Forgotten(seq),
+        Reply::Ledger(book) => CallAnswer::Books(numbers_of(&book)),
+        Reply::NoRoom => CallAnswer::NoRoom,
+        Reply::NoUnknown => CallAnswer::NoUnknown,
+        Reply::NoBusy => CallAnswer::NoBusy,
+        Reply::NoOver => CallAnswer::NoOver,
+        Reply::NoAmount => CallAnswer::NoAmount,
+        Reply::NoJobs => CallAnswer::NoJobs,
+        Reply::NoShort(free) => CallAnswer::NoShort(free),
+        Reply::NoMemory => CallAnswer::NoMemory,
     }
 }
 
@@ -160,7 +160,7 @@ pub(crate) fn take<J: Strategy>(
 }
 
 /// Gives a turn back as it is. A turn that is of no job of the farm is handed back.
-pub(crate) fn give<J: Strategy>(farm: &mut Farm<J>, turn: Turn<J>) -> Result<Answer, Turn<J>>
+pub(crate) fn give<J: Strategy>(farm: &mut Farm<J>, turn: Turn<J>) -> Result<CallAnswer, Turn<J>>
     requires { IsTurn turn.slice turn.ran (J.meaning turn.search) }
     ensures { IfErr result (λ turn. IsTurn turn.slice turn.ran (J.meaning turn.search)) }
 {
@@ -174,14 +174,14 @@ pub(crate) fn give<J: Strategy>(farm: &mut Farm<J>, turn: Turn<J>) -> Result<Ans
 }
 
 /// The same, and such a turn is dropped.
-pub(crate) fn put_back<J: Strategy>(farm: &mut Farm<J>, turn: Turn<J>) -> Answer
+pub(crate) fn put_back<J: Strategy>(farm: &mut Farm<J>, turn: Turn<J>) -> CallAnswer
     requires { IsTurn turn.slice turn.ran (J.meaning turn.search) }
 {
     match give(farm, turn) {
         Ok(answer) => answer,
         Err(turn) => {
             turn.abandon();
-            Answer::Stranger
+            CallAnswer::Stranger
         }
     }
 }
@@ -192,20 +192,20 @@ pub(crate) fn submit<J: Strategy>(
     tenant: u32,
     quanta: u64,
     ready: Option<Planned<J>>,
-) -> Answer {
+) -> CallAnswer {
     let Some(Planned { plan, search }) = ready else {
-        return Answer::Unmade;
+        return CallAnswer::Unmade;
     };
     if farm.tenants() <= tenant {
-        return Answer::Unmade;
+        return CallAnswer::Unmade;
     }
     answer_of(farm.submit(tenant, plan, quanta, search))
 }
 
 /// Makes a call that needs neither a search nor a turn.
-fn command<J: Strategy>(farm: &mut Farm<J>, tenant: u32, call: Call) -> Answer {
+fn command<J: Strategy>(farm: &mut Farm<J>, tenant: u32, call: Call) -> CallAnswer {
     if farm.tenants() <= tenant {
-        return Answer::Unmade;
+        return CallAnswer::Unmade;
     }
     match call {
         Call::Fund(seq, quanta) => answer_of(farm.fund(tenant, seq, quanta)),
@@ -214,20 +214,20 @@ fn command<J: Strategy>(farm: &mut Farm<J>, tenant: u32, call: Call) -> Answer {
         Call::Cancel(seq) => answer_of(farm.cancel(tenant, seq)),
         Call::Forget(seq) => answer_of(farm.forget(tenant, seq)),
         Call::Ledger => answer_of(farm.ledger(tenant)),
-        _ => Answer::Unmade,
+        _ => CallAnswer::Unmade,
     }
 }
 
 /// Why no turn was taken.
-fn refused_by(why: NoTurn) -> Answer {
+fn refused_by(why: NoTurn) -> CallAnswer {
     match why {
-        NoTurn::None => Answer::NoTurn,
-        NoTurn::NoMemory => Answer::NoMemory,
+        NoTurn::None => CallAnswer::NoTurn,
+        NoTurn::NoMemory => CallAnswer::NoMemory,
     }
 }
 
 /// A turn is taken, run and given back.
-fn run_turn<J: Strategy>(farm: &mut Farm<J>, tenant: u32, seq: u64, slice: u64) -> Answer {
+fn run_turn<J: Strategy>(farm: &mut Farm<J>, tenant: u32, seq: u64, slice: u64) -> CallAnswer {
     match take(farm, tenant, seq, slice) {
         Ok(mut turn) => {
             turn.run();
@@ -244,7 +244,7 @@ fn hold<J: Strategy>(
     tenant: u32,
     seq: u64,
     slice: u64,
-) -> Answer
+) -> CallAnswer
     requires { IfSome hand.old (λ turn. IsTurn turn.slice turn.ran (J.meaning turn.search)) }
     ensures { IfSome hand.new (λ turn. IsTurn turn.slice turn.ran (J.meaning turn.search)) }
 {
@@ -260,10 +260,10 @@ fn hold<J: Strategy>(
 }
 
 /// What is known of a tenant's job, which leaves no entry.
-fn out_of<J>(farm: &Farm<J>, tenant: u32, seq: u64) -> Answer {
+fn out_of<J>(farm: &Farm<J>, tenant: u32, seq: u64) -> CallAnswer {
     match snapshot(farm, tenant, seq) {
-        Some(shown) => Answer::Told(shown),
-        None => Answer::Unmade,
+        Some(shown) => CallAnswer::Told(shown),
+        None => CallAnswer::Unmade,
     }
 }
 
@@ -277,7 +277,7 @@ pub(crate) fn snapshot<J>(farm: &Farm<J>, tenant: u32, seq: u64) -> Option<Shown
 }
 
 /// The turn that is held, run or not, is given back.
-fn give_held<J: Strategy>(farm: &mut Farm<J>, hand: &mut Option<Turn<J>>, runs: bool) -> Answer
+fn give_held<J: Strategy>(farm: &mut Farm<J>, hand: &mut Option<Turn<J>>, runs: bool) -> CallAnswer
     requires { IfSome hand.old (λ turn. IsTurn turn.slice turn.ran (J.meaning turn.search)) }
     ensures { IfSome hand.new (λ turn. IsTurn turn.slice turn.ran (J.meaning turn.search)) }
 {
@@ -288,12 +288,12 @@ fn give_held<J: Strategy>(farm: &mut Farm<J>, hand: &mut Option<Turn<J>>, runs: 
             }
             put_back(farm, turn)
         }
-        None => Answer::NoTurn,
+        None => CallAnswer::NoTurn,
     }
 }
 
 /// The turn that is held is run and dropped.
-fn abandon_held<J: Strategy>(hand: &mut Option<Turn<J>>) -> Answer
+fn abandon_held<J: Strategy>(hand: &mut Option<Turn<J>>) -> CallAnswer
     requires { IfSome hand.old (λ turn. IsTurn turn.slice turn.ran (J.meaning turn.search)) }
     ensures { IfSome hand.new (λ turn. IsTurn turn.slice turn.ran (J.meaning turn.search)) }
 {
@@ -301,9 +301,9 @@ fn abandon_held<J: Strategy>(hand: &mut Option<Turn<J>>) -> Answer
         Some(mut turn) => {
             turn.run();
             turn.abandon();
-            Answer::Gone
+            CallAnswer::Gone
         }
-        None => Answer::NoTurn,
+        None => CallAnswer::NoTurn,
     }
 }
 
@@ -315,7 +315,7 @@ pub(crate) fn ask<J: Strategy>(
     ready: &mut Vec<Planned<J>>,
     tenant: u32,
     call: Call,
-) -> Answer
+) -> CallAnswer
     requires { IfSome hand.old (λ turn. IsTurn turn.slice turn.ran (J.meaning turn.search)) }
     ensures { IfSome hand.new (λ turn. IsTurn turn.slice turn.ran (J.meaning turn.search)) }
 {

@@ -1,5 +1,5 @@
 //! Cancels at every phase.
-use crate::calls::Answer::{Job, NoOver, Ran, Told};
+use crate::calls::CallAnswer::{Job, NoOver, Ran, Told};
 use crate::calls::Call::{Cancel, Give, GiveUnrun, Submit, Take, Turn};
 use crate::calls::Shown;
 use crate::fixtures::Text::Diamond;

@@ -2,7 +2,7 @@
 use crate::replays::{TREE, TREE_TOLD, TWO, spelled};
 use farm_config::read_config;
 use farm_core::Config;
-use farm_replay::{Notes, ReplayFault, Watches, replay};
+use farm_replay::{Notes, ReplayFault, ReplayWatches, replay};
 use std::alloc::{AllocError, Global};
 use std::io;
 use std::io::{Error, ErrorKind, Read, Write};
@@ -109,7 +109,7 @@ fn is_cut_off(rt: &impl Abort, alloc: Global, config: &Config, bytes: &[u8]) -> 
         config,
         reader,
         &mut written,
-        &mut Watches::new(),
+        &mut ReplayWatches::new(),
         &mut Notes::default(),
     );
     let expected = first_lines(TREE_TOLD.as_bytes(), line_ends(bytes).saturating_sub(19));
@@ -151,7 +151,7 @@ fn written_into(
         config,
         script.as_bytes(),
         &mut writer,
-        &mut Watches::new(),
+        &mut ReplayWatches::new(),
         &mut Notes::default(),
     );
     Ok((writer.taken, ended))
@@ -200,7 +200,7 @@ fn writers_of_one_byte(rt: HostRuntime) -> Result<(), Fail> {
             &config,
             script.as_bytes(),
             &mut writer,
-            &mut Watches::new(),
+            &mut ReplayWatches::new(),
             &mut Notes::default(),
         );
         let is_whole = writes == expected.len();

@@ -2,7 +2,7 @@
 ghost use Rattle.std.specs.Prelude.{◌≡◌, IfSome};
 ghost use Rattle.farm_core.specs.Turn.{IsTurn};
 
-use crate::calls::{Answer, Call, Shown, ask, numbers_of, put_back, snapshot};
+use crate::calls::{CallAnswer, Call, Shown, ask, numbers_of, put_back, snapshot};
 use crate::fixtures::{Planned, Purses, Wanted, all_planned, farm_of};
 use farm_core::{Event, Farm, Turn};
 use std::alloc::{AllocError, Global};
@@ -11,7 +11,7 @@ use strategy::{Kind, Strategy};
 
 /// A call of the tenant of that number, and what is answered.
 #[derive(Clone, Copy)]
-pub(crate) struct Step(pub(crate) u32, pub(crate) Call, pub(crate) Answer);
+pub(crate) struct Step(pub(crate) u32, pub(crate) Call, pub(crate) CallAnswer);
 
 /// What is to become of a call that finds no memory.
 #[derive(Clone, Copy, PartialEq)]
@@ -50,7 +50,7 @@ pub(crate) fn seen_of<J>(farm: &Farm<J>, tenant: u32) -> Option<Seen> {
 fn may_want_memory(step: Step) -> bool {
     match step {
         Step(_, Call::Give | Call::GiveUnrun | Call::Abandon, _) => false,
-        Step(_, Call::Cancel(_), Answer::Told(_)) => false,
+        Step(_, Call::Cancel(_), CallAnswer::Told(_)) => false,
         _ => true,
     }
 }
@@ -63,14 +63,14 @@ fn insist<J: Strategy>(
     hand: &mut Option<Turn<J>>,
     ready: &mut Vec<Planned<J>>,
     step: Step,
-) -> Answer
+) -> CallAnswer
     requires { IfSome hand.old (λ turn. IsTurn turn.slice turn.ran (J.meaning turn.search)) }
     ensures { IfSome hand.new (λ turn. IsTurn turn.slice turn.ran (J.meaning turn.search)) }
 {
     let Step(tenant, call, _) = step;
     let before = seen_of(farm, tenant);
     let told = ask(farm, hand, ready, tenant, call);
-    if told == Answer::NoMemory {
+    if told == CallAnswer::NoMemory {
         assert!(rt; may_want_memory(step), "a call that takes no memory");
         assert!(rt; seen_of(farm, tenant) == before, "something has changed");
         return ask(farm, hand, ready, tenant, call);
@@ -89,7 +89,7 @@ fn make<J: Strategy>(
     ready: &mut Vec<Planned<J>>,
     step: Step,
     manner: Manner,
-) -> Answer
+) -> CallAnswer
     requires { IfSome hand.old (λ turn. IsTurn turn.slice turn.ran (J.meaning turn.search)) }
     ensures { IfSome hand.new (λ turn. IsTurn turn.slice turn.ran (J.meaning turn.search)) }
 {
@@ -101,7 +101,7 @@ fn make<J: Strategy>(
 }
 
 /// Compares the answer to a call of a script, which stands at that place, with what is wanted.
-fn compare(rt: &impl Abort, told: Answer, wanted: Answer, name: &str, at: usize) {
+fn compare(rt: &impl Abort, told: CallAnswer, wanted: CallAnswer, name: &str, at: usize) {
     assert!(rt; told == wanted, "{name}, call {at}");
 }
 

@@ -1,7 +1,7 @@
 //! A configuration and a script as texts, and what a replay of a script writes.
 use crate::fixtures::DIAMOND;
 use farm_config::read_config;
-use farm_replay::{Notes, ReplayFault, Watches, replay};
+use farm_replay::{Notes, ReplayFault, ReplayWatches, replay};
 use std::alloc::{AllocError, Global};
 use std::test::Fail;
 
@@ -40,7 +40,7 @@ pub(crate) fn replayed(
         &config,
         script.as_bytes(),
         &mut written,
-        &mut Watches::new(),
+        &mut ReplayWatches::new(),
         &mut Notes::default(),
     );
     Ok((written, ended))

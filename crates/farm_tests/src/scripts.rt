@@ -1,12 +1,12 @@
 //! The worked scripts.
-use crate::calls::Answer::{
+use crate::calls::CallAnswer::{
     Best, Books, Forgotten, Job, NoAmount, NoBusy, NoJobs, NoOver, NoRoom, NoShort, NoTurn,
     NoUnknown, Ran, Told,
 };
 use crate::calls::Call::{
     Abandon, Cancel, Fetch, Forget, Fund, Give, Ledger, Status, Submit, Take, Turn,
 };
-use crate::calls::{Answer, Placed, Shown};
+use crate::calls::{CallAnswer, Placed, Shown};
 use crate::fixtures::Text::{Chain, Diamond, Lone, Roomy, Shared, Starved};
 use crate::play::Step;
 use job_table::Phase::{Cancelled, Closed, Dry, Leaving, Out, Waiting};
@@ -239,7 +239,7 @@ pub(crate) const DRY_RULE: [Step; 3] = [
 pub(crate) const ABANDONED: [Step; 5] = [
     Step(0, Submit(Tree, 6, Diamond), Job(1)),
     Step(0, Take(1, 2), Told(Shown(1, Out(2), 0, 6, None, Going))),
-    Step(0, Abandon, Answer::Gone),
+    Step(0, Abandon, CallAnswer::Gone),
     Step(0, Status(1), Told(Shown(1, Out(2), 0, 6, None, Going))),
     Step(0, Ledger, Books([100, 94, 6, 0])),
 ];

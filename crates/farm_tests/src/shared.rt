@@ -1,5 +1,5 @@
 //! Two tenants of one purse, and a third one beside them.
-use crate::calls::Answer::{Books, Job, NoShort, NoUnknown, Ran, Told};
+use crate::calls::CallAnswer::{Books, Job, NoShort, NoUnknown, Ran, Told};
 use crate::calls::Call::{Cancel, Give, Ledger, Status, Submit, Take};
 use crate::calls::Shown;
 use crate::fixtures::Text::Diamond;

@@ -2,7 +2,7 @@
 ghost use Rattle.std.specs.Prelude.{◌≡◌, IfOk, IfErr};
 ghost use Rattle.farm_core.specs.Turn.{IsTurn};
 
-use crate::calls::{Answer, Shown, give, put_back, submit, take};
+use crate::calls::{CallAnswer, Shown, give, put_back, submit, take};
 use crate::fixtures::Planned;
 use crate::play::seen_of;
 use farm_core::{Farm, NoTurn, Turn};
@@ -32,7 +32,7 @@ fn refuse<J: Strategy>(
     rt: &impl Abort,
     farm: &mut Farm<J>,
     turn: Turn<J>,
-) -> Result<Turn<J>, Answer>
+) -> Result<Turn<J>, CallAnswer>
     requires { IsTurn turn.slice turn.ran (J.meaning turn.search) }
     ensures { IfOk result (λ turn. IsTurn turn.slice turn.ran (J.meaning turn.search)) }
 {
@@ -56,18 +56,18 @@ pub(crate) fn stray<J: Strategy>(
     other: Planned<J>,
     slice: u64,
 ) {
-    assert!(rt; submit(home, 0, 6, Some(own)) == Answer::Job(1));
+    assert!(rt; submit(home, 0, 6, Some(own)) == CallAnswer::Job(1));
     let turn = sent(rt, home, 0, 2);
     let Ok(turn) = refuse(rt, farm, turn) else {
         panic!(rt; "taken by a farm without jobs");
     };
-    assert!(rt; submit(farm, 0, 6, Some(other)) == Answer::Job(1));
+    assert!(rt; submit(farm, 0, 6, Some(other)) == CallAnswer::Job(1));
     let there = sent(rt, farm, 0, slice);
     let Ok(turn) = refuse(rt, farm, turn) else {
         panic!(rt; "taken for another job");
     };
-    assert!(rt; put_back(home, turn) == Answer::Ran(0, WAITING));
-    assert!(rt; put_back(farm, there) == Answer::Ran(0, WAITING));
+    assert!(rt; put_back(home, turn) == CallAnswer::Ran(0, WAITING));
+    assert!(rt; put_back(farm, there) == CallAnswer::Ran(0, WAITING));
 }
 
 /// Turns of two jobs that agree in all that is compared serve each for the other. One of them runs,
@@ -79,14 +79,14 @@ pub(crate) fn exchange<J: Strategy>(
     own: Planned<J>,
     other: Planned<J>,
 ) {
-    assert!(rt; submit(home, 0, 6, Some(own)) == Answer::Job(1));
-    assert!(rt; submit(farm, 0, 6, Some(other)) == Answer::Job(1));
+    assert!(rt; submit(home, 0, 6, Some(own)) == CallAnswer::Job(1));
+    assert!(rt; submit(farm, 0, 6, Some(other)) == CallAnswer::Job(1));
     let mut here = sent(rt, home, 0, 2);
     let there = sent(rt, farm, 0, 2);
     assert!(rt; here.run() == 2);
     assert!(rt; here.run() == 0);
-    assert!(rt; put_back(farm, here) == Answer::Ran(2, BEGUN));
-    assert!(rt; put_back(home, there) == Answer::Ran(0, WAITING));
+    assert!(rt; put_back(farm, here) == CallAnswer::Ran(2, BEGUN));
+    assert!(rt; put_back(home, there) == CallAnswer::Ran(0, WAITING));
 }
 
 /// Takes a turn of some waiting job, gives it back as it is, and tells whose it was.
@@ -111,16 +111,16 @@ pub(crate) fn take_any<J: Strategy>(
 ) {
     const NONE: Result<(u32, u64), NoTurn> = Err(NoTurn::None);
     assert!(rt; next_of(farm, 2) == NONE);
-    assert!(rt; submit(farm, 0, 6, Some(ready)) == Answer::Job(1));
+    assert!(rt; submit(farm, 0, 6, Some(ready)) == CallAnswer::Job(1));
     assert!(rt; next_of(farm, 2) == NONE);
-    assert!(rt; submit(farm, 1, 6, Some(other)) == Answer::Job(1));
+    assert!(rt; submit(farm, 1, 6, Some(other)) == CallAnswer::Job(1));
     assert!(rt; next_of(farm, 0) == NONE);
     assert!(rt; next_of(farm, 1_000_001) == NONE);
     assert!(rt; next_of(farm, 1_000_000) == Ok((1, 1)));
     assert!(rt; next_of(farm, 1) == Ok((1, 1)));
     let held = sent(rt, farm, 1, 2);
     assert!(rt; next_of(farm, 2) == NONE);
-    assert!(rt; put_back(farm, held) == Answer::Ran(0, WAITING));
+    assert!(rt; put_back(farm, held) == CallAnswer::Ran(0, WAITING));
 }
 
 /// Each of these is the next, and gives its turn back as it is.
@@ -142,12 +142,12 @@ pub(crate) fn take_turns<J: Strategy>(
     second: Planned<J>,
     other: Planned<J>,
 ) {
-    assert!(rt; submit(farm, 0, 6, Some(first)) == Answer::Job(1));
-    assert!(rt; submit(farm, 0, 6, Some(second)) == Answer::Job(2));
-    assert!(rt; submit(farm, 1, 6, Some(other)) == Answer::Job(1));
+    assert!(rt; submit(farm, 0, 6, Some(first)) == CallAnswer::Job(1));
+    assert!(rt; submit(farm, 0, 6, Some(second)) == CallAnswer::Job(2));
+    assert!(rt; submit(farm, 1, 6, Some(other)) == CallAnswer::Job(1));
     follow(rt, farm, &[(0, 1), (0, 2), (1, 1), (0, 1)]);
     let held = sent(rt, farm, 1, 2);
     follow(rt, farm, &[(0, 2)]);
-    assert!(rt; put_back(farm, held) == Answer::Ran(0, WAITING));
+    assert!(rt; put_back(farm, held) == CallAnswer::Ran(0, WAITING));
     follow(rt, farm, &[(0, 1), (0, 2), (1, 1)]);
 }

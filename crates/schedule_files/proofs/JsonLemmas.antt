@@ -3,10 +3,10 @@ use Rattle.std.proofs.Common.{◌≡◌, ◌⊎◌, ⊎_elim, inl, inr, ℕ, ◌
 use Rattle.std.proofs.lemmas.List.{take-append-drop, take_more, take_rest}
 use Rattle.schedule_files.specs.Places.{placed_from}
 use Rattle.schedule_files.specs.ScheduleJson.{IsEnd}
-use Rattle.schedule_files.specs.declared.places.Place.{Place}
+use Rattle.schedule_files.specs.declared.places.ScheduleEntry.{ScheduleEntry}
 
 -- one more activity
-pub placed_more : (j : ℕ) (modes starts : List ℕ) (place : Place) → length modes ≡ length starts → place.activity ≡ j + length modes
+pub placed_more : (j : ℕ) (modes starts : List ℕ) (place : ScheduleEntry) → length modes ≡ length starts → place.activity ≡ j + length modes
     → placed_from j modes starts ++ place ∷ [] ≡ placed_from j (modes ++ place.mode ∷ []) (starts ++ place.start ∷ [])
 placed_more j [] [] place e a = let n : place.activity ≡ j = omega (arith, a) in rw (sym n) refl
 placed_more j [] (s ∷ starts) place e a = absurd (omega (arith, e))
@@ -21,7 +21,7 @@ behind text i c h e =
     sym (take-append-drop i text) ∙ ap (λ l. take i text ++ l) (cut ∙ ap (λ x. x ∷ drop (i + 1) text) e)
 
 -- the next place of a list that is in order so far
-pub placed_step : (places : List Place) (i : ℕ) (d : Place) (modes starts modes' starts' : List ℕ) → i < length places → take i places ≡ placed_from 1 modes starts
+pub placed_step : (places : List ScheduleEntry) (i : ℕ) (d : ScheduleEntry) (modes starts modes' starts' : List ℕ) → i < length places → take i places ≡ placed_from 1 modes starts
     → length modes ≡ i → length starts ≡ i → (get_or places i d).activity ≡ i + 1 → modes' ≡ modes ++ (get_or places i d).mode ∷ [] → starts' ≡ starts ++ (get_or places i d).start ∷ []
     → take (i + 1) places ≡ placed_from 1 modes' starts'
 placed_step places i d modes starts modes' starts' h e m s a em es =

@@ -2,7 +2,7 @@
 use Rattle.std.specs.Prelude.{◌≡◌, ℕ, ◌+◌, min, List, [], ◌∷◌, length, Option, Some, None}
 use Rattle.std.specs.List.Sorted.{IsPermutation}
 use Rattle.mrcpsp.specs.Schedule.{ScheduleData}
-use Rattle.schedule_files.specs.declared.places.Place.{Place}
+use Rattle.schedule_files.specs.declared.places.ScheduleEntry.{ScheduleEntry}
 
 infixl 10 ◌>>=◌
 abbrev pub ◌>>=◌ : {A B : Type 0} → Option A → (A → Option B) → Option B
@@ -14,12 +14,12 @@ abbrev pub counted : ℕ → ℕ
 counted n = min 4294967295 n
 
 -- the places of a schedule's activities, from number j on
-abbrev pub placed_from : ℕ → List ℕ → List ℕ → List Place
+abbrev pub placed_from : ℕ → List ℕ → List ℕ → List ScheduleEntry
 placed_from j [] starts = []
 placed_from j (mode ∷ modes) [] = []
 placed_from j (mode ∷ modes) (start ∷ starts) = record { activity = j; mode = mode; start = start } ∷ placed_from (j + 1) modes starts
 
 -- these are a mode and a start for each activity, in any order
-pub record ArePlaces (places : List Place) (s : ScheduleData) : Type 0 where
+pub record ArePlaces (places : List ScheduleEntry) (s : ScheduleData) : Type 0 where
   pub even : length s.modes ≡ length s.starts
   pub whole : IsPermutation places (placed_from 1 s.modes s.starts)

@@ -5,21 +5,21 @@ use Rattle.serde_json.specs.Read.{read}
 use Rattle.serde_json.specs.Find.{get, as_number, as_u64, as_array}
 use Rattle.mrcpsp.specs.Schedule.{ScheduleData}
 use Rattle.schedule_files.specs.Places.{◌>>=◌, counted, ArePlaces}
-use Rattle.schedule_files.specs.declared.places.Place.{Place}
+use Rattle.schedule_files.specs.declared.places.ScheduleEntry.{ScheduleEntry}
 
 -- the natural number at a key
 abbrev pub number_at : List ℕ → Data → Option ℕ
 number_at key value = option_map counted (option_and_then as_u64 (option_and_then as_number (get key value)))
 
 -- an activity with its mode and its start
-abbrev pub place_of : Data → Option Place
+abbrev pub place_of : Data → Option ScheduleEntry
 place_of value = do
   activity ← number_at (codes "activity") value
   mode ← number_at (codes "mode") value
   start ← number_at (codes "start") value
   Some (record { activity = activity; mode = mode; start = start })
 
-abbrev pub places_of : Items → Option (List Place)
+abbrev pub places_of : Items → Option (List ScheduleEntry)
 places_of no_items = Some []
 places_of (item value values) = do
   place ← place_of value
@@ -42,7 +42,7 @@ IsEnd text end = (end ≡ text) ⊎ ((front : List ℕ) × (text ≡ front ++ 10
 pub record IsJsonOf (text : List ℕ) (s : ScheduleData) : Type 0 where
   pub value : Data
   pub read : read text ≡ Some value
-  pub places : List Place
+  pub places : List ScheduleEntry
   pub told : option_and_then places_of (array_of value) ≡ Some places
   pub each : ArePlaces places s
 

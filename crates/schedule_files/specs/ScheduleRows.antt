@@ -4,7 +4,7 @@ use Rattle.std.specs.Char.{is_ascii_digit, is_ascii_whitespace}
 use Rattle.std.specs.List.{filter, list_all, list_any, prefix_len, suffix_len, before_first, after_first, slice_split}
 use Rattle.std.specs.Str.Parse.{digits_value}
 use Rattle.schedule_files.specs.Places.{◌>>=◌, counted}
-use Rattle.schedule_files.specs.declared.places.Place.{Place}
+use Rattle.schedule_files.specs.declared.places.ScheduleEntry.{ScheduleEntry}
 
 -- the words of a text: the longest runs of bytes that are no white space of ASCII
 abbrev pub is_word : List ℕ → Bool
@@ -45,7 +45,7 @@ abbrev pub behind : ℕ → List ℕ → List ℕ
 behind mark text = after_first (λ b. b == mark) text
 
 -- an activity, its mode and its start, with a mark between each two
-abbrev pub place_at : ℕ → List ℕ → Option Place
+abbrev pub place_at : ℕ → List ℕ → Option ScheduleEntry
 place_at mark text = do
   activity ← number_in (before mark text)
   mode ← number_in (before mark (behind mark text))
@@ -53,7 +53,7 @@ place_at mark text = do
   Some (record { activity = activity; mode = mode; start = start })
 
 -- the places that all of these texts are
-abbrev pub places_at : ℕ → List (List ℕ) → Option (List Place)
+abbrev pub places_at : ℕ → List (List ℕ) → Option (List ScheduleEntry)
 places_at mark [] = Some []
 places_at mark (text ∷ texts) = do
   place ← place_at mark text

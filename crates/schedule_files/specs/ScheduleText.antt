@@ -5,7 +5,7 @@ use Rattle.mrcpsp.specs.Schedule.{ScheduleData}
 use Rattle.schedule_files.specs.Places.{placed_from, ArePlaces}
 use Rattle.schedule_files.specs.ScheduleJson.{TellsJson}
 use Rattle.schedule_files.specs.ScheduleRows.{words_of, rows_of, places_at}
-use Rattle.schedule_files.specs.declared.places.Place.{Place}
+use Rattle.schedule_files.specs.declared.places.ScheduleEntry.{ScheduleEntry}
 use Rattle.schedule_files.specs.declared.reading.TheConstants.{MOST_BYTES}
 
 -- the word of activity j behind a blank
@@ -32,7 +32,7 @@ pub record TellsWords (text : List ℕ) (s : ScheduleData) : Type 0 where
 
 -- the rows of the text are the places of all activities, in any order
 pub record TellsRows (text : List ℕ) (s : ScheduleData) : Type 0 where
-  pub places : List Place
+  pub places : List ScheduleEntry
   pub rows : places_at 44 (rows_of text) ≡ Some places
   pub each : ArePlaces places s
   pub some : 0 < length s.modes

@@ -5,7 +5,7 @@ ghost use Rattle.std.specs.List.{filter, position, slice_split};
 ghost use Rattle.schedule_files.specs.ScheduleRows.{before, behind, has_digit, is_word, number_in, number_of, place_at, places_at};
 ghost use Rattle.schedule_files.specs.ScheduleRows.{rows_of, words_of};
 
-use crate::places::Place;
+use crate::places::ScheduleEntry;
 use std::alloc::{AllocError, Global};
 
 /// The parts of a text between white space.
@@ -127,14 +127,14 @@ fn behind(text: &[u8], mark: u8) -> &[u8]
 }
 
 /// The place that three numbers with marks between them are.
-pub(crate) fn place_at(text: &[u8], mark: u8) -> Option<Place>
+pub(crate) fn place_at(text: &[u8], mark: u8) -> Option<ScheduleEntry>
     ensures { result ≡ place_at mark text.now }
 {
     let rest = behind(text, mark);
     let activity = number_in(before(text, mark))?;
     let mode = number_in(before(rest, mark))?;
     let start = number_in(behind(rest, mark))?;
-    Some(Place {
+    Some(ScheduleEntry {
         activity,
         mode,
         start,
@@ -146,7 +146,7 @@ pub(crate) fn places_at(
     alloc: Global,
     texts: &[&[u8]],
     mark: u8,
-) -> Result<Option<Vec<Place>>, AllocError>
+) -> Result<Option<Vec<ScheduleEntry>>, AllocError>
     ensures { IfOk result (λ found.
         option_map (λ places. places.items) found ≡ places_at mark (map (λ text. text.now) texts.now)) }
 {

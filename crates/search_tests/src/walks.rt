@@ -15,7 +15,7 @@ use strategy::{Kind, Plan, Strategy, Verdict};
 use tree_search::TreeSearch;
 
 /// The modes and the starts of the best schedule, none where there is none.
-type Best = (&'static [u32], &'static [u32]);
+type BestLists = (&'static [u32], &'static [u32]);
 
 /// A project with its capacities, a kind, up to which node the search has which best schedule, and
 /// the verdict after the last of these nodes. A search that is going is not closed.
@@ -23,11 +23,11 @@ type Walk = (
     &'static str,
     &'static str,
     Kind,
-    &'static [(u64, Best)],
+    &'static [(u64, BestLists)],
     Verdict,
 );
 
-const NONE: Best = (&[], &[]);
+const NONE: BestLists = (&[], &[]);
 
 /// The precedence tree to its end, and for some of its nodes. It ends too where its best schedule
 /// is as short as the bound: in the fork that is so where two may run at once. What takes no time
@@ -326,7 +326,7 @@ fn step<S: Strategy>(search: &mut S) {
 }
 
 /// Runs nodes up to this number, and compares the best schedule after each.
-fn run<S: Strategy>(rt: &impl Abort, search: &mut S, last: u64, best: Best) {
+fn run<S: Strategy>(rt: &impl Abort, search: &mut S, last: u64, best: BestLists) {
     for _ in search.nodes()..last {
         assert!(rt; !search.closed() && search.verdict() == Verdict::Going);
         step(search);
@@ -336,7 +336,7 @@ fn run<S: Strategy>(rt: &impl Abort, search: &mut S, last: u64, best: Best) {
 }
 
 /// Takes the best schedule. From then on the search has none and is over; the rest stays.
-fn take<S: Strategy>(rt: &impl Abort, search: &mut S, best: Best, verdict: Verdict) {
+fn take<S: Strategy>(rt: &impl Abort, search: &mut S, best: BestLists, verdict: Verdict) {
     let nodes = search.nodes();
     let taken = search.take_best();
     assert!(rt; shown(taken.as_ref()) == best);

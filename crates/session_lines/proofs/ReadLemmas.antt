@@ -6,8 +6,8 @@ use Rattle.session_lines.specs.declared.request.Request.{Request}
 use Rattle.session_lines.specs.declared.request.LineFault.{LineFault}
 use Rattle.session_lines.specs.declared.request.LineFault.TheVariants.{Eof, Read, TooLong, Syntax, File, NoMemory}
 use Rattle.session_lines.specs.declared.line.Head.{Head}
-use Rattle.session_lines.specs.declared.line.Meaning.{Meaning}
-use Rattle.session_lines.specs.declared.line.Meaning.TheVariants.{Blank, Whole, Opens, Long, Bad}
+use Rattle.session_lines.specs.declared.line.LineMeaning.{LineMeaning}
+use Rattle.session_lines.specs.declared.line.LineMeaning.TheVariants.{Blank, Whole, Opens, Long, Bad}
 use Rattle.session_lines.specs.declared.text.Text.{Text}
 use Rattle.session_lines.specs.Known.{Goes}
 use Rattle.session_lines.specs.Script.{lines_of, onto, shown, is_long, is_wordless, judged, TextData, opened_text, with_line, whole_text, cut_text, Found, found, plain, After, outside_text, first_or, first, IsAnswerFor, Cuts, Takes}
@@ -59,22 +59,22 @@ GoesOn-start None n = tt
 GoesOn-start (Some xs) n = record { same = refl; paid = refl }
 
 -- the first request where a line before these means this
-abbrev began : Meaning → List (List ℕ) → Option Found
+abbrev began : LineMeaning → List (List ℕ) → Option Found
 began meaning lines = first_or (outside_text meaning).whole lines (first (outside_text meaning).text lines)
 
 -- the lines before those of ys were blank, and then one line meant this
-pub record Begins (meaning : Meaning) (before after : ℕ) (xs ys : List ℕ) : Type 0 where
+pub record Begins (meaning : LineMeaning) (before after : ℕ) (xs ys : List ℕ) : Type 0 where
   pub same : first None (lines_of xs) ≡ began meaning (lines_of ys)
   pub paid : length xs + after ≡ length ys + before
 
-line-begins : (m : Meaning) (before after : ℕ) (xs ys : List ℕ) → TakesLine (λ line. m ≡ judged line) before after xs ys → first None (lines_of xs) ≡ began m (lines_of ys)
+line-begins : (m : LineMeaning) (before after : ℕ) (xs ys : List ℕ) → TakesLine (λ line. m ≡ judged line) before after xs ys → first None (lines_of xs) ≡ began m (lines_of ys)
 line-begins m before after [] ys t = absurd (omega (arith, t.some))
 line-begins m before after (x ∷ xs) ys t =
     ap (first None) (lines-step x xs)
     ∙ ap (λ k. began k (lines_of (drop_through 10 (x ∷ xs)))) (sym t.line)
     ∙ ap (λ z. began m (lines_of z)) (sym t.rest)
 
-pub after_line : (a b d : Option (List ℕ)) (m : Meaning) (before mid after : ℕ) → Goes a b (GoesOn None before mid) → Goes b d (TakesLine (λ line. m ≡ judged line) mid after) → Goes a d (Begins m before after)
+pub after_line : (a b d : Option (List ℕ)) (m : LineMeaning) (before mid after : ℕ) → Goes a b (GoesOn None before mid) → Goes b d (TakesLine (λ line. m ≡ judged line) mid after) → Goes a d (Begins m before after)
 after_line a b d m before mid after so_far line =
     Goes-trans a b d _ _ _ (λ xs ys zs p t. record {
       same = p.same ∙ line-begins m mid after ys zs t;

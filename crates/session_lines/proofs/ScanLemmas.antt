@@ -10,7 +10,7 @@ use Rattle.std.specs.Io.BufRead.{take_through, drop_through, DropsConsumable}
 use Rattle.psplib_mm.specs.Text.{is_line_feed}
 use Rattle.session_lines.specs.Known.{Goes}
 use Rattle.session_lines.proofs.FeedLemmas.{IsFeed, feed_some}
-use Rattle.session_lines.specs.declared.line.Meaning.{Meaning}
+use Rattle.session_lines.specs.declared.line.LineMeaning.{LineMeaning}
 use Rattle.session_lines.specs.Taken.{TakesLine, TakesNone, TakesIf, TakesMeaning}
 
 -- raw was taken of the known bytes, and has no line feed
@@ -134,7 +134,7 @@ Goes-kept (Some xs) None d P k p = absurd k
 Goes-kept (Some xs) (Some ys) None P k p = absurd p
 Goes-kept (Some xs) (Some ys) (Some zs) P k p = subst (λ l. P l zs) k p
 
-pub TakesMeaning-kept : (found : Option Meaning) (before after : ℕ) (a b d : Option (List ℕ)) → Keeps a b → TakesMeaning found before after b d → TakesMeaning found before after a d
+pub TakesMeaning-kept : (found : Option LineMeaning) (before after : ℕ) (a b d : Option (List ℕ)) → Keeps a b → TakesMeaning found before after b d → TakesMeaning found before after a d
 TakesMeaning-kept (Some meaning) before after a b d k t = Goes-kept a b d _ k t
 TakesMeaning-kept None before after a b d k t = Goes-kept a b d _ k t
 

@@ -8,8 +8,8 @@ use Rattle.session_lines.specs.declared.request.What.{What}
 use Rattle.session_lines.specs.declared.request.What.TheVariants.{Fund, Status, Fetch, Cancel, Forget, Ledger, Take, Give, Turn}
 use Rattle.session_lines.specs.declared.words.TheConstants.{MOST_DIGITS}
 use Rattle.session_lines.specs.declared.line.TheConstants.{MOST_LINES}
-use Rattle.session_lines.specs.declared.line.Meaning.{Meaning}
-use Rattle.session_lines.specs.declared.line.Meaning.TheVariants.{Blank, Whole, Opens, Bad}
+use Rattle.session_lines.specs.declared.line.LineMeaning.{LineMeaning}
+use Rattle.session_lines.specs.declared.line.LineMeaning.TheVariants.{Blank, Whole, Opens, Bad}
 
 -- a number is 1 to 18 decimal digits
 abbrev pub number_in : List ℕ → Option ℕ
@@ -83,38 +83,38 @@ submit_in (kind ∷ quanta ∷ []) = None
 submit_in (kind ∷ quanta ∷ lines ∷ []) = submit_of (kind_in kind) (number_in quanta) (number_in lines)
 submit_in (kind ∷ quanta ∷ lines ∷ other ∷ more) = None
 
-abbrev pub opens : List ℕ → Option (Kind × ℕ × ℕ) → Meaning
+abbrev pub opens : List ℕ → Option (Kind × ℕ × ℕ) → LineMeaning
 opens who None = Bad (Some who)
 opens who (Some submit) = Opens (record { who = who; kind = submit.0; quanta = submit.1; lines = submit.2 })
 
-abbrev pub asks : List ℕ → Option What → Meaning
+abbrev pub asks : List ℕ → Option What → LineMeaning
 asks who None = Bad (Some who)
 asks who (Some what) = Whole (record { who = who; what = what })
 
 -- a tenant's line, below its name
-abbrev pub own_line : List ℕ → List (List ℕ) → Meaning
+abbrev pub own_line : List ℕ → List (List ℕ) → LineMeaning
 own_line who [] = Bad (Some who)
 own_line who (verb ∷ words) = if is_same verb (codes "submit") then opens who (submit_in words) else asks who (what_in verb words)
 
-abbrev pub turn_for : Option (List ℕ) → Option What → Meaning
+abbrev pub turn_for : Option (List ℕ) → Option What → LineMeaning
 turn_for None what = Bad None
 turn_for (Some who) None = Bad None
 turn_for (Some who) (Some what) = Whole (record { who = who; what = what })
 
 -- a worker's line
-abbrev pub turn_line : List ℕ → List (List ℕ) → Meaning
+abbrev pub turn_line : List ℕ → List (List ℕ) → LineMeaning
 turn_line verb [] = Bad None
 turn_line verb (name ∷ words) = turn_for (name_in name) (turn_in verb words)
 
-abbrev pub line_for : Option (List ℕ) → List ℕ → List (List ℕ) → Meaning
+abbrev pub line_for : Option (List ℕ) → List ℕ → List (List ℕ) → LineMeaning
 line_for None first words = turn_line first words
 line_for (Some who) first words = own_line who words
 
 -- what a line of these words means
-abbrev pub meaning_in : List (List ℕ) → Meaning
+abbrev pub meaning_in : List (List ℕ) → LineMeaning
 meaning_in [] = Blank
 meaning_in (first ∷ words) = line_for (tenant_in first) first words
 
 -- what a line means, without its end
-abbrev pub meaning_of : List ℕ → Meaning
+abbrev pub meaning_of : List ℕ → LineMeaning
 meaning_of line = meaning_in (words_of line)

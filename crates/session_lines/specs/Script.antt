@@ -12,8 +12,8 @@ use Rattle.session_lines.specs.declared.request.What.TheVariants.{Submit}
 use Rattle.session_lines.specs.declared.request.LineFault.{LineFault}
 use Rattle.session_lines.specs.declared.request.LineFault.TheVariants.{Eof, Read, TooLong, Syntax, File, NoMemory}
 use Rattle.session_lines.specs.declared.line.Head.{Head}
-use Rattle.session_lines.specs.declared.line.Meaning.{Meaning}
-use Rattle.session_lines.specs.declared.line.Meaning.TheVariants.{Blank, Whole, Opens, Long, Bad}
+use Rattle.session_lines.specs.declared.line.LineMeaning.{LineMeaning}
+use Rattle.session_lines.specs.declared.line.LineMeaning.TheVariants.{Blank, Whole, Opens, Long, Bad}
 use Rattle.session_lines.specs.declared.text.TheConstants.{LONGEST}
 use Rattle.session_lines.specs.Known.{Goes}
 use Rattle.session_lines.specs.RequestLine.{meaning_of}
@@ -43,7 +43,7 @@ abbrev pub is_wordless : List ℕ → Bool
 is_wordless line = list_all is_blank (shown line)
 
 -- what a line means: one without a word means nothing, however long it is
-abbrev pub judged : List ℕ → Meaning
+abbrev pub judged : List ℕ → LineMeaning
 judged line = if is_long line then (if is_wordless line then Blank else Long) else meaning_of (shown line)
 
 -- ---- the text of a submit
@@ -103,7 +103,7 @@ pub record After : Type 0 where
   pub whole : Option Item
 
 -- a line that stands in no text: a blank one belongs to the request after it
-abbrev pub outside_text : Meaning → After
+abbrev pub outside_text : LineMeaning → After
 outside_text Blank = record { text = None; whole = None }
 outside_text (Whole request) = record { text = None; whole = Some (plain (Ok request)) }
 outside_text (Opens head) = record { text = Some (opened_text head); whole = None }

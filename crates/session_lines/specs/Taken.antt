@@ -12,8 +12,8 @@ use Rattle.session_lines.specs.declared.bytes.Piece.{Piece}
 use Rattle.session_lines.specs.declared.bytes.Piece.TheVariants.{End, Inside, Last}
 use Rattle.session_lines.specs.declared.request.LineFault.{LineFault}
 use Rattle.session_lines.specs.declared.request.LineFault.TheVariants.{File, NoMemory}
-use Rattle.session_lines.specs.declared.line.Meaning.{Meaning}
-use Rattle.session_lines.specs.declared.line.Meaning.TheVariants.{Blank, Long}
+use Rattle.session_lines.specs.declared.line.LineMeaning.{LineMeaning}
+use Rattle.session_lines.specs.declared.line.LineMeaning.TheVariants.{Blank, Long}
 use Rattle.session_lines.specs.declared.text.Text.{Text}
 use Rattle.session_lines.specs.declared.text.TheConstants.{KEPT_OF_TEXT}
 use Rattle.session_lines.specs.Known.{Goes}
@@ -62,12 +62,12 @@ TakesIf true P before after a b = Goes a b (TakesLine P before after)
 TakesIf false P before after a b = Goes a b TakesNone
 
 -- a line was taken that means this, or there was none
-abbrev pub TakesMeaning : Option Meaning → ℕ → ℕ → Option (List ℕ) → Option (List ℕ) → Type 0
+abbrev pub TakesMeaning : Option LineMeaning → ℕ → ℕ → Option (List ℕ) → Option (List ℕ) → Type 0
 TakesMeaning (Some meaning) before after a b = Goes a b (TakesLine (λ line. meaning ≡ judged line) before after)
 TakesMeaning None before after a b = Goes a b TakesNone
 
 -- what a line means, as its first bytes and whether it has no word tell
-abbrev pub judged_by : List ℕ → Bool → Meaning
+abbrev pub judged_by : List ℕ → Bool → LineMeaning
 judged_by kept blank = if is_long kept then (if blank then Blank else Long) else meaning_of (shown kept)
 
 -- a text that is read has kept what this one says: of its bytes as many as it takes to tell one that is too long, and none that matter where a line is long or a growth was refused

@@ -3,7 +3,7 @@ ghost use Rattle.std.specs.Prelude.{◌≡◌};
 ghost use Rattle.session_lines.specs.RequestLine.{tenant_in, kind_in, what_in, turn_in, submit_in, own_line, turn_line, meaning_of};
 
 use crate::request::{Request, What};
-use crate::words::{Words, is, number};
+use crate::words::{LineWords, is, number};
 use farm_core::Name;
 use strategy::Kind;
 
@@ -25,7 +25,7 @@ pub struct Head {
 
 /// What a line means.
 #[derive(Debug, Drop)]
-pub enum Meaning {
+pub enum LineMeaning {
     /// Nothing: it has no word.
     Blank,
     /// A request.
@@ -65,7 +65,7 @@ fn kind_of(word: &[u8]) -> Option<Kind>
     }
 }
 
-fn what_of(verb: &[u8], words: Words<'_>) -> Option<What>
+fn what_of(verb: &[u8], words: LineWords<'_>) -> Option<What>
     ensures { result ≡ what_in verb.now words.entry }
 {
     if is(verb, b"fund") {
@@ -86,7 +86,7 @@ fn what_of(verb: &[u8], words: Words<'_>) -> Option<What>
     }
 }
 
-fn turn_of(verb: &[u8], words: Words<'_>) -> Option<What>
+fn turn_of(verb: &[u8], words: LineWords<'_>) -> Option<What>
     ensures { result ≡ turn_in verb.now words.entry }
 {
     if is(verb, b"take") {
@@ -103,7 +103,7 @@ fn turn_of(verb: &[u8], words: Words<'_>) -> Option<What>
 }
 
 // The kind, the quanta and the count of lines of a submit.
-fn submit_of(words: Words<'_>) -> Option<(Kind, u64, u64)>
+fn submit_of(words: LineWords<'_>) -> Option<(Kind, u64, u64)>
     ensures { result ≡ submit_in words.entry }
 {
     let mut words = words;
@@ -122,51 +122,51 @@ fn submit_of(words: Words<'_>) -> Option<(Kind, u64, u64)>
     Some((kind, quanta, lines))
 }
 
-fn own_line(who: Name, mut words: Words<'_>) -> Meaning
+fn own_line(who: Name, mut words: LineWords<'_>) -> LineMeaning
     ensures { result ≡ own_line who words.entry }
 {
     let Some(verb) = words.next_word() else {
-        return Meaning::Bad(Some(who));
+        return LineMeaning::Bad(Some(who));
     };
     if is(verb, b"submit") {
         return match submit_of(words) {
-            Some((kind, quanta, lines)) => Meaning::Opens(Head {
+            Some((kind, quanta, lines)) => LineMeaning::Opens(Head {
                 who,
                 kind,
                 quanta,
                 lines,
             }),
-            None => Meaning::Bad(Some(who)),
+            None => LineMeaning::Bad(Some(who)),
         };
     }
     match what_of(verb, words) {
-        Some(what) => Meaning::Whole(Request { who, what }),
-        None => Meaning::Bad(Some(who)),
+        Some(what) => LineMeaning::Whole(Request { who, what }),
+        None => LineMeaning::Bad(Some(who)),
     }
 }
 
-fn turn_line(verb: &[u8], mut words: Words<'_>) -> Meaning
+fn turn_line(verb: &[u8], mut words: LineWords<'_>) -> LineMeaning
     ensures { result ≡ turn_line verb.now words.entry }
 {
     let Some(name) = words.next_word() else {
-        return Meaning::Bad(None);
+        return LineMeaning::Bad(None);
     };
     let Some(who) = Name::new(name) else {
-        return Meaning::Bad(None);
+        return LineMeaning::Bad(None);
     };
     match turn_of(verb, words) {
-        Some(what) => Meaning::Whole(Request { who, what }),
-        None => Meaning::Bad(None),
+        Some(what) => LineMeaning::Whole(Request { who, what }),
+        None => LineMeaning::Bad(None),
     }
 }
 
 /// What a line means, which comes without its end.
-pub fn read_line(line: &[u8]) -> Meaning
+pub fn read_line(line: &[u8]) -> LineMeaning
     ensures { result ≡ meaning_of line.now }
 {
-    let mut words = Words::of(line);
+    let mut words = LineWords::of(line);
     let Some(first) = words.next_word() else {
-        return Meaning::Blank;
+        return LineMeaning::Blank;
     };
     match tenant_of(first) {
         Some(who) => own_line(who, words),

@@ -6,7 +6,7 @@ ghost use Rattle.session_lines.specs.Script.{Takes, opened_text, is_wordless, ju
 ghost use Rattle.session_lines.specs.Taken.{TakesIf, TakesMeaning, Adds, judged_by};
 
 use crate::bytes::{Line, ReadFault, feed_place, gather_line};
-use crate::line::{Head, Meaning, read_line};
+use crate::line::{Head, LineMeaning, read_line};
 use crate::request::{LineFault, Request};
 use crate::text::{Text, is_long, shown};
 use crate::words::is_blank;
@@ -25,21 +25,21 @@ fn is_wordless(line: &[u8]) -> bool
 }
 
 // What a line means.
-fn judge(line: &[u8]) -> Meaning
+fn judge(line: &[u8]) -> LineMeaning
     ensures { result ≡ judged line.now }
 {
     if !is_long(line) {
         return read_line(shown(line));
     }
     if is_wordless(line) {
-        Meaning::Blank
+        LineMeaning::Blank
     } else {
-        Meaning::Long
+        LineMeaning::Long
     }
 }
 
 // What a line that was gathered means.
-fn judge_gathered(line: &Line) -> Meaning
+fn judge_gathered(line: &Line) -> LineMeaning
     ensures { result ≡ judged_by line.now.kept.items line.now.is_blank }
 {
     let kept = line.kept.as_slice();
@@ -47,9 +47,9 @@ fn judge_gathered(line: &Line) -> Meaning
         return read_line(shown(kept));
     }
     if line.is_blank {
-        Meaning::Blank
+        LineMeaning::Blank
     } else {
-        Meaning::Long
+        LineMeaning::Long
     }
 }
 
@@ -58,7 +58,7 @@ fn gather_meaning<R: BufRead>(
     reader: &mut R,
     watch: &mut Watch,
     left: &mut u64,
-) -> Result<Option<Meaning>, ReadFault>
+) -> Result<Option<LineMeaning>, ReadFault>
     ensures taken { IfOk result (λ found. TakesMeaning found left.old left.new
         (R.remaining reader.old) (R.remaining reader.new)) }
     ensures fewer { IfOk result (λ found. is_some found ≡ true → left.new < left.old) }
@@ -79,7 +79,7 @@ fn next_meaning<R: BufRead>(
     reader: &mut R,
     watch: &mut Watch,
     left: &mut u64,
-) -> Result<Option<Meaning>, ReadFault>
+) -> Result<Option<LineMeaning>, ReadFault>
     ensures taken { IfOk result (λ found. TakesMeaning found left.old left.new
         (R.remaining reader.old) (R.remaining reader.new)) }
     ensures fewer { IfOk result (λ found. is_some found ≡ true → left.new < left.old) }
@@ -215,11 +215,11 @@ pub fn read_within<R: BufRead>(
             return Err(LineFault::Eof);
         };
         match meaning {
-            Meaning::Blank => {}
-            Meaning::Whole(request) => return Ok(request),
-            Meaning::Opens(head) => return read_text(alloc, reader, watch, &mut left, head),
-            Meaning::Long => return Err(LineFault::TooLong(None)),
-            Meaning::Bad(who) => return Err(LineFault::Syntax(who)),
+            LineMeaning::Blank => {}
+            LineMeaning::Whole(request) => return Ok(request),
+            LineMeaning::Opens(head) => return read_text(alloc, reader, watch, &mut left, head),
+            LineMeaning::Long => return Err(LineFault::TooLong(None)),
+            LineMeaning::Bad(who) => return Err(LineFault::Syntax(who)),
         }
     }
 }

@@ -13,12 +13,12 @@ const MOST_DIGITS: usize = 18;
 
 /// The words of a line that are still to come.
 #[derive(Debug, Drop)]
-pub struct Words<'a> {
+pub struct LineWords<'a> {
     /// What is left of the line.
     rest: &'a [u8],
 }
 
-impl<'a> Model for Words<'a> {
+impl<'a> Model for LineWords<'a> {
     ghost use Rattle.std.specs.Prelude.{List, ℕ};
     ghost use Rattle.psplib_mm.specs.Text.{words_of};
 
@@ -78,12 +78,12 @@ pub fn number(word: &[u8]) -> Option<u64>
     Some(value)
 }
 
-impl<'a> Words<'a> {
+impl<'a> LineWords<'a> {
     /// The words of a line.
-    pub fn of(line: &'a [u8]) -> Words<'a>
+    pub fn of(line: &'a [u8]) -> LineWords<'a>
         ensures { result ≡ words_of line.now }
     {
-        Words { rest: line }
+        LineWords { rest: line }
     }
 
     /// Takes the next word.

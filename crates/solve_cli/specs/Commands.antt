@@ -19,13 +19,13 @@ use Rattle.solve_cli.specs.declared.fault.VerifyFault.TheVariants as verify
 use Rattle.solve_cli.specs.declared.search_kinds.SearchKind.{SearchKind}
 use Rattle.solve_cli.specs.declared.searching.SearchResult.{SearchResult}
 use Rattle.solve_cli.specs.declared.verifying.Verified.{Verified}
-use Rattle.solve_cli.specs.declared.watches.Watches.{Watches}
+use Rattle.solve_cli.specs.declared.watches.SolveWatches.{SolveWatches}
 
 -- ---- how a command ends
 
 -- its text was written; or its inputs are at fault, or there was no memory, and nothing was; or a write failed. By what the command's
 -- watches had counted before it and count then
-abbrev pub IsEndOf : Type 0 → (InputFault → Type 0) → Result ⊤ CommandFault → Watches → Watches → Option (List ℕ) → Option (List ℕ) → Type 0
+abbrev pub IsEndOf : Type 0 → (InputFault → Type 0) → Result ⊤ CommandFault → SolveWatches → SolveWatches → Option (List ℕ) → Option (List ℕ) → Type 0
 IsEndOf written unmade (Ok done) from seen before after = written
 IsEndOf written unmade (Err (Input fault)) from seen before after = (after ≡ before) × unmade fault
 IsEndOf written unmade (Err NoMemory) from seen before after = after ≡ before
@@ -48,7 +48,7 @@ abbrev pub OfBoth : Option (List ℕ) → Option (List ℕ) → (List ℕ → Li
 OfBoth file text P = IfSome file (λ bytes. IfSome text (λ words. P (take MOST_TEXT bytes) (take MOST_TEXT words)))
 
 -- why there is no feasible schedule, or which input could not be read
-abbrev pub IsUnverified : InputFault → Watches → Watches → Option (List ℕ) → Option (List ℕ) → Type 0
+abbrev pub IsUnverified : InputFault → SolveWatches → SolveWatches → Option (List ℕ) → Option (List ℕ) → Type 0
 IsUnverified (File kind) from seen file text = HasFailed from.file seen.file
 IsUnverified (Text kind) from seen file text = HasFailed from.text seen.text
 IsUnverified (Verify fault) from seen file text = OfBoth file text (λ bytes words. IsAtFault bytes words fault)
@@ -61,7 +61,7 @@ pub record IsReported (Tells : Verified → List ℕ → Type 0) (file text : Li
   pub tells : Tells verified shown
   pub wrote : Appends before after shown
 
-abbrev pub IsShowOf : (Verified → List ℕ → Type 0) → Result ⊤ CommandFault → Watches → Watches → Option (List ℕ) → Option (List ℕ) → Option (List ℕ) → Option (List ℕ) → Type 0
+abbrev pub IsShowOf : (Verified → List ℕ → Type 0) → Result ⊤ CommandFault → SolveWatches → SolveWatches → Option (List ℕ) → Option (List ℕ) → Option (List ℕ) → Option (List ℕ) → Type 0
 IsShowOf Tells ended from seen file text before after =
     IsEndOf (OfBoth file text (λ bytes words. IsReported Tells bytes words before after)) (λ fault. IsUnverified fault from seen file text) ended from seen before after
 
@@ -75,7 +75,7 @@ GivesText May v shown = (text : String Global) × May v (Ok text) × (shown ≡ 
 
 -- ---- a project's file alone
 
-abbrev pub IsUnsolved : InputFault → Watches → Watches → Option (List ℕ) → Type 0
+abbrev pub IsUnsolved : InputFault → SolveWatches → SolveWatches → Option (List ℕ) → Type 0
 IsUnsolved (File kind) from seen file = HasFailed from.file seen.file
 IsUnsolved (Text kind) from seen file = ⊥
 IsUnsolved (Verify (verify.File fault)) from seen file = IfSome file (λ bytes. Fails fault (reading (take MOST_TEXT bytes)))
@@ -97,6 +97,6 @@ pub record IsSolved (is_json : Bool) (kinds : List SearchKind) (most : ℕ) (fil
   pub finds : IsFoundByEach project kinds most found
   pub wrote : Appends before after (told_text is_json found)
 
-abbrev pub IsSolveOf : Bool → List SearchKind → ℕ → Result ⊤ CommandFault → Watches → Watches → Option (List ℕ) → Option (List ℕ) → Option (List ℕ) → Type 0
+abbrev pub IsSolveOf : Bool → List SearchKind → ℕ → Result ⊤ CommandFault → SolveWatches → SolveWatches → Option (List ℕ) → Option (List ℕ) → Option (List ℕ) → Type 0
 IsSolveOf is_json kinds most ended from seen file before after =
     IsEndOf (IfSome file (λ bytes. IsSolved is_json kinds most (take MOST_TEXT bytes) before after)) (λ fault. IsUnsolved fault from seen file) ended from seen before after

@@ -4,7 +4,7 @@ ghost use Rattle.std.specs.Process.{exit_status};
 ghost use Rattle.solve_cli.specs.Commands.{command_status};
 
 use crate::fault::{CommandFault, InputFault};
-use crate::watches::Watches;
+use crate::watches::SolveWatches;
 use schedule_files::MOST_BYTES;
 use std::env::Env;
 use std::io::Eprint;
@@ -27,7 +27,7 @@ pub struct Paths<'a> {
 }
 
 /// Tells of a fault all breaches, if they were asked for, or else why it is one.
-fn tell_more<R: Env + Eprint>(rt: &R, watches: &Watches) {
+fn tell_more<R: Env + Eprint>(rt: &R, watches: &SolveWatches) {
     match &watches.list {
         Ok(Some(list)) => {
             let _ = eprint!(rt; "{list}");
@@ -44,7 +44,7 @@ pub(crate) fn end_command<R: Env + Eprint>(
     rt: &R,
     paths: Paths<'_>,
     ended: Result<(), CommandFault>,
-    watches: &Watches,
+    watches: &SolveWatches,
 ) -> ExitCode
     ensures { exit_status result ≡ command_status ended }
 {

@@ -57,4 +57,4 @@ pub use showing::{draw_read, draw_to, verify_read, verify_to};
 pub use solving::{SolveOptions, solve_read, solve_to};
 pub use telling::{put_best, tell, tell_better, tell_better_json, tell_json, verdict_word};
 pub use verifying::{Verified, verify};
-pub use watches::Watches;
+pub use watches::SolveWatches;

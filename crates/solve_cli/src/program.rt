@@ -15,7 +15,7 @@ use crate::several::MOST_SEARCHES;
 use crate::showing::{draw_to, verify_to};
 use crate::solving::{SolveOptions, solve_to};
 use crate::verifying::Verified;
-use crate::watches::Watches;
+use crate::watches::SolveWatches;
 use explain::{why_no_search, why_words};
 use schedule_files::{Heading, Order, draw};
 use std::alloc::{AllocError, Global};
@@ -156,7 +156,7 @@ fn run_verify<R: Runtime + AllocGlobal>(rt: &R, paths: Paths<'_>, told: Listing)
     let Some(text) = open_path(rt, paths.text) else {
         return ExitCode::FAILURE;
     };
-    let mut watches = Watches::new();
+    let mut watches = SolveWatches::new();
     watches.lists_all = told == Listing::All;
     verify_to(rt, paths, file, text, &mut io::writer(rt), &mut watches)
 }
@@ -172,7 +172,7 @@ fn run_draw<R: Runtime + AllocGlobal>(rt: &R, paths: Paths<'_>, order: Order) ->
         return ExitCode::FAILURE;
     };
     let alloc = rt.alloc();
-    let mut watches = Watches::new();
+    let mut watches = SolveWatches::new();
     draw_to(
         rt,
         paths,
@@ -237,7 +237,7 @@ fn run_solve<R: Runtime + AllocGlobal>(rt: &R, solving: Solving<'_>) -> ExitCode
         most: each.min(MOST_NODES),
         is_json: solving.is_json,
     };
-    let mut watches = Watches::new();
+    let mut watches = SolveWatches::new();
     solve_to(
         rt,
         solving.file,

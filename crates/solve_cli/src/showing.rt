@@ -9,7 +9,7 @@ use crate::ending::{MOST_TEXT, Paths, end_command};
 use crate::explaining::{list_of, why_unverified};
 use crate::fault::{CommandFault, InputFault};
 use crate::verifying::{Verified, verify};
-use crate::watches::Watches;
+use crate::watches::SolveWatches;
 use schedule_files::MOST_BYTES;
 use std::alloc::{AllocError, Global};
 use std::env::Env;
@@ -22,7 +22,7 @@ fn read_verified<S: Read + Drop, T: Read + Drop>(
     alloc: Global,
     file: S,
     text: T,
-    watches: &mut Watches,
+    watches: &mut SolveWatches,
 ) -> Result<Verified, InputFault>
     ensures verified { IfOk result (λ verified.
         OfBoth (S.remaining file) (T.remaining text) (λ bytes words. IsVerified bytes words verified)) }
@@ -58,7 +58,7 @@ pub fn verify_read<S: Read + Drop, T: Read + Drop, W: Write>(
     file: S,
     text: T,
     writer: &mut W,
-    watches: &mut Watches,
+    watches: &mut SolveWatches,
 ) -> Result<(), CommandFault>
     ensures { IsShowOf TellsMakespan result watches.old watches.new (S.remaining file) (T.remaining text)
         (W.contents writer.old)
@@ -86,7 +86,7 @@ pub fn draw_read<
     file: S,
     text: T,
     writer: &mut W,
-    watches: &mut Watches,
+    watches: &mut SolveWatches,
     draw: D,
 ) -> Result<(), CommandFault>
     requires { (verified : Verified) → IsFeasible verified.project verified.schedule → D.pre draw verified }
@@ -116,7 +116,7 @@ pub fn verify_to<R: AllocGlobal + Env + Eprint, S: Read + Drop, T: Read + Drop, 
     file: S,
     text: T,
     writer: &mut W,
-    watches: &mut Watches,
+    watches: &mut SolveWatches,
 ) -> ExitCode
     ensures { Ends
         (λ ended. IsShowOf TellsMakespan ended watches.old watches.new (S.remaining file) (T.remaining text)
@@ -141,7 +141,7 @@ pub fn draw_to<
     file: S,
     text: T,
     writer: &mut W,
-    watches: &mut Watches,
+    watches: &mut SolveWatches,
     draw: D,
 ) -> ExitCode
     requires { (verified : Verified) → IsFeasible verified.project verified.schedule → D.pre draw verified }

@@ -11,7 +11,7 @@ use crate::search_kinds::SearchKind;
 use crate::searching::{SearchResult, MOST_NODES, Observer};
 use crate::several::{MOST_SEARCHES, solve_each};
 use crate::telling::{tell, tell_json};
-use crate::watches::Watches;
+use crate::watches::SolveWatches;
 use explain::why_file;
 use mrcpsp::Project;
 use psplib_mm::read;
@@ -35,7 +35,7 @@ pub struct SolveOptions<'a> {
 fn read_project<S: Read + Drop>(
     alloc: Global,
     file: S,
-    watches: &mut Watches,
+    watches: &mut SolveWatches,
 ) -> Result<Project, InputFault>
     ensures project { IfOk result (λ project.
         IfSome (S.remaining file) (λ all. reading (take MOST_TEXT all) ≡ Ok project)) }
@@ -74,7 +74,7 @@ pub fn solve_read<S: Read + Drop, W: Write, L: Observer>(
     asked: SolveOptions<'_>,
     looks: &mut L,
     writer: &mut W,
-    watches: &mut Watches,
+    watches: &mut SolveWatches,
 ) -> Result<(), CommandFault>
     requires few { asked.most ≤ MOST_NODES }
     requires short { length asked.kinds.now ≤ MOST_SEARCHES }
@@ -113,7 +113,7 @@ pub fn solve_to<R: AllocGlobal + Env + Eprint, S: Read + Drop, W: Write, L: Obse
     asked: SolveOptions<'_>,
     looks: &mut L,
     writer: &mut W,
-    watches: &mut Watches,
+    watches: &mut SolveWatches,
 ) -> ExitCode
     requires few { asked.most ≤ MOST_NODES }
     requires short { length asked.kinds.now ≤ MOST_SEARCHES }

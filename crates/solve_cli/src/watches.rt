@@ -6,7 +6,7 @@ use watched_io::Watch;
 
 /// The watches through which a command reads and writes: they count the reads and writes that failed, as contracts see it.
 #[derive(Debug, Drop)]
-pub struct Watches {
+pub struct SolveWatches {
     /// Of the project's file.
     pub(crate) file: Watch,
     /// Of the schedule's text.
@@ -21,14 +21,14 @@ pub struct Watches {
     pub(crate) list: Result<Option<String>, AllocError>,
 }
 
-impl Watches {
-    /// Watches through which nothing has failed.
-    pub fn new() -> Watches
+impl SolveWatches {
+    /// SolveWatches through which nothing has failed.
+    pub fn new() -> SolveWatches
         ensures file { result.file ≡ 0 }
         ensures text { result.text ≡ 0 }
         ensures output { result.output ≡ 0 }
     {
-        Watches {
+        SolveWatches {
             file: Watch::new(),
             text: Watch::new(),
             output: Watch::new(),

@@ -2,7 +2,7 @@ use Rattle.std.proofs.Common.{ℕ, List, sym, ap, ◌∙◌}
 use Rattle.std.specs.List.{position_or_len}
 use Rattle.psplib_mm.specs.Text.{is_blank}
 use Rattle.session_lines.proofs.WordLemmas.{no_word, next_word}
-use Rattle.session_lines.proofs.words.Words.next_word.Goals as goal
+use Rattle.session_lines.proofs.words.LineWords.next_word.Goals as goal
 
 pub returns-in_err-word_start : goal.returns-in_err-word_start
 returns-in_err-word_start c =
