@@ -141,14 +141,11 @@ fn a_writer_that_is_interrupted(rt: HostRuntime) {
     assert!(rt; writer.taken.as_slice() == b"@a job 1\n".as_slice());
 }
 
-// Whether this is the line that is written for tenant a, and the text that is printed.
-fn is_line(alloc: Global, said: &Said, line: &str) -> Result<bool, Fail> {
+// Whether this is the line that is written for tenant a.
+fn is_line(alloc: Global, said: &Said, line: &str) -> bool {
     let mut written = Vec::new(alloc);
-    if write_reply(&mut written, &mut Watch::new(), Name::new(b"a"), said).is_err() {
-        return Ok(false);
-    }
-    let printed = format!(in alloc; "@a {said}\n")?;
-    Ok(written.as_slice() == line.as_bytes() && printed.as_str() == line)
+    write_reply(&mut written, &mut Watch::new(), Name::new(b"a"), said).is_ok()
+        && written.as_slice() == line.as_bytes()
 }
 
 #[test]
@@ -160,7 +157,7 @@ fn lines_of_want_of_memory(rt: HostRuntime) -> Result<(), Fail> {
         (Said::Reply(Reply::NoShort(89)), "@a no short 89\n"),
     ];
     for (said, line) in &rows {
-        assert!(rt; is_line(rt.alloc(), said, line)?, "{line}");
+        assert!(rt; is_line(rt.alloc(), said, line), "{line}");
     }
     Ok(())
 }

@@ -9,17 +9,17 @@
 //! - `bytes`, `words`: lines of a reader with their first bytes; words and numbers of a line.
 //! - `line`, `text`: what one line means; the text of a submit while its lines come.
 //! - `request`, `reading`: `Request`, `LineFault`, and `read_request`.
-//! - `said`, `display`: what is replied to a line, and its texts.
+//! - `said`, `reply_words`: what is replied to a line, and its words for phases and verdicts.
 //! - `put`, `writer`: writing pieces, and `write_reply`.
 //! - `laws`: that requests come in turn.
 #![tactic(auto)]
 
 mod bytes;
-mod display;
 pub mod laws;
 mod line;
 mod put;
 mod reading;
+mod reply_words;
 mod request;
 mod said;
 mod text;
