@@ -1,7 +1,7 @@
 //! Clauses in DIMACS form: a line `p cnf VARIABLES CLAUSES`, and each clause as numbers ended by 0, a negative number for a
 //! negated variable. Lines that begin with `c` tell what the clauses say, and which variable says `starts J T`, that activity
 //! J starts at T or before, or `mode J M`, that it has the mode M.
-use schedule_clauses::{Formula, Kind, Fact, CapacityRow};
+use schedule_clauses::{CapacityRow, Fact, Formula, Kind};
 use std::io::{self, Write};
 
 /// What the clauses of a kind say.

@@ -3,7 +3,7 @@
 use crate::assignment::Assignment;
 use crate::clause_list::{ClauseList, Entry, NO_CLAUSE, NO_LITERAL, Span, State};
 use crate::replay::negated;
-use crate::watches::{Watcher, WatchLists};
+use crate::watches::{WatchLists, Watcher};
 use std::alloc::{AllocError, Global};
 
 /// The greatest place of a clause that is watched, so that a watch's code fits.
@@ -155,7 +155,12 @@ impl Propagator {
     }
 
     /// Visits a clause whose watched literal `falsified` is false and whose blocker is not true.
-    fn visit(&mut self, watch: Watcher, falsified: u32, is_core: bool) -> Result<Visit, AllocError> {
+    fn visit(
+        &mut self,
+        watch: Watcher,
+        falsified: u32,
+        is_core: bool,
+    ) -> Result<Visit, AllocError> {
         let Watcher { code, blocker } = watch;
         let Entry {
             clause,

@@ -2,7 +2,7 @@
 use crate::head::{DOUBLY, JOBS, Label, NONRENEWABLE, PROJECTS, RENEWABLE, Value, value_of};
 use crate::limits::why_limit;
 use crate::lines::{Count, Piece, count_lines, number, shown_word};
-use crate::rows::{Misfit, FileRow, first_misfit, misnumbered, number_at};
+use crate::rows::{FileRow, Misfit, first_misfit, misnumbered, number_at};
 use crate::sections::lines_below;
 use crate::sheet::{Sheet, sheet_of};
 use psplib_mm::{MmFault, SectionName};

@@ -51,7 +51,11 @@ fn long_mode(words: &[Piece<'_>], rows: &[FileRow]) -> Option<(FileRow, Excess)>
 }
 
 /// The first request or consumption above 1,000,000.
-fn great_request(words: &[Piece<'_>], rows: &[FileRow], resources: usize) -> Option<(FileRow, Excess)> {
+fn great_request(
+    words: &[Piece<'_>],
+    rows: &[FileRow],
+    resources: usize,
+) -> Option<(FileRow, Excess)> {
     for row in rows {
         let from = duration_place(row).saturating_add(1);
         if row.mode.is_some()

@@ -89,7 +89,8 @@ impl ConfigPlace {
     /// What is wanted at the place of this fault.
     pub fn wanted(self, fault: ConfigFault) -> &'static str {
         match (fault, self) {
-            (ConfigFault::Shape, ConfigPlace::Whole(part) | ConfigPlace::Tenant(_, part)) => kind_of(part),
+            (ConfigFault::Shape, ConfigPlace::Whole(part) | ConfigPlace::Tenant(_, part)) =>
+                kind_of(part),
             (ConfigFault::Tenants, _) => "1 to 64 are allowed",
             (ConfigFault::Name(_), ConfigPlace::Tenant(_, ConfigPart::Purse)) => {
                 "1 to 32 of a-z, 0-9, _ and - are allowed, a letter first"
@@ -141,7 +142,9 @@ fn misfit(value: &Value) -> ConfigPlace {
         }
     }
     match value.get("workers") {
-        Some(workers) if workers.as_u64().is_none() => ConfigPlace::Whole(ConfigPart::Number(Key::Workers)),
+        Some(workers) if workers.as_u64().is_none() => ConfigPlace::Whole(ConfigPart::Number(
+            Key::Workers,
+        )),
         _ => ConfigPlace::Whole(ConfigPart::Number(Key::Slice)),
     }
 }

@@ -1,6 +1,6 @@
 //! Cancels at every phase.
-use crate::calls::CallAnswer::{Job, NoOver, Ran, Told};
 use crate::calls::Call::{Cancel, Give, GiveUnrun, Submit, Take, Turn};
+use crate::calls::CallAnswer::{Job, NoOver, Ran, Told};
 use crate::calls::Shown;
 use crate::fixtures::Text::Diamond;
 use crate::play::Step;

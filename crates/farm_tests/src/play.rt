@@ -2,7 +2,7 @@
 ghost use Rattle.std.specs.Prelude.{◌≡◌, IfSome};
 ghost use Rattle.farm_core.specs.Turn.{IsTurn};
 
-use crate::calls::{CallAnswer, Call, Shown, ask, numbers_of, put_back, snapshot};
+use crate::calls::{Call, CallAnswer, Shown, ask, numbers_of, put_back, snapshot};
 use crate::fixtures::{Planned, Purses, Wanted, all_planned, farm_of};
 use farm_core::{Event, Farm, Turn};
 use std::alloc::{AllocError, Global};

@@ -1,10 +1,10 @@
 //! The worked scripts.
+use crate::calls::Call::{
+    Abandon, Cancel, Fetch, Forget, Fund, Give, Ledger, Status, Submit, Take, Turn,
+};
 use crate::calls::CallAnswer::{
     Best, Books, Forgotten, Job, NoAmount, NoBusy, NoJobs, NoOver, NoRoom, NoShort, NoTurn,
     NoUnknown, Ran, Told,
-};
-use crate::calls::Call::{
-    Abandon, Cancel, Fetch, Forget, Fund, Give, Ledger, Status, Submit, Take, Turn,
 };
 use crate::calls::{CallAnswer, Placed, Shown};
 use crate::fixtures::Text::{Chain, Diamond, Lone, Roomy, Shared, Starved};

@@ -1,6 +1,6 @@
 //! Two tenants of one purse, and a third one beside them.
-use crate::calls::CallAnswer::{Books, Job, NoShort, NoUnknown, Ran, Told};
 use crate::calls::Call::{Cancel, Give, Ledger, Status, Submit, Take};
+use crate::calls::CallAnswer::{Books, Job, NoShort, NoUnknown, Ran, Told};
 use crate::calls::Shown;
 use crate::fixtures::Text::Diamond;
 use crate::fixtures::{Planned, Purses, THREE, all_planned, farm_with};

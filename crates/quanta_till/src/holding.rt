@@ -3,7 +3,7 @@ ghost use Rattle.std.specs.Prelude.{◌≡◌, ◌+◌, ◌-◌, ◌<◌, ◌≤
 ghost use Rattle.quanta_till.specs.declared.rule.TheConstants.{WORDS};
 ghost use Rattle.quanta_till.specs.Till.{new_view};
 
-use crate::rule::{Draw, HandBack, POOL, SPENT, SeatView, Use, TillTable};
+use crate::rule::{Draw, HandBack, POOL, SPENT, SeatView, TillTable, Use};
 use atomic_table::Seat;
 use std::marker::Model;
 

@@ -8,7 +8,7 @@ use crate::holding::Holding;
 use crate::lease::Lease;
 use crate::owned::Owned;
 use crate::rule::{
-    GRANTED, LoadGranted, LoadPool, LoadSpent, NewSeat, POOL, SPENT, SeatView, WORDS, TillTable,
+    GRANTED, LoadGranted, LoadPool, LoadSpent, NewSeat, POOL, SPENT, SeatView, TillTable, WORDS,
 };
 use atomic_table::Seat;
 use std::alloc::{AllocError, Global};

@@ -4,9 +4,9 @@ ghost use Rattle.mrcpsp.specs.Project.{size, mode_count, renewables};
 ghost use Rattle.schedule_clauses.specs.Encoding.{AllGood};
 
 use crate::chains::Chains;
-use crate::diagram::{Diagram, Demand};
+use crate::diagram::{Demand, Diagram};
 use crate::encoding::{Encoding, Scope};
-use crate::formula::{Kind, CapacityRow};
+use crate::formula::{CapacityRow, Kind};
 use crate::mode_forms::{exclude, executable, modes};
 use crate::rows::{Room, row_clauses};
 use crate::windows::Windows;
@@ -93,7 +93,11 @@ fn use_demands(
 }
 
 /// What consumes a nonrenewable resource.
-fn stock_demands(alloc: Global, project: &Project, resource: usize) -> Result<Vec<Demand>, AllocError> {
+fn stock_demands(
+    alloc: Global,
+    project: &Project,
+    resource: usize,
+) -> Result<Vec<Demand>, AllocError> {
     let mut demands = Vec::new(alloc);
     if resource >= project.nonrenewables() {
         return Ok(demands);

@@ -5,7 +5,7 @@ ghost use Rattle.schedule_clauses.specs.Encoding.{AllGood, Extends};
 
 use crate::activities::Activities;
 use crate::diagram::number_at;
-use crate::formula::{Formula, Kind, CapacityRow, Section};
+use crate::formula::{CapacityRow, Formula, Kind, Section};
 use crate::meaning::{Fact, Term};
 use mrcpsp::Project;
 use std::alloc::{AllocError, Global};

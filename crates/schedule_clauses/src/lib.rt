@@ -44,6 +44,6 @@ pub use activities::Activities;
 pub use certificate::{
     CertificateFault, certify, certify_bound, certify_infeasible, clauses, stock_clauses,
 };
-pub use formula::{Formula, Kind, CapacityRow, Section};
+pub use formula::{CapacityRow, Formula, Kind, Section};
 pub use meaning::Fact;
 pub use size::MOST_START_CLAUSES;

@@ -3,7 +3,7 @@ ghost use Rattle.std.specs.Prelude.{IfOk};
 ghost use Rattle.schedule_clauses.specs.Encoding.{AllGood};
 
 use crate::amount_forms::{Descent, all, fewer, take};
-use crate::diagram::{Diagram, Level, Demand, in_order};
+use crate::diagram::{Demand, Diagram, Level, in_order};
 use crate::encoding::{Encoding, Scope};
 use crate::formula::CapacityRow;
 use std::alloc::AllocError;

@@ -4,7 +4,7 @@ ghost use Rattle.std.specs.Prelude.{◌≡◌, ◌<◌, IfOk};
 ghost use Rattle.mrcpsp.specs.Project.{size};
 ghost use Rattle.schedule_clauses.specs.Encoding.{AllGood};
 
-use crate::diagram::{Diagram, Level, Demand, in_order, number_at};
+use crate::diagram::{Demand, Diagram, Level, in_order, number_at};
 use crate::encoding::{Encoding, Scope};
 use crate::formula::Kind;
 use crate::meaning::Weights;

@@ -9,8 +9,8 @@ ghost use Rattle.session_lines.specs.Taken.{Extends, TakesPiece, TakesIf, IsFron
 use crate::text::LONGEST;
 use crate::words::is_blank;
 use arrayvec::ArrayVec;
-use watched_io::{Watch, fill};
 use std::io::BufRead;
+use watched_io::{Watch, fill};
 
 /// The reader failed, or more bytes came than may.
 #[derive(Clone, Copy, Debug, PartialEq, Eq)]

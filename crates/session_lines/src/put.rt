@@ -5,9 +5,9 @@ ghost use Rattle.session_lines.specs.Known.{Writes};
 ghost use Rattle.session_lines.specs.Part.{Gathers, part_text, parts_text};
 
 use arrayvec::ArrayVec;
-use watched_io::Watch;
 use itoa::Buffer;
 use std::io::Write;
+use watched_io::Watch;
 
 /// The writer failed, or took no byte.
 #[derive(Clone, Copy, Debug, PartialEq, Eq)]

@@ -10,9 +10,9 @@ use crate::line::{Head, LineMeaning, read_line};
 use crate::request::{LineFault, Request};
 use crate::text::{Text, is_long, shown};
 use crate::words::is_blank;
-use watched_io::{Watch, fill};
 use std::alloc::Global;
 use std::io::BufRead;
+use watched_io::{Watch, fill};
 
 /// The most bytes that a request may have, with the blank lines before it.
 pub const MOST_REQUEST_BYTES: u64 = 100_000_000;

@@ -6,8 +6,8 @@ ghost use Rattle.session_lines.specs.Known.{Writes};
 ghost use Rattle.session_lines.specs.Part.{Gathers, part_text, parts_text};
 ghost use Rattle.session_lines.specs.ReplyText.{verdict_text, best_text, line_text, place_text, places_text, schedule_text, book_text, reply_text, file_text, said_text, who_text, reply_line};
 
-use crate::reply_words::{phase_word, verdict_word};
 use crate::put::{Gathered, Part, WriteFault, gather, gather_parts, put};
+use crate::reply_words::{phase_word, verdict_word};
 use crate::said::Said;
 use arrayvec::ArrayVec;
 use farm_core::{Line, Name, Reply};

@@ -51,7 +51,7 @@ pub use kinds::{SearchFault, kinds_of};
 pub use local::improve;
 pub use program::{COMMANDS_HELP, asks_for_help, is_command, run_command};
 pub use search_kinds::SearchKind;
-pub use searching::{SearchResult, MOST_NODES, Observer, solve};
+pub use searching::{MOST_NODES, Observer, SearchResult, solve};
 pub use several::{MOST_SEARCHES, solve_each};
 pub use showing::{draw_read, draw_to, verify_read, verify_to};
 pub use solving::{SolveOptions, solve_read, solve_to};

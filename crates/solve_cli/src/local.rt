@@ -2,7 +2,7 @@
 ghost use Rattle.std.specs.Prelude.{◌≡◌, ◌≤◌, IfOk};
 ghost use Rattle.solve_cli.specs.Improved.{IsImproved};
 
-use crate::searching::{CHUNK, SearchResult, Observer};
+use crate::searching::{CHUNK, Observer, SearchResult};
 use improve_search::Improving;
 use mrcpsp::Project;
 use std::alloc::{AllocError, Global};

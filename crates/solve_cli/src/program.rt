@@ -3,7 +3,7 @@ ghost use Rattle.std.specs.Prelude.{◌≡◌, ◌≤◌, IfOk, IfErr, vec_len};
 ghost use Rattle.std.specs.Process.{exit_status};
 ghost use Rattle.mrcpsp.specs.Schedule.{IsFeasible};
 
-use crate::arguments::{Solving, Task, Listing, solve_commands, task_of};
+use crate::arguments::{Listing, Solving, Task, solve_commands, task_of};
 use crate::ending::Paths;
 use crate::explaining::chain_of;
 use crate::improvements::{Improvements, Style};

@@ -5,7 +5,7 @@ ghost use Rattle.solve_cli.specs.Several.{is_decided, is_shorter, stronger, join
 
 use crate::local::improve;
 use crate::search_kinds::SearchKind;
-use crate::searching::{SearchResult, MOST_NODES, Observer, solve};
+use crate::searching::{MOST_NODES, Observer, SearchResult, solve};
 use mrcpsp::Project;
 use std::alloc::{AllocError, Global};
 use strategy::{Plan, Verdict};

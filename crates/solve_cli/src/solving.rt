@@ -8,7 +8,7 @@ use crate::ending::{MOST_TEXT, Paths, end_command};
 use crate::explaining::next_step;
 use crate::fault::{CommandFault, InputFault, VerifyFault};
 use crate::search_kinds::SearchKind;
-use crate::searching::{SearchResult, MOST_NODES, Observer};
+use crate::searching::{MOST_NODES, Observer, SearchResult};
 use crate::several::{MOST_SEARCHES, solve_each};
 use crate::telling::{tell, tell_json};
 use crate::watches::SolveWatches;
