@@ -19,7 +19,7 @@ pub struct CertifyWatches {
 }
 
 impl CertifyWatches {
-    /// CertifyWatches through which nothing has failed.
+    /// Watches through which nothing has failed.
     pub fn new() -> CertifyWatches
         ensures file { result.file ≡ 0 }
         ensures text { result.text ≡ 0 }

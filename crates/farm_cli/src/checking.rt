@@ -37,7 +37,7 @@ pub struct CheckWatches {
 }
 
 impl CheckWatches {
-    /// ReplayWatches through which nothing has failed.
+    /// Watches through which nothing has failed.
     pub fn new() -> CheckWatches
         ensures reads { result.reads ≡ 0 }
         ensures writes { result.writes ≡ 0 }

@@ -14,7 +14,7 @@ pub struct ReplayWatches {
 }
 
 impl ReplayWatches {
-    /// ReplayWatches through which nothing has failed.
+    /// Watches through which nothing has failed.
     pub fn new() -> ReplayWatches
         ensures reads { result.reads ≡ 0 }
         ensures writes { result.writes ≡ 0 }

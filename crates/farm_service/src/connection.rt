@@ -48,7 +48,7 @@ struct ConnectionWatches {
 }
 
 impl ConnectionWatches {
-    /// ConnectionWatches through which nothing has failed.
+    /// Watches through which nothing has failed.
     fn new() -> ConnectionWatches {
         ConnectionWatches {
             reads: Watch::new(),

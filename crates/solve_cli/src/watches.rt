@@ -22,7 +22,7 @@ pub struct SolveWatches {
 }
 
 impl SolveWatches {
-    /// SolveWatches through which nothing has failed.
+    /// Watches through which nothing has failed.
     pub fn new() -> SolveWatches
         ensures file { result.file ≡ 0 }
         ensures text { result.text ≡ 0 }
