@@ -1,5 +1,5 @@
 -- The names of tenants.
-use Rattle.std.specs.Prelude.{ℕ, Bool, true, false, ◌&&◌, ◌||◌, nat_le, ◌==◌, List, [], ◌∷◌, length}
+use Rattle.std.specs.Prelude.{ℕ, ◌+◌, ◌*◌, ◌-◌, get_or, Bool, true, false, ◌&&◌, ◌||◌, nat_le, ◌==◌, List, [], ◌∷◌, length}
 use Rattle.std.specs.List.{list_all}
 use Rattle.farm_core.specs.declared.name.TheConstants.{MOST_NAME}
 
@@ -23,3 +23,7 @@ same_bytes [] [] = true
 same_bytes [] (c ∷ cs) = false
 same_bytes (b ∷ bs) [] = false
 same_bytes (b ∷ bs) (c ∷ cs) = (b == c) && same_bytes bs cs
+
+-- by which most names are told apart at once: the length, and the last two bytes
+abbrev pub tag_of : List ℕ → ℕ
+tag_of name = (get_or name (length name - 2) 0 * 256 + get_or name (length name - 1) 0) * 256 + length name

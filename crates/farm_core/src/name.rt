@@ -1,30 +1,34 @@
 //! The names of tenants.
-ghost use Rattle.std.specs.Prelude.{◌≡◌, ◌↔◌, Some, None, IsTrue, if◌then◌else◌, length};
+ghost use Rattle.std.specs.Prelude.{◌≡◌, ◌↔◌, ◌<◌, ◌≤◌, Some, None, IsTrue, if◌then◌else◌, length};
 ghost use Rattle.std.specs.List.{list_all};
-ghost use Rattle.farm_core.specs.Name.{is_mark, is_letter, is_name, begins_well, same_bytes};
+ghost use Rattle.farm_core.specs.Name.{is_mark, is_letter, is_name, begins_well, same_bytes, tag_of};
 
 use std::marker::Model;
 
 /// The most bytes of a name.
 pub const MOST_NAME: usize = 32;
 
-/// A tenant's name: 1 to 32 bytes of `a` to `z`, `0` to `9`, `_` and `-`, the first a letter. Contracts see its bytes.
+/// A tenant's name: 1 to 32 bytes of `a` to `z`, `0` to `9`, `_` and `-`, the first a letter.
+/// Contracts see its bytes. Names of different tags differ, so most are told apart at once.
 #[derive(Debug, Drop)]
 pub struct Name {
     bytes: [u8; MOST_NAME],
     len: usize,
+    tag: u32,
 }
 
 impl Model for Name {
-    ghost use Rattle.std.specs.Prelude.{List, ℕ, take, ◌≤◌, IsTrue};
+    ghost use Rattle.std.specs.Prelude.{◌≡◌, List, ℕ, take, ◌≤◌, IsTrue};
     ghost use Rattle.farm_core.specs.declared.name.TheConstants.{MOST_NAME};
-    ghost use Rattle.farm_core.specs.Name.{is_name};
+    ghost use Rattle.farm_core.specs.Name.{is_name, tag_of};
 
     ghost Value = { List ℕ };
 
     ghost view = { λ n. take n.len n.bytes };
 
-    ghost invariant = { λ n. (n.len ≤ MOST_NAME) × IsTrue (is_name (take n.len n.bytes)) };
+    ghost invariant = { λ n. (n.len ≤ MOST_NAME)
+        × IsTrue (is_name (take n.len n.bytes))
+        × (n.tag ≡ tag_of (take n.len n.bytes)) };
 }
 
 /// Whether a byte may stand in a name.
@@ -56,6 +60,18 @@ fn are_marks(bytes: &[u8]) -> bool
     true
 }
 
+/// The tag of a name: its length and its last two bytes.
+fn tag_of(name: &[u8]) -> u32
+    requires some { 0 < length name.now }
+    requires few { length name.now ≤ MOST_NAME }
+    ensures { result ≡ tag_of name.now }
+{
+    let len = name.len();
+    let last = u32::from(name[len - 1]);
+    let before = u32::from(name[len.saturating_sub(2)]);
+    (before * 256 + last) * 256 + len as u32
+}
+
 /// Whether these are the same bytes.
 #[tactic(auto, using(crate::proofs::NameLemmas::same_bytes_is))]
 fn are_same(one: &[u8], other: &[u8]) -> bool
@@ -77,7 +93,8 @@ impl Name {
         }
         let mut bytes = [0; MOST_NAME];
         bytes[..len].copy_from_slice(given);
-        Some(Name { bytes, len })
+        let tag = tag_of(given);
+        Some(Name { bytes, len, tag })
     }
 
     /// Its bytes.
@@ -95,6 +112,7 @@ impl Name {
         Name {
             bytes: self.bytes,
             len: self.len,
+            tag: self.tag,
         }
     }
 
@@ -103,6 +121,6 @@ impl Name {
         ensures value { result ≡ same_bytes self.now other.now }
         ensures same { IsTrue result ↔ (self.now ≡ other.now) }
     {
-        are_same(self.as_bytes(), other.as_bytes())
+        self.tag == other.tag && are_same(self.as_bytes(), other.as_bytes())
     }
 }

@@ -7,6 +7,9 @@ use std::alloc::Global;
 use std::io;
 use std::io::{BufRead, BufReader, Read};
 
+/// The bytes of the shortest line that opens a text, `@a submit tree 1 1`.
+const LEAST_SUBMIT: usize = 18;
+
 /// The lines of the bytes that were taken, and the first of them that is not blank since a request began.
 #[derive(Clone, Copy, Debug)]
 struct Lines {
@@ -41,12 +44,9 @@ impl Lines {
         }
     }
 
-    /// One more byte.
+    /// One more byte, before a request begins or at its begin.
     fn add(&mut self, byte: u8) {
-        if self.last == b'\n' && self.first.is_some() {
-            self.is_marked = byte == b'@';
-        }
-        if self.first.is_none() && self.is_of_word(byte) {
+        if self.is_of_word(byte) {
             self.first = Some(self.ended.saturating_add(1));
         }
         if byte == b'\n' {
@@ -55,9 +55,31 @@ impl Lines {
         self.last = byte;
     }
 
+    /// More bytes of a request that has begun.
+    fn go_on(&mut self, bytes: &[u8]) {
+        let Some((last, front)) = bytes.split_last() else {
+            return;
+        };
+        let mut ends: u64 = 0;
+        for byte in bytes {
+            ends = ends.wrapping_add(u64::from(*byte == b'\n'));
+        }
+        self.ended = self.ended.saturating_add(ends);
+        match front.iter().rposition(|byte| *byte == b'\n') {
+            Some(end) => self.is_marked = bytes[end + 1] == b'@',
+            None if self.last == b'\n' => self.is_marked = bytes[0] == b'@',
+            None => {}
+        }
+        self.last = *last;
+    }
+
     /// So many bytes more.
     fn add_all(&mut self, bytes: &[u8]) {
-        for byte in bytes {
+        for (i, byte) in bytes.iter().enumerate() {
+            if self.first.is_some() {
+                self.go_on(&bytes[i..]);
+                return;
+            }
             self.add(*byte);
         }
     }
@@ -113,7 +135,8 @@ impl<R: Read> Script<R> {
         };
         let line = &ahead[..end];
         line.iter().any(|byte| *byte > b' ')
-            && !line.windows(6).any(|word| word == b"submit".as_slice())
+            && (line.len() < LEAST_SUBMIT
+                || !line.windows(6).any(|word| word == b"submit".as_slice()))
     }
 }
 

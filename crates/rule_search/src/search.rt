@@ -49,7 +49,7 @@ impl Workspace {
         ensures room { IfOk result (λ space. HasRoom (size plan.now.project) space.room) }
     {
         let measures = Measures::of(alloc, &plan.project)?;
-        let pass = Pass::new(alloc, &plan.project)?;
+        let pass = Pass::new(alloc, &plan.project, &measures)?;
         let room = pass.blank(alloc)?;
         Ok(Workspace {
             measures,

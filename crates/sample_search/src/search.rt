@@ -50,7 +50,7 @@ fn make_tools(alloc: Global, project: &Project) -> Result<Tools, AllocError>
     ensures room { IfOk result (λ tools. passes.HasRoom (size project.now) tools.room) }
 {
     let measures = Measures::of(alloc, project)?;
-    let pass = Pass::new(alloc, project)?;
+    let pass = Pass::new(alloc, project, &measures)?;
     let room = pass.blank(alloc)?;
     Ok(Tools {
         measures,

@@ -4,6 +4,7 @@ ghost use Rattle.mrcpsp.specs.Project.{size};
 ghost use Rattle.serial_pass.specs.Pass.{HasRoom};
 
 use crate::fixtures::{BLOCKED, DIAMOND, project};
+use measures::Measures;
 use mrcpsp::Schedule;
 use serial_pass::{Candidate, Pass};
 use std::alloc::Global;
@@ -93,7 +94,8 @@ fn made(rt: &impl Abort, pass: &Pass, room: Schedule, modes: &[u32], starts: &[u
 /// A new pass over a project.
 fn pass_over(rt: &impl Abort, alloc: Global, text: &str, capacities: &str) -> Pass {
     let project = project(rt, alloc, text, capacities);
-    Pass::new(alloc, &project).expect(rt, "no memory for a pass")
+    let measures = Measures::of(alloc, &project).expect(rt, "no memory for values");
+    Pass::new(alloc, &project, &measures).expect(rt, "no memory for a pass")
 }
 
 /// Memory for a schedule of a pass.
