@@ -31,9 +31,9 @@ pub record IsClosedWith (w : World) (log : List (ℕ × Entry)) (calls : List Ca
   pub answered : AreCallsOf w.config log calls
 
 -- each run of the farm that submits projects alone is that of a closed pool, whichever passes made
--- its entries. The pool was closed with the run's farm. The calls of its history are the run's, each
--- at its place with its answer. A call that left no entry is in no history: a command without room,
--- and a take or give without a turn
+-- its entries. The pool was closed with the run's farm. The calls of its history are the run's,
+-- each at its place with its answer. A call that left no entry is in no history: a command without
+-- room, and a take or give without a turn
 abbrev pub EachRunIsAClosedPools : Type 0
 EachRunIsAClosedPools = (config : ConfigData) (calls : List Call) (w : World) → Run config calls w → ArePlanned calls →
     (log : List (ℕ × Entry)) → history.events_of log ≡ w.journal → IsClosedWith w log (noted calls)
@@ -66,9 +66,9 @@ pub record WasTold (config : ConfigData) (log : List (ℕ × Entry)) (v : PoolVi
   pub again : IsInside config after.seen after
   pub others : (u : PoolView) → u.number ≢ v.number → IsInside config log u → IsInside config after.seen u
 
--- each call of such a run can be made in a pool: by any pass that may call then, and whichever passes
--- made the entries before. The pass is given the run's answer. A take or give without a turn alone is
--- no call of a pool
+-- each call of such a run can be made in a pool: by any pass that may call then, and whichever
+-- passes made the entries before. The pass is given the run's answer. A take or give without a turn
+-- alone is no call of a pool
 abbrev pub EachCallOfARunCanBeMade : Type 0
 EachCallOfARunCanBeMade = (config : ConfigData) (before behind : List Call) (c : Call) (w : World) →
     Run config (before ++ c ∷ behind) w → ArePlanned (before ++ c ∷ behind) → c.answer ≢ NoTurn →
