@@ -1,7 +1,8 @@
 -- Each run of the farm is that of a closed pool, whichever passes made its calls.
-use Rattle.std.proofs.Common.{◌≡◌, ◌≢◌, ℕ, zero, suc, ◌+◌, ◌-◌, ◌<◌, Bool, true, false, cond, ◌&&◌, List, [], ◌∷◌, ◌++◌, length, map, Option, Some, None, refl, sym, ap, ◌∙◌, subst, arith, eq-eqb, append_assoc, append-nil, inl}
+use Rattle.std.proofs.Common.{◌≡◌, ◌≢◌, ℕ, zero, suc, ◌+◌, ◌-◌, ◌<◌, Bool, true, false, cond, ◌&&◌, List, [], ◌∷◌, ◌++◌, length, map, Option, Some, None, refl, sym, ap, ◌∙◌, subst, arith, eqb, eq-eqb, append_assoc, append-nil, inl, ⊎_elim}
 use Rattle.std.specs.Prelude.{slice_get}
-use Rattle.std.proofs.lemmas.Bool.{cond_both, and_parts}
+use Rattle.std.proofs.lemmas.Bool.{cond_both, and_parts, both_ways, cases_Bool}
+use Rattle.std.proofs.lemmas.Bool.Decides.{nat_tests}
 use Rattle.job_table.specs.Table.{JobData, is_waiting, is_out}
 use Rattle.job_table.specs.Job.{is_turn, back}
 use Rattle.job_table.specs.declared.phase.Phase.{Phase}
@@ -21,9 +22,10 @@ use Rattle.farm_core.proofs.ReplayLemmas.{replayed_on, opened_replayed}
 use Rattle.farm_core.proofs.RunningLemmas.{found_seq}
 use Rattle.turn_lock.specs.History as history
 use Rattle.turn_lock.specs.History.{listed, tagged, LegalFrom, IsLegal}
-use Rattle.turn_lock.specs.Plays.{having_made}
+use Rattle.turn_lock.specs.Plays.{having_made, newcomer}
+use Rattle.turn_lock.specs.Rule as rule
 use Rattle.turn_lock.specs.declared.view.Stage.TheVariants.{Idle}
-use Rattle.turn_lock.proofs.Histories.{prefix_self, prefix_longer, legal-push, legal-more, entries_of-append, entries_of-own, entries_of-others}
+use Rattle.turn_lock.proofs.Histories.{events_of-append, events_of-tagged, prefix_self, prefix_longer, legal-push, legal-more, entries_of-append, entries_of-own, entries_of-others}
 use Rattle.farm_pool.specs.declared.image.TurnImage.{TurnImage}
 use Rattle.farm_pool.specs.declared.image.CallImage.{CallImage}
 use Rattle.farm_pool.specs.declared.image.CallImage.TheVariants as said
@@ -31,12 +33,12 @@ use Rattle.farm_pool.specs.declared.image.AnswerImage.{AnswerImage}
 use Rattle.farm_pool.specs.declared.image.AnswerImage.TheVariants as told
 use Rattle.farm_pool.specs.Closed.{entry_in, answer_in, WasAnswered, AreCallsOf}
 use Rattle.farm_pool.specs.Laws.{turn_of}
-use Rattle.farm_pool.specs.Runs.{noted, EachRunIsAClosedPools, IsInside, AsksFor, WasTold, EachCallOfARunCanBeMade}
+use Rattle.farm_pool.specs.Runs.{noted, EachRunIsAClosedPools, IsInside, AsksFor, WasTold, EachCallOfARunCanBeMade, with_pass, AreMade, PassesCanMakeEachRun}
 use Rattle.farm_pool.specs.Served.{tenant_at, entry_if, Served}
-use Rattle.farm_pool.specs.Worked.{PoolView}
+use Rattle.farm_pool.specs.Worked.{PoolView, IsClosed}
 use Rattle.farm_pool.proofs.ClosedLemmas.{AreAnswered, answered_at, noted_reply, sent_job}
 use Rattle.farm_pool.proofs.MadeLemmas.{can_serve, entry_left}
-use Rattle.farm_pool.proofs.ServedLemmas.{stands_at}
+use Rattle.farm_pool.proofs.ServedLemmas.{one_or_none, stands_at}
 use Rattle.farm_pool.proofs.TurnLemmas.{take_served, give_served}
 
 -- ---- what a tenant's step answers can be answered in a pool
@@ -289,30 +291,38 @@ played config old new (c ∷ calls) at planned run =
     let none = played_none config old mid c at run.1 unleft in
     played_same config old mid new (noted calls) none (played config mid new calls none.reached more run.2))
 
+-- whoever closes the pool then
+closed_by : (config : ConfigData) (w : World) (log : List (ℕ × Entry)) (v : PoolView) → IsReached config w → history.events_of log ≡ w.journal
+    → IsInside config log v → (closed : IsClosed v w) × (closed.log ≡ log)
+closed_by config w log v at is inside = (
+  record {
+    log = log;
+    begins = inside.begins;
+    journal = sym is;
+    own = inside.own;
+    config = inside.opened ∙ ap Some (sym at.config_is);
+    legal = subst (λ (k : ConfigData). IsLegal Served k log) (sym at.config_is) (subst (LegalFrom Served config []) (sym is) at.legal);
+    replayed = at.replayed;
+  },
+  refl,
+)
+
 pub each_run_is_a_closed_pools : EachRunIsAClosedPools
 unfolding opened
 each_run_is_a_closed_pools config calls w run planned log is =
     let it = played config (opened config) w calls (reached_opened config) planned run in
-    let same : config ≡ w.config = sym it.reached.config_is in
-    let entries : w.journal ≡ history.events_of log = sym is in
+    let pass : PoolView = record { stage = Idle; number = 0; opening = Some config; seen = log; mine = history.entries_of 0 log; splits = 0 } in
+    let closed = closed_by config w log pass it.reached is (record { opened = refl; begins = prefix_self log; own = refl }) in
     let of : AreCallsOf config log (noted calls) =
     record {
-      entries = sym it.journal ∙ entries;
+      entries = sym it.journal ∙ sym is;
       each = λ before behind c whole. answered_at config [] (noted calls) before behind c it.answered whole;
     } in
     record {
-      pass = record { stage = Idle; number = 0; opening = Some w.config; seen = log; mine = history.entries_of 0 log; splits = 0 };
-      closed = record {
-        log = log;
-        begins = prefix_self log;
-        journal = entries;
-        own = refl;
-        config = refl;
-        legal = subst (λ (k : ConfigData). IsLegal Served k log) same (subst (LegalFrom Served config []) entries it.reached.legal);
-        replayed = it.reached.replayed;
-      };
-      log_is = refl;
-      answered = subst (λ (k : ConfigData). AreCallsOf k log (noted calls)) same of;
+      pass = pass;
+      closed = closed.0;
+      log_is = closed.1;
+      answered = subst (λ (k : ConfigData). AreCallsOf k log (noted calls)) (sym it.reached.config_is) of;
     }
 
 -- ---- whoever makes a call
@@ -365,14 +375,6 @@ told_to config log legal v inside c it =
       before = refl;
       event = refl;
       answer = it.answer_is;
-      again = record { opened = inside.opened; begins = prefix_self (log ++ es); own = own };
-      others = λ u apart there. record {
-        opened = there.opened;
-        begins = prefix_longer u.seen log es there.begins;
-        own =
-            entries_of-append u.number log es ∙ ap (λ xs. history.entries_of u.number log ++ xs) (entries_of-others v.number u.number (listed entry) (λ is. apart (sym is)))
-            ∙ append-nil (history.entries_of u.number log) ∙ there.own;
-      };
     }
 
 pub each_call_of_a_run_can_be_made : EachCallOfARunCanBeMade
@@ -385,3 +387,134 @@ each_call_of_a_run_can_be_made config before behind c w run planned turn log is 
     told_to config log (subst (LegalFrom Served config []) entries it.reached.legal) v inside c
     (subst (λ es. IsServed config es c.tenant c.event c.answer) entries
     (step_served config at.mid at.then c it.reached at.steps (planned c (among_at before behind c)) turn))
+
+-- ---- passes that make a whole run
+
+-- each pass, by its number, may call after this history
+abbrev AreInside : ConfigData → List (ℕ × Entry) → (ℕ → PoolView) → Type 0
+AreInside config log passes = (n : ℕ) → ((passes n).number ≡ n) × IsInside config log (passes n)
+
+-- the history after a call of this pass
+abbrev grown : List (ℕ × Entry) → ℕ → Call → List (ℕ × Entry)
+grown log by c = log ++ tagged by (listed (entry_if c.tenant c.event c.answer))
+
+after_is : (config : ConfigData) (log : List (ℕ × Entry)) (v : PoolView) (c : Call) (told : WasTold config log v c)
+    → told.after ≡ having_made v log (listed (entry_if c.tenant c.event c.answer))
+after_is config log v c told =
+    told.called.after ∙ ap (λ before. having_made v before (listed told.called.event)) told.before
+    ∙ ap (λ event. having_made v log (listed event)) told.event
+
+inside_again : (config : ConfigData) (log : List (ℕ × Entry)) (v : PoolView) (c : Call) → IsInside config log v
+    → let entry = listed (entry_if c.tenant c.event c.answer) in IsInside config (grown log v.number c) (having_made v log entry)
+inside_again config log v c inside =
+    let entry : List Entry = listed (entry_if c.tenant c.event c.answer) in
+    let es : List (ℕ × Entry) = tagged v.number entry in
+    record {
+      opened = inside.opened;
+      begins = prefix_self (log ++ es);
+      own =
+          entries_of-append v.number log es ∙ ap (λ xs. history.entries_of v.number log ++ xs) (entries_of-own v.number entry) ∙ ap (λ xs. xs ++ es) inside.own;
+    }
+
+inside_beside : (config : ConfigData) (log : List (ℕ × Entry)) (by : ℕ) (c : Call) (u : PoolView) → by ≢ u.number → IsInside config log u
+    → IsInside config (grown log by c) u
+inside_beside config log by c u apart inside =
+    let entry : List Entry = listed (entry_if c.tenant c.event c.answer) in
+    let es : List (ℕ × Entry) = tagged by entry in
+    record {
+      opened = inside.opened;
+      begins = prefix_longer u.seen log es inside.begins;
+      own =
+          entries_of-append u.number log es ∙ ap (λ xs. history.entries_of u.number log ++ xs) (entries_of-others by u.number entry apart)
+          ∙ append-nil (history.entries_of u.number log) ∙ inside.own;
+    }
+
+is_number : (a b : ℕ) → eqb a b ≡ true → a ≡ b
+is_number a b h = grind (arith, nat_tests)
+
+abbrev IsAt : ConfigData → List (ℕ × Entry) → ℕ → PoolView → Type 0
+IsAt config log n v = (v.number ≡ n) × IsInside config log v
+
+all_inside : (config : ConfigData) (log : List (ℕ × Entry)) (passes : ℕ → PoolView) (by : ℕ) (c : Call) (told : WasTold config log (passes by) c)
+    → AreInside config log passes → AreInside config told.after.seen (with_pass by told.after passes)
+all_inside config log passes by c told all n =
+    let entry : List Entry = listed (entry_if c.tenant c.event c.answer) in
+    let v : PoolView = passes by in
+    let is = after_is config log v c told in
+    let seen : told.after.seen ≡ grown log v.number c = ap (λ (x : PoolView). x.seen) is in
+    cond_both (eqb n by) told.after (passes n) (IsAt config told.after.seen n)
+    (λ same.
+    let at : n ≡ by = is_number n by same in (
+      ap (λ (x : PoolView). x.number) is ∙ (all by).0 ∙ sym at,
+      subst (λ (x : PoolView). IsInside config x.seen x) (sym is) (inside_again config log v c (all by).1),
+    ))
+    (λ differ.
+    let apart : v.number ≢ (passes n).number = λ same. both_ways (eqb n by) differ (eq-eqb n by (sym (all n).0 ∙ sym same ∙ (all by).0)) in
+    ((all n).0, subst (λ log. IsInside config log (passes n)) (sym seen) (inside_beside config log v.number c (passes n) apart (all n).1)))
+
+reached_then : (config : ConfigData) (old mid : World) (c : Call) → IsReached config old → Steps old c.tenant c.event c.answer mid
+    → IsPlanned c.event → IsReached config mid
+reached_then config old mid c at it planned =
+    ⊎_elim
+    (λ left. (played_one config old mid c at it planned left).reached)
+    (λ unleft. (played_none config old mid c at it unleft).reached)
+    (cases_Bool (is_noted c.answer))
+
+grown_is : (log : List (ℕ × Entry)) (old mid : World) (by : ℕ) (c : Call) → Steps old c.tenant c.event c.answer mid → history.events_of log ≡ old.journal
+    → history.events_of (grown log by c) ≡ mid.journal
+grown_is log old mid by c it is =
+    let entry : List Entry = listed (entry_if c.tenant c.event c.answer) in
+    events_of-append log (tagged by entry) ∙ ap (λ es. history.events_of log ++ es) (events_of-tagged by entry)
+    ∙ ap (λ es. es ++ entry) is ∙ ap (λ es. old.journal ++ es) (sym (one_or_none (is_noted c.answer) (entry_in c))) ∙ sym it.journal
+
+-- what passes that make these calls end with
+record IsMade (config : ConfigData) (log : List (ℕ × Entry)) (passes : ℕ → PoolView) (calls : List (ℕ × Call)) (new : World) : Type 0 where
+  end : List (ℕ × Entry)
+  after : ℕ → PoolView
+  made : AreMade config log passes calls end after
+  inside : AreInside config end after
+  journal : history.events_of end ≡ new.journal
+  reached : IsReached config new
+
+abbrev calls_of : List (ℕ × Call) → List Call
+calls_of calls = map (λ (x : ℕ × Call). x.1) calls
+
+made : (config : ConfigData) (log : List (ℕ × Entry)) (passes : ℕ → PoolView) (calls : List (ℕ × Call)) (old new : World) → IsReached config old
+    → AreInside config log passes → history.events_of log ≡ old.journal → Leads old (calls_of calls) new → ArePlanned (calls_of calls)
+    → ((c : Call) → IsAmong (calls_of calls) c → c.answer ≢ NoTurn) → IsMade config log passes calls new
+made config log passes [] old new at all is run planned turns = record {
+  end = log;
+  after = passes;
+  made = (refl, refl);
+  inside = all;
+  journal = is ∙ sym (ap (λ (w : World). w.journal) run);
+  reached = subst (IsReached config) (sym run) at;
+}
+made config log passes (x ∷ calls) old new at all is run planned turns =
+    let c : Call = x.1 in
+    let v : PoolView = passes x.0 in
+    let mid : World = run.0 in
+    let legal : IsLegal Served config log = subst (LegalFrom Served config []) (sym is) at.legal in
+    let served = subst (λ es. IsServed config es c.tenant c.event c.answer) (sym is) (step_served config old mid c at run.1 (planned c (0, refl)) (turns c (0, refl))) in
+    let told : WasTold config log v c = told_to config log legal v (all x.0).1 c served in
+    let seen : told.after.seen ≡ grown log v.number c = ap (λ (w : PoolView). w.seen) (after_is config log v c told) in
+    let rest =
+    made config told.after.seen (with_pass x.0 told.after passes) calls mid new (reached_then config old mid c at run.1 (planned c (0, refl)))
+    (all_inside config log passes x.0 c told all)
+    (ap history.events_of seen ∙ grown_is log old mid v.number c run.1 is) run.2
+    (λ d among. planned d (suc among.0, among.1)) (λ d among. turns d (suc among.0, among.1)) in
+    record { end = rest.end; after = rest.after; made = (told, rest.made); inside = rest.inside; journal = rest.journal; reached = rest.reached }
+
+newcomers_inside : (config : ConfigData) → AreInside config [] (newcomer (rule.opened config))
+newcomers_inside config n = (refl, record { opened = refl; begins = prefix_self []; own = refl })
+
+pub passes_can_make_each_run : PassesCanMakeEachRun
+unfolding opened
+passes_can_make_each_run config calls w run planned turns =
+    let it = made config [] (newcomer (rule.opened config)) calls (opened config) w (reached_opened config) (newcomers_inside config) refl run planned turns in
+    record {
+      log = it.end;
+      passes = it.after;
+      made = it.made;
+      closed = λ n. closed_by config w it.end (it.after n) it.reached it.journal (it.inside n).1;
+    }

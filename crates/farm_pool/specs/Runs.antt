@@ -1,5 +1,5 @@
 -- Each run of the farm is that of a closed pool, whichever passes made its calls.
-use Rattle.std.specs.Prelude.{◌≡◌, ◌≢◌, ℕ, List, ◌∷◌, ◌++◌, map, filter, Some}
+use Rattle.std.specs.Prelude.{◌≡◌, ◌≢◌, ℕ, ◌==◌, cond, List, [], ◌∷◌, ◌++◌, map, filter, Some}
 use mathlib.Core.List.{IsPrefix}
 use Rattle.farm_core.specs.declared.entry.Entry.{Entry}
 use Rattle.farm_core.specs.declared.entry.Event.{Event}
@@ -7,9 +7,10 @@ use Rattle.farm_core.specs.declared.entry.Event.TheVariants.{Take, Give}
 use Rattle.farm_core.specs.Config.{ConfigData}
 use Rattle.farm_core.specs.Step.{NoTurn}
 use Rattle.farm_core.specs.World.{World, Call, Run, is_noted}
-use Rattle.farm_core.specs.Truth.{ArePlanned}
+use Rattle.farm_core.specs.Truth.{IsAmong, ArePlanned}
 use Rattle.turn_lock.specs.History as history
-use Rattle.turn_lock.specs.Plays.{Called}
+use Rattle.turn_lock.specs.Plays.{Called, newcomer}
+use Rattle.turn_lock.specs.Rule as rule
 use Rattle.farm_pool.specs.declared.image.TurnImage.{TurnImage}
 use Rattle.farm_pool.specs.declared.image.CallImage.{CallImage}
 use Rattle.farm_pool.specs.declared.image.CallImage.TheVariants as said
@@ -53,7 +54,7 @@ AsksFor t (Give s ran) asked = (i : TurnImage) × (asked ≡ said.Back i) × (i.
 AsksFor t event asked = asked ≡ said.Asked t event
 
 -- the pass asks for the call's event after the history `log`, leaves the call's entry if there is
--- one, and is given the call's answer. Then it and each other pass may call again
+-- one, and is given the call's answer
 pub record WasTold (config : ConfigData) (log : List (ℕ × Entry)) (v : PoolView) (c : Call) : Type 0 where
   pub asked : CallImage
   pub told : AnswerImage
@@ -63,8 +64,6 @@ pub record WasTold (config : ConfigData) (log : List (ℕ × Entry)) (v : PoolVi
   pub before : called.before ≡ log
   pub event : called.event ≡ entry_if c.tenant c.event c.answer
   pub answer : c.answer ≡ answer_in told
-  pub again : IsInside config after.seen after
-  pub others : (u : PoolView) → u.number ≢ v.number → IsInside config log u → IsInside config after.seen u
 
 -- each call of such a run can be made in a pool: by any pass that may call then, and whichever
 -- passes made the entries before. The pass is given the run's answer. A take or give without a turn
@@ -74,3 +73,29 @@ EachCallOfARunCanBeMade = (config : ConfigData) (before behind : List Call) (c :
     Run config (before ++ c ∷ behind) w → ArePlanned (before ++ c ∷ behind) → c.answer ≢ NoTurn →
     (log : List (ℕ × Entry)) → history.events_of log ≡ map entry_in (noted before) →
     (v : PoolView) → IsInside config log v → WasTold config log v c
+
+-- the passes by their numbers, with `v` in place of the pass of number `by`
+abbrev pub with_pass : ℕ → PoolView → (ℕ → PoolView) → ℕ → PoolView
+with_pass by v passes number = cond (number == by) v (passes number)
+
+-- passes make the calls one after another, each call by the pass of the number beside it, and each
+-- pass is given the call's answer
+abbrev pub AreMade : ConfigData → List (ℕ × Entry) → (ℕ → PoolView) → List (ℕ × Call) → List (ℕ × Entry) → (ℕ → PoolView) → Type 0
+AreMade config log passes [] end after = (end ≡ log) × (after ≡ passes)
+AreMade config log passes (x ∷ calls) end after =
+    (told : WasTold config log (passes x.0) x.1) × AreMade config told.after.seen (with_pass x.0 told.after passes) calls end after
+
+-- passes of a pool make the calls from its opening on, and then each pass can close it with the
+-- farm `w`
+pub record AreMadeInAPool (config : ConfigData) (calls : List (ℕ × Call)) (w : World) : Type 0 where
+  pub log : List (ℕ × Entry)
+  pub passes : ℕ → PoolView
+  pub made : AreMade config [] (newcomer (rule.opened config)) calls log passes
+  pub closed : (number : ℕ) → (closed : IsClosed (passes number) w) × (closed.log ≡ log)
+
+-- each such run can be made by passes of a pool, whichever pass makes each call. Left out are takes
+-- and gives without a turn, which are no calls of a pool
+abbrev pub PassesCanMakeEachRun : Type 0
+PassesCanMakeEachRun = (config : ConfigData) (calls : List (ℕ × Call)) (w : World) →
+    let made : List Call = map (λ (x : ℕ × Call). x.1) calls in
+    Run config made w → ArePlanned made → ((c : Call) → IsAmong made c → c.answer ≢ NoTurn) → AreMadeInAPool config calls w
