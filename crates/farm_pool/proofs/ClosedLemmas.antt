@@ -56,7 +56,7 @@ step_is config before t event e answer is =
     is.answer_is ∙ ap (stepped config before) (sym (same_entry (is_noted answer) e own is.entry_is))
 
 -- a job of which a turn went out, as the turn tells it
-sent_job : (i : TurnImage) (job : JobData) (slice : ℕ) → job.seq ≡ i.seq → i.plan ≡ job.plan → i.nodes ≡ job.nodes → i.left ≡ job.left → i.slice ≡ slice
+pub sent_job : (i : TurnImage) (job : JobData) (slice : ℕ) → job.seq ≡ i.seq → i.plan ≡ job.plan → i.nodes ≡ job.nodes → i.left ≡ job.left → i.slice ≡ slice
     → let told : JobData = record { seq = i.seq; plan = i.plan; phase = Out i.slice; nodes = i.nodes; left = i.left } in
     told ≡ record job { phase = Out slice }
 sent_job i job slice seq plan nodes left at = rw (seq, plan, nodes, left, at) refl
@@ -89,14 +89,13 @@ answered_is config before c was = was.answer ∙ answer_is config before was.ask
 
 -- ---- the answers to a purse's members
 
-AreAnswered : ConfigData → List Entry → List Call → Type 0
+abbrev pub AreAnswered : ConfigData → List Entry → List Call → Type 0
 AreAnswered config before [] = ⊤
 AreAnswered config before (c ∷ calls) = WasAnswered config before c × AreAnswered config (before ++ entry_in c ∷ []) calls
 
 answered_from : (config : ConfigData) (all front calls : List Call) → all ≡ front ++ calls
     → ((before behind : List Call) (c : Call) → all ≡ before ++ c ∷ behind → WasAnswered config (map entry_in before) c)
     → AreAnswered config (map entry_in front) calls
-unfolding AreAnswered
 answered_from config all front [] whole each = tt
 answered_from config all front (c ∷ calls) whole each = (
   each front calls c whole,
@@ -147,7 +146,6 @@ own_miss config p before c calls differ rest =
 
 own_told : (config : ConfigData) (p : ℕ) (before : List Entry) (calls : List Call) → AreAnswered config before calls
     → own_answers config p calls ≡ told_then config p before calls
-unfolding AreAnswered
 own_told config p before [] all = refl
 own_told config p before (c ∷ calls) all =
     let rest = own_told config p (before ++ entry_in c ∷ []) calls all.1 in
@@ -191,16 +189,15 @@ entries_from config before [] legal = refl
 entries_from config before (e ∷ es) legal = ap (λ (ds : List Entry). e ∷ ds) (entries_from config (before ++ e ∷ []) es legal.1)
 
 each_from : (config : ConfigData) (before es : List Entry) (legal : LegalFrom Served config before es) → AreAnswered config before (calls_from config before es legal)
-unfolding calls_from AreAnswered
+unfolding calls_from
 each_from config before [] legal = tt
 each_from config before (e ∷ es) legal = (
   record { asked = legal.0.0; told = legal.0.1; served = legal.0.2; answer = refl },
   each_from config (before ++ e ∷ []) es legal.1,
 )
 
-answered_at : (config : ConfigData) (before : List Entry) (calls front behind : List Call) (c : Call) → AreAnswered config before calls
+pub answered_at : (config : ConfigData) (before : List Entry) (calls front behind : List Call) (c : Call) → AreAnswered config before calls
     → calls ≡ front ++ c ∷ behind → WasAnswered config (before ++ map entry_in front) c
-unfolding AreAnswered
 answered_at config before [] [] behind c all whole = absurd (cc)
 answered_at config before [] (d ∷ front) behind c all whole = absurd (cc)
 answered_at config before (d ∷ calls) [] behind c all whole =
@@ -253,7 +250,7 @@ stands (d ∷ before) rest e (c ∷ calls) are =
       here = it.here;
     }
 
-noted_reply : (r : Reply) → is_noted (Replied r) ≡ true → r ≡ reply.NoMemory → ⊥
+pub noted_reply : (r : Reply) → is_noted (Replied r) ≡ true → r ≡ reply.NoMemory → ⊥
 noted_reply r noted is = let not : false ≡ true = sym (ap (λ (x : Reply). is_noted (Replied x)) is) ∙ noted in absurd (cc)
 
 left_entry : (noted : Bool) (event : Option Entry) (e : Entry) → noted ≡ true → event ≡ cond {A = Option Entry} noted (Some e) None → listed event ≡ e ∷ []

@@ -81,7 +81,7 @@ record IsOn (w : World) (e : Entry) (new : World) : Type 0 where
   replayed : IsOfJournal new
   accounts : HasAccounts new
 
-entry_left : (t : ℕ) (event : Event) (answer : Answer) → is_noted answer ≡ true → entry_of t event answer ≡ record { tenant = t; event = event } ∷ []
+pub entry_left : (t : ℕ) (event : Event) (answer : Answer) → is_noted answer ≡ true → entry_of t event answer ≡ record { tenant = t; event = event } ∷ []
 entry_left t event answer noted = let e : Entry = record { tenant = t; event = event } in ap (λ b. cond {A = List Entry} b (e ∷ []) []) noted
 
 seen_at : (w : World) (t : ℕ) → IsOfJournal w → t < length w.config.tenants → view t w ≡ tenant_at w.config w.journal t
@@ -193,12 +193,11 @@ pub left_if : (config : ConfigData) (before : List Entry) (e : Entry) (b : Bool)
 left_if config before e true all one = left_run config (before ++ e ∷ []) (left_more config [] before e all (one refl))
 left_if config before e false all one = subst (AreOfRun config) (sym (append-nil before)) (left_run config before all)
 
-can_serve : (config : ConfigData) (log : List (ℕ × Entry)) → IsLegal Served config log → (t : ℕ) → t < length config.tenants
+pub can_serve : (config : ConfigData) (before : List Entry) → LegalFrom Served config [] before → (t : ℕ) → t < length config.tenants
     → (event : Event) → IsPlanned event → (r : Reply)
-    → (step (tenant_at config (history.events_of log) t) event).answer ≡ Replied r → r ≢ reply.NoMemory
-    → Served config (history.events_of log) (said.Asked t event) (entry_if t event (Replied r)) (told.Replied r)
-can_serve config log legal t known event planned r is memory =
-    let before : List Entry = history.events_of log in
+    → (step (tenant_at config before t) event).answer ≡ Replied r → r ≢ reply.NoMemory
+    → Served config before (said.Asked t event) (entry_if t event (Replied r)) (told.Replied r)
+can_serve config before legal t known event planned r is memory =
     let e : Entry = record { tenant = t; event = event } in
     record {
       answers = step_is config before t event (entry_if t event (Replied r)) r memory (record { answer_is = sym is; entry_is = refl });
@@ -212,7 +211,7 @@ each_reply_can_be_made config log number splits legal t known event planned r is
     let entry : Option Entry = entry_if t event (Replied r) in
     let own = history.entries_of number log in
     let v : PoolView = record { stage = Idle; number = number; opening = Some config; seen = log; mine = own; splits = splits } in
-    let stands = can_serve config log legal t known event planned r is memory in
+    let stands = can_serve config (history.events_of log) legal t known event planned r is memory in
     let es : List (ℕ × Entry) = tagged number (listed entry) in
     record {
       after = record v { seen = log ++ es; mine = history.entries_of number log ++ es };

@@ -33,7 +33,7 @@ use Rattle.farm_pool.specs.Served.{tenant_at, entry_if, IsStep, IsAnswered, Answ
 use Rattle.farm_pool.specs.Calls.{call_image, MayAsk, DoesOn, AnswersOn}
 
 -- one entry or none, as a list
-one_or_none : (noted : Bool) (x : Entry) → cond {A = List Entry} noted (x ∷ []) [] ≡ listed (cond {A = Option Entry} noted (Some x) None)
+pub one_or_none : (noted : Bool) (x : Entry) → cond {A = List Entry} noted (x ∷ []) [] ≡ listed (cond {A = Option Entry} noted (Some x) None)
 one_or_none true x = refl
 one_or_none false x = refl
 

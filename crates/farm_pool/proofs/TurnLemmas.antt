@@ -17,7 +17,7 @@ use Rattle.farm_core.specs.Truth.{IsPlanned}
 use Rattle.farm_core.proofs.PlaceLemmas.{first_from-most}
 use Rattle.farm_core.proofs.StepLemmas.{take_steps, give_steps}
 use Rattle.turn_lock.specs.History as history
-use Rattle.turn_lock.specs.History.{listed, tagged, IsLegal}
+use Rattle.turn_lock.specs.History.{listed, tagged, LegalFrom, IsLegal}
 use Rattle.turn_lock.specs.declared.view.Stage.TheVariants.{Idle}
 use Rattle.turn_lock.proofs.Histories.{prefix_self, legal-more, entries_of-append, entries_of-own}
 use Rattle.farm_pool.specs.declared.image.CallImage.{CallImage}
@@ -53,11 +53,10 @@ told_by config log number splits call answer entry legal stands =
     }
 
 -- what its tenant's step answers, with the entry that this leaves
-serves : (config : ConfigData) (log : List (ℕ × Entry)) → IsLegal Served config log → (t : ℕ) (event : Event) (answer : Answer) (call : CallImage) (told : AnswerImage)
-    → t < length config.tenants → IsPlanned event → (step (tenant_at config (history.events_of log) t) event).answer ≡ answer
-    → Answers config (history.events_of log) call (entry_if t event answer) told → Served config (history.events_of log) call (entry_if t event answer) told
-serves config log legal t event answer call told known planned is answers =
-    let before : List Entry = history.events_of log in
+serves : (config : ConfigData) (before : List Entry) → LegalFrom Served config [] before → (t : ℕ) (event : Event) (answer : Answer) (call : CallImage) (told : AnswerImage)
+    → t < length config.tenants → IsPlanned event → (step (tenant_at config before t) event).answer ≡ answer
+    → Answers config before call (entry_if t event answer) told → Served config before call (entry_if t event answer) told
+serves config before legal t event answer call told known planned is answers =
     record {
       answers = answers;
       run =
@@ -72,18 +71,17 @@ fresh_turn t s slice job =
     let left : job.left - 0 ≡ job.left = omega arith in
     rw (nodes, left) refl
 
-take_made : (config : ConfigData) (log : List (ℕ × Entry)) (number splits : ℕ) → IsLegal Served config log → (t s slice : ℕ) (job : JobData)
-    → t < length config.tenants → find_job s (tenant_at config (history.events_of log) t).jobs ≡ Some job → is_waiting job.phase ≡ true → is_slice slice ≡ true
-    → has_room 2 (tenant_at config (history.events_of log) t) ≡ true → IsTold config log number splits (said.Next slice) (told.Sent (turn_of t s slice 0 job))
-take_made config log number splits legal t s slice job known found waits slices room =
-    let before : List Entry = history.events_of log in
+pub take_served : (config : ConfigData) (before : List Entry) → LegalFrom Served config [] before → (t s slice : ℕ) (job : JobData)
+    → t < length config.tenants → find_job s (tenant_at config before t).jobs ≡ Some job → is_waiting job.phase ≡ true → is_slice slice ≡ true
+    → has_room 2 (tenant_at config before t) ≡ true
+    → let answer : Answer = Sent (line_of (record job { phase = Out slice })) in
+    Served config before (said.Next slice) (entry_if t (Take s slice) answer) (told.Sent (turn_of t s slice 0 job))
+take_served config before legal t s slice job known found waits slices room =
     let tenant : Tenant = tenant_at config before t in
     let new : JobData = record job { phase = Out slice } in
     let answer : Answer = Sent (line_of new) in
     let is : (step tenant (Take s slice)).answer ≡ answer = ap (λ (e : Effect). (done tenant e).answer) (take_steps tenant s slice job found waits slices room) in
-    let entry : Option Entry = entry_if t (Take s slice) answer in
-    told_by config log number splits (said.Next slice) (told.Sent (turn_of t s slice 0 job)) entry legal
-    (serves config log legal t (Take s slice) answer (said.Next slice) (told.Sent (turn_of t s slice 0 job)) known tt is
+    serves config before legal t (Take s slice) answer (said.Next slice) (told.Sent (turn_of t s slice 0 job)) known tt is
     (record {
       job = job;
       known = known;
@@ -92,7 +90,14 @@ take_made config log number splits legal t s slice job known found waits slices 
       slice_is = refl;
       ran = refl;
       steps = record { answer_is = sym is; entry_is = refl };
-    }))
+    })
+
+take_made : (config : ConfigData) (log : List (ℕ × Entry)) (number splits : ℕ) → IsLegal Served config log → (t s slice : ℕ) (job : JobData)
+    → t < length config.tenants → find_job s (tenant_at config (history.events_of log) t).jobs ≡ Some job → is_waiting job.phase ≡ true → is_slice slice ≡ true
+    → has_room 2 (tenant_at config (history.events_of log) t) ≡ true → IsTold config log number splits (said.Next slice) (told.Sent (turn_of t s slice 0 job))
+take_made config log number splits legal t s slice job known found waits slices room =
+    told_by config log number splits (said.Next slice) (told.Sent (turn_of t s slice 0 job)) (entry_if t (Take s slice) (Sent (line_of (record job { phase = Out slice })))) legal
+    (take_served config (history.events_of log) legal t s slice job known found waits slices room)
 
 -- a turn has run no more than its job had quanta
 ran_most : (ran : ℕ) (job : JobData) (phase : Phase) → may_have_run ran job phase ≡ true → ran ≤ job.left
@@ -104,24 +109,31 @@ ran_most ran job Dry is = absurd (cc)
 ran_most ran job Closed is = absurd (cc)
 ran_most ran job Cancelled is = absurd (cc)
 
-give_made : (config : ConfigData) (log : List (ℕ × Entry)) (number splits : ℕ) → IsLegal Served config log → (t s slice ran : ℕ) (job : JobData)
-    → t < length config.tenants → find_job s (tenant_at config (history.events_of log) t).jobs ≡ Some job → is_turn slice job.phase ≡ true
-    → may_have_run ran job job.phase ≡ true → IsTold config log number splits (said.Back (turn_of t s slice ran job)) (told.Gave (reply.Ran ran (line_of (back ran job))))
-give_made config log number splits legal t s slice ran job known found out may =
-    let before : List Entry = history.events_of log in
+pub give_served : (config : ConfigData) (before : List Entry) → LegalFrom Served config [] before → (t s slice ran : ℕ) (job : JobData)
+    → t < length config.tenants → find_job s (tenant_at config before t).jobs ≡ Some job → is_turn slice job.phase ≡ true
+    → may_have_run ran job job.phase ≡ true
+    → let answer = reply.Ran ran (line_of (back ran job)) in
+    Served config before (said.Back (turn_of t s slice ran job)) (entry_if t (Give s ran) (Replied answer)) (told.Gave answer)
+give_served config before legal t s slice ran job known found out may =
     let tenant : Tenant = tenant_at config before t in
     let answer : Answer = Replied (reply.Ran ran (line_of (back ran job))) in
     let is : (step tenant (Give s ran)).answer ≡ answer = ap (λ (e : Effect). (done tenant e).answer) (give_steps tenant s ran job found may) in
-    let entry : Option Entry = entry_if t (Give s ran) answer in
     let most : ran ≤ job.left = ran_most ran job job.phase may in
-    told_by config log number splits (said.Back (turn_of t s slice ran job)) (told.Gave (reply.Ran ran (line_of (back ran job)))) entry legal
-    (serves config log legal t (Give s ran) answer (said.Back (turn_of t s slice ran job)) (told.Gave (reply.Ran ran (line_of (back ran job)))) known tt is
+    serves config before legal t (Give s ran) answer (said.Back (turn_of t s slice ran job)) (told.Gave (reply.Ran ran (line_of (back ran job)))) known tt is
     (record {
       job = job;
       found = found;
       own = record { turn = out; owner = refl; plan = refl; nodes = refl; left = omega (arith, most) };
       steps = record { answer_is = sym is; entry_is = refl };
-    }))
+    })
+
+give_made : (config : ConfigData) (log : List (ℕ × Entry)) (number splits : ℕ) → IsLegal Served config log → (t s slice ran : ℕ) (job : JobData)
+    → t < length config.tenants → find_job s (tenant_at config (history.events_of log) t).jobs ≡ Some job → is_turn slice job.phase ≡ true
+    → may_have_run ran job job.phase ≡ true → IsTold config log number splits (said.Back (turn_of t s slice ran job)) (told.Gave (reply.Ran ran (line_of (back ran job))))
+give_made config log number splits legal t s slice ran job known found out may =
+    let answer = reply.Ran ran (line_of (back ran job)) in
+    told_by config log number splits (said.Back (turn_of t s slice ran job)) (told.Gave answer) (entry_if t (Give s ran) (Replied answer)) legal
+    (give_served config (history.events_of log) legal t s slice ran job known found out may)
 
 pub each_turn_can_be_made : EachTurnCanBeMade
 each_turn_can_be_made = record { taken = take_made; given = give_made }

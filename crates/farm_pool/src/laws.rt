@@ -1,6 +1,7 @@
 //! Laws of a pool: each is the proved contract of a function that does nothing.
 ghost use Rattle.farm_pool.specs.Closed.{ClosedPoolsAreIsolated, RepliesAreInTheHistory};
 ghost use Rattle.farm_pool.specs.Laws.{AcceptedCancelsAreMade, EachReplyCanBeMade, EachReplyIsAlone, EachReplyIsIsolated, EachReplyIsTrue, EachTurnCanBeMade, LegalHistoriesAreRuns, NoPassIsSplitOff};
+ghost use Rattle.farm_pool.specs.Runs.{EachCallOfARunCanBeMade, EachRunIsAClosedPools, PassesCanMakeEachRun};
 
 /// The entries of a legal history are those of a run of the farm. So what is proved of each run is true of each history: what a pass has
 /// seen, and what the farm of a closed pool has in its journal.
@@ -31,6 +32,26 @@ pub fn closed_pools_are_isolated()
 /// `closed_pools_are_isolated` speaks, at the place of that entry.
 pub fn replies_are_in_the_history()
     ensures { RepliesAreInTheHistory }
+{}
+
+/// Each run of the farm that submits projects alone is that of a closed pool, whichever passes made
+/// its entries. The pool's farm is where the run leads, and each answer of its history is the
+/// run's. So `closed_pools_are_isolated` leaves out no run.
+pub fn each_run_is_a_closed_pools()
+    ensures { EachRunIsAClosedPools }
+{}
+
+/// Each call of such a run can be made by any pass, whichever passes made the entries before it.
+/// The pass is given the run's answer. So the laws about replies to a pass leave out no run either.
+pub fn each_call_of_a_run_can_be_made()
+    ensures { EachCallOfARunCanBeMade }
+{}
+
+/// Passes of a pool can make each such run, whichever pass makes each call. Each pass is given the
+/// run's answers to its calls, and each can then close the pool with the run's farm. Left out are
+/// takes and gives without a turn, which are no calls of a pool.
+pub fn passes_can_make_each_run()
+    ensures { PassesCanMakeEachRun }
 {}
 
 /// In a running pool what is replied about a job, to a tenant or where a worker gives a turn back, is true of a plan that its tenant has
