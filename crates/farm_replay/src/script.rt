@@ -80,11 +80,7 @@ fn ended(read: Result<Request, LineFault>) -> Result<(), ReplayFault>
 }
 
 /// Whether a script ends here, or goes on past its last request that may be.
-fn end<R: BufRead>(
-    alloc: Global,
-    script: &mut R,
-    watch: &mut Watch<R>,
-) -> Result<(), ReplayFault>
+fn end<R: BufRead>(alloc: Global, script: &mut R, watch: &mut Watch<R>) -> Result<(), ReplayFault>
     ensures over { OnOk result (IfSome (R.remaining script.old) (λ bytes. requests_of bytes ≡ [])) }
     ensures fault { IfErr result (λ fault. IfSome (R.remaining script.old) (λ bytes.
         GoesOn fault (HasFailed watch.old watch.new) bytes)) }

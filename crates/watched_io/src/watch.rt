@@ -61,12 +61,7 @@ impl<S> Watch<S> {
 impl<R: Read> Watch<R> {
     /// Reads a reader to its end, or to `most` bytes, and notes an error: the reader's, or want of
     /// memory.
-    pub fn read_front(
-        &mut self,
-        alloc: Global,
-        reader: R,
-        most: u64,
-    ) -> io::Result<Vec<u8>>
+    pub fn read_front(&mut self, alloc: Global, reader: R, most: u64) -> io::Result<Vec<u8>>
     where
         R: Drop,
         ensures front { IfOk result (λ bytes. IfSome (R.remaining reader) (λ all. bytes.items ≡ take most all)) }
@@ -141,11 +136,7 @@ impl<W: Write> Watch<W> {
     }
 
     /// Writes a whole text, as `Write::write_fmt` does, and notes an error.
-    pub fn write_text<D: Display + Drop>(
-        &mut self,
-        writer: &mut W,
-        text: D,
-    ) -> io::Result<()>
+    pub fn write_text<D: Display + Drop>(&mut self, writer: &mut W, text: D) -> io::Result<()>
         ensures bytes { OnOk result (IfSome (D.output text) (Appends (W.contents writer.old) (W.contents writer.new))) }
         ensures noted { IsNoted result self.old self.new }
     {
