@@ -5,9 +5,9 @@ use Rattle.mrcpsp.specs.Project.{ProjectData}
 use Rattle.psplib_mm.specs.Gives.{Fails}
 use Rattle.psplib_mm.specs.Reading.{reading}
 use Rattle.watched_io.specs.Failure.{HasFailed}
+use Rattle.farm_replay.specs.Counts.{Counts, AreKept}
 use Rattle.farm_cli.specs.Summary.{summary_of, summary_text}
 use Rattle.farm_cli.specs.declared.checking.CheckFault.{CheckFault}
-use Rattle.farm_cli.specs.declared.checking.CheckWatches.{CheckWatches}
 use Rattle.farm_cli.specs.declared.checking.CheckFault.TheVariants as fault
 use Rattle.farm_cli.specs.declared.input.TheConstants.{MOST_READ}
 
@@ -24,18 +24,18 @@ pub record IsSummed (file : List ℕ) (before after : Option (List ℕ)) : Type 
 -- how a check of a reader's bytes ends, of which no more than so many are read: with its project's line, or with a fault and, but for one of the
 -- writer, nothing written. A fault of the reader or of the writer comes only if a read or a write failed, by what the
 -- watches of the check had counted before it and count then
-abbrev pub IsCheckOf : Result ⊤ CheckFault → CheckWatches → CheckWatches → Option (List ℕ) → Option (List ℕ) → Option (List ℕ) → Type 0
-IsCheckOf (Ok done) from seen bytes before after = IfSome bytes (λ all. IsSummed (take MOST_READ all) before after)
-IsCheckOf (Err (fault.Read kind)) from seen bytes before after = (after ≡ before) × HasFailed from.reads seen.reads
-IsCheckOf (Err (fault.File f)) from seen bytes before after = (after ≡ before) × IfSome bytes (λ all. Fails f (reading (take MOST_READ all)))
-IsCheckOf (Err fault.Write) from seen bytes before after = HasFailed from.writes seen.writes
+abbrev pub IsCheckOf : Result ⊤ CheckFault → Counts → Counts → Option (List ℕ) → Option (List ℕ) → Option (List ℕ) → Type 0
+IsCheckOf (Ok done) from seen bytes before after = AreKept from seen × IfSome bytes (λ all. IsSummed (take MOST_READ all) before after)
+IsCheckOf (Err (fault.Read kind)) from seen bytes before after = (after ≡ before) × HasFailed from.reads seen.reads × (seen.writes ≡ from.writes)
+IsCheckOf (Err (fault.File f)) from seen bytes before after = (after ≡ before) × AreKept from seen × IfSome bytes (λ all. Fails f (reading (take MOST_READ all)))
+IsCheckOf (Err fault.Write) from seen bytes before after = (seen.reads ≡ from.reads) × HasFailed from.writes seen.writes
 
 abbrev pub check_status : Result ⊤ CheckFault → ℕ
 check_status (Ok done) = 0
 check_status (Err fault) = 1
 
 -- the status is that of a check which ends so
-pub record IsChecked (status : ℕ) (from seen : CheckWatches) (bytes before after : Option (List ℕ)) : Type 0 where
+pub record IsChecked (status : ℕ) (from seen : Counts) (bytes before after : Option (List ℕ)) : Type 0 where
   pub ended : Result ⊤ CheckFault
   pub is : IsCheckOf ended from seen bytes before after
   pub ends : status ≡ check_status ended

@@ -15,7 +15,7 @@ use Rattle.session_lines.specs.Script.{Item, is_long, shown}
 use Rattle.session_lines.specs.declared.reading.TheConstants.{MOST_REQUEST_BYTES}
 use Rattle.farm_replay.specs.Output.{IsWritten, IsCutBy, Marked}
 use Rattle.farm_replay.specs.declared.script.ReplayFault.TheVariants as fault
-use Rattle.farm_replay.specs.declared.watches.ReplayWatches.{ReplayWatches}
+use Rattle.farm_replay.specs.Counts.{Counts}
 use Rattle.farm_cli.specs.declared.arguments.TheConstants.{MOST_SESSIONS}
 use Rattle.farm_cli.specs.declared.input.TheConstants.{MOST_READ}
 
@@ -79,7 +79,7 @@ pub record ScriptLimits : Type 0 where
   -- a script that is answered whole has at most 1,000,000 of them
   pub whole : (config : ConfigData) (script : List ℕ) (refuses : Bool) (old new : Option (List ℕ)) (is : IsWritten config script refuses old new) → length is.requests ≤ 1000000
   -- one that has too many is answered to the 1,000,000th
-  pub cut : (from seen : ReplayWatches) (config : ConfigData) (script : List ℕ) (requests : List Marked) (rest : List Item) (part : List ℕ)
+  pub cut : (from seen : Counts) (config : ConfigData) (script : List ℕ) (requests : List Marked) (rest : List Item) (part : List ℕ)
       → IsCutBy fault.Requests from seen config script requests rest part → length requests ≡ 1000000
 
 -- what a command reads or answers

@@ -3,27 +3,30 @@ use Rattle.std.specs.Prelude.{◌≡◌, ℕ, List, ⊤, Bool, Option, Result, O
 use Rattle.std.specs.Io.KnownBytes.{append_known}
 use Rattle.farm_core.specs.Config.{ConfigData}
 use Rattle.farm_config.specs.Config.{Means, HasFault}
+use Rattle.watched_io.specs.Failure.{HasFailed}
 use Rattle.farm_replay.specs.Output.{IsWritten, IsCutOff}
 use Rattle.farm_replay.specs.declared.script.ReplayFault.{ReplayFault}
-use Rattle.farm_replay.specs.declared.watches.ReplayWatches.{ReplayWatches}
+use Rattle.farm_replay.specs.Counts.{Counts, AreKept}
+use Rattle.farm_replay.specs.Noted.{AreNoted}
 use Rattle.farm_cli.specs.declared.replaying.ReplayStop.{ReplayStop}
 use Rattle.farm_cli.specs.declared.replaying.ReplayStop.TheVariants as stop
 use Rattle.farm_cli.specs.Strict.{replay_status}
 
 -- the output of a script, whole, with whether one of its replies is a refusal, or cut off by a fault; by what the replay's watches had
 -- counted before it and count then
-abbrev pub Plays : Result ⊤ ReplayFault → ConfigData → ReplayWatches → ReplayWatches → Bool → List ℕ → Option (List ℕ) → Option (List ℕ) → Type 0
+abbrev pub Plays : Result ⊤ ReplayFault → ConfigData → Counts → Counts → Bool → List ℕ → Option (List ℕ) → Option (List ℕ) → Type 0
 Plays (Ok done) config from seen refuses script before after = IsWritten config script refuses before after
 Plays (Err fault) config from seen refuses script before after = IsCutOff config fault from seen script before after
 
--- the text means a configuration, on whose farm a replay ended so, with what it wrote
-pub record IsPlayed (ended : Result ⊤ ReplayFault) (text : List ℕ) (from seen : ReplayWatches) (refuses : Bool) (script before after : Option (List ℕ)) : Type 0 where
+-- the text means a configuration, on whose farm a replay ended so, with what it wrote and what its watches noted
+pub record IsPlayed (ended : Result ⊤ ReplayFault) (text : List ℕ) (from seen : Counts) (refuses : Bool) (script before after : Option (List ℕ)) : Type 0 where
   pub config : ConfigData
   pub means : Means text (Ok config)
   pub plays : IfSome script (λ bytes. Plays ended config from seen refuses bytes before after)
+  pub noted : AreNoted ended from seen
 
 -- what was gathered did not all go out: what did is its front part
-pub record IsPartlyWritten (text : List ℕ) (from seen : ReplayWatches) (refuses : Bool) (script before after : Option (List ℕ)) : Type 0 where
+pub record IsPartlyWritten (text : List ℕ) (from seen : Counts) (refuses : Bool) (script before after : Option (List ℕ)) : Type 0 where
   pub ended : Result ⊤ ReplayFault
   pub gathered : Option (List ℕ)
   pub played : IsPlayed ended text from seen refuses script before gathered
@@ -31,19 +34,19 @@ pub record IsPartlyWritten (text : List ℕ) (from seen : ReplayWatches) (refuse
   pub front : gathered ≡ append_known after rest
 
 -- how a replay of a script's reader under the text of a configuration ends, with what its writer held before and holds after, by whether one of the
--- replies is a refusal and whether the last send failed
-abbrev pub IsReplayOf : Result ⊤ ReplayStop → List ℕ → ReplayWatches → ReplayWatches → Bool → Type 0 → Option (List ℕ) → Option (List ℕ) → Option (List ℕ) → Type 0
-IsReplayOf (Ok done) text from seen refuses Failed script before after = IsPlayed (Ok tt) text from seen refuses script before after
-IsReplayOf (Err (stop.Config fault)) text from seen refuses Failed script before after = HasFault text fault × (after ≡ before)
-IsReplayOf (Err (stop.Fault fault)) text from seen refuses Failed script before after = IsPlayed (Err fault) text from seen refuses script before after
-IsReplayOf (Err stop.Unsent) text from seen refuses Failed script before after = Failed × IsPartlyWritten text from seen refuses script before after
+-- replies is a refusal and by what the watch of the last send had counted before it and counts then: only `Unsent` notes a failed send
+abbrev pub IsReplayOf : Result ⊤ ReplayStop → List ℕ → Counts → Counts → Bool → ℕ → ℕ → Option (List ℕ) → Option (List ℕ) → Option (List ℕ) → Type 0
+IsReplayOf (Ok done) text from seen refuses sends sent script before after = (sent ≡ sends) × IsPlayed (Ok tt) text from seen refuses script before after
+IsReplayOf (Err (stop.Config fault)) text from seen refuses sends sent script before after = (sent ≡ sends) × AreKept from seen × HasFault text fault × (after ≡ before)
+IsReplayOf (Err (stop.Fault fault)) text from seen refuses sends sent script before after = (sent ≡ sends) × IsPlayed (Err fault) text from seen refuses script before after
+IsReplayOf (Err stop.Unsent) text from seen refuses sends sent script before after = HasFailed sends sent × IsPartlyWritten text from seen refuses script before after
 
 abbrev pub stop_status : Result ⊤ ReplayStop → Bool → Bool → ℕ
 stop_status (Ok done) is_strict refuses = replay_status is_strict refuses
 stop_status (Err stop) is_strict refuses = 1
 
 -- the status is that of a replay which ends so
-pub record IsReplayed (status : ℕ) (is_strict refuses : Bool) (text : List ℕ) (from seen : ReplayWatches) (Failed : Type 0) (script before after : Option (List ℕ)) : Type 0 where
+pub record IsReplayed (status : ℕ) (is_strict refuses : Bool) (text : List ℕ) (from seen : Counts) (sends sent : ℕ) (script before after : Option (List ℕ)) : Type 0 where
   pub ended : Result ⊤ ReplayStop
-  pub is : IsReplayOf ended text from seen refuses Failed script before after
+  pub is : IsReplayOf ended text from seen refuses sends sent script before after
   pub ends : status ≡ stop_status ended is_strict refuses

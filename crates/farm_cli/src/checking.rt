@@ -10,6 +10,7 @@ use psplib_mm::{MmFault, read};
 use std::alloc::Global;
 use std::env::Env;
 use std::io::{Eprint, ErrorKind, Read, Write};
+use std::marker::Model;
 use std::process::ExitCode;
 use watched_io::{Watch, reason, tell_unread, tell_why};
 
@@ -24,21 +25,29 @@ pub enum CheckFault {
     Write,
 }
 
-/// The watches through which a check reads its file and writes its line: they count the reads and writes that failed, as
-/// contracts see it.
-#[derive(Debug, Drop)]
-pub struct CheckWatches {
+/// The watches of a check: one of its file's reader, of type `S`, and one of its line's writer, of
+/// type `W`. A contract sees what each has counted.
+#[derive(Drop)]
+pub struct CheckWatches<S, W> {
     /// Of the file.
-    pub(crate) reads: Watch,
+    pub(crate) reads: Watch<S>,
     /// Of the line.
-    pub(crate) writes: Watch,
+    pub(crate) writes: Watch<W>,
     /// What a second line on standard error says of a fault of the file.
     pub(crate) why: Option<String>,
 }
 
-impl CheckWatches {
+impl<S, W> Model for CheckWatches<S, W> {
+    ghost use Rattle.farm_replay.specs.Counts.{Counts};
+
+    ghost Value = { Counts };
+
+    ghost view = { λ w. record { reads = w.reads; writes = w.writes } };
+}
+
+impl<S, W> CheckWatches<S, W> {
     /// Watches through which nothing has failed.
-    pub fn new() -> CheckWatches
+    pub fn new() -> CheckWatches<S, W>
         ensures reads { result.reads ≡ 0 }
         ensures writes { result.writes ≡ 0 }
     {
@@ -57,7 +66,7 @@ pub fn check<S: Read + Drop, W: Write>(
     alloc: Global,
     reader: S,
     writer: &mut W,
-    watches: &mut CheckWatches,
+    watches: &mut CheckWatches<S, W>,
 ) -> Result<(), CheckFault>
     ensures { IsCheckOf result watches.old watches.new (S.remaining reader) (W.contents writer.old) (W.contents writer.new) }
 {
@@ -111,7 +120,7 @@ pub fn check_to<R: AllocGlobal + Env + Eprint, S: Read + Drop, W: Write>(
     path: &str,
     reader: S,
     writer: &mut W,
-    watches: &mut CheckWatches,
+    watches: &mut CheckWatches<S, W>,
 ) -> ExitCode
     ensures { IsChecked (exit_status result) watches.old watches.new (S.remaining reader)
         (W.contents writer.old)

@@ -100,12 +100,11 @@ fn run_check<R: Runtime + AllocGlobal>(rt: &R, path: &str) -> ExitCode
     ensures { exit_status result ≤ 1 }
 {
     let mut output = io::writer(rt);
-    let mut watches = CheckWatches::new();
     if path == "-" {
-        return check_to(rt, path, rt.reader(), &mut output, &mut watches);
+        return check_to(rt, path, rt.reader(), &mut output, &mut CheckWatches::new());
     }
     match fs::open(rt, path) {
-        Ok(file) => check_to(rt, path, file, &mut output, &mut watches),
+        Ok(file) => check_to(rt, path, file, &mut output, &mut CheckWatches::new()),
         Err(error) => {
             tell_unread(rt, path, reason(error.kind()));
             ExitCode::FAILURE

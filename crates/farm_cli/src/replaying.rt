@@ -2,7 +2,6 @@
 ghost use Rattle.std.specs.Prelude.{◌≡◌, [], is_some, OnOk, OnErr};
 ghost use Rattle.std.specs.Io.Buffered.{writer_buffer, writer_contents, writer_inner};
 ghost use Rattle.std.specs.Process.{exit_status};
-ghost use Rattle.watched_io.specs.Failure.{HasFailed};
 ghost use Rattle.farm_cli.specs.Replayed.{IsReplayOf, IsReplayed, stop_status};
 
 use farm_config::{ConfigFault, place_of, read_config};
@@ -31,12 +30,12 @@ pub fn replay_text<S: Read + Drop, W: Write + Drop>(
     text: &[u8],
     script: S,
     output: &mut BufWriter<W>,
-    watches: &mut ReplayWatches,
-    sends: &mut Watch,
+    watches: &mut ReplayWatches<S, BufWriter<W>>,
+    sends: &mut Watch<BufWriter<W>>,
     notes: &mut Notes,
 ) -> Result<(), ReplayStop>
     requires { writer_buffer output.old ≡ [] }
-    ensures { IsReplayOf result text.now watches.old watches.new (is_some notes.new.refused) (HasFailed sends.old sends.new)
+    ensures { IsReplayOf result text.now watches.old watches.new (is_some notes.new.refused) sends.old sends.new
         (S.remaining script)
         (W.contents (writer_inner output.old))
         (W.contents (writer_inner output.new)) }
@@ -121,13 +120,14 @@ pub fn replay_to<R: AllocGlobal + Env + Eprint, S: Read + Drop, W: Write + Drop>
     script: S,
     is_strict: bool,
     output: &mut BufWriter<W>,
-    watches: &mut ReplayWatches,
-    sends: &mut Watch,
+    watches: &mut ReplayWatches<S, BufWriter<W>>,
+    sends: &mut Watch<BufWriter<W>>,
     notes: &mut Notes,
 ) -> ExitCode
     requires { writer_buffer output.old ≡ [] }
     ensures { IsReplayed (exit_status result) is_strict (is_some notes.new.refused) text.now watches.old watches.new
-        (HasFailed sends.old sends.new)
+        sends.old
+        sends.new
         (S.remaining script)
         (W.contents (writer_inner output.old))
         (W.contents (writer_inner output.new)) }

@@ -205,7 +205,7 @@ impl Config {
         ensures most { result ≤ length self.now.tenants }
         ensures few { result ≤ MOST_TENANTS }
     {
-        // (they keep their limits)
+        // (the contract of `tenants` has the limit of their number)
         self.tenants();
         self.purses.count()
     }

@@ -15,7 +15,7 @@ use Rattle.farm_core.specs.World.{World, opened, purse_in, place_in, purse, view
 use Rattle.farm_core.proofs.SeatLemmas.{each_view_is_a_seat}
 use Rattle.farm_replay.proofs.NumberLemmas.{known_number}
 use Rattle.farm_core.specs.Held.{FarmsAreReplayed}
-use Rattle.watched_io.specs.Failure.{HasFailed}
+use Rattle.watched_io.specs.Failure.{HasFailed, FailsAtMostOnce}
 use Rattle.session_lines.specs.declared.request.Request.{Request}
 use Rattle.session_lines.specs.declared.request.What.{What}
 use Rattle.session_lines.specs.declared.request.LineFault.{LineFault}
@@ -34,7 +34,8 @@ use Rattle.farm_replay.specs.Output.{Answered, request_may_need, told_to, told_u
 use Rattle.farm_session.specs.Heard.{tenant_number, heard_for, heard_of}
 use Rattle.farm_replay.specs.Refusal.{is_refusal}
 use Rattle.farm_replay.specs.Replay.{GoesOn, end_of}
-use Rattle.farm_replay.specs.declared.watches.ReplayWatches.{ReplayWatches}
+use Rattle.farm_replay.specs.Counts.{Counts}
+use Rattle.farm_replay.specs.Noted.{AreNoted, IsReadNoted, IsWriteNoted}
 use Rattle.farm_replay.specs.Floor.{IsTold}
 use Rattle.farm_replay.proofs.BeginLemmas.{AreNamed, script_named}
 use Rattle.farm_replay.proofs.FloorLemmas.{seated_same}
@@ -157,7 +158,7 @@ play_on turns config xs ys zs old mid new count noted noted' w w' line it m n by
 
 -- a part of its line was written, and no more
 cut_by_write : EachInTurn → (config : ConfigData) (xs ys zs : List ℕ) (old mid new : Option (List ℕ)) (count : ℕ) (noted : Bool) (w w' : World) (line : Saying) (it : IsPlayed config xs ys old mid count noted w) (m : Marked)
-    → IsNext m ys zs → IsAnsweredBy config (parts_after config (opening config) it.requests) m line w' → AppendsPart mid new (line_text line) → (before seen : ReplayWatches) → HasFailed before.writes seen.writes → IsCutOff config fault.Write before seen xs old new
+    → IsNext m ys zs → IsAnsweredBy config (parts_after config (opening config) it.requests) m line w' → AppendsPart mid new (line_text line) → (before seen : Counts) → HasFailed before.writes seen.writes → IsCutOff config fault.Write before seen xs old new
 cut_by_write turns config xs ys zs old mid new count noted w w' line it m n by part before seen failed = record {
   requests = it.requests;
   rest = m.item ∷ requests_of zs;
@@ -169,7 +170,7 @@ cut_by_write turns config xs ys zs old mid new count noted w w' line it m n by p
 
 -- nothing of its line was written
 cut_before : EachInTurn → (config : ConfigData) (xs ys zs : List ℕ) (old new : Option (List ℕ)) (count : ℕ) (noted : Bool) (w : World) (it : IsPlayed config xs ys old new count noted w) (m : Marked)
-    → IsNext m ys zs → (before seen : ReplayWatches) → HasFailed before.writes seen.writes → IsCutOff config fault.Write before seen xs old new
+    → IsNext m ys zs → (before seen : Counts) → HasFailed before.writes seen.writes → IsCutOff config fault.Write before seen xs old new
 cut_before turns config xs ys zs old new count noted w it m n before seen failed = record {
   requests = it.requests;
   rest = m.item ∷ requests_of zs;
@@ -189,7 +190,7 @@ cut_before turns config xs ys zs old new count noted w it m n before seen failed
   );
 }
 
-cut_between : (config : ConfigData) (xs ys : List ℕ) (old new : Option (List ℕ)) (count : ℕ) (noted : Bool) (w : World) (why : ReplayFault) (before seen : ReplayWatches) (it : IsPlayed config xs ys old new count noted w)
+cut_between : (config : ConfigData) (xs ys : List ℕ) (old new : Option (List ℕ)) (count : ℕ) (noted : Bool) (w : World) (why : ReplayFault) (before seen : Counts) (it : IsPlayed config xs ys old new count noted w)
     → IsCutBy why before seen config xs it.requests (requests_of ys) [] → IsCutOff config why before seen xs old new
 cut_between config xs ys old new count noted w why before seen it cause = record {
   requests = it.requests;
@@ -358,7 +359,7 @@ settled_on turns config a b c old mid new count noted noted' w answer who words 
 
 pub settled_cut : EachInTurn → (config : ConfigData) (a b c old mid new : Option (List ℕ)) (count : ℕ) (noted : Bool) (w : World) (answer : Result Request LineFault) (who : Option (List ℕ)) (words : Said)
     → heard.Told who words ≡ heard_of config answer → Takes 100000000 None b c answer → Played config a b old mid count noted w → AppendsPart mid new (reply_line who words)
-    → (before seen : ReplayWatches) → HasFailed before.writes seen.writes → IfSome a (λ xs. IsCutOff config fault.Write before seen xs old new)
+    → (before seen : Counts) → HasFailed before.writes seen.writes → IfSome a (λ xs. IsCutOff config fault.Write before seen xs old new)
 settled_cut turns config a b c old mid new count noted w answer who words is takes played part before seen failed =
     known_first a c (λ xs zs. IsCutOff config fault.Write before seen xs old new) (λ xs. IsCutOff config fault.Write before seen xs old new)
     (goes_on a b c (λ xs ys. IsPlayed config xs ys old mid count noted w) (IsSettled config (record { who = who; said = words })) (λ xs zs. IsCutOff config fault.Write before seen xs old new)
@@ -463,7 +464,7 @@ asked_on turns config a b c old mid new count noted noted' w w' answer t who wha
 
 pub asked_cut : EachInTurn → (config : ConfigData) (a b c old mid new : Option (List ℕ)) (count : ℕ) (noted : Bool) (w w' : World) (answer : Result Request LineFault) (t : ℕ) (who : List ℕ) (what : What) (words : Said)
     → heard.Asked t who what ≡ heard_of config answer → Takes 100000000 None b c answer → IsTold w t what words w' → Played config a b old mid count noted w → AppendsPart mid new (reply_line (Some who) words)
-    → (before seen : ReplayWatches) → HasFailed before.writes seen.writes → IfSome a (λ xs. IsCutOff config fault.Write before seen xs old new)
+    → (before seen : Counts) → HasFailed before.writes seen.writes → IfSome a (λ xs. IsCutOff config fault.Write before seen xs old new)
 asked_cut turns config a b c old mid new count noted w w' answer t who what words is takes told played part before seen failed =
     known_first a c (λ xs zs. IsCutOff config fault.Write before seen xs old new) (λ xs. IsCutOff config fault.Write before seen xs old new)
     (goes_on a b c (λ xs ys. IsPlayed config xs ys old mid count noted w) (IsAsked config t who what) (λ xs zs. IsCutOff config fault.Write before seen xs old new)
@@ -475,7 +476,7 @@ asked_cut turns config a b c old mid new count noted w w' answer t who what word
 
 -- nothing could be sent before it is answered
 pub asked_unsent : EachInTurn → (config : ConfigData) (a b c old new : Option (List ℕ)) (count : ℕ) (noted : Bool) (w : World) (answer : Result Request LineFault) (t : ℕ) (who : List ℕ) (what : What)
-    → heard.Asked t who what ≡ heard_of config answer → Takes 100000000 None b c answer → Played config a b old new count noted w → (before seen : ReplayWatches) → HasFailed before.writes seen.writes → IfSome a (λ xs. IsCutOff config fault.Write before seen xs old new)
+    → heard.Asked t who what ≡ heard_of config answer → Takes 100000000 None b c answer → Played config a b old new count noted w → (before seen : Counts) → HasFailed before.writes seen.writes → IfSome a (λ xs. IsCutOff config fault.Write before seen xs old new)
 asked_unsent turns config a b c old new count noted w answer t who what is takes played before seen failed =
     known_first a c (λ xs zs. IsCutOff config fault.Write before seen xs old new) (λ xs. IsCutOff config fault.Write before seen xs old new)
     (goes_on a b c (λ xs ys. IsPlayed config xs ys old new count noted w) (IsAsked config t who what) (λ xs zs. IsCutOff config fault.Write before seen xs old new)
@@ -534,11 +535,49 @@ asked_well config old new (Err (Syntax w)) t who what is h = h
 asked_well config old new (Err (File w why)) t who what is h = h
 asked_well config old new (Err (NoMemory w)) t who what is h = h
 
+-- what ends a script was read with no failure, and what breaks it off with at most one
+pub over_well : (config : ConfigData) (old new : ℕ) (answer : Result Request LineFault) → heard.Over ≡ heard_of config answer → HasReadWell answer old new → new ≡ old
+over_well config old new (Ok request) is h = h
+over_well config old new (Err Eof) is h = h
+over_well config old new (Err Read) is h = absurd (cc)
+over_well config old new (Err (TooLong w)) is h = h
+over_well config old new (Err (Syntax w)) is h = h
+over_well config old new (Err (File w why)) is h = h
+over_well config old new (Err (NoMemory w)) is h = h
+
+pub read_once : (old new : ℕ) (answer : Result Request LineFault) → HasReadWell answer old new → FailsAtMostOnce old new
+read_once old new (Ok request) h = inr h
+read_once old new (Err Eof) h = inr h
+read_once old new (Err Read) h = h
+read_once old new (Err (TooLong w)) h = inr h
+read_once old new (Err (Syntax w)) h = inr h
+read_once old new (Err (File w why)) h = inr h
+read_once old new (Err (NoMemory w)) h = inr h
+
+-- what a replay's watches note
+pub noted_write : (why : ReplayFault) (before seen : Counts) → why ≡ fault.Write → seen.reads ≡ before.reads → HasFailed before.writes seen.writes → AreNoted (Err why) before seen
+noted_write why before seen is reads writes = subst (λ f. AreNoted (Err f) before seen) (sym is) (record { reads = reads; writes = writes })
+
+pub noted_from : (ended : Result ⊤ ReplayFault) (before mid seen : Counts) → mid.reads ≡ before.reads → mid.writes ≡ before.writes → AreNoted ended mid seen → AreNoted ended before seen
+noted_from ended before mid seen reads writes h = record {
+  reads = subst (λ n. IsReadNoted ended n seen.reads) reads h.reads;
+  writes = subst (λ n. IsWriteNoted ended n seen.writes) writes h.writes;
+}
+
+pub end_noted : (answer : Result Request LineFault) (old new writes : ℕ) → HasReadWell answer old new → AreNoted (end_of answer) (record { reads = old; writes = writes }) (record { reads = new; writes = writes })
+end_noted (Ok request) old new writes h = record { reads = h; writes = refl }
+end_noted (Err Eof) old new writes h = record { reads = h; writes = refl }
+end_noted (Err Read) old new writes h = record { reads = h; writes = refl }
+end_noted (Err (TooLong w)) old new writes h = record { reads = h; writes = refl }
+end_noted (Err (Syntax w)) old new writes h = record { reads = h; writes = refl }
+end_noted (Err (File w why)) old new writes h = record { reads = h; writes = refl }
+end_noted (Err (NoMemory w)) old new writes h = record { reads = h; writes = refl }
+
 cause_at : (Failed : Type 0) (b : Option (List ℕ)) (ys : List ℕ) (P : List ℕ → Type 0) → b ≡ Some ys → HasCause Failed b P → Failed ⊎ P ys
 cause_at Failed b ys P known (inl h) = inl h
 cause_at Failed b ys P known (inr h) = inr (subst (λ o. IfSome o P) known h)
 
-pub play_broken : (config : ConfigData) (a b old new : Option (List ℕ)) (count : ℕ) (noted : Bool) (w : World) (answer : Result Request LineFault) (before seen : ReplayWatches) → heard.Broken ≡ heard_of config answer
+pub play_broken : (config : ConfigData) (a b old new : Option (List ℕ)) (count : ℕ) (noted : Bool) (w : World) (answer : Result Request LineFault) (before seen : Counts) → heard.Broken ≡ heard_of config answer
     → IsReadGivenUp 100000000 None (HasFailed before.reads seen.reads) b answer → Played config a b old new count noted w → IfSome a (λ xs. IsCutOff config fault.Read before seen xs old new)
 play_broken config a b old new count noted w answer before seen is cause played =
     known_first a b (λ xs ys. IsPlayed config xs ys old new count noted w) (λ xs. IsCutOff config fault.Read before seen xs old new) played
@@ -556,7 +595,7 @@ one_more turns old new answer takes =
     known_first old new (λ xs ys. Cuts 100000000 (first None (lines_of xs)) answer xs ys) (λ bytes. requests_of bytes ≢ []) takes
     (λ xs ys known it none. let some : requests_of xs ≡ it.item ∷ requests_of ys = turns xs ∙ ap from_first it.cut in absurd (cc))
 
-pub play_stops : (config : ConfigData) (a b old new : Option (List ℕ)) (noted : Bool) (w : World) (why : ReplayFault) (before seen : ReplayWatches) → Played config a b old new 1000000 noted w → IfSome b (λ ys. GoesOn why (HasFailed before.reads seen.reads) ys)
+pub play_stops : (config : ConfigData) (a b old new : Option (List ℕ)) (noted : Bool) (w : World) (why : ReplayFault) (before seen : Counts) → Played config a b old new 1000000 noted w → IfSome b (λ ys. GoesOn why (HasFailed before.reads seen.reads) ys)
     → IfSome a (λ xs. IsCutOff config why before seen xs old new)
 play_stops config a b old new noted w why before seen played stops =
     known_first a b (λ xs ys. IsPlayed config xs ys old new 1000000 noted w) (λ xs. IsCutOff config why before seen xs old new) played
@@ -589,7 +628,7 @@ pub play_written : (config : ConfigData) (a b old new : Option (List ℕ)) (coun
 play_written config a b old new count noted w (Ok u) most played over = play_ends config a b old new count noted w most played over
 play_written config a b old new count noted w (Err why) most played over = tt
 
-pub play_cut : (config : ConfigData) (a b old new : Option (List ℕ)) (noted : Bool) (w : World) (before seen : ReplayWatches) (result : Result ⊤ ReplayFault) → Played config a b old new 1000000 noted w
+pub play_cut : (config : ConfigData) (a b old new : Option (List ℕ)) (noted : Bool) (w : World) (before seen : Counts) (result : Result ⊤ ReplayFault) → Played config a b old new 1000000 noted w
     → IfErr result (λ why. IfSome b (λ ys. GoesOn why (HasFailed before.reads seen.reads) ys)) → IfErr result (λ why. IfSome a (λ xs. IsCutOff config why before seen xs old new))
 play_cut config a b old new noted w before seen (Ok u) played stops = tt
 play_cut config a b old new noted w before seen (Err why) played stops = play_stops config a b old new noted w why before seen played stops

@@ -30,7 +30,7 @@ use Rattle.farm_replay.specs.Refusal.{is_refusal}
 use Rattle.farm_replay.specs.declared.script.TheConstants.{MOST_REQUESTS}
 use Rattle.farm_replay.specs.declared.script.ReplayFault.{ReplayFault}
 use Rattle.farm_replay.specs.declared.script.ReplayFault.TheVariants as fault
-use Rattle.farm_replay.specs.declared.watches.ReplayWatches.{ReplayWatches}
+use Rattle.farm_replay.specs.Counts.{Counts}
 
 -- ---- one tenant
 
@@ -200,14 +200,14 @@ IsLongNext script requests = IsPast MOST_REQUEST_BYTES None (lines_past (length 
 
 -- why a replay ends after these requests, by its fault and by what its watches had counted before it and count then, and what was written
 -- after their lines: a fault of the reader or the writer is one of this replay, whatever failed before it
-abbrev pub IsCutBy : ReplayFault → ReplayWatches → ReplayWatches → ConfigData → List ℕ → List Marked → List Item → List ℕ → Type 0
+abbrev pub IsCutBy : ReplayFault → Counts → Counts → ConfigData → List ℕ → List Marked → List Item → List ℕ → Type 0
 IsCutBy fault.Read before seen config script requests rest part = (part ≡ []) × (HasFailed before.reads seen.reads ⊎ IsLongNext script requests)
 IsCutBy fault.Write before seen config script requests rest part = HasFailed before.writes seen.writes × IsPartOfNext config requests rest part
 IsCutBy fault.Requests before seen config script requests rest part = (part ≡ []) × (length requests ≡ MOST_REQUESTS) × (rest ≢ [])
 IsCutBy fault.NoMemory before seen config script requests rest part = (part ≡ []) × (requests ≡ [])
 
 -- the output of a script's first requests was written, and after a failed write a part of the next line
-pub record IsCutOff (config : ConfigData) (fault : ReplayFault) (before seen : ReplayWatches) (script : List ℕ) (old new : Option (List ℕ)) : Type 0 where
+pub record IsCutOff (config : ConfigData) (fault : ReplayFault) (before seen : Counts) (script : List ℕ) (old new : Option (List ℕ)) : Type 0 where
   pub requests : List Marked
   pub rest : List Item
   pub part : List ℕ

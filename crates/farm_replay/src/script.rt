@@ -1,5 +1,5 @@
 //! Scripts of requests, run one after another on a farm of one thread.
-ghost use Rattle.std.specs.Prelude.{◌≡◌, [], true, false, is_some, IfSome, IfErr, OnOk, OnErr};
+ghost use Rattle.std.specs.Prelude.{◌≡◌, ℕ, [], true, false, is_some, IfSome, IfErr, OnOk, OnErr};
 ghost use Rattle.farm_core.specs.World.{opened};
 ghost use Rattle.watched_io.specs.Failure.{HasFailed, IsNoted};
 ghost use Rattle.session_lines.specs.Known.{Writes};
@@ -10,6 +10,7 @@ ghost use Rattle.farm_session.specs.Branch.{tills_of};
 ghost use Rattle.farm_replay.specs.Floor.{IsFloor};
 ghost use Rattle.farm_replay.specs.Headline.{HasWritten, IsIsolated, IsTruthful};
 ghost use Rattle.farm_replay.specs.Leases.{AreLeasesOf};
+ghost use Rattle.farm_replay.specs.Noted.{AreNoted};
 ghost use Rattle.farm_replay.specs.Output.{IsWritten, IsCutOff};
 ghost use Rattle.farm_replay.specs.Reader.{script_rest};
 ghost use Rattle.farm_replay.specs.Replay.{end_of, GoesOn};
@@ -53,7 +54,7 @@ pub enum ReplayFault {
 /// Writes a reply line.
 fn tell<W: Write>(
     writer: &mut W,
-    watch: &mut Watch,
+    watch: &mut Watch<W>,
     who: Option<Name>,
     said: Said,
 ) -> Result<(), ReplayFault>
@@ -79,10 +80,13 @@ fn ended(read: Result<Request, LineFault>) -> Result<(), ReplayFault>
 }
 
 /// Whether a script ends here, or goes on past its last request that may be.
-fn end<R: BufRead>(alloc: Global, script: &mut R, watch: &mut Watch) -> Result<(), ReplayFault>
+fn end<R: BufRead>(alloc: Global, script: &mut R, watch: &mut Watch<R>) -> Result<(), ReplayFault>
     ensures over { OnOk result (IfSome (R.remaining script.old) (λ bytes. requests_of bytes ≡ [])) }
     ensures fault { IfErr result (λ fault. IfSome (R.remaining script.old) (λ bytes.
         GoesOn fault (HasFailed watch.old watch.new) bytes)) }
+    ensures noted { (writes : ℕ) → AreNoted result
+        (record { reads = watch.old; writes = writes })
+        (record { reads = watch.new; writes = writes }) }
 {
     requests_come_in_turn();
     ended(read_request(alloc, script, watch))
@@ -96,7 +100,7 @@ fn play<J: Strategy, R: Read, W: Write, M: Fn(Ready) -> Option<J>>(
     branches: &mut [Branch<'_>],
     script: &mut Script<R>,
     writer: &mut W,
-    watches: &mut ReplayWatches,
+    watches: &mut ReplayWatches<R, W>,
     notes: &mut Notes,
     make: &M,
 ) -> Result<(), ReplayFault>
@@ -109,6 +113,7 @@ fn play<J: Strategy, R: Read, W: Write, M: Fn(Ready) -> Option<J>>(
         IsWritten config.now bytes (is_some notes.new.refused) (W.contents writer.old) (W.contents writer.new))) }
     ensures cut_off { IfErr result (λ fault. IfSome (script_rest R.remaining script.old) (λ bytes.
         IsCutOff config.now fault watches.old watches.new bytes (W.contents writer.old) (W.contents writer.new))) }
+    ensures noted { AreNoted result watches.old watches.new }
     ensures floor { IsFloor J.meaning floor.new.farm floor.new.held.items }
     ensures leased { AreLeasesOf config.now (M.post make.now)
         (script_rest R.remaining script.old) branches.old branches.new }
@@ -145,14 +150,16 @@ fn play<J: Strategy, R: Read, W: Write, M: Fn(Ready) -> Option<J>>(
 /// Runs a script of requests on a new farm of the configuration, and writes one reply line for each. Turns that the script still
 /// holds at its end are given back unrun. After a fault the lines of the requests before it stand whole; after `Write` a front part
 /// of the next line stands behind them. `Read` comes only if a read of this call fails or a request has more than 100,000,000 bytes,
-/// `Write` only if a write of this call fails or takes nothing. Replies go out before the script is waited for, and before a turn is run. What a
+/// `Write` only if a write of this call fails or takes nothing. At `Ok` neither watch has noted a
+/// failure. A failed send before the script is waited for is not noted, and leaves the replies
+/// gathered. Replies go out before the script is waited for, and before a turn is run. What a
 /// writer of scripts may want to look at is noted, and what was noted before is forgotten.
 pub fn replay<R: Read + Drop, W: Write>(
     alloc: Global,
     config: &Config,
     reader: R,
     writer: &mut W,
-    watches: &mut ReplayWatches,
+    watches: &mut ReplayWatches<R, W>,
     notes: &mut Notes,
 ) -> Result<(), ReplayFault>
     ensures written { OnOk result (IfSome (R.remaining reader) (λ script.
@@ -163,6 +170,7 @@ pub fn replay<R: Read + Drop, W: Write>(
         HasWritten (IsTruthful config.now) config.now script (W.contents writer.old) (W.contents writer.new))) }
     ensures cut_off { IfErr result (λ fault. IfSome (R.remaining reader) (λ script.
         IsCutOff config.now fault watches.old watches.new script (W.contents writer.old) (W.contents writer.new))) }
+    ensures noted { AreNoted result watches.old watches.new }
 {
     outputs_are_isolated();
     each_line_is_true();

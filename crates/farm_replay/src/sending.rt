@@ -9,8 +9,8 @@ use session_lines::What;
 use std::io::{Read, Write};
 use watched_io::Watch;
 
-/// Sends the replies that were gathered, where the next request may have to be waited for. Where they cannot be sent, the end of the
-/// replay or a later reply tells so.
+/// Sends the gathered replies if the next request may have to be waited for. A failure is not noted:
+/// the replies stay gathered, and a later write or the end of the replay reports it.
 pub(crate) fn send_before_wait<R: Read, W: Write>(script: &Script<R>, writer: &mut W)
     ensures { Keeps (W.contents writer.old) (W.contents writer.new) }
 {
@@ -23,7 +23,7 @@ pub(crate) fn send_before_wait<R: Read, W: Write>(script: &Script<R>, writer: &m
 pub(crate) fn send_before_nodes<W: Write>(
     asked: &What,
     writer: &mut W,
-    watch: &mut Watch,
+    watch: &mut Watch<W>,
 ) -> Result<(), ReplayFault>
     ensures kept { Keeps (W.contents writer.old) (W.contents writer.new) }
     ensures fault { IfErr result (λ fault. fault ≡ ReplayFault.Write) }

@@ -40,16 +40,16 @@ fn heard(config: &Config, read: Result<Request, LineFault>) -> Heard
     }
 }
 
-/// The watches through which a connection is read and written.
+/// The watches of a connection: one of its reader, of type `I`, and one of its writer, of type `O`.
 #[derive(Drop)]
-struct ConnectionWatches {
-    reads: Watch,
-    writes: Watch,
+struct ConnectionWatches<I, O> {
+    reads: Watch<I>,
+    writes: Watch<O>,
 }
 
-impl ConnectionWatches {
+impl<I, O> ConnectionWatches<I, O> {
     /// Watches through which nothing has failed.
-    fn new() -> ConnectionWatches {
+    fn new() -> ConnectionWatches<I, O> {
         ConnectionWatches {
             reads: Watch::new(),
             writes: Watch::new(),
@@ -151,7 +151,7 @@ fn reply<D: Shared, R: Wait, W: Write, M: Fn(Ready) -> Option<D::Search>>(
     token: &mut D::Token,
     branches: &mut [Branch<'_>],
     writer: &mut W,
-    watch: &mut Watch,
+    watch: &mut Watch<W>,
     heard: Heard,
 ) -> Result<(), WriteFault>
     requires own { D.owns office.now.shared.now token.old }
@@ -186,7 +186,7 @@ fn serve_next<D: Shared, R: Wait, I: BufRead, O: Write, M: Fn(Ready) -> Option<D
     branches: &mut [Branch<'_>],
     reader: &mut I,
     writer: &mut O,
-    watches: &mut ConnectionWatches,
+    watches: &mut ConnectionWatches<I, O>,
 ) -> bool
     requires own { D.owns office.now.shared.now token.old }
     requires config { D.config office.now.shared.now ≡ office.now.config.now }

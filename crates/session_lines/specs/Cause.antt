@@ -1,6 +1,7 @@
 -- Why a request is not read: the reader failed, or the request is too long.
 use Rattle.std.specs.Prelude.{◌≡◌, ℕ, ◌+◌, ◌<◌, ◌⊎◌, List, [], ◌∷◌, length, Option, Some, None, Result, Err, IfSome, ⊤}
 use Rattle.std.specs.Io.BufRead.{take_through}
+use Rattle.watched_io.specs.Failure.{FailsAtMostOnce}
 use Rattle.session_lines.specs.declared.request.Request.{Request}
 use Rattle.session_lines.specs.declared.request.LineFault.{LineFault}
 use Rattle.session_lines.specs.declared.request.LineFault.TheVariants.{Read}
@@ -33,7 +34,7 @@ abbrev pub IsReadGivenUp : ℕ → Option TextData → Type 0 → Option (List �
 IsReadGivenUp most text Failed old (Err Read) = HasCause Failed old (λ bytes. IsPast most text (lines_of bytes))
 IsReadGivenUp most text Failed old answer = ⊤
 
--- with every other answer the reader has not failed during the call, by a watch's counts before and after
+-- a read that is given up notes at most one failure on its watch, and every other answer none
 abbrev pub HasReadWell : Result Request LineFault → ℕ → ℕ → Type 0
-HasReadWell (Err Read) old new = ⊤
+HasReadWell (Err Read) old new = FailsAtMostOnce old new
 HasReadWell answer old new = new ≡ old

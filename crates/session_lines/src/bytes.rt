@@ -1,7 +1,7 @@
 //! Lines of a reader, with no memory: the place of a line's end, and lines that no buffer holds whole.
-ghost use Rattle.std.specs.Prelude.{◌≡◌, ◌≢◌, ◌<◌, true, false, not, ◌&&◌, ◌||◌, ◌==◌, take, [], ◌∷◌, ◌++◌, All, IfOk, IfSome, OnOk, OnErr, length};
+ghost use Rattle.std.specs.Prelude.{◌≡◌, ◌≢◌, ◌<◌, true, false, not, ◌&&◌, ◌||◌, ◌==◌, take, [], ◌∷◌, ◌++◌, All, IfOk, IfSome, OnErr, length};
 ghost use Rattle.std.specs.List.{position};
-ghost use Rattle.watched_io.specs.Failure.{HasFailed};
+ghost use Rattle.watched_io.specs.Failure.{HasFailed, IsNotedAtMostOnce};
 ghost use Rattle.psplib_mm.specs.Text.{is_blank, is_line_feed};
 ghost use Rattle.session_lines.specs.Cause.{HasCause, IsLonger};
 ghost use Rattle.session_lines.specs.Taken.{Extends, TakesPiece, TakesIf, IsFront};
@@ -99,13 +99,13 @@ pub fn feed_place(bytes: &[u8]) -> Option<usize>
 // Adds to the line what the reader shows, up to a line feed.
 fn take_piece<R: BufRead>(
     reader: &mut R,
-    watch: &mut Watch,
+    watch: &mut Watch<R>,
     left: &mut u64,
     line: &mut Line,
 ) -> Result<Piece, ReadFault>
     ensures taken { IfOk result (λ piece. TakesPiece piece line.old line.new left.old left.new
         (R.remaining reader.old) (R.remaining reader.new)) }
-    ensures kept { OnOk result (watch.new ≡ watch.old) }
+    ensures kept { IsNotedAtMostOnce result watch.old watch.new }
     ensures cause { OnErr result (HasCause (HasFailed watch.old watch.new) (R.remaining reader.old)
         (IsLonger left.old)) }
 {
@@ -138,7 +138,7 @@ fn take_piece<R: BufRead>(
 /// Gathers the next line. `false` where there is none: the input is at its end.
 pub fn gather_line<R: BufRead>(
     reader: &mut R,
-    watch: &mut Watch,
+    watch: &mut Watch<R>,
     left: &mut u64,
     line: &mut Line,
 ) -> Result<bool, ReadFault>
@@ -148,7 +148,7 @@ pub fn gather_line<R: BufRead>(
     ensures taken { IfOk result (λ found. TakesIf found (IsFront line.new.kept.items line.new.is_blank)
         left.old left.new (R.remaining reader.old) (R.remaining reader.new)) }
     ensures fewer { IfOk result (λ found. found ≡ true → left.new < left.old) }
-    ensures kept { OnOk result (watch.new ≡ watch.old) }
+    ensures kept { IsNotedAtMostOnce result watch.old watch.new }
     ensures cause { OnErr result (HasCause (HasFailed watch.old watch.new) (R.remaining reader.old)
         (IsLonger left.old)) }
 {

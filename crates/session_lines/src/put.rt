@@ -29,7 +29,7 @@ pub enum Part<'a> {
 }
 
 /// Writes bytes. After a fault some of them may have gone out, from the front.
-pub fn put<W: Write>(writer: &mut W, watch: &mut Watch, bytes: &[u8]) -> Result<(), WriteFault>
+pub fn put<W: Write>(writer: &mut W, watch: &mut Watch<W>, bytes: &[u8]) -> Result<(), WriteFault>
     ensures writes { Writes result (W.contents writer.old) (W.contents writer.new) bytes.now }
     ensures noted { IsNoted result watch.old watch.new }
 {
@@ -46,7 +46,7 @@ pub fn put<W: Write>(writer: &mut W, watch: &mut Watch, bytes: &[u8]) -> Result<
 /// Gathers bytes. If they do not fit behind the gathered ones, both are written, and none is left.
 pub fn gather<W: Write>(
     writer: &mut W,
-    watch: &mut Watch,
+    watch: &mut Watch<W>,
     gathered: &mut Gathered,
     bytes: &[u8],
 ) -> Result<(), WriteFault>
@@ -66,7 +66,7 @@ pub fn gather<W: Write>(
 
 fn gather_part<W: Write>(
     writer: &mut W,
-    watch: &mut Watch,
+    watch: &mut Watch<W>,
     gathered: &mut Gathered,
     part: Part<'_>,
 ) -> Result<(), WriteFault>
@@ -91,7 +91,7 @@ fn gather_part<W: Write>(
 /// front.
 pub fn gather_parts<W: Write>(
     writer: &mut W,
-    watch: &mut Watch,
+    watch: &mut Watch<W>,
     gathered: &mut Gathered,
     parts: &[Part<'_>],
 ) -> Result<(), WriteFault>

@@ -1,6 +1,6 @@
 //! Requests of a reader.
-ghost use Rattle.std.specs.Prelude.{◌≡◌, ◌<◌, true, false, None, Some, is_some, IfOk, OnOk, OnErr};
-ghost use Rattle.watched_io.specs.Failure.{HasFailed};
+ghost use Rattle.std.specs.Prelude.{◌≡◌, ◌<◌, true, false, None, Some, is_some, IfOk, OnErr};
+ghost use Rattle.watched_io.specs.Failure.{HasFailed, IsNotedAtMostOnce};
 ghost use Rattle.session_lines.specs.Cause.{HasCause, IsLonger, IsReadGivenUp, HasReadWell};
 ghost use Rattle.session_lines.specs.Script.{Takes, opened_text, is_wordless, judged};
 ghost use Rattle.session_lines.specs.Taken.{TakesIf, TakesMeaning, Adds, judged_by};
@@ -56,13 +56,13 @@ fn judge_gathered(line: &Line) -> LineMeaning
 // Takes a line that the reader does not show whole.
 fn gather_meaning<R: BufRead>(
     reader: &mut R,
-    watch: &mut Watch,
+    watch: &mut Watch<R>,
     left: &mut u64,
 ) -> Result<Option<LineMeaning>, ReadFault>
     ensures taken { IfOk result (λ found. TakesMeaning found left.old left.new
         (R.remaining reader.old) (R.remaining reader.new)) }
     ensures fewer { IfOk result (λ found. is_some found ≡ true → left.new < left.old) }
-    ensures kept { OnOk result (watch.new ≡ watch.old) }
+    ensures kept { IsNotedAtMostOnce result watch.old watch.new }
     ensures cause { OnErr result (HasCause (HasFailed watch.old watch.new) (R.remaining reader.old)
         (IsLonger left.old)) }
 {
@@ -77,13 +77,13 @@ fn gather_meaning<R: BufRead>(
 // Takes the next line, and tells what it means. It is judged where it lies if the reader shows it whole.
 fn next_meaning<R: BufRead>(
     reader: &mut R,
-    watch: &mut Watch,
+    watch: &mut Watch<R>,
     left: &mut u64,
 ) -> Result<Option<LineMeaning>, ReadFault>
     ensures taken { IfOk result (λ found. TakesMeaning found left.old left.new
         (R.remaining reader.old) (R.remaining reader.new)) }
     ensures fewer { IfOk result (λ found. is_some found ≡ true → left.new < left.old) }
-    ensures kept { OnOk result (watch.new ≡ watch.old) }
+    ensures kept { IsNotedAtMostOnce result watch.old watch.new }
     ensures cause { OnErr result (HasCause (HasFailed watch.old watch.new) (R.remaining reader.old)
         (IsLonger left.old)) }
 {
@@ -109,7 +109,7 @@ fn next_meaning<R: BufRead>(
 // Adds a line to a text that the reader does not show whole. `false` where there is none.
 fn gather_text_line<R: BufRead>(
     reader: &mut R,
-    watch: &mut Watch,
+    watch: &mut Watch<R>,
     left: &mut u64,
     text: &mut Text,
 ) -> Result<bool, ReadFault>
@@ -117,7 +117,7 @@ fn gather_text_line<R: BufRead>(
         (R.remaining reader.old) (R.remaining reader.new)) }
     ensures stays { IfOk result (λ found. found ≡ false → text.new ≡ text.old) }
     ensures fewer { IfOk result (λ found. found ≡ true → left.new < left.old) }
-    ensures kept { OnOk result (watch.new ≡ watch.old) }
+    ensures kept { IsNotedAtMostOnce result watch.old watch.new }
     ensures cause { OnErr result (HasCause (HasFailed watch.old watch.new) (R.remaining reader.old)
         (IsLonger left.old)) }
 {
@@ -135,7 +135,7 @@ fn gather_text_line<R: BufRead>(
 // Adds the next line to a text. `false` where there is none: the input is at its end.
 fn next_text_line<R: BufRead>(
     reader: &mut R,
-    watch: &mut Watch,
+    watch: &mut Watch<R>,
     left: &mut u64,
     text: &mut Text,
 ) -> Result<bool, ReadFault>
@@ -143,7 +143,7 @@ fn next_text_line<R: BufRead>(
         (R.remaining reader.old) (R.remaining reader.new)) }
     ensures stays { IfOk result (λ found. found ≡ false → text.new ≡ text.old) }
     ensures fewer { IfOk result (λ found. found ≡ true → left.new < left.old) }
-    ensures kept { OnOk result (watch.new ≡ watch.old) }
+    ensures kept { IsNotedAtMostOnce result watch.old watch.new }
     ensures cause { OnErr result (HasCause (HasFailed watch.old watch.new) (R.remaining reader.old)
         (IsLonger left.old)) }
 {
@@ -170,7 +170,7 @@ fn next_text_line<R: BufRead>(
 fn read_text<R: BufRead>(
     alloc: Global,
     reader: &mut R,
-    watch: &mut Watch,
+    watch: &mut Watch<R>,
     left: &mut u64,
     head: Head,
 ) -> Result<Request, LineFault>
@@ -199,7 +199,7 @@ fn read_text<R: BufRead>(
 pub fn read_within<R: BufRead>(
     alloc: Global,
     reader: &mut R,
-    watch: &mut Watch,
+    watch: &mut Watch<R>,
     most: u64,
 ) -> Result<Request, LineFault>
     ensures takes { Takes most None (R.remaining reader.old) (R.remaining reader.new) result }
@@ -231,7 +231,7 @@ pub fn read_within<R: BufRead>(
 pub fn read_request<R: BufRead>(
     alloc: Global,
     reader: &mut R,
-    watch: &mut Watch,
+    watch: &mut Watch<R>,
 ) -> Result<Request, LineFault>
     ensures takes { Takes MOST_REQUEST_BYTES None (R.remaining reader.old) (R.remaining reader.new) result }
     ensures cause { IsReadGivenUp MOST_REQUEST_BYTES None (HasFailed watch.old watch.new)

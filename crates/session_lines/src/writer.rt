@@ -55,7 +55,7 @@ fn best_part(best: Option<u32>) -> Part<'static>
 // `@`, the tenant's name or a question mark, and a space.
 fn gather_who<W: Write>(
     writer: &mut W,
-    watch: &mut Watch,
+    watch: &mut Watch<W>,
     gathered: &mut Gathered,
     who: Option<Name>,
 ) -> Result<(), WriteFault>
@@ -81,7 +81,7 @@ fn gather_who<W: Write>(
 // What is known of a job, below its number.
 fn gather_line<W: Write>(
     writer: &mut W,
-    watch: &mut Watch,
+    watch: &mut Watch<W>,
     gathered: &mut Gathered,
     line: &Line,
 ) -> Result<(), WriteFault>
@@ -110,7 +110,7 @@ fn gather_line<W: Write>(
 // Parts, and what is known of a job.
 fn gather_job<W: Write>(
     writer: &mut W,
-    watch: &mut Watch,
+    watch: &mut Watch<W>,
     gathered: &mut Gathered,
     parts: &[Part<'_>],
     line: &Line,
@@ -127,7 +127,7 @@ fn gather_job<W: Write>(
 
 fn gather_book<W: Write>(
     writer: &mut W,
-    watch: &mut Watch,
+    watch: &mut Watch<W>,
     gathered: &mut Gathered,
     book: &Book,
 ) -> Result<(), WriteFault>
@@ -155,7 +155,7 @@ fn gather_book<W: Write>(
 // Why a text is no project.
 fn gather_file<W: Write>(
     writer: &mut W,
-    watch: &mut Watch,
+    watch: &mut Watch<W>,
     gathered: &mut Gathered,
     fault: MmFault,
 ) -> Result<(), WriteFault>
@@ -229,7 +229,7 @@ fn gather_file<W: Write>(
 // A text that ends with an opening bracket, what stands in the brackets, and the closing one.
 fn gather_bracketed<'a, W: Write>(
     writer: &mut W,
-    watch: &mut Watch,
+    watch: &mut Watch<W>,
     gathered: &mut Gathered,
     text: &'a [u8],
     inside: Part<'a>,
@@ -249,7 +249,7 @@ fn gather_bracketed<'a, W: Write>(
 // The places of a schedule's activities.
 fn gather_schedule<W: Write>(
     writer: &mut W,
-    watch: &mut Watch,
+    watch: &mut Watch<W>,
     gathered: &mut Gathered,
     schedule: &Schedule,
 ) -> Result<(), WriteFault>
@@ -277,7 +277,7 @@ fn gather_schedule<W: Write>(
 
 fn gather_place<W: Write>(
     writer: &mut W,
-    watch: &mut Watch,
+    watch: &mut Watch<W>,
     gathered: &mut Gathered,
     number: usize,
     mode: u32,
@@ -305,7 +305,7 @@ fn gather_place<W: Write>(
 // The places of a schedule's activities, where there is one.
 fn gather_places<W: Write>(
     writer: &mut W,
-    watch: &mut Watch,
+    watch: &mut Watch<W>,
     gathered: &mut Gathered,
     schedule: &Option<Schedule>,
 ) -> Result<(), WriteFault>
@@ -322,7 +322,7 @@ fn gather_places<W: Write>(
 // A job's best makespan and its verdict.
 fn gather_front<W: Write>(
     writer: &mut W,
-    watch: &mut Watch,
+    watch: &mut Watch<W>,
     gathered: &mut Gathered,
     seq: u64,
     best: Option<u32>,
@@ -346,7 +346,7 @@ fn gather_front<W: Write>(
 
 fn gather_forgotten<W: Write>(
     writer: &mut W,
-    watch: &mut Watch,
+    watch: &mut Watch<W>,
     gathered: &mut Gathered,
     seq: u64,
 ) -> Result<(), WriteFault>
@@ -364,7 +364,7 @@ fn gather_forgotten<W: Write>(
 
 fn gather_reply<W: Write>(
     writer: &mut W,
-    watch: &mut Watch,
+    watch: &mut Watch<W>,
     gathered: &mut Gathered,
     reply: &Reply,
 ) -> Result<(), WriteFault>
@@ -425,7 +425,7 @@ fn gather_reply<W: Write>(
 
 fn gather_said<W: Write>(
     writer: &mut W,
-    watch: &mut Watch,
+    watch: &mut Watch<W>,
     gathered: &mut Gathered,
     said: &Said,
 ) -> Result<(), WriteFault>
@@ -446,7 +446,7 @@ fn gather_said<W: Write>(
 // The line of a reply.
 fn gather_reply_line<W: Write>(
     writer: &mut W,
-    watch: &mut Watch,
+    watch: &mut Watch<W>,
     gathered: &mut Gathered,
     who: Option<Name>,
     said: &Said,
@@ -470,7 +470,7 @@ fn gather_reply_line<W: Write>(
 /// 256 bytes goes out in one write, a longer one in pieces.
 pub fn write_reply<W: Write>(
     writer: &mut W,
-    watch: &mut Watch,
+    watch: &mut Watch<W>,
     who: Option<Name>,
     said: &Said,
 ) -> Result<(), WriteFault>

@@ -1,27 +1,28 @@
 //! `Watch`: what is read and written through it, byte by byte or whole.
 ghost use types.Logic.{sem};
 ghost use Rattle.std.specs.Prelude.{◌≡◌, ◌<◌, [], IfOk, IfSome, OnOk, length, take};
-ghost use Rattle.std.specs.Io.{ReadsAtMost, WritesAtMost, StartsWith};
+ghost use Rattle.std.specs.Io.{WritesAtMost, StartsWith};
 ghost use Rattle.std.specs.Io.BufRead.{Rests, FillKeeps};
 ghost use Rattle.std.specs.Io.Buffered.{writer_buffer, writer_contents};
-ghost use Rattle.std.specs.Io.KnownBytes.{Appends, Keeps, IsAtEnd, ReadConsumes, WriteAppends};
+ghost use Rattle.std.specs.Io.KnownBytes.{Appends, Keeps, IsAtEnd, WriteAppends};
 ghost use Rattle.watched_io.specs.Failure.{HasFailed, IsNoted};
 
 use std::alloc::Global;
 use std::fmt::Display;
 use std::io;
 use std::io::{BufRead, BufWriter, Error, ErrorKind, Read, Write};
-use std::marker::Model;
+use std::marker::{Model, PhantomData};
 
-/// A count of the reads and writes that failed through it, modulo 2^64. Contracts of `Read` and
-/// `Write` do not say when a call fails: that a failure which is noted was the reader's or the
-/// writer's, or want of memory for what was read, is seen in the bodies of its methods alone.
-#[derive(Debug, Drop)]
-pub struct Watch {
+/// A watch is a count, modulo 2^64, of the failures of one reader or writer of type `S`. Contracts of
+/// `Read` and `Write` do not say when a call fails. That a noted failure was one of the reader, the
+/// writer or memory is seen in the bodies of its methods alone.
+#[derive(Drop)]
+pub struct Watch<S> {
     failures: u64,
+    of: PhantomData<S>,
 }
 
-impl Model for Watch {
+impl<S> Model for Watch<S> {
     ghost use Rattle.std.specs.Prelude.{ℕ};
 
     ghost Value = { ℕ };
@@ -29,36 +30,54 @@ impl Model for Watch {
     ghost view = { λ w. w.failures };
 }
 
-impl Watch {
+impl<S> Watch<S> {
     /// A watch through which nothing has failed.
-    pub fn new() -> Watch
+    pub fn new() -> Watch<S>
         ensures { result ≡ 0 }
     {
-        Watch { failures: 0 }
+        Watch {
+            failures: 0,
+            of: PhantomData,
+        }
     }
 
-    /// Reads bytes, as `Read::read` does, and notes an error. A read that a signal interrupts is
-    /// made again, and fails only if it never comes to an end.
-    pub fn read<R: Read>(&mut self, reader: &mut R, room: &mut [u8]) -> io::Result<usize>
-        ensures bound { ReadsAtMost result room.new }
-        ensures bytes { ReadConsumes (R.remaining reader.old) (R.remaining reader.new) result room.new }
+    /// Notes that something failed.
+    fn count(&mut self)
+        ensures { HasFailed self.old self.new }
+    {
+        self.failures = self.failures.wrapping_add(1);
+    }
+
+    /// Notes that something failed, and answers why.
+    fn note<T>(&mut self, error: Error) -> io::Result<T>
+        ensures noted { HasFailed self.old self.new }
+        ensures error { result ≡ Err error }
+    {
+        self.count();
+        Err(error)
+    }
+}
+
+impl<R: Read> Watch<R> {
+    /// Reads a reader to its end, or to `most` bytes, and notes an error: the reader's, or want of
+    /// memory.
+    pub fn read_front(&mut self, alloc: Global, reader: R, most: u64) -> io::Result<Vec<u8>>
+    where
+        R: Drop,
+        ensures front { IfOk result (λ bytes. IfSome (R.remaining reader) (λ all. bytes.items ≡ take most all)) }
         ensures noted { IsNoted result self.old self.new }
     {
-        for _ in 0..u64::MAX {
-            match reader.read(room) {
-                Ok(count) => return Ok(count),
-                Err(error) => {
-                    if error.kind() != ErrorKind::Interrupted {
-                        return self.note(error);
-                    }
-                }
-            }
+        let mut bytes = Vec::new(alloc);
+        match reader.take(most).read_to_end(&mut bytes) {
+            Ok(_) => Ok(bytes),
+            Err(error) => self.note(error),
         }
-        self.note(Error::from(ErrorKind::Interrupted))
     }
+}
 
+impl<R: BufRead> Watch<R> {
     /// Reads ahead if nothing was read ahead. Returns how many bytes the reader shows then: none at the end.
-    fn wait<R: BufRead>(&mut self, reader: &mut R) -> io::Result<usize>
+    fn wait(&mut self, reader: &mut R) -> io::Result<usize>
         ensures kept { Keeps (R.remaining reader.old) (R.remaining reader.new) }
         ensures end { IfOk result (λ count. count ≡ 0 → IsAtEnd (R.remaining reader.old)) }
         ensures noted { IsNoted result self.old self.new }
@@ -75,11 +94,13 @@ impl Watch {
         }
         self.note(Error::from(ErrorKind::Interrupted))
     }
+}
 
+impl<W: Write> Watch<W> {
     /// Writes bytes, as `Write::write` does, and notes an error. Of some bytes at least one is
     /// taken: to take none is an error too. A write that a signal interrupts is made again, and
     /// fails only if it never comes to an end.
-    pub fn write<W: Write>(&mut self, writer: &mut W, bytes: &[u8]) -> io::Result<usize>
+    pub fn write(&mut self, writer: &mut W, bytes: &[u8]) -> io::Result<usize>
         ensures bound { WritesAtMost result bytes.now }
         ensures bytes { WriteAppends (W.contents writer.old) (W.contents writer.new) result bytes.now }
         ensures some { IfOk result (λ count. 0 < length bytes.now → 0 < count) }
@@ -104,7 +125,7 @@ impl Watch {
     }
 
     /// Sends what was gathered, as `Write::flush` does, and notes an error.
-    pub fn flush<W: Write>(&mut self, writer: &mut W) -> io::Result<()>
+    pub fn flush(&mut self, writer: &mut W) -> io::Result<()>
         ensures bytes { Keeps (W.contents writer.old) (W.contents writer.new) }
         ensures noted { IsNoted result self.old self.new }
     {
@@ -114,30 +135,8 @@ impl Watch {
         }
     }
 
-    /// Reads a reader to its end, or to `most` bytes, and notes an error: the reader's, or want of
-    /// memory.
-    pub fn read_front<R: Read + Drop>(
-        &mut self,
-        alloc: Global,
-        reader: R,
-        most: u64,
-    ) -> io::Result<Vec<u8>>
-        ensures front { IfOk result (λ bytes. IfSome (R.remaining reader) (λ all. bytes.items ≡ take most all)) }
-        ensures noted { IsNoted result self.old self.new }
-    {
-        let mut bytes = Vec::new(alloc);
-        match reader.take(most).read_to_end(&mut bytes) {
-            Ok(_) => Ok(bytes),
-            Err(error) => self.note(error),
-        }
-    }
-
     /// Writes a whole text, as `Write::write_fmt` does, and notes an error.
-    pub fn write_text<W: Write, D: Display + Drop>(
-        &mut self,
-        writer: &mut W,
-        text: D,
-    ) -> io::Result<()>
+    pub fn write_text<D: Display + Drop>(&mut self, writer: &mut W, text: D) -> io::Result<()>
         ensures bytes { OnOk result (IfSome (D.output text) (Appends (W.contents writer.old) (W.contents writer.new))) }
         ensures noted { IsNoted result self.old self.new }
     {
@@ -146,9 +145,11 @@ impl Watch {
             Err(error) => self.note(error),
         }
     }
+}
 
+impl<W: Write + Drop> Watch<BufWriter<W>> {
     /// Writes out all that a buffer holds, as its `flush` does, and notes an error.
-    pub fn send_all<W: Write + Drop>(&mut self, output: &mut BufWriter<W>) -> io::Result<()>
+    pub fn send_all(&mut self, output: &mut BufWriter<W>) -> io::Result<()>
         ensures bytes { Keeps (writer_contents W.contents output.old) (writer_contents W.contents output.new) }
         ensures sent { OnOk result (writer_buffer output.new ≡ []) }
         ensures noted { IsNoted result self.old self.new }
@@ -158,28 +159,12 @@ impl Watch {
             Err(error) => self.note(error),
         }
     }
-
-    /// Notes that something failed.
-    fn count(&mut self)
-        ensures { HasFailed self.old self.new }
-    {
-        self.failures = self.failures.wrapping_add(1);
-    }
-
-    /// Notes that something failed, and answers why.
-    fn note<T>(&mut self, error: Error) -> io::Result<T>
-        ensures noted { HasFailed self.old self.new }
-        ensures error { result ≡ Err error }
-    {
-        self.count();
-        Err(error)
-    }
 }
 
 /// Shows bytes that were read ahead, as `BufRead::fill_buf` does, through a watch, which notes an
 /// error. A read that a signal interrupts is made again, and fails only where it never comes to an
 /// end. At the end of the input the reader is asked once.
-pub fn fill<'a, R: BufRead>(reader: &'a mut R, watch: &mut Watch) -> io::Result<&'a [u8]>
+pub fn fill<'a, R: BufRead>(reader: &'a mut R, watch: &mut Watch<R>) -> io::Result<&'a [u8]>
     ensures front { IfSome (R.remaining reader.old) (λ xs. IfOk result (λ s. StartsWith xs s.now)) }
     ensures end { IfSome (R.remaining reader.old)
         (λ xs. IfOk result (λ s. length s.now ≡ 0 → xs ≡ [])) }

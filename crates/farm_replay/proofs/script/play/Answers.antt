@@ -7,7 +7,7 @@ use Rattle.farm_session.proofs.TillLemmas.{tills_kept}
 use Rattle.farm_replay.specs.Floor.{IsFloor}
 use Rattle.farm_replay.specs.Reader.{script_rest}
 use Rattle.farm_replay.proofs.LeaseLemmas.{LeasedTo, none_leased, leases_told, leases_asked, leases_of}
-use Rattle.farm_replay.proofs.PlayLemmas.{Played, begun, play_begins, settled_on, settled_cut, asked_on, asked_cut, asked_unsent, played_sent, play_over, play_broken, play_written, play_cut, told_well, asked_well}
+use Rattle.farm_replay.proofs.PlayLemmas.{Played, begun, play_begins, settled_on, settled_cut, asked_on, asked_cut, asked_unsent, played_sent, play_over, play_broken, play_written, play_cut, told_well, asked_well, over_well, read_once, noted_write, noted_from}
 use Rattle.farm_replay.proofs.script.play.Goals as goal
 use Rattle.farm_replay.proofs.script.play.Goals.{in-Told+in_default, in-Asked+in_default-send_before_nodes+in_default-tell}
 
@@ -22,8 +22,8 @@ loop-answered-init g c = (
       (play_begins c.args.config.now (script_rest g.R.Read.remaining c.args.script.now) (g.W.Write.contents c.args.writer.now) c.args.floor.now.farm
       (ap (λ w. w.config) c.requires.farm) (begun c.args.config.now c.args.floor.now.farm c.farms_are_replayed.ensures c.requires.farm)),
   none_leased c.args.config.now (goal.M-post g c.args.make.now) (script_rest g.R.Read.remaining c.args.script.now) c.args.branches.now,
-  refl,
-  refl,
+  ap (λ v. v.reads) c.watches.view_is,
+  ap (λ v. v.writes) c.watches.view_is,
 )
 
 pub returns-in-Over-clause-written : goal.returns-in-Over-clause-written
@@ -84,10 +84,10 @@ loop-answered-preserved g c =
         leases_told c.args.config.now (goal.M-post g c.args.make.now) (script_rest g.R.Read.remaining c.args.script.now) (script_rest g.R.Read.remaining c.loop-answered.script) (script_rest g.R.Read.remaining c.begin.new.self)
             (script_rest g.R.Read.remaining c.read_request.new.reader) c.args.branches.now c.loop-answered.branches _ c.read_request.result w.in-Told.who w.in-Told.said
             (cc (w.in-Told.is, c.hear.ensures)) c.begin.ensures c.read_request.ensures.takes w.branches-is inv.4,
-        ap (λ v. v.reads) w.watches-is
-            ∙ told_well c.args.config.now c.loop-answered.watches.reads c.read_request.new.watch c.read_request.result w.in-Told.who w.in-Told.said (cc (w.in-Told.is, c.hear.ensures)) c.read_request.ensures.kept
+        ap (λ v. v.reads) w.watches-inside-is
+            ∙ told_well c.args.config.now c.loop-answered.watches-inside.reads c.read_request.new.watch c.read_request.result w.in-Told.who w.in-Told.said (cc (w.in-Told.is, c.hear.ensures)) c.read_request.ensures.kept
             ∙ inv.5,
-        ap (λ v. v.writes) w.watches-is ∙ w.in_default.ensures.noted ∙ inv.6,
+        ap (λ v. v.writes) w.watches-inside-is ∙ w.in_default.ensures.noted ∙ inv.6,
       )
       | in-Asked+in_default-send_before_nodes+in_default-tell w ↦ (
         ap (λ x. x.farm.config) w.floor-is ∙ w.answer-said.ensures.told.config ∙ inv.0,
@@ -110,10 +110,10 @@ loop-answered-preserved g c =
             (script_rest g.R.Read.remaining c.read_request.new.reader) c.args.branches.now c.loop-answered.branches w.answer-said.new.branches c.read_request.result w.in-Asked.tenant w.in-Asked.who w.in-Asked.asked
             (cc (w.in-Asked.is, c.hear.ensures)) c.begin.ensures c.read_request.ensures.takes
             (subst (λ k. HasLeasedFor (goal.M-post g c.args.make.now) k w.in-Asked.tenant w.in-Asked.asked c.loop-answered.branches w.answer-said.new.branches) inv.0 w.answer-said.ensures.leased) inv.4),
-        ap (λ v. v.reads) w.watches-is
-            ∙ asked_well c.args.config.now c.loop-answered.watches.reads c.read_request.new.watch c.read_request.result w.in-Asked.tenant w.in-Asked.who w.in-Asked.asked (cc (w.in-Asked.is, c.hear.ensures)) c.read_request.ensures.kept
+        ap (λ v. v.reads) w.watches-inside-is
+            ∙ asked_well c.args.config.now c.loop-answered.watches-inside.reads c.read_request.new.watch c.read_request.result w.in-Asked.tenant w.in-Asked.who w.in-Asked.asked (cc (w.in-Asked.is, c.hear.ensures)) c.read_request.ensures.kept
             ∙ inv.5,
-        ap (λ v. v.writes) w.watches-is ∙ w.in_default-tell.ensures.noted ∙ w.in_default-send_before_nodes.ensures.noted ∙ inv.6,
+        ap (λ v. v.writes) w.watches-inside-is ∙ w.in_default-tell.ensures.noted ∙ w.in_default-send_before_nodes.ensures.noted ∙ inv.6,
       )
     ]
 
@@ -166,3 +166,37 @@ returns-in-Err-tell-clause-leased g c =
     (cc (c.in-Asked.is, c.hear.ensures)) c.begin.ensures c.read_request.ensures.takes
     (subst (λ k. HasLeasedFor (goal.M-post g c.args.make.now) k c.in-Asked.tenant c.in-Asked.asked c.loop-answered.branches c.answer-said.new.branches) c.loop-answered.invariant.0 c.answer-said.ensures.leased)
     c.loop-answered.invariant.4)
+
+pub returns-in-Over-clause-noted : goal.returns-in-Over-clause-noted
+returns-in-Over-clause-noted g c = record {
+  reads = over_well c.args.config.now c.loop-answered.watches-inside.reads c.read_request.new.watch c.read_request.result (cc (c.in-Over.is, c.hear.ensures)) c.read_request.ensures.kept ∙ c.loop-answered.invariant.5;
+  writes = c.loop-answered.invariant.6;
+}
+
+pub returns-in-Broken-clause-noted : goal.returns-in-Broken-clause-noted
+returns-in-Broken-clause-noted g c = record {
+  reads = read_once c.args.watches.now.reads c.read_request.new.watch c.read_request.result (rw c.loop-answered.invariant.5 at c.read_request.ensures.kept);
+  writes = c.loop-answered.invariant.6;
+}
+
+pub returns-in-Err-clause-noted : goal.returns-in-Err-clause-noted
+returns-in-Err-clause-noted g c =
+    noted_write _ _ _ c.in-Err.ensures.fault
+    (told_well c.args.config.now c.loop-answered.watches-inside.reads c.read_request.new.watch c.read_request.result c.in-Told.who c.in-Told.said (cc (c.in-Told.is, c.hear.ensures)) c.read_request.ensures.kept ∙ c.loop-answered.invariant.5)
+    (rw c.loop-answered.invariant.6 at c.in-Err.ensures.noted)
+
+pub returns-in-Err-send_before_nodes-clause-noted : goal.returns-in-Err-send_before_nodes-clause-noted
+returns-in-Err-send_before_nodes-clause-noted g c =
+    noted_write _ _ _ c.in-Err-send_before_nodes.ensures.fault
+    (asked_well c.args.config.now c.loop-answered.watches-inside.reads c.read_request.new.watch c.read_request.result c.in-Asked.tenant c.in-Asked.who c.in-Asked.asked (cc (c.in-Asked.is, c.hear.ensures)) c.read_request.ensures.kept ∙ c.loop-answered.invariant.5)
+    (rw c.loop-answered.invariant.6 at c.in-Err-send_before_nodes.ensures.noted)
+
+pub returns-in-Err-tell-clause-noted : goal.returns-in-Err-tell-clause-noted
+returns-in-Err-tell-clause-noted g c =
+    noted_write _ _ _ c.in-Err-tell.ensures.fault
+    (asked_well c.args.config.now c.loop-answered.watches-inside.reads c.read_request.new.watch c.read_request.result c.in-Asked.tenant c.in-Asked.who c.in-Asked.asked (cc (c.in-Asked.is, c.hear.ensures)) c.read_request.ensures.kept ∙ c.loop-answered.invariant.5)
+    (rw (c.in_default-send_before_nodes.ensures.noted ∙ c.loop-answered.invariant.6) at c.in-Err-tell.ensures.noted)
+
+pub returns-clause-noted : goal.returns-clause-noted
+returns-clause-noted g c =
+    noted_from c.end.result c.args.watches.now _ _ c.loop-answered.invariant.5 c.loop-answered.invariant.6 (c.end.ensures.noted c.loop-answered.watches-inside.writes)

@@ -14,4 +14,4 @@ invariant-loop-answered g l =
     (l.floor.farm.config ≡ l.config) × AreTillsOf l.config (tills_of l.branches) × IsFloor g.J.Strategy.meaning l.floor.farm l.floor.held.items
     × Played l.config (script_rest g.R.Read.remaining l.fn.script) (script_rest g.R.Read.remaining l.script) (g.W.Write.contents l.fn.writer) (g.W.Write.contents l.writer) l._answered (is_some l.notes.refused) l.floor.farm
     × LeasedTo l.config (goal.M-post g l.make) (script_rest g.R.Read.remaining l.fn.script) l.fn.branches (script_rest g.R.Read.remaining l.script) l.branches
-    × (l.watches.reads ≡ l.fn.watches.reads) × (l.watches.writes ≡ l.fn.watches.writes)
+    × (l.watches-inside.reads ≡ l.fn.watches.reads) × (l.watches-inside.writes ≡ l.fn.watches.writes)
