@@ -11,7 +11,7 @@ ghost use Rattle.farm_core.specs.World.{World, view, IsOnlyNoted, KeepsTurns};
 ghost use Rattle.farm_core.specs.Farm.{IsReply, IsFundRefusal, IsGivenUpTo};
 
 use crate::farm::{keep_room, write_down};
-use crate::{Account, Event, Farm, Line, MOST_QUANTA, NotedPlan, Reply};
+use crate::{Account, Event, Farm, Line, MOST_QUANTA, NotedPlan, Reply, jobs};
 use job_table::{Job, Phase};
 use mrcpsp::Schedule;
 use std::alloc::{AllocError, Global};
@@ -272,7 +272,7 @@ impl<J: Strategy> Farm<J> {
         let Ok(()) = keep_room(&mut self.journal, self.jobs.len()) else {
             return Reply::NoMemory;
         };
-        if !self.jobs.fund(tenant, seq, quanta) {
+        if !jobs::fund(&mut self.jobs, tenant, seq, quanta) {
             return Reply::NoMemory;
         }
         account.used += 1;
@@ -331,7 +331,7 @@ impl<J: Strategy> Farm<J> {
         account.book.free_up(freed);
         account.used += 1;
         self.passed = passed;
-        self.jobs.cancel(tenant, seq);
+        jobs::cancel(&mut self.jobs, tenant, seq);
         write_down(
             &mut self.ledgers,
             &mut self.journal,

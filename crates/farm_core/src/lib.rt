@@ -12,6 +12,7 @@
 //! - `purses`: who shares a purse, and how purses are numbered.
 //! - `account`: what is kept of each tenant beside its jobs.
 //! - `farm`: `Farm`: its making, its readers, and a call that changes nothing but the journal.
+//! - `jobs`: how a job in the table changes.
 //! - `commands`: submit, fund, status, result, cancel, forget, ledger.
 //! - `command`: what a tenant asks for as a value, and one call for all seven.
 //! - `turn`: turns, and how they are taken and given back.
@@ -24,6 +25,7 @@ mod commands;
 mod config;
 mod entry;
 mod farm;
+mod jobs;
 pub mod laws;
 mod name;
 mod purses;

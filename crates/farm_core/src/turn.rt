@@ -10,6 +10,7 @@ ghost use Rattle.farm_core.specs.Farm.{ArePassed, IsNext};
 ghost use Rattle.farm_core.specs.Turn.{IsTurn, IsTaken, IsNotTaken, IsGiven, IsIdle, IsReady, IsFirstReady};
 
 use crate::farm::{keep_room, line_of, write_down};
+use crate::jobs::{send, take_back};
 use crate::{Event, Farm, Line, MOST_ENTRIES, MOST_SLICE, NoTurn, Reply};
 use job_table::JobTable;
 use std::marker::Model;
@@ -146,7 +147,7 @@ impl<J: Strategy> Farm<J> {
             return Err(NoTurn::NoMemory);
         };
         account.used += 1;
-        let Some(search) = self.jobs.send(tenant, seq, slice) else {
+        let Some(search) = send(&mut self.jobs, tenant, seq, slice) else {
             return Err(NoTurn::NoMemory);
         };
         write_down(
@@ -191,7 +192,7 @@ impl<J: Strategy> Farm<J> {
             ran,
             search,
         } = turn;
-        if let Err(search) = self.jobs.take_back(tenant, seq, slice, ran, search) {
+        if let Err(search) = take_back(&mut self.jobs, tenant, seq, slice, ran, search) {
             return Err(Stranger(Turn {
                 tenant,
                 seq,

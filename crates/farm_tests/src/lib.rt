@@ -4,9 +4,12 @@
 //! texts of faults that no file has. Expected values are those of worked examples.
 //!
 //! - `fixtures`: the projects' texts, plans with their searches in boxes, tills and configurations.
+//! - `table_moves`: a job of a table is sent out, taken back, funded and cancelled.
 //! - `table_turns`: what is told of a job, and turns of it.
 //! - `table_cancels`: cancels at every phase, of the table's jobs.
 //! - `tables`: jobs of two tenants in a table, a job to its end, and strangers.
+//! - `plain_table`: a table of jobs as a plain list.
+//! - `plain_tables`: the same calls of a table and of the plain list.
 //! - `calls`: calls of a farm, what is told of each, and how the farm is asked.
 //! - `cancels`: scripts of cancels at every phase.
 //! - `scripts`: the worked scripts.
@@ -44,6 +47,10 @@ mod lines;
 #[cfg(test)]
 mod mixed;
 #[cfg(test)]
+mod plain_table;
+#[cfg(test)]
+mod plain_tables;
+#[cfg(test)]
 mod play;
 #[cfg(test)]
 mod replays;
@@ -55,6 +62,8 @@ mod shared;
 mod strangers;
 #[cfg(test)]
 mod table_cancels;
+#[cfg(test)]
+mod table_moves;
 #[cfg(test)]
 mod table_turns;
 #[cfg(test)]

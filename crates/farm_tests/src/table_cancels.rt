@@ -1,6 +1,7 @@
 //! Cancels at every phase of a job.
 ghost use Rattle.std.specs.Prelude.{◌≡◌, false, IfSome};
 
+use crate::table_moves::{cancel, phase_of, send, take_back};
 use crate::table_turns::{run, turn};
 use job_table::{JobTable, Phase};
 use std::process::Abort;
@@ -129,14 +130,14 @@ fn begin<J: Strategy>(table: &mut JobTable<J>, before: Before) -> Option<J>
         Before::Turn(slice) => {
             let _ran = turn(table, 0, 1, slice);
         }
-        Before::Out => return table.send(0, 1, 2),
+        Before::Out => return send(table, 0, 1, 2),
         Before::Leaving => {
-            let search = table.send(0, 1, 2);
-            let _told = table.cancel(0, 1);
+            let search = send(table, 0, 1, 2);
+            let _told = cancel(table, 0, 1);
             return search;
         }
         Before::Cancelled => {
-            let _told = table.cancel(0, 1);
+            let _told = cancel(table, 0, 1);
         }
     }
     None
@@ -147,25 +148,23 @@ fn give<J: Strategy>(table: &mut JobTable<J>, mut search: J, runs: u64) -> bool
     requires { (J.meaning search).taken ≡ false }
 {
     let ran = run(&mut search, runs);
-    table.take_back(0, 1, 2, ran, search).is_ok()
-}
-
-/// Whether the job stands there.
-fn stands<J>(table: &JobTable<J>, phase: Phase) -> bool {
-    match table.find(0, 1) {
-        Some(job) => job.phase() == phase,
-        None => false,
-    }
+    take_back(table, 0, 1, 2, ran, search).is_ok()
 }
 
 /// Cancels the job of a case.
 pub(crate) fn cancel_in<J: Strategy>(rt: &impl Abort, table: &mut JobTable<J>, case: &Case) {
     let name = case.name;
     let out = begin(table, case.before);
-    assert!(rt; table.cancel(0, 1) == case.cancels, "{name}");
-    assert!(rt; stands(table, case.phase), "{name}, cancelled");
+    assert!(rt; cancel(table, 0, 1) == case.cancels, "{name}");
+    assert!(rt;
+        phase_of(table, 0, 1) == Some(case.phase),
+        "{name}, cancelled"
+    );
     if let Some(search) = out {
         assert!(rt; give(table, search, case.runs), "{name}, given back");
     }
-    assert!(rt; stands(table, case.end), "{name}, in the end");
+    assert!(rt;
+        phase_of(table, 0, 1) == Some(case.end),
+        "{name}, in the end"
+    );
 }

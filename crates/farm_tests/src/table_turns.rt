@@ -1,6 +1,7 @@
 //! What is told of a job, and turns of it.
 ghost use Rattle.std.specs.Prelude.{◌≡◌, false};
 
+use crate::table_moves::{send, take_back};
 use job_table::{Job, JobTable, Phase};
 use strategy::{Strategy, Verdict};
 
@@ -66,26 +67,12 @@ pub(crate) fn turn<J: Strategy>(
     seq: u64,
     slice: u64,
 ) -> Option<u64> {
-    let Some(mut search) = table.send(tenant, seq, slice) else {
+    let Some(mut search) = send(table, tenant, seq, slice) else {
         return None;
     };
     let ran = run(&mut search, slice);
-    match table.take_back(tenant, seq, slice, ran, search) {
+    match take_back(table, tenant, seq, slice, ran, search) {
         Ok(()) => Some(ran),
         Err(_) => None,
     }
-}
-
-/// Draws some more quanta for a job. False where the table does not do so.
-pub(crate) fn fund<J: Strategy>(
-    table: &mut JobTable<J>,
-    tenant: u32,
-    seq: u64,
-    quanta: u64,
-) -> bool {
-    let Some(job) = table.find(tenant, seq) else {
-        return false;
-    };
-    let is_small = job.nodes() < 1_000 && job.left() < 1_000 && quanta < 1_000;
-    is_small && table.fund(tenant, seq, quanta)
 }

@@ -3,7 +3,8 @@ ghost use Rattle.std.specs.Prelude.{◌≡◌, false};
 
 use crate::fixtures::{Planned, Purse, Text, Wanted, planned_for};
 use crate::table_cancels::{CASES, Case, cancel_in};
-use crate::table_turns::{FRESH, Line, fund, is_told, run, turn};
+use crate::table_moves::{fund, send, take_back};
+use crate::table_turns::{FRESH, Line, is_told, run, turn};
 use job_table::{Job, JobTable, Phase};
 use std::alloc::Global;
 use std::process::Abort;
@@ -86,7 +87,7 @@ fn see_waiting<J>(rt: &impl Abort, table: &JobTable<J>) {
 
 /// The first one is sent.
 fn send_first<J: Strategy>(rt: &impl Abort, table: &mut JobTable<J>) {
-    let Some(search) = table.send(0, 1, 2) else {
+    let Some(search) = send(table, 0, 1, 2) else {
         panic!(rt; "not sent");
     };
     assert!(rt; search.left() == 6);
@@ -191,10 +192,10 @@ fn hand_back_elsewhere<J: Strategy>(rt: &impl Abort, elsewhere: &mut JobTable<J>
     requires { (J.meaning search).taken ≡ false }
     ensures { (J.meaning result).taken ≡ false }
 {
-    let Some(_) = elsewhere.send(0, 1, 2) else {
+    let Some(_) = send(elsewhere, 0, 1, 2) else {
         panic!(rt; "not sent elsewhere");
     };
-    let Err(search) = elsewhere.take_back(0, 1, 2, 0, search) else {
+    let Err(search) = take_back(elsewhere, 0, 1, 2, 0, search) else {
         panic!(rt; "taken elsewhere");
     };
     assert!(rt; is_told(elsewhere, 0, OUT));
@@ -207,17 +208,17 @@ fn hand_back<J: Strategy>(rt: &impl Abort, table: &mut JobTable<J>, search: J)
 {
     let mut search = search;
     assert!(rt; run(&mut search, 2) == 2);
-    let Err(search) = table.take_back(0, 1, 2, 1, search) else {
+    let Err(search) = take_back(table, 0, 1, 2, 1, search) else {
         panic!(rt; "taken after one node");
     };
     assert!(rt; is_told(table, 0, OUT));
-    assert!(rt; table.take_back(0, 1, 2, 2, search).is_ok());
+    assert!(rt; take_back(table, 0, 1, 2, 2, search).is_ok());
     assert!(rt; is_told(table, 0, BEGUN));
 }
 
 /// Both are handed back, and the first one's table takes it in the end.
 fn stray<J: Strategy>(rt: &impl Abort, table: &mut JobTable<J>, elsewhere: &mut JobTable<J>) {
-    let Some(search) = table.send(0, 1, 2) else {
+    let Some(search) = send(table, 0, 1, 2) else {
         panic!(rt; "not sent");
     };
     let search = hand_back_elsewhere(rt, elsewhere, search);

@@ -1,5 +1,5 @@
 -- What a job keeps, when it comes and as it is read.
-use Rattle.std.proofs.Common.{◌≡◌, ℕ, ◌<◌, ◌/◌, true, false, nat_lt, Option, Some, None, IfSome, refl, sym, arith}
+use Rattle.std.proofs.Common.{◌≡◌, ℕ, ◌<◌, ◌/◌, false, nat_lt, Option, Some, None, IfSome, refl, sym, arith}
 use Rattle.std.specs.Prelude.{IsTrue}
 use Rattle.std.proofs.lemmas.Bool.{cond-true, lt-ltb}
 use Rattle.mrcpsp.specs.Project.{ProjectData, size, is_project}
@@ -14,7 +14,6 @@ use Rattle.strategy.specs.declared.kind.Kind.TheVariants.{Tree, RuleLft, RuleMts
 use Rattle.strategy.specs.declared.verdict.Verdict.TheVariants.{Going}
 use Rattle.strategy.specs.Tree as tree
 use Rattle.strategy.proofs.OutcomeLemmas.{each_best, each_shaped, going_verdict}
-use Rattle.job_table.specs.declared.phase.Phase.TheVariants.{Waiting}
 use Rattle.job_table.specs.declared.best.Best.{Best}
 use Rattle.job_table.specs.Job.{HasSize, IsSound}
 
@@ -40,13 +39,12 @@ unfolding best_after
 best_at_start plan ok = none_at_start plan.project plan.kind (kept plan.project ok).some
 
 pub sound_fresh : (plan : Plan) (best : Best) → IsTrue (is_project plan.project) → is_closed plan 0 ≡ false → best.found ≡ false → HasSize (size plan.project) best.schedule
-    → IsSound plan Waiting 0 best Going true
+    → IsSound plan 0 best Going
 sound_fresh plan best ok going none sized = record {
   planned = ok;
   shows = rw none (sym (best_at_start plan ok));
   sized = sized;
   judges = sym (going_verdict plan 0 going);
-  holds = refl;
 }
 
 sized_of : (p : ProjectData) (best : Option ScheduleData) → IfSome best (HasShape p) → IfSome best (HasSize (size p))

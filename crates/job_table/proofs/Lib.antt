@@ -11,3 +11,4 @@ pub mod CountLemmas
 pub mod MapLemmas
 pub mod TableLemmas
 pub mod WholeLemmas
+pub mod LentLemmas

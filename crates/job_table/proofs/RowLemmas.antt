@@ -25,7 +25,7 @@ job_in None other = other
 job_in (Some job) other = job
 
 -- the row that is found first
-row_is : (t s : ℕ) (old : JobData) (row : Row) → is_row t s row ≡ true → Some row.job ≡ Some old → row ≡ record { tenant = t; job = old }
+pub row_is : (t s : ℕ) (old : JobData) (row : Row) → is_row t s row ≡ true → Some row.job ≡ Some old → row ≡ record { tenant = t; job = old }
 unfolding job_in
 row_is t s old row e found =
     let parts = and_parts (row.tenant == t) (row.job.seq == s) e in

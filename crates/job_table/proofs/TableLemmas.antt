@@ -1,12 +1,9 @@
 -- What a table keeps as a job changes, comes or goes, in the words of its map, its counts and its queue.
-use Rattle.std.proofs.Common.{◌≡◌, ℕ, ◌+◌, ◌^◌, ◌<◌, ◌≤◌, Bool, true, false, cond, List, length, filter, nat_eq, Option, Some, None, IsSome, sym, ap, ◌∙◌, subst, arith}
+use Rattle.std.proofs.Common.{◌≡◌, ℕ, ◌+◌, ◌^◌, ◌<◌, ◌≤◌, Bool, true, false, cond, List, length, filter, nat_eq, Some, None, IsSome, sym, ap, ◌∙◌, subst, arith}
 use Rattle.std.specs.Map.{lookup}
 use Rattle.job_table.specs.Table.{Row, JobData, TableData, is_key, is_waiting, is_out, find_row, put_row, drop_row, add_row, without, waiting_then, add_job, change_job, drop_job}
-use Rattle.job_table.specs.Job.{given_up}
 use Rattle.job_table.specs.Kept.{rows_of, counts_of, counted, moved, one_more, one_less, AreCounted, IsKept, IsHeld}
 use Rattle.job_table.specs.declared.counts.Counts.{Counts}
-use Rattle.job_table.specs.declared.phase.Phase.{Phase}
-use Rattle.job_table.specs.declared.phase.Phase.TheVariants.{Waiting, Out, Leaving, Dry, Closed, Cancelled}
 use Rattle.job_table.proofs.OrderLemmas.{order_apart}
 use Rattle.job_table.proofs.CountLemmas.{told, told_more, recounted, has_counts, put_jobs, drop_jobs, add_jobs}
 use Rattle.job_table.proofs.MapLemmas.{Jobs, IsUpdate, named_find, named_update, rows_put, rows_drop, rows_add, rows_order}
@@ -135,20 +132,6 @@ add_in t job jobs news counts recounts waiting keys held none room up count queu
 pub begun : (jobs : Jobs) (counts recounts : List (ℕ × Counts)) (waiting : List (ℕ × ℕ)) → IsHeld jobs counts waiting → ((u : ℕ) → counted (lookup (nat_eq u) recounts) ≡ counted (lookup (nat_eq u) counts))
     → IsHeld jobs recounts waiting
 begun jobs counts recounts waiting held count = record { named = held.named; counted = λ u. count u ∙ held.counted u; kept = held.kept }
-
--- a job that was given up keeps its number
-seq_in : Option JobData → ℕ
-seq_in None = 0
-seq_in (Some job) = job.seq
-
-pub given_up_seq : (job : JobData) (phase : Phase) (then : JobData) → given_up job phase ≡ Some then → then.seq ≡ job.seq
-unfolding seq_in
-given_up_seq job Waiting then gone = ap seq_in (sym gone)
-given_up_seq job (Out n) then gone = ap seq_in (sym gone)
-given_up_seq job (Leaving n) then gone = absurd (cc)
-given_up_seq job Dry then gone = ap seq_in (sym gone)
-given_up_seq job Closed then gone = absurd (cc)
-given_up_seq job Cancelled then gone = absurd (cc)
 
 -- counts that are told by other names
 pub recounts_as : (t : ℕ) (a b was is : Bool) (olds news : List (ℕ × Counts)) → a ≡ was → b ≡ is → Recounts t (moved a b (counted (lookup (nat_eq t) olds))) olds news

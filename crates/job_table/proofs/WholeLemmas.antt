@@ -1,8 +1,7 @@
 -- What a table keeps as a job changes, comes or goes, in the words of its map and its queue.
 use Rattle.std.proofs.Common.{◌≡◌, ℕ, zero, suc, [], ◌∷◌, slice_get, add-one, ◌+◌, ◌^◌, ◌<◌, ◌≤◌, Bool, true, false, cond, List, length, nat_eq, Option, Some, None, is_some, option_map, refl, sym, ap, ◌∙◌, subst, arith}
-use Rattle.std.specs.Map.{lookup, set_value, keys_of}
+use Rattle.std.specs.Map.{lookup, keys_of}
 use Rattle.std.specs.List.{IsDistinct}
-use Rattle.std.proofs.lemmas.Map.Steps.{set_value_same}
 use Rattle.job_table.specs.Table.{JobData, TableData, first_of, behind, AreWaiting, is_key, is_waiting, is_out, does_wait, find_row, drop_row, without, waiting_then, add_job, change_job, drop_job}
 use Rattle.job_table.specs.Queue.{jobs_in, links_at, line_of, links_in, no_links, joined, one_gone, IsLinked}
 use Rattle.job_table.specs.Kept.{rows_of, counted, moved, one_more, one_less, whole, IsHeld, IsTable, IsChanging}
@@ -48,11 +47,6 @@ pub record IsAfter {J : Type 0} (after : TableData) (es : List ((ℕ × ℕ) × 
 -- a table whose map was only looked into
 pub looked_into : {J : Type 0} {es mid : List ((ℕ × ℕ) × Linked J)} {queue : Queue} {counts : List (ℕ × Counts)} → IsTable es counts queue → mid ≡ es → IsAfter (whole es queue) mid counts queue
 looked_into {queue = queue} {counts = counts} table same = record { table = subst (λ xs. IsTable xs counts queue) (sym same) table; is = ap (λ xs. whole xs queue) same }
-
-pub unchanged : {J : Type 0} (t s : ℕ) {es mid : List ((ℕ × ℕ) × Linked J)} {queue : Queue} {counts : List (ℕ × Counts)} (old : Linked J) (then : JobData) → IsTable es counts queue → Some old ≡ lookup (is_key t s) es → then ≡ old.job
-    → mid ≡ set_value (is_key t s) es (record old { job = then }) → IsAfter (whole es queue) mid counts queue
-unchanged t s {es = es} old then table there same is =
-    looked_into table (is ∙ ap (λ j. set_value (is_key t s) es (record old { job = j })) same ∙ set_value_same (is_key t s) es old (sym there))
 
 -- the map once a job is written into it, before the queue is told
 pub record IsWritten {J : Type 0} (t s : ℕ) (then : JobData) (es mid : List ((ℕ × ℕ) × Linked J)) (queue : Queue) : Type 0 where

@@ -29,14 +29,12 @@ is_here Dry = true
 is_here Closed = false
 is_here Cancelled = false
 
--- what is planned is a project; the best schedule and the verdict are those of the plan after these nodes, and the search is there in the phases in
--- which it is not out and not over
-pub record IsSound (plan : Plan) (phase : Phase) (nodes : ℕ) (best : Best) (verdict : Verdict) (here : Bool) : Type 0 where
+-- what is planned is a project, and the best schedule and the verdict are those of the plan after these nodes
+pub record IsSound (plan : Plan) (nodes : ℕ) (best : Best) (verdict : Verdict) : Type 0 where
   pub planned : IsTrue (is_project plan.project)
   pub shows : best_in best ≡ best_after plan nodes
   pub sized : HasSize (size plan.project) best.schedule
   pub judges : verdict ≡ verdict_after plan nodes
-  pub holds : here ≡ is_here phase
 
 -- a turn for at most `slice` nodes is out
 abbrev pub is_turn : ℕ → Phase → Bool

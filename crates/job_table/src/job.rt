@@ -1,4 +1,4 @@
-//! Jobs: what is known of a search, and the search while it is here.
+//! Jobs: what is known of a search, and the search unless it is out or over.
 ghost use Rattle.std.specs.Prelude.{◌≡◌, ◌+◌, ◌-◌, ◌≤◌, ◌↔◌, IsTrue, IsFalse, Some, None, IfSome, OnSome, IfNone, is_some, false, true, option_map, if◌then◌else◌};
 ghost use Rattle.std.specs.Option.{option_copied};
 ghost use Rattle.mrcpsp.specs.Project.{size};
@@ -7,7 +7,8 @@ ghost use Rattle.strategy.specs.Outcome.{best_after, is_closed, verdict_after};
 ghost use Rattle.quanta_till.specs.Lease.{after_draw};
 ghost use Rattle.strategy.specs.Search.{Meaning, funded};
 ghost use Rattle.job_table.specs.Table.{JobData};
-ghost use Rattle.job_table.specs.Job.{meaning_of, given_up, back, is_turn, is_here, phase_after, IsOwn};
+ghost use Rattle.job_table.specs.Job.{is_turn, is_here, phase_after, IsOwn};
+ghost use Rattle.job_table.specs.Lent.{search_of, returned, with_work, in_phase};
 
 use crate::Phase;
 use crate::best::Best;
@@ -17,13 +18,11 @@ use std::alloc::Global;
 use std::marker::Model;
 use strategy::{Plan, Strategy, Verdict, same_plan};
 
-/// A job: its number, plan and phase, how many nodes were paid, how many quanta it holds, the best schedule and the verdict
-/// of its plan after these nodes, and its search, unless that is out or over.
+/// A job without its number and its phase: its plan, the nodes that were paid, the quanta that it holds, the best schedule
+/// and the verdict of the plan after these nodes, and its search unless that is out or over.
 #[derive(Drop)]
-pub struct Job<J> {
-    seq: u64,
+pub struct Work<J> {
     plan: Plan,
-    phase: Phase,
     nodes: u64,
     left: u64,
     best: Best,
@@ -31,16 +30,32 @@ pub struct Job<J> {
     search: Option<J>,
 }
 
-impl<J> Model for Job<J> {
+impl<J> Model for Work<J> {
     ghost use Rattle.std.specs.Prelude.{is_some};
-    ghost use Rattle.job_table.specs.Table.{JobData};
+    ghost use Rattle.job_table.specs.Lent.{WorkData};
     ghost use Rattle.job_table.specs.Job.{IsSound};
+
+    ghost Value = { WorkData };
+
+    ghost view = { λ w. record { plan = w.plan; nodes = w.nodes; left = w.left; here = is_some w.search } };
+
+    ghost invariant = { λ w. IsSound w.plan w.nodes w.best w.verdict };
+}
+
+/// A job is a number, a phase and work.
+#[derive(Drop)]
+pub struct Job<J> {
+    seq: u64,
+    phase: Phase,
+    work: Work<J>,
+}
+
+impl<J> Model for Job<J> {
+    ghost use Rattle.job_table.specs.Table.{JobData};
 
     ghost Value = { JobData };
 
-    ghost view = { λ j. record { seq = j.seq; plan = j.plan; phase = j.phase; nodes = j.nodes; left = j.left } };
-
-    ghost invariant = { λ j. IsSound j.plan j.phase j.nodes j.best j.verdict (is_some j.search) };
+    ghost view = { λ j. record { seq = j.seq; plan = j.work.plan; phase = j.phase; nodes = j.work.nodes; left = j.work.left } };
 }
 
 /// Whether a search is at this point, with its best schedule, and not over.
@@ -91,46 +106,12 @@ fn is_turn(slice: u64, phase: Phase) -> bool
     }
 }
 
-/// Where a job stands after a turn that left so many quanta.
-fn phase_after(phase: Phase, closed: bool, left: u64) -> Phase
-    ensures { result ≡ phase_after phase closed left }
-{
-    if let Phase::Leaving(_) = phase {
-        Phase::Cancelled
-    } else if closed {
-        Phase::Closed
-    } else if left == 0 {
-        Phase::Dry
-    } else {
-        Phase::Waiting
-    }
-}
-
-/// Whether the search is with its job.
-pub(crate) fn is_here(phase: Phase) -> bool
-    ensures { result ≡ is_here phase }
-{
-    match phase {
-        Phase::Waiting | Phase::Dry => true,
-        _ => false,
-    }
-}
-
-impl<J: Strategy> Job<J> {
-    /// A job that waits, with so many quanta in a search that has run nothing. `None` where there is no memory for it, or
-    /// where the search is another one: not fresh, or of another tenant or plan.
+impl<J: Strategy> Work<J> {
     #[tactic(auto, using(crate::proofs::JobLemmas::sound_fresh))]
-    pub fn new(
-        alloc: Global,
-        tenant: u32,
-        seq: u64,
-        plan: Plan,
-        quanta: u64,
-        mut search: J,
-    ) -> Option<Job<J>>
+    fn new(alloc: Global, tenant: u32, plan: Plan, quanta: u64, mut search: J) -> Option<Work<J>>
         requires { quanta ≤ LEASE_LIMIT }
         ensures made { IfSome result
-            (λ job. job ≡ record { seq = seq; plan = plan; phase = Phase.Waiting; nodes = 0; left = quanta }) }
+            (λ work. work ≡ record { plan = plan; nodes = 0; left = quanta; here = true }) }
         ensures own { OnSome result
             (J.meaning search ≡ record { tenant = tenant; plan = plan; nodes = 0; left = 0; taken = false }) }
     {
@@ -140,10 +121,8 @@ impl<J: Strategy> Job<J> {
         if !fund_own(&mut search, tenant, &plan, 0, 0, quanta) {
             return None;
         }
-        Some(Job {
-            seq,
+        Some(Work {
             plan,
-            phase: Phase::Waiting,
             nodes: 0,
             left: quanta,
             best,
@@ -153,44 +132,9 @@ impl<J: Strategy> Job<J> {
     }
 }
 
-impl<J> Job<J> {
-    /// Its number.
-    pub fn seq(&self) -> u64
-        ensures { result ≡ self.now.seq }
-    {
-        self.seq
-    }
-
-    /// What is searched, and how.
-    pub fn plan(&self) -> &Plan
-        ensures { result.now ≡ self.now.plan }
-    {
-        &self.plan
-    }
-
-    /// Where it stands.
-    pub fn phase(&self) -> Phase
-        ensures { result ≡ self.now.phase }
-    {
-        self.phase
-    }
-
-    /// How many nodes were run and paid.
-    pub fn nodes(&self) -> u64
-        ensures { result ≡ self.now.nodes }
-    {
-        self.nodes
-    }
-
-    /// How many quanta it holds.
-    pub fn left(&self) -> u64
-        ensures { result ≡ self.now.left }
-    {
-        self.left
-    }
-
+impl<J> Work<J> {
     /// The best schedule of its plan after its nodes.
-    pub fn best(&self) -> Option<&Schedule>
+    fn best(&self) -> Option<&Schedule>
         ensures { option_copied result ≡ best_after self.now.plan self.now.nodes }
     {
         self.best.schedule()
@@ -198,7 +142,7 @@ impl<J> Job<J> {
 
     /// The makespan of that schedule, in periods.
     #[tactic(auto, using(crate::proofs::JobLemmas::best_shaped, crate::proofs::JobLemmas::best_moded))]
-    pub fn makespan(&self) -> Option<u32>
+    fn makespan(&self) -> Option<u32>
         ensures { result ≡ option_map (makespan self.now.plan.project) (best_after self.now.plan self.now.nodes) }
     {
         match self.best.schedule() {
@@ -207,22 +151,20 @@ impl<J> Job<J> {
         }
     }
 
-    /// What its search has shown after its nodes.
-    pub fn verdict(&self) -> Verdict
+    /// What the search has shown after its nodes.
+    fn verdict(&self) -> Verdict
         ensures { result ≡ verdict_after self.now.plan self.now.nodes }
     {
         self.verdict
     }
 }
 
-impl<J: Strategy> Job<J> {
-    /// Sends the search out for a turn of at most so many nodes. `None` where its search is another one; then nothing has
-    /// changed.
-    pub fn send(&mut self, tenant: u32, slice: u64) -> Option<J>
-        requires { self.old.phase ≡ Phase.Waiting }
-        ensures search { IfSome result (λ search. J.meaning search ≡ meaning_of tenant self.old) }
-        ensures going { IfSome result (λ search. is_closed self.old.plan self.old.nodes ≡ false) }
-        ensures sent { OnSome result (self.new ≡ record self.old { phase = Phase.Out slice }) }
+impl<J: Strategy> Work<J> {
+    /// Hands the search out. `None` if it is not here, if it is over, or if its tenant, plan, nodes or quanta are others.
+    pub fn send(&mut self, tenant: u32) -> Option<J>
+        ensures search { IfSome result (λ search. J.meaning search ≡ search_of tenant self.old) }
+        ensures going { OnSome result (is_closed self.old.plan self.old.nodes ≡ false) }
+        ensures sent { OnSome result (self.new ≡ record self.old { here = false }) }
         ensures kept { IfNone result (self.new ≡ self.old) }
     {
         let search = self.search.take()?;
@@ -230,50 +172,43 @@ impl<J: Strategy> Job<J> {
             self.search = Some(search);
             return None;
         }
-        self.phase = Phase::Out(slice);
         Some(search)
     }
 
-    /// Whether the search is this job's, after so many nodes of a turn for at most `slice`.
-    pub fn is_own(&self, tenant: u32, slice: u64, ran: u64, search: &J) -> bool
-        ensures { IsTrue result ↔ IsOwn tenant slice ran (J.meaning search.now) self.now }
-    {
-        let (nodes, left) = (search.nodes(), search.left());
-        is_turn(slice, self.phase)
-            && search.tenant() == tenant
-            && ran <= nodes
-            && nodes - ran == self.nodes
-            && left <= self.left
-            && self.left - left == ran
-            && same_plan(search.plan(), &self.plan)
-    }
-
-    /// Takes the search back after a turn. A job that was leaving is cancelled, one whose search is over is closed, one
-    /// without quanta is dry, and any other waits; a search that goes on no more is dropped. Takes no memory.
-    pub fn take_back(&mut self, tenant: u32, slice: u64, ran: u64, search: J)
-        requires own { IsOwn tenant slice ran (J.meaning search) self.old }
+    /// Takes over all that a search of its plan has shown, and returns the phase that follows a turn in `phase`. Keeps the
+    /// search if the job holds it in that phase, or else drops it with its quanta. Takes no memory.
+    pub fn take_back(&mut self, search: J, phase: Phase) -> Phase
+        requires plan { (J.meaning search).plan ≡ self.old.plan }
         requires best { (J.meaning search).taken ≡ false }
-        ensures { self.new ≡ back ran self.old }
+        ensures after { result ≡ phase_after phase (is_closed self.old.plan (J.meaning search).nodes) (J.meaning search).left }
+        ensures returned { self.new ≡ returned (is_here result) (J.meaning search) self.old }
     {
+        let after = phase.after(search.closed(), search.left());
         self.best.copy(search.best());
         self.verdict = search.verdict();
         self.nodes = search.nodes();
-        self.left = search.left();
-        self.phase = phase_after(self.phase, search.closed(), self.left);
-        if is_here(self.phase) {
+        if after.is_here() {
+            self.left = search.left();
             self.search = Some(search);
         } else {
-            self.left = 0;
+            self.give_up();
         }
+        after
     }
 
-    /// Draws more quanta for its search, and the job waits. False where the search is another one; then nothing has
-    /// changed.
+    /// Drops the search and the quanta that it holds. Takes no memory.
+    pub fn give_up(&mut self)
+        ensures { self.new ≡ record self.old { left = 0; here = false } }
+    {
+        self.search = None;
+        self.left = 0;
+    }
+
+    /// Draws more quanta for the search. False in the cases in which `send` returns `None`.
     pub fn fund(&mut self, tenant: u32, quanta: u64) -> bool
-        requires phase { IsTrue (is_here self.old.phase) }
-        requires limited { self.old.nodes + self.old.left + quanta ≤ LEASE_LIMIT }
-        ensures funded { IsTrue result
-            → self.new ≡ record self.old { phase = Phase.Waiting; left = self.old.left + quanta } }
+        requires { self.old.nodes + self.old.left + quanta ≤ LEASE_LIMIT }
+        ensures funded { IsTrue result → self.new ≡ record self.old { left = self.old.left + quanta } }
+        ensures here { IsTrue result → self.old.here ≡ true }
         ensures kept { IsFalse result → self.new ≡ self.old }
     {
         let Some(mut search) = self.search.take() else {
@@ -289,30 +224,126 @@ impl<J: Strategy> Job<J> {
         );
         if own {
             self.left += quanta;
-            self.phase = Phase::Waiting;
         }
         self.search = Some(search);
         own
     }
+}
 
-    /// Gives its search up, where the job is not at its end: while a turn is out it is leaving, and else it is cancelled and
-    /// its search is dropped. Tells whether it did. Takes no memory.
-    pub fn cancel(&mut self) -> bool
-        ensures given_up { (if result then Some self.new else None) ≡ given_up self.old self.old.phase }
-        ensures kept { IsFalse result → self.new ≡ self.old }
+impl<J> Job<J> {
+    ghost use Rattle.std.specs.Borrow.{Lends, sem};
+    ghost use Rattle.job_table.specs.contracts.job.Job.{the_row};
+    ghost use Rattle.job_table.specs.Rows.{work_row};
+
+    /// Its number.
+    pub fn seq(&self) -> u64
+        ensures { result ≡ self.now.seq }
     {
-        match self.phase {
-            Phase::Waiting | Phase::Dry => {
-                self.search = None;
-                self.left = 0;
-                self.phase = Phase::Cancelled;
-                true
-            }
-            Phase::Out(slice) => {
-                self.phase = Phase::Leaving(slice);
-                true
-            }
-            Phase::Leaving(_) | Phase::Closed | Phase::Cancelled => false,
+        self.seq
+    }
+
+    /// What is searched, and how.
+    pub fn plan(&self) -> &Plan
+        ensures { result.now ≡ self.now.plan }
+    {
+        &self.work.plan
+    }
+
+    /// Where it stands.
+    pub fn phase(&self) -> Phase
+        ensures { result ≡ self.now.phase }
+    {
+        self.phase
+    }
+
+    /// How many nodes were run and paid.
+    pub fn nodes(&self) -> u64
+        ensures { result ≡ self.now.nodes }
+    {
+        self.work.nodes
+    }
+
+    /// How many quanta it holds.
+    pub fn left(&self) -> u64
+        ensures { result ≡ self.now.left }
+    {
+        self.work.left
+    }
+
+    /// The best schedule of its plan after its nodes.
+    pub fn best(&self) -> Option<&Schedule>
+        ensures { option_copied result ≡ best_after self.now.plan self.now.nodes }
+    {
+        self.work.best()
+    }
+
+    /// The makespan of that schedule, in periods.
+    pub fn makespan(&self) -> Option<u32>
+        ensures { result ≡ option_map (makespan self.now.plan.project) (best_after self.now.plan self.now.nodes) }
+    {
+        self.work.makespan()
+    }
+
+    /// What its search has shown after its nodes.
+    pub fn verdict(&self) -> Verdict
+        ensures { result ≡ verdict_after self.now.plan self.now.nodes }
+    {
+        self.work.verdict()
+    }
+
+    /// Puts it in another phase.
+    pub(crate) fn set_phase(&mut self, phase: Phase)
+        ensures { self.new ≡ in_phase phase self.old }
+    {
+        self.phase = phase;
+    }
+
+    pub(crate) fn work_mut(&mut self) -> &mut Work<J>
+        ensures* writes_back { sem 𝓛 (Lends (the_row J.row) (work_row J.row) self.entry result (λ work. with_work work self.old)) }
+        ensures value { with_work result.now self.old ≡ self.old }
+    {
+        &mut self.work
+    }
+}
+
+impl<J: Strategy> Job<J> {
+    /// A job that waits, with `quanta` in a search that has run nothing. `None` if there is no memory for it, or if the
+    /// search is not fresh, or is of another tenant or plan.
+    pub fn new(
+        alloc: Global,
+        tenant: u32,
+        seq: u64,
+        plan: Plan,
+        quanta: u64,
+        search: J,
+    ) -> Option<Job<J>>
+        requires { quanta ≤ LEASE_LIMIT }
+        ensures made { IfSome result
+            (λ job. job ≡ record { seq = seq; plan = plan; phase = Phase.Waiting; nodes = 0; left = quanta }) }
+        ensures own { OnSome result
+            (J.meaning search ≡ record { tenant = tenant; plan = plan; nodes = 0; left = 0; taken = false }) }
+    {
+        match Work::new(alloc, tenant, plan, quanta, search) {
+            Some(work) => Some(Job {
+                seq,
+                phase: Phase::Waiting,
+                work,
+            }),
+            None => None,
         }
+    }
+
+    /// Whether the search is this job's, after so many nodes of a turn for at most `slice`.
+    pub fn is_own(&self, tenant: u32, slice: u64, ran: u64, search: &J) -> bool
+        ensures { IsTrue result ↔ IsOwn tenant slice ran (J.meaning search.now) self.now }
+    {
+        let (nodes, left) = (search.nodes(), search.left());
+        is_turn(slice, self.phase)
+            && search.tenant() == tenant
+            && ran <= nodes
+            && nodes - ran == self.work.nodes
+            && left <= self.work.left
+            && self.work.left - left == ran
+            && same_plan(search.plan(), &self.work.plan)
     }
 }

@@ -1,6 +1,7 @@
 //! The phases of a job.
 ghost use Rattle.std.specs.Prelude.{◌≡◌};
 ghost use Rattle.job_table.specs.Table.{is_waiting, is_out, is_ended};
+ghost use Rattle.job_table.specs.Job.{is_here, phase_after};
 
 /// Where a job stands.
 #[derive(Clone, Copy, Debug, PartialEq, Eq)]
@@ -44,6 +45,31 @@ impl Phase {
         match self {
             Phase::Closed | Phase::Cancelled => true,
             _ => false,
+        }
+    }
+
+    /// Whether a job in this phase holds its search.
+    pub fn is_here(self) -> bool
+        ensures { result ≡ is_here self }
+    {
+        match self {
+            Phase::Waiting | Phase::Dry => true,
+            _ => false,
+        }
+    }
+
+    /// The phase of a job after its turn: `closed` if its search is over, which holds `left` quanta.
+    pub fn after(self, closed: bool, left: u64) -> Phase
+        ensures { result ≡ phase_after self closed left }
+    {
+        if let Phase::Leaving(_) = self {
+            Phase::Cancelled
+        } else if closed {
+            Phase::Closed
+        } else if left == 0 {
+            Phase::Dry
+        } else {
+            Phase::Waiting
         }
     }
 }

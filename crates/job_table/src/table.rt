@@ -1,20 +1,16 @@
 //! The table of all tenants' jobs.
-ghost use Rattle.std.specs.Prelude.{◌≡◌, ◌↔◌, ◌+◌, ◌≤◌, IsTrue, IsFalse, true, [], Some, None, IfSome, OnSome, IfNone, IfErr, OnOk, OnErr, false, length, filter, slice_get};
+ghost use Rattle.std.specs.Prelude.{◌≡◌, ◌↔◌, ◌≤◌, true, [], is_some, Some, None, IfSome, OnSome, IfNone, IfErr, OnOk, OnErr, false, length, filter, slice_get};
 ghost use Rattle.std.specs.Option.{option_copied};
-ghost use Rattle.strategy.specs.Outcome.{is_closed};
 ghost use Rattle.job_table.specs.Table.{AreWaiting, behind, is_out, find_row, jobs_of, add_job, change_job, drop_job};
-ghost use Rattle.job_table.specs.Job.{meaning_of, given_up, back, is_here, IsOwn, IsSent, IsBack, IsStrange, IsFunded, IsGivenUp};
+ghost use Rattle.job_table.specs.Lent.{with_work, in_phase, change_found, IsLent};
 ghost use Rattle.job_table.specs.Kept.{whole, IsTable, IsChanging};
 
 use crate::counts::{Counts, begin_counts, count_in, count_out, counts_in, recount};
-use crate::job::is_here;
 use crate::queue::{Linked, NO_LINKS, Queue, requeue, unlink};
-use crate::{Job, Phase};
+use crate::{Job, Phase, Work};
 use indexmap::IndexMap;
-use quanta_till::LEASE_LIMIT;
 use std::alloc::Global;
 use std::marker::Model;
-use strategy::Strategy;
 
 /// All tenants' jobs, and which of them wait. Contracts see the rows in the order of tenants and numbers, and those who wait in
 /// the order in which they are to have their turns.
@@ -38,30 +34,6 @@ impl<J> Model for JobTable<J> {
     ghost invariant = { λ t. IsTable t.jobs.entries t.counts.entries t.queue };
 }
 
-/// Sends a tenant's job's search out, where the job waits and the search is its own.
-fn send_waiting<J: Strategy>(job: &mut Job<J>, tenant: u32, slice: u64) -> Option<J>
-    ensures waits { OnSome result (job.old.phase ≡ Phase.Waiting) }
-    ensures search { IfSome result (λ search. J.meaning search ≡ meaning_of tenant job.old) }
-    ensures going { OnSome result (is_closed job.old.plan job.old.nodes ≡ false) }
-    ensures sent { OnSome result (job.new ≡ record job.old { phase = Phase.Out slice }) }
-    ensures kept { IfNone result (job.new ≡ job.old) }
-{
-    if job.phase() != Phase::Waiting {
-        return None;
-    }
-    job.send(tenant, slice)
-}
-
-/// Draws more quanta for a tenant's job's search, where it is here and its own.
-fn fund_here<J: Strategy>(job: &mut Job<J>, tenant: u32, quanta: u64) -> bool
-    requires { job.old.nodes + job.old.left + quanta ≤ LEASE_LIMIT }
-    ensures here { IsTrue result → is_here job.old.phase ≡ true }
-    ensures funded { IsTrue result → job.new ≡ record job.old { phase = Phase.Waiting; left = job.old.left + quanta } }
-    ensures kept { IsFalse result → job.new ≡ job.old }
-{
-    is_here(job.phase()) && job.fund(tenant, quanta)
-}
-
 /// Tells the counts and the queue that a tenant's job in the map has gone from a phase to another. Takes no memory.
 fn follow<J>(
     jobs: &mut IndexMap<(u32, u64), Linked<J>>,
@@ -83,6 +55,10 @@ fn follow<J>(
 }
 
 impl<J> JobTable<J> {
+    ghost use Rattle.std.specs.Borrow.{LendsSo, sem};
+    ghost use Rattle.job_table.specs.contracts.table.JobTable.{the_row};
+    ghost use Rattle.job_table.specs.Rows.{work_row};
+
     /// A table without rows. Takes no memory.
     pub fn new(alloc: Global) -> JobTable<J>
         ensures { result ≡ record { rows = []; waiting = [] } }
@@ -149,6 +125,37 @@ impl<J> JobTable<J> {
             Some(linked) => Some(&linked.job),
             None => None,
         }
+    }
+
+    /// Lends the work of job `seq` of `tenant`: all of it but its number and its phase. Takes no memory.
+    pub fn find_mut(&mut self, tenant: u32, seq: u64) -> Option<&mut Work<J>>
+        ensures* writes_back { sem 𝓛
+            (LendsSo (the_row J.row) (work_row J.row) self.entry result
+            (λ new work. OnSome result (new ≡ change_found tenant seq (with_work work) self.old))
+            (λ new. new ≡ self.old)) }
+        ensures lent { IfSome result (λ work. IsLent self.old.rows tenant seq work.now) }
+        ensures none { IfNone result (find_row tenant seq self.old.rows ≡ None) }
+    {
+        let Some(linked) = self.jobs.get_mut(&(tenant, seq)) else {
+            return None;
+        };
+        Some(linked.job.work_mut())
+    }
+
+    /// Puts job `seq` of `tenant` in another phase. False if there is no such job. Takes no memory.
+    /// A job that begins to wait stands last in the queue, and one that waits no longer leaves it.
+    pub fn set_phase(&mut self, tenant: u32, seq: u64, phase: Phase) -> bool
+        ensures found { result ≡ is_some (find_row tenant seq self.old.rows) }
+        ensures put { self.new ≡ change_found tenant seq (in_phase phase) self.old }
+    {
+        let (jobs, counts, queue) = (&mut self.jobs, &mut self.counts, &mut self.queue);
+        let Some(linked) = jobs.get_mut(&(tenant, seq)) else {
+            return false;
+        };
+        let was = linked.job.phase();
+        linked.job.set_phase(phase);
+        follow(jobs, counts, queue, tenant, seq, was, phase);
+        true
     }
 
     /// How many jobs the tenant has.
@@ -224,97 +231,5 @@ impl<J> JobTable<J> {
         }
         unlink(&mut self.jobs, &mut self.queue, links);
         Some(job)
-    }
-}
-
-impl<J: Strategy> JobTable<J> {
-    /// Sends the search of a waiting job out, for a turn of at most so many nodes. `None` where the job is unknown or does
-    /// not wait, or where its search is another one; then nothing has changed.
-    pub fn send(&mut self, tenant: u32, seq: u64, slice: u64) -> Option<J>
-        ensures sent { IfSome result (λ search. IsSent self.old tenant seq slice (J.meaning search) self.new) }
-        ensures kept { IfNone result (self.new ≡ self.old) }
-    {
-        let (jobs, counts, queue) = (&mut self.jobs, &mut self.counts, &mut self.queue);
-        let Some(linked) = jobs.get_mut(&(tenant, seq)) else {
-            return None;
-        };
-        let Some(search) = send_waiting(&mut linked.job, tenant, slice) else {
-            return None;
-        };
-        let is = linked.job.phase();
-        follow(jobs, counts, queue, tenant, seq, Phase::Waiting, is);
-        Some(search)
-    }
-
-    /// Takes a search back after a turn in which it ran so many nodes, where it is that of a job whose turn is out; else
-    /// hands it back, and nothing has changed. A job that waits again stands last. Takes no memory.
-    pub fn take_back(
-        &mut self,
-        tenant: u32,
-        seq: u64,
-        slice: u64,
-        ran: u64,
-        search: J,
-    ) -> Result<(), J>
-        requires best { (J.meaning search).taken ≡ false }
-        ensures back { OnOk result (IsBack self.old tenant seq slice ran (J.meaning search) self.new) }
-        ensures strange { OnErr result (IsStrange self.old.rows tenant seq slice ran (J.meaning search)) }
-        ensures kept { OnErr result (self.new ≡ self.old) }
-        ensures handed_back { IfErr result (λ it. it ≡ search) }
-    {
-        let (jobs, counts, queue) = (&mut self.jobs, &mut self.counts, &mut self.queue);
-        let Some(linked) = jobs.get_mut(&(tenant, seq)) else {
-            return Err(search);
-        };
-        let job = &mut linked.job;
-        if !job.is_own(tenant, slice, ran, &search) {
-            return Err(search);
-        }
-        let sent = job.phase();
-        job.take_back(tenant, slice, ran, search);
-        let back = job.phase();
-        follow(jobs, counts, queue, tenant, seq, sent, back);
-        Ok(())
-    }
-
-    /// Draws more quanta for a job that waits or is dry. False where the job is unknown or elsewhere, or where its search
-    /// is another one; then nothing has changed. Takes no memory.
-    pub fn fund(&mut self, tenant: u32, seq: u64, quanta: u64) -> bool
-        requires { IfSome (find_row tenant seq self.old.rows) (λ job. job.nodes + job.left + quanta ≤ LEASE_LIMIT) }
-        ensures funded { IsTrue result → IsFunded self.old tenant seq quanta self.new }
-        ensures kept { IsFalse result → self.new ≡ self.old }
-    {
-        let (jobs, counts, queue) = (&mut self.jobs, &mut self.counts, &mut self.queue);
-        let Some(linked) = jobs.get_mut(&(tenant, seq)) else {
-            return false;
-        };
-        let job = &mut linked.job;
-        let was = job.phase();
-        if !fund_here(job, tenant, quanta) {
-            return false;
-        }
-        follow(jobs, counts, queue, tenant, seq, was, Phase::Waiting);
-        true
-    }
-
-    /// Gives a job up that is not at its end. Tells whether it did; if not, nothing has changed. Takes no memory.
-    pub fn cancel(&mut self, tenant: u32, seq: u64) -> bool
-        ensures given_up { IsTrue result → IsGivenUp self.old tenant seq self.new }
-        ensures refused { IsFalse result
-            → IfSome (find_row tenant seq self.old.rows) (λ job. given_up job job.phase ≡ None) }
-        ensures kept { IsFalse result → self.new ≡ self.old }
-    {
-        let (jobs, counts, queue) = (&mut self.jobs, &mut self.counts, &mut self.queue);
-        let Some(linked) = jobs.get_mut(&(tenant, seq)) else {
-            return false;
-        };
-        let job = &mut linked.job;
-        let was = job.phase();
-        if !job.cancel() {
-            return false;
-        }
-        let is = job.phase();
-        follow(jobs, counts, queue, tenant, seq, was, is);
-        true
     }
 }

@@ -25,22 +25,22 @@ pub write_down-requires-clause-room : goal.write_down-requires-clause-room
 write_down-requires-clause-room g c =
     omega (arith, owed_some c.args.self.now c.args.tenant c.args.seq c.args.freed c.args.then c.requires.given_up, c.self.invariant.0.room, ap (λ (x : World). length x.journal) c.self.view_is, ap (λ (x : World). length x.rows) c.self.view_is, ap (λ (x : World). owed x.rows) c.self.view_is)
 
-did : (g : Over) (c : After-write_down g) → IsGivenUp (table_of c.args.self.now) c.args.tenant c.args.seq c.cancel.new.self
+did : (g : Over) (c : After-write_down g) → IsGivenUp (table_of c.args.self.now) c.args.tenant c.args.seq c.cancel.new.jobs
 did g c =
     let w : World = c.args.self.now in
     let table_is : c.self.inside.jobs ≡ table_of w = ap table_of c.self.view_is in
-    cancel_did w c.args.tenant c.args.seq c.args.freed c.args.then c.cancel.new.self c.cancel.result c.requires.given_up
-    (λ yes. subst (λ (d : TableData). IsGivenUp d c.args.tenant c.args.seq c.cancel.new.self) table_is (c.cancel.ensures.given_up yes))
+    cancel_did w c.args.tenant c.args.seq c.args.freed c.args.then c.cancel.new.jobs c.cancel.result c.requires.given_up
+    (λ yes. subst (λ (d : TableData). IsGivenUp d c.args.tenant c.args.seq c.cancel.new.jobs) table_is (c.cancel.ensures.given_up yes))
     (λ not. subst (λ (d : TableData). IfSome (find_row c.args.tenant c.args.seq d.rows) (λ job. given_up job job.phase ≡ None)) table_is (c.cancel.ensures.refused not))
 
-it : (g : Over) (c : After-write_down g) → IsCancel c.args.self.now c.args.tenant c.args.seq c.args.freed c.account-account.result c.args.then c.cancel.new.self
-it g c = cancel_moves c.args.self.now c.args.tenant c.args.seq c.args.freed (vec_capacity c.self.inside.journal) c.account-account.result c.args.then c.cancel.new.self (subst (λ (x : World). IsFarm x (vec_capacity c.self.inside.journal)) c.self.view_is c.self.invariant.0) c.requires.known c.account-account.ensures.exact (sym c.has_room.ensures.exact ∙ c.if-not-has_room.false) c.requires.given_up (did g c)
+it : (g : Over) (c : After-write_down g) → IsCancel c.args.self.now c.args.tenant c.args.seq c.args.freed c.account-account.result c.args.then c.cancel.new.jobs
+it g c = cancel_moves c.args.self.now c.args.tenant c.args.seq c.args.freed (vec_capacity c.self.inside.journal) c.account-account.result c.args.then c.cancel.new.jobs (subst (λ (x : World). IsFarm x (vec_capacity c.self.inside.journal)) c.self.view_is c.self.invariant.0) c.requires.known c.account-account.ensures.exact (sym c.has_room.ensures.exact ∙ c.if-not-has_room.false) c.requires.given_up (did g c)
 
-moves : (g : Over) (c : After-write_down g) → IsMove c.args.self.now c.args.tenant c.cancel.new.self (record c.account-account.result { book = after_free_up c.args.freed c.account-account.result.book; used = c.account-account.result.used + 1 }) (Cancel c.args.seq) (Replied (reply.Line c.args.then))
+moves : (g : Over) (c : After-write_down g) → IsMove c.args.self.now c.args.tenant c.cancel.new.jobs (record c.account-account.result { book = after_free_up c.args.freed c.account-account.result.book; used = c.account-account.result.used + 1 }) (Cancel c.args.seq) (Replied (reply.Line c.args.then))
 moves g c = (it g c).moves
 
 wrote : (g : Over) (c : After-write_down g) →
-    let v : World = record { config = c.self.inside.config; rows = c.cancel.new.self.rows; waiting = c.cancel.new.self.waiting; journal = c.write_down.new.journal.items; books = c.write_down.new.ledgers.books.items; numbers = c.write_down.new.ledgers.numbers.items } in
+    let v : World = record { config = c.self.inside.config; rows = c.cancel.new.jobs.rows; waiting = c.cancel.new.jobs.waiting; journal = c.write_down.new.journal.items; books = c.write_down.new.ledgers.books.items; numbers = c.write_down.new.ledgers.numbers.items } in
     IsFarm v (vec_capacity c.write_down.new.journal) × Follows c.args.self.now c.args.tenant (Cancel c.args.seq) (Replied (reply.Line c.args.then)) v × ArePassed v c.passed_without-passed.result
 wrote g c =
     let w : World = c.args.self.now in
@@ -49,11 +49,11 @@ wrote g c =
     let then : Account = record account { book = after_free_up c.args.freed account.book; used = account.used + 1 } in
     let books_are : c.write_down.new.ledgers.books.items ≡ set c.self.inside.ledgers.books.items c.purse_of-purse.result then.book = c.write_down.ensures.books ∙ ap (set c.self.inside.ledgers.books.items c.purse_of-purse.result) c.free_up.ensures in
     let farm : IsFarm w (vec_capacity c.self.inside.journal) = subst (λ (x : World). IsFarm x (vec_capacity c.self.inside.journal)) c.self.view_is c.self.invariant.0 in
-    let v : World = record { config = c.self.inside.config; rows = c.cancel.new.self.rows; waiting = c.cancel.new.self.waiting; journal = c.write_down.new.journal.items; books = c.write_down.new.ledgers.books.items; numbers = c.write_down.new.ledgers.numbers.items } in
-    let is : v ≡ moved w t (c.cancel.new.self) then (one_entry t (Cancel c.args.seq)) = moved_is w c.self.inside.config c.self.inside.jobs (c.cancel.new.self) c.self.inside.journal.items c.write_down.new.journal.items c.self.inside.ledgers.books.items c.write_down.new.ledgers.books.items c.self.inside.ledgers.numbers.items c.write_down.new.ledgers.numbers.items t c.purse_of-purse.result (c.cancel.new.self) then (Cancel c.args.seq)
+    let v : World = record { config = c.self.inside.config; rows = c.cancel.new.jobs.rows; waiting = c.cancel.new.jobs.waiting; journal = c.write_down.new.journal.items; books = c.write_down.new.ledgers.books.items; numbers = c.write_down.new.ledgers.numbers.items } in
+    let is : v ≡ moved w t (c.cancel.new.jobs) then (one_entry t (Cancel c.args.seq)) = moved_is w c.self.inside.config c.self.inside.jobs (c.cancel.new.jobs) c.self.inside.journal.items c.write_down.new.journal.items c.self.inside.ledgers.books.items c.write_down.new.ledgers.books.items c.self.inside.ledgers.numbers.items c.write_down.new.ledgers.numbers.items t c.purse_of-purse.result (c.cancel.new.jobs) then (Cancel c.args.seq)
     c.self.view_is c.purse_of-purse.ensures.exact (refl) books_are c.write_down.ensures.numbers (c.write_down.ensures.journal) in
-    let room : length w.journal + 1 + owed c.cancel.new.self.rows ≤ vec_capacity c.write_down.new.journal = omega (arith, (it g c).room, c.self.invariant.0.room, c.write_down.ensures.capacity, ap (λ (x : World). length x.journal) c.self.view_is, ap (λ (x : World). length x.rows) c.self.view_is, ap (λ (x : World). owed x.rows) c.self.view_is) in
-    written_less w v t (c.cancel.new.self) then (Cancel c.args.seq) (Replied (reply.Line c.args.then)) (vec_capacity c.self.inside.journal) (vec_capacity c.write_down.new.journal) c.passed_without-passed.result farm (moves g c) is room
+    let room : length w.journal + 1 + owed c.cancel.new.jobs.rows ≤ vec_capacity c.write_down.new.journal = omega (arith, (it g c).room, c.self.invariant.0.room, c.write_down.ensures.capacity, ap (λ (x : World). length x.journal) c.self.view_is, ap (λ (x : World). length x.rows) c.self.view_is, ap (λ (x : World). owed x.rows) c.self.view_is) in
+    written_less w v t (c.cancel.new.jobs) then (Cancel c.args.seq) (Replied (reply.Line c.args.then)) (vec_capacity c.self.inside.journal) (vec_capacity c.write_down.new.journal) c.passed_without-passed.result farm (moves g c) is room
     c.passed_without-passed.ensures.begins c.passed_without-passed.ensures.passed
 
 pub invariant_of-self : goal.invariant_of-self

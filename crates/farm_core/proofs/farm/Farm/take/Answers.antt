@@ -20,17 +20,17 @@ use Rattle.farm_core.proofs.farm.Farm.take.Given.{Over}
 use Rattle.farm_core.proofs.farm.Farm.take.Goals.{After-write_down}
 use Rattle.farm_core.proofs.farm.Farm.take.Goals as goal
 
-it : (g : Over) (c : After-write_down g) → IsGoing c.args.self.now c.args.tenant c.args.seq c.args.slice c.account-account.result (g.J.Strategy.meaning c.in-Some-send.search) c.send.new.self
+it : (g : Over) (c : After-write_down g) → IsGoing c.args.self.now c.args.tenant c.args.seq c.args.slice c.account-account.result (g.J.Strategy.meaning c.in-Some-send.search) c.send.new.jobs
 it g c =
-    let sent = subst (λ (x : World). IsSent (table_of x) c.args.tenant c.args.seq c.args.slice (g.J.Strategy.meaning c.in-Some-send.search) c.send.new.self) c.self.view_is c.in-Some-send.ensures.sent in
-    take_moves c.args.self.now c.args.tenant c.args.seq c.args.slice (vec_capacity c.self.inside.journal) c.account-account.result c.in-Some.line (g.J.Strategy.meaning c.in-Some-send.search) c.send.new.self (subst (λ (x : World). IsFarm x (vec_capacity c.self.inside.journal)) c.self.view_is c.self.invariant.0) c.requires c.account-account.ensures.exact
+    let sent = subst (λ (x : World). IsSent (table_of x) c.args.tenant c.args.seq c.args.slice (g.J.Strategy.meaning c.in-Some-send.search) c.send.new.jobs) c.self.view_is c.in-Some-send.ensures.sent in
+    take_moves c.args.self.now c.args.tenant c.args.seq c.args.slice (vec_capacity c.self.inside.journal) c.account-account.result c.in-Some.line (g.J.Strategy.meaning c.in-Some-send.search) c.send.new.jobs (subst (λ (x : World). IsFarm x (vec_capacity c.self.inside.journal)) c.self.view_is c.self.invariant.0) c.requires c.account-account.ensures.exact
     (sym c.snapshot.ensures ∙ c.in-Some.is) (sym c.may_take.ensures.exact ∙ c.if-not-may_take.false) sent
 
-moves : (g : Over) (c : After-write_down g) → IsMove c.args.self.now c.args.tenant c.send.new.self (record c.account-account.result { book = c.account-account.result.book; used = c.account-account.result.used + 1 }) (Take c.args.seq c.args.slice) (Sent (line_of (record (it g c).job { phase = Out c.args.slice })))
+moves : (g : Over) (c : After-write_down g) → IsMove c.args.self.now c.args.tenant c.send.new.jobs (record c.account-account.result { book = c.account-account.result.book; used = c.account-account.result.used + 1 }) (Take c.args.seq c.args.slice) (Sent (line_of (record (it g c).job { phase = Out c.args.slice })))
 moves g c = (it g c).moves
 
 wrote : (g : Over) (c : After-write_down g) →
-    let v : World = record { config = c.self.inside.config; rows = c.send.new.self.rows; waiting = c.send.new.self.waiting; journal = c.write_down.new.journal.items; books = c.write_down.new.ledgers.books.items; numbers = c.write_down.new.ledgers.numbers.items } in
+    let v : World = record { config = c.self.inside.config; rows = c.send.new.jobs.rows; waiting = c.send.new.jobs.waiting; journal = c.write_down.new.journal.items; books = c.write_down.new.ledgers.books.items; numbers = c.write_down.new.ledgers.numbers.items } in
     IsFarm v (vec_capacity c.write_down.new.journal) × Follows c.args.self.now c.args.tenant (Take c.args.seq c.args.slice) (Sent (line_of (record (it g c).job { phase = Out c.args.slice }))) v × ArePassed v c.self.inside.passed
 wrote g c =
     let w : World = c.args.self.now in
@@ -38,11 +38,11 @@ wrote g c =
     let account : Account = c.account-account.result in
     let then : Account = record account { book = account.book; used = account.used + 1 } in
     let farm : IsFarm w (vec_capacity c.self.inside.journal) = subst (λ (x : World). IsFarm x (vec_capacity c.self.inside.journal)) c.self.view_is c.self.invariant.0 in
-    let v : World = record { config = c.self.inside.config; rows = c.send.new.self.rows; waiting = c.send.new.self.waiting; journal = c.write_down.new.journal.items; books = c.write_down.new.ledgers.books.items; numbers = c.write_down.new.ledgers.numbers.items } in
-    let is : v ≡ moved w t (c.send.new.self) then (one_entry t (Take c.args.seq c.args.slice)) = moved_is w c.self.inside.config c.self.inside.jobs (c.send.new.self) c.self.inside.journal.items c.write_down.new.journal.items c.self.inside.ledgers.books.items c.write_down.new.ledgers.books.items c.self.inside.ledgers.numbers.items c.write_down.new.ledgers.numbers.items t c.purse_of-purse.result (c.send.new.self) then (Take c.args.seq c.args.slice)
+    let v : World = record { config = c.self.inside.config; rows = c.send.new.jobs.rows; waiting = c.send.new.jobs.waiting; journal = c.write_down.new.journal.items; books = c.write_down.new.ledgers.books.items; numbers = c.write_down.new.ledgers.numbers.items } in
+    let is : v ≡ moved w t (c.send.new.jobs) then (one_entry t (Take c.args.seq c.args.slice)) = moved_is w c.self.inside.config c.self.inside.jobs (c.send.new.jobs) c.self.inside.journal.items c.write_down.new.journal.items c.self.inside.ledgers.books.items c.write_down.new.ledgers.books.items c.self.inside.ledgers.numbers.items c.write_down.new.ledgers.numbers.items t c.purse_of-purse.result (c.send.new.jobs) then (Take c.args.seq c.args.slice)
     c.self.view_is c.purse_of-purse.ensures.exact (refl) c.write_down.ensures.books c.write_down.ensures.numbers (c.write_down.ensures.journal ∙ ap (λ es. es ++ one_entry t (Take c.args.seq c.args.slice)) c.keep_room.ensures.kept) in
-    let room : length w.journal + 1 + owed c.send.new.self.rows ≤ vec_capacity c.write_down.new.journal = omega (arith, (it g c).room, c.in-Ok.ensures.room, c.write_down.ensures.capacity, c.len.ensures, ap (λ (x : World). length x.journal) c.self.view_is, ap (λ (x : World). length x.rows) c.self.view_is) in
-    written_less w v t (c.send.new.self) then (Take c.args.seq c.args.slice) (Sent (line_of (record (it g c).job { phase = Out c.args.slice }))) (vec_capacity c.self.inside.journal) (vec_capacity c.write_down.new.journal) c.self.inside.passed farm (moves g c) is room
+    let room : length w.journal + 1 + owed c.send.new.jobs.rows ≤ vec_capacity c.write_down.new.journal = omega (arith, (it g c).room, c.in-Ok.ensures.room, c.write_down.ensures.capacity, c.len.ensures, ap (λ (x : World). length x.journal) c.self.view_is, ap (λ (x : World). length x.rows) c.self.view_is) in
+    written_less w v t (c.send.new.jobs) then (Take c.args.seq c.args.slice) (Sent (line_of (record (it g c).job { phase = Out c.args.slice }))) (vec_capacity c.self.inside.journal) (vec_capacity c.write_down.new.journal) c.self.inside.passed farm (moves g c) is room
     (λ none. let room = (and_parts (is_waiting c.in-Some.line.phase && is_slice c.args.slice) (has_room 2 (view t w)) (sym c.may_take.ensures.exact ∙ c.if-not-may_take.false)).1 in absurd (cc))
     (subst (λ (x : World). ArePassed x c.self.inside.passed) c.self.view_is c.self.invariant.2)
 
