@@ -1,9 +1,9 @@
 -- What a job keeps, when it comes and as it is read.
-use Rattle.std.proofs.Common.{◌≡◌, ℕ, ◌<◌, ◌/◌, false, nat_lt, Option, Some, None, IfSome, refl, sym, arith}
+use Rattle.std.proofs.Common.{◌≡◌, ℕ, ◌<◌, ◌/◌, false, nat_lt, Option, Some, None, IfSome, option_map, refl, sym, ap, arith}
 use Rattle.std.specs.Prelude.{IsTrue}
 use Rattle.std.proofs.lemmas.Bool.{cond-true, lt-ltb}
 use Rattle.mrcpsp.specs.Project.{ProjectData, size, is_project}
-use Rattle.mrcpsp.specs.Schedule.{ScheduleData, IsFeasible}
+use Rattle.mrcpsp.specs.Schedule.{ScheduleData, IsFeasible, makespan}
 use Rattle.mrcpsp.specs.Breach.{HasShape, HasModes}
 use Rattle.mrcpsp.proofs.LimitLemmas.{kept}
 use Rattle.strategy.specs.Pass.{pass}
@@ -39,10 +39,11 @@ unfolding best_after
 best_at_start plan ok = none_at_start plan.project plan.kind (kept plan.project ok).some
 
 pub sound_fresh : (plan : Plan) (best : Best) → IsTrue (is_project plan.project) → is_closed plan 0 ≡ false → best.found ≡ false → HasSize (size plan.project) best.schedule
-    → IsSound plan 0 best Going
+    → IsSound plan 0 best None Going
 sound_fresh plan best ok going none sized = record {
   planned = ok;
   shows = rw none (sym (best_at_start plan ok));
+  lasts = sym (ap (option_map (makespan plan.project)) (best_at_start plan ok));
   sized = sized;
   judges = sym (going_verdict plan 0 going);
 }

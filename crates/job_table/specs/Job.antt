@@ -1,7 +1,7 @@
 -- What a job keeps, and what a turn of it does.
-use Rattle.std.specs.Prelude.{◌≡◌, ℕ, ◌+◌, ◌-◌, ◌==◌, Bool, true, false, cond, List, length, IsTrue, Option, Some, None}
+use Rattle.std.specs.Prelude.{◌≡◌, ℕ, ◌+◌, ◌-◌, ◌==◌, Bool, true, false, cond, List, length, IsTrue, Option, Some, None, option_map}
 use Rattle.mrcpsp.specs.Project.{size, is_project}
-use Rattle.mrcpsp.specs.Schedule.{ScheduleData}
+use Rattle.mrcpsp.specs.Schedule.{ScheduleData, makespan}
 use Rattle.strategy.specs.Outcome.{best_after, is_closed, verdict_after}
 use Rattle.strategy.specs.Search.{Meaning}
 use Rattle.strategy.specs.declared.plan.Plan.{Plan}
@@ -29,10 +29,11 @@ is_here Dry = true
 is_here Closed = false
 is_here Cancelled = false
 
--- what is planned is a project, and the best schedule and the verdict are those of the plan after these nodes
-pub record IsSound (plan : Plan) (nodes : ℕ) (best : Best) (verdict : Verdict) : Type 0 where
+-- what is planned is a project, and the best schedule, its makespan and the verdict are those of the plan after these nodes
+pub record IsSound (plan : Plan) (nodes : ℕ) (best : Best) (shortest : Option ℕ) (verdict : Verdict) : Type 0 where
   pub planned : IsTrue (is_project plan.project)
   pub shows : best_in best ≡ best_after plan nodes
+  pub lasts : shortest ≡ option_map (makespan plan.project) (best_after plan nodes)
   pub sized : HasSize (size plan.project) best.schedule
   pub judges : verdict ≡ verdict_after plan nodes
 

@@ -1,7 +1,7 @@
 //! Jobs: what is known of a search, and the search unless it is out or over.
 ghost use Rattle.std.specs.Prelude.{◌≡◌, ◌+◌, ◌-◌, ◌≤◌, ◌↔◌, IsTrue, IsFalse, Some, None, IfSome, OnSome, IfNone, is_some, false, true, option_map, if◌then◌else◌};
 ghost use Rattle.std.specs.Option.{option_copied};
-ghost use Rattle.mrcpsp.specs.Project.{size};
+ghost use Rattle.mrcpsp.specs.Project.{size, is_project};
 ghost use Rattle.mrcpsp.specs.Schedule.{makespan};
 ghost use Rattle.strategy.specs.Outcome.{best_after, is_closed, verdict_after};
 ghost use Rattle.quanta_till.specs.Lease.{after_draw};
@@ -26,6 +26,7 @@ pub struct Work<J> {
     nodes: u64,
     left: u64,
     best: Best,
+    makespan: Option<u32>,
     verdict: Verdict,
     search: Option<J>,
 }
@@ -39,7 +40,7 @@ impl<J> Model for Work<J> {
 
     ghost view = { λ w. record { plan = w.plan; nodes = w.nodes; left = w.left; here = is_some w.search } };
 
-    ghost invariant = { λ w. IsSound w.plan w.nodes w.best w.verdict };
+    ghost invariant = { λ w. IsSound w.plan w.nodes w.best w.makespan w.verdict };
 }
 
 /// A job is a number, a phase and work.
@@ -126,9 +127,23 @@ impl<J: Strategy> Work<J> {
             nodes: 0,
             left: quanta,
             best,
+            makespan: None,
             verdict: Verdict::Going,
             search: Some(search),
         })
+    }
+}
+
+/// The makespan of the best schedule of a plan after so many nodes, in periods.
+#[tactic(auto, using(crate::proofs::JobLemmas::best_shaped, crate::proofs::JobLemmas::best_moded))]
+fn makespan_of(plan: &Plan, nodes: u64, best: Option<&Schedule>) -> Option<u32>
+    requires planned { IsTrue (is_project plan.now.project) }
+    requires best { option_copied best ≡ best_after plan.now nodes }
+    ensures { result ≡ option_map (makespan plan.now.project) (best_after plan.now nodes) }
+{
+    match best {
+        Some(schedule) => Some(makespan(&plan.project, schedule)),
+        None => None,
     }
 }
 
@@ -141,14 +156,10 @@ impl<J> Work<J> {
     }
 
     /// The makespan of that schedule, in periods.
-    #[tactic(auto, using(crate::proofs::JobLemmas::best_shaped, crate::proofs::JobLemmas::best_moded))]
     fn makespan(&self) -> Option<u32>
         ensures { result ≡ option_map (makespan self.now.plan.project) (best_after self.now.plan self.now.nodes) }
     {
-        match self.best.schedule() {
-            Some(schedule) => Some(makespan(&self.plan.project, schedule)),
-            None => None,
-        }
+        self.makespan
     }
 
     /// What the search has shown after its nodes.
@@ -185,6 +196,7 @@ impl<J: Strategy> Work<J> {
     {
         let after = phase.after(search.closed(), search.left());
         self.best.copy(search.best());
+        self.makespan = makespan_of(&self.plan, search.nodes(), search.best());
         self.verdict = search.verdict();
         self.nodes = search.nodes();
         if after.is_here() {
