@@ -1,8 +1,10 @@
 //! Partial schedules of random projects.
 use crate::drawn::{Drawn, SMALL};
+use crate::fixtures::{DIAMOND, project};
 use crate::sum::Sum;
 use crate::sums::first_start;
 use serial_sgs::Board;
+use std::alloc::Global;
 use std::process::Abort;
 
 /// Adds the earliest start of an activity that is not placed, which is the one that sums tell, and
@@ -48,6 +50,36 @@ fn add_step(rt: &impl Abort, sum: &mut Sum, board: &mut Board, drawn: &mut Drawn
     if 0 < board.count() && drawn.below(6) == 0 {
         board.unplace_last();
     }
+}
+
+/// Places four activities in this order, the third one in this mode, each from one period on.
+fn place_all(
+    rt: &impl Abort,
+    alloc: Global,
+    sum: &mut Sum,
+    order: [usize; 4],
+    mode: usize,
+    from: u32,
+) {
+    let project = project(rt, alloc, DIAMOND, "3 1");
+    let mut board = Board::new(alloc, &project).expect(rt, "no memory for a board");
+    for activity in order {
+        let mode = if activity == 2 { mode } else { 0 };
+        place(rt, sum, &mut board, activity, mode, from);
+    }
+}
+
+// Each board that a tree or a rule may fill for the worked project.
+#[test]
+fn boards_of_the_worked_project(rt: HostRuntime) {
+    let mut sum = Sum::NONE;
+    for from in 0..8 {
+        for mode in [0, 1] {
+            place_all(&rt, rt.alloc(), &mut sum, [0, 1, 2, 3], mode, from);
+            place_all(&rt, rt.alloc(), &mut sum, [0, 2, 1, 3], mode, from);
+        }
+    }
+    assert!(rt; sum.count == 128);
 }
 
 #[test]
