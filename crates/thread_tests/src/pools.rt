@@ -6,6 +6,7 @@ use crate::fixtures::{A, B, patient_of, tree_of};
 use crate::gates::{Meeting, Open, Pair, Witness};
 use crate::stand::Stand;
 use farm_pool::{Command, Unsettled, WorkEnd};
+use quanta_till::Till;
 use std::alloc::Global;
 use std::process::Abort;
 use std::sync::{Arc, Wait};
@@ -149,6 +150,32 @@ fn no_worker(rt: HostRuntime) {
     let tree = tree_of(&rt, rt.alloc(), stand.lease(&rt, A));
     stand.submit(&rt, A, 6, tree);
     assert!(rt; matches!(stand.settle(), Some(Err(Unsettled::Held(0, 6)))));
+}
+
+// What a lease beside the jobs has drawn is missing in its till's pool.
+#[test]
+fn quanta_drawn_beside_the_jobs(rt: HostRuntime) {
+    let mut stand = Stand::new(&rt, rt.alloc(), 100);
+    let mut lease = stand.lease(&rt, A);
+    assert!(rt; lease.left() == 0);
+    lease.draw(5);
+    assert!(rt; matches!(stand.settle(), Some(Err(Unsettled::Pool(0)))));
+}
+
+// The tree's nine nodes are paid at another till, where its lease was made. The purse's own till has as
+// much in its pool as is free, since as much is drawn from it, but nothing of it was used.
+#[test]
+fn quanta_used_at_another_till(rt: HostRuntime) {
+    let (till, mut desk) = Till::new(rt.alloc(), 0, 100).expect(&rt, "no memory for a till");
+    let elsewhere = till.lease(&mut desk, A).expect(&rt, "no memory for a lease");
+    let tree = tree_of(&rt, rt.alloc(), elsewhere);
+    let mut stand = Stand::new(&rt, rt.alloc(), 100);
+    stand.submit(&rt, A, 16, tree);
+    stand.work(&rt, &Open);
+    let mut lease = stand.lease(&rt, A);
+    assert!(rt; lease.left() == 0);
+    lease.draw(9);
+    assert!(rt; matches!(stand.settle(), Some(Err(Unsettled::Spent(0)))));
 }
 
 #[test]
