@@ -9,13 +9,13 @@ use Rattle.schedule_files.specs.declared.reading.TheConstants.{MOST_BYTES}
 use Rattle.schedule_clauses.specs.declared.certificate.CertificateFault.{CertificateFault}
 use Rattle.schedule_clauses.specs.Fault.{IsOfBound, IsOfStocks, IsOfSchedule}
 use Rattle.watched_io.specs.Failure.{HasFailed}
+use Rattle.certify_cli.specs.Counts.{Counts, AreReadWell, AreKept}
 use Rattle.certify_cli.specs.Certified.{CertifiesOptimal, CertifiesInfeasible, CertifiesBound, CertifiesChain}
 use Rattle.certify_cli.specs.declared.ending.TheConstants.{MOST_TEXT}
 use Rattle.certify_cli.specs.declared.fault.CertifyFault.{CertifyFault}
 use Rattle.certify_cli.specs.declared.fault.CertifyFault.TheVariants as why
 use Rattle.certify_cli.specs.declared.fault.CommandFault.{CommandFault}
 use Rattle.certify_cli.specs.declared.fault.CommandFault.TheVariants.{File, Text, Proof, Certify}
-use Rattle.certify_cli.specs.declared.watches.CertifyWatches.{CertifyWatches}
 
 -- the file is of a project
 pub record IsFile (file : List ℕ) : Type 0 where
@@ -66,15 +66,21 @@ IsStopped (why.Certificate fault) Failed before after = after ≡ before
 IsStopped why.NoMemory Failed before after = after ≡ before
 IsStopped why.Write Failed before after = Failed
 
+-- only a line that could not be written notes a failed write
+abbrev pub IsLineNoted : Result ⊤ CertifyFault → ℕ → ℕ → Type 0
+IsLineNoted (Err why.Write) old new = HasFailed old new
+IsLineNoted ended old new = new ≡ old
+
 -- how a command ends: a line was written of a certificate; or an input could not be read; or nothing is certified of the file. By what
 -- its watches had counted before it and count then
-abbrev pub IsEndOf : Type 0 → Result ⊤ CommandFault → CertifyWatches → CertifyWatches → Option (List ℕ) → Option (List ℕ) → Option (List ℕ) → Type 0
-IsEndOf written (Ok done) from seen file before after = written
-IsEndOf written (Err (File kind)) from seen file before after = (after ≡ before) × HasFailed from.file seen.file
-IsEndOf written (Err (Text kind)) from seen file before after = (after ≡ before) × HasFailed from.text seen.text
-IsEndOf written (Err (Proof kind)) from seen file before after = (after ≡ before) × HasFailed from.proof seen.proof
+abbrev pub IsEndOf : Type 0 → Result ⊤ CommandFault → Counts → Counts → Option (List ℕ) → Option (List ℕ) → Option (List ℕ) → Type 0
+IsEndOf written (Ok done) from seen file before after = AreKept from seen × written
+IsEndOf written (Err (File kind)) from seen file before after = (after ≡ before) × HasFailed from.file seen.file × (seen.output ≡ from.output)
+IsEndOf written (Err (Text kind)) from seen file before after = (after ≡ before) × HasFailed from.text seen.text × (seen.output ≡ from.output)
+IsEndOf written (Err (Proof kind)) from seen file before after = (after ≡ before) × HasFailed from.proof seen.proof × (seen.output ≡ from.output)
 IsEndOf written (Err (Certify fault)) from seen file before after =
-    IfSome file (λ bytes. IsOfFile fault (take MOST_TEXT bytes)) × IsStopped fault (HasFailed from.output seen.output) before after
+    AreReadWell from seen × IsLineNoted (Err fault) from.output seen.output
+    × IfSome file (λ bytes. IsOfFile fault (take MOST_TEXT bytes)) × IsStopped fault (HasFailed from.output seen.output) before after
 
 -- of which schedule a certificate's fault is
 abbrev pub IsJudged : Result ⊤ CommandFault → Option (List ℕ) → Option (List ℕ) → Type 0
@@ -85,7 +91,7 @@ IsJudged (Err (Proof kind)) file text = ⊤
 IsJudged (Err (Certify fault)) file text = IfSome file (λ bytes. IfSome text (λ words. IsOfText fault (take MOST_TEXT bytes) (take MOST_TEXT words)))
 
 -- of a file and of a schedule's text no more than so many bytes are read
-abbrev pub IsCertifyOf : Result ⊤ CommandFault → CertifyWatches → CertifyWatches → Option (List ℕ) → Option (List ℕ) → Option (List ℕ) → Option (List ℕ) → Type 0
+abbrev pub IsCertifyOf : Result ⊤ CommandFault → Counts → Counts → Option (List ℕ) → Option (List ℕ) → Option (List ℕ) → Option (List ℕ) → Type 0
 IsCertifyOf ended from seen file text before after =
     IsEndOf (IfSome file (λ bytes. IfSome text (λ words. CertifiesOptimal (take MOST_TEXT bytes) (take MOST_TEXT words) before after))) ended from seen file before after × IsJudged ended file text
 
@@ -97,7 +103,7 @@ IsJudgedAlone (Err (Text kind)) = ⊥
 IsJudgedAlone (Err (Proof kind)) = ⊤
 IsJudgedAlone (Err (Certify fault)) = IsOfProofAlone fault
 
-abbrev pub IsInfeasibleOf : Result ⊤ CommandFault → CertifyWatches → CertifyWatches → Option (List ℕ) → Option (List ℕ) → Option (List ℕ) → Type 0
+abbrev pub IsInfeasibleOf : Result ⊤ CommandFault → Counts → Counts → Option (List ℕ) → Option (List ℕ) → Option (List ℕ) → Type 0
 IsInfeasibleOf ended from seen file before after =
     IsEndOf (IfSome file (λ bytes. CertifiesInfeasible (take MOST_TEXT bytes) before after)) ended from seen file before after × IsJudgedAlone ended
 
@@ -124,12 +130,12 @@ IsJudgedBound (Err (Text kind)) file periods = ⊥
 IsJudgedBound (Err (Proof kind)) file periods = ⊤
 IsJudgedBound (Err (Certify fault)) file periods = IfSome file (λ bytes. IsOfPeriods fault (take MOST_TEXT bytes) periods)
 
-abbrev pub IsBoundOf : Result ⊤ CommandFault → ℕ → CertifyWatches → CertifyWatches → Option (List ℕ) → Option (List ℕ) → Option (List ℕ) → Type 0
+abbrev pub IsBoundOf : Result ⊤ CommandFault → ℕ → Counts → Counts → Option (List ℕ) → Option (List ℕ) → Option (List ℕ) → Type 0
 IsBoundOf ended periods from seen file before after =
     IsEndOf (IfSome file (λ bytes. CertifiesBound (take MOST_TEXT bytes) periods before after)) ended from seen file before after × IsJudgedBound ended file periods
 
 -- of the chain, only the file can be at fault
-abbrev pub IsChainOf : Result ⊤ CommandFault → CertifyWatches → CertifyWatches → Option (List ℕ) → Option (List ℕ) → Option (List ℕ) → Type 0
+abbrev pub IsChainOf : Result ⊤ CommandFault → Counts → Counts → Option (List ℕ) → Option (List ℕ) → Option (List ℕ) → Type 0
 IsChainOf ended from seen file before after =
     IsEndOf (IfSome file (λ bytes. CertifiesChain (take MOST_TEXT bytes) before after)) ended from seen file before after
 

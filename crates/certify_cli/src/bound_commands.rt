@@ -19,7 +19,7 @@ pub fn bound_read<S: Read + Drop, P: Read + Drop, W: Write>(
     periods: u32,
     proof: P,
     writer: &mut W,
-    watches: &mut CertifyWatches,
+    watches: &mut CertifyWatches<S, (), P, W>,
 ) -> Result<(), CommandFault>
     ensures { IsBoundOf result periods watches.old watches.new (S.remaining file) (W.contents writer.old) (W.contents writer.new) }
 {
@@ -45,7 +45,7 @@ pub fn chain_read<S: Read + Drop, W: Write>(
     alloc: Global,
     file: S,
     writer: &mut W,
-    watches: &mut CertifyWatches,
+    watches: &mut CertifyWatches<S, (), (), W>,
 ) -> Result<(), CommandFault>
     ensures { IsChainOf result watches.old watches.new (S.remaining file) (W.contents writer.old) (W.contents writer.new) }
 {
@@ -71,7 +71,7 @@ pub fn bound_to<R: AllocGlobal + Env + Eprint, S: Read + Drop, P: Read + Drop, W
     periods: u32,
     proof: P,
     writer: &mut W,
-    watches: &mut CertifyWatches,
+    watches: &mut CertifyWatches<S, (), P, W>,
 ) -> ExitCode
     ensures { Ends
         (λ ended. IsBoundOf ended periods watches.old watches.new (S.remaining file) (W.contents writer.old) (W.contents writer.new))
@@ -87,7 +87,7 @@ pub fn chain_to<R: AllocGlobal + Env + Eprint, S: Read + Drop, W: Write>(
     paths: Paths<'_>,
     file: S,
     writer: &mut W,
-    watches: &mut CertifyWatches,
+    watches: &mut CertifyWatches<S, (), (), W>,
 ) -> ExitCode
     ensures { Ends
         (λ ended. IsChainOf ended watches.old watches.new (S.remaining file) (W.contents writer.old) (W.contents writer.new))

@@ -3,7 +3,7 @@ ghost use Rattle.std.specs.Prelude.{◌-◌, IfOk, IfErr};
 ghost use Rattle.schedule_clauses.specs.Fault.{IsOfBound};
 ghost use Rattle.watched_io.specs.Failure.{HasFailed};
 ghost use Rattle.certify_cli.specs.Certified.{CertifiesBound, CertifiesChain, TakesAtLeast};
-ghost use Rattle.certify_cli.specs.Commands.{IsStopped, IsOfFile, IsOfPeriods};
+ghost use Rattle.certify_cli.specs.Commands.{IsLineNoted, IsStopped, IsOfFile, IsOfPeriods};
 
 use crate::fault::CertifyFault;
 use measures::Measures;
@@ -41,12 +41,13 @@ pub fn certify_bound<W: Write>(
     periods: u32,
     proof: &[u8],
     writer: &mut W,
-    watch: &mut Watch,
+    watch: &mut Watch<W>,
 ) -> Result<(), CertifyFault>
     ensures ok { IfOk result (λ _. CertifiesBound file.now periods (W.contents writer.old) (W.contents writer.new)) }
     ensures judged { IfErr result (λ fault. IsOfPeriods fault file.now periods) }
     ensures fault { IfErr result (λ fault.
         IsOfFile fault file.now × IsStopped fault (HasFailed watch.old watch.new) (W.contents writer.old) (W.contents writer.new)) }
+    ensures noted { IsLineNoted result watch.old watch.new }
 {
     let project = read(alloc, file).map_err(CertifyFault::File)?;
     match exceeded(alloc, &project, periods, proof) {
@@ -65,11 +66,12 @@ pub fn certify_chain<W: Write>(
     alloc: Global,
     file: &[u8],
     writer: &mut W,
-    watch: &mut Watch,
+    watch: &mut Watch<W>,
 ) -> Result<(), CertifyFault>
     ensures ok { IfOk result (λ _. CertifiesChain file.now (W.contents writer.old) (W.contents writer.new)) }
     ensures fault { IfErr result (λ fault.
         IsOfFile fault file.now × IsStopped fault (HasFailed watch.old watch.new) (W.contents writer.old) (W.contents writer.new)) }
+    ensures noted { IsLineNoted result watch.old watch.new }
 {
     none_is_below_the_bound();
     let project = read(alloc, file).map_err(CertifyFault::File)?;

@@ -5,7 +5,7 @@ ghost use Rattle.psplib_mm.specs.Reading.{reading};
 ghost use Rattle.mrcpsp.specs.Schedule.{IsInfeasible};
 ghost use Rattle.watched_io.specs.Failure.{HasFailed};
 ghost use Rattle.certify_cli.specs.Certified.{CertifiesOptimal, CertifiesInfeasible};
-ghost use Rattle.certify_cli.specs.Commands.{IsStopped, IsOfFile, IsOfText, IsOfProofAlone};
+ghost use Rattle.certify_cli.specs.Commands.{IsLineNoted, IsStopped, IsOfFile, IsOfText, IsOfProofAlone};
 
 use crate::dimacs::write_formula;
 use crate::fault::CertifyFault;
@@ -26,12 +26,13 @@ pub fn certify<W: Write>(
     text: &[u8],
     proof: &[u8],
     writer: &mut W,
-    watch: &mut Watch,
+    watch: &mut Watch<W>,
 ) -> Result<(), CertifyFault>
     ensures ok { IfOk result (λ _. CertifiesOptimal file.now text.now (W.contents writer.old) (W.contents writer.new)) }
     ensures judged { IfErr result (λ fault. IsOfText fault file.now text.now) }
     ensures fault { IfErr result (λ fault.
         IsOfFile fault file.now × IsStopped fault (HasFailed watch.old watch.new) (W.contents writer.old) (W.contents writer.new)) }
+    ensures noted { IsLineNoted result watch.old watch.new }
 {
     let project = read(alloc, file).map_err(CertifyFault::File)?;
     let schedule = match read_schedule(alloc, text) {
@@ -57,12 +58,13 @@ pub fn certify_infeasible<W: Write>(
     file: &[u8],
     proof: &[u8],
     writer: &mut W,
-    watch: &mut Watch,
+    watch: &mut Watch<W>,
 ) -> Result<(), CertifyFault>
     ensures ok { IfOk result (λ _. CertifiesInfeasible file.now (W.contents writer.old) (W.contents writer.new)) }
     ensures judged { IfErr result (λ fault. IsOfProofAlone fault) }
     ensures fault { IfErr result (λ fault.
         IsOfFile fault file.now × IsStopped fault (HasFailed watch.old watch.new) (W.contents writer.old) (W.contents writer.new)) }
+    ensures noted { IsLineNoted result watch.old watch.new }
 {
     let project = read(alloc, file).map_err(CertifyFault::File)?;
     match schedule_clauses::certify_infeasible(alloc, &project, proof) {

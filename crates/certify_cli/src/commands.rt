@@ -23,7 +23,7 @@ pub fn certify_read<S: Read + Drop, T: Read + Drop, P: Read + Drop, W: Write>(
     text: T,
     proof: P,
     writer: &mut W,
-    watches: &mut CertifyWatches,
+    watches: &mut CertifyWatches<S, T, P, W>,
 ) -> Result<(), CommandFault>
     ensures longer { MOST_BYTES < MOST_TEXT }
     ensures ended { IsCertifyOf result watches.old watches.new (S.remaining file) (T.remaining text)
@@ -58,7 +58,7 @@ pub fn infeasible_read<S: Read + Drop, P: Read + Drop, W: Write>(
     file: S,
     proof: P,
     writer: &mut W,
-    watches: &mut CertifyWatches,
+    watches: &mut CertifyWatches<S, (), P, W>,
 ) -> Result<(), CommandFault>
     ensures { IsInfeasibleOf result watches.old watches.new (S.remaining file) (W.contents writer.old) (W.contents writer.new) }
 {
@@ -94,7 +94,7 @@ pub fn certify_to<
     text: T,
     proof: P,
     writer: &mut W,
-    watches: &mut CertifyWatches,
+    watches: &mut CertifyWatches<S, T, P, W>,
 ) -> ExitCode
     ensures { Ends
         (λ ended. IsCertifyOf ended watches.old watches.new (S.remaining file) (T.remaining text)
@@ -113,7 +113,7 @@ pub fn infeasible_to<R: AllocGlobal + Env + Eprint, S: Read + Drop, P: Read + Dr
     file: S,
     proof: P,
     writer: &mut W,
-    watches: &mut CertifyWatches,
+    watches: &mut CertifyWatches<S, (), P, W>,
 ) -> ExitCode
     ensures { Ends
         (λ ended. IsInfeasibleOf ended watches.old watches.new (S.remaining file) (W.contents writer.old) (W.contents writer.new))

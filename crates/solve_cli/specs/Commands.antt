@@ -7,6 +7,7 @@ use Rattle.mrcpsp.specs.Project.{ProjectData}
 use Rattle.psplib_mm.specs.Gives.{Fails}
 use Rattle.psplib_mm.specs.Reading.{reading}
 use Rattle.watched_io.specs.Failure.{HasFailed}
+use Rattle.solve_cli.specs.Counts.{Counts, AreReadWell, AreKept}
 use Rattle.solve_cli.specs.FoundText.{found_text, found_json}
 use Rattle.solve_cli.specs.Several.{IsFoundByEach}
 use Rattle.solve_cli.specs.Verified.{IsVerified, IsAtFault}
@@ -19,17 +20,16 @@ use Rattle.solve_cli.specs.declared.fault.VerifyFault.TheVariants as verify
 use Rattle.solve_cli.specs.declared.search_kinds.SearchKind.{SearchKind}
 use Rattle.solve_cli.specs.declared.searching.SearchResult.{SearchResult}
 use Rattle.solve_cli.specs.declared.verifying.Verified.{Verified}
-use Rattle.solve_cli.specs.declared.watches.SolveWatches.{SolveWatches}
 
 -- ---- how a command ends
 
 -- its text was written; or its inputs are at fault, or there was no memory, and nothing was; or a write failed. By what the command's
 -- watches had counted before it and count then
-abbrev pub IsEndOf : Type 0 → (InputFault → Type 0) → Result ⊤ CommandFault → SolveWatches → SolveWatches → Option (List ℕ) → Option (List ℕ) → Type 0
-IsEndOf written unmade (Ok done) from seen before after = written
-IsEndOf written unmade (Err (Input fault)) from seen before after = (after ≡ before) × unmade fault
-IsEndOf written unmade (Err NoMemory) from seen before after = after ≡ before
-IsEndOf written unmade (Err Write) from seen before after = HasFailed from.output seen.output
+abbrev pub IsEndOf : Type 0 → (InputFault → Type 0) → Result ⊤ CommandFault → Counts → Counts → Option (List ℕ) → Option (List ℕ) → Type 0
+IsEndOf written unmade (Ok done) from seen before after = AreKept from seen × written
+IsEndOf written unmade (Err (Input fault)) from seen before after = (after ≡ before) × (seen.output ≡ from.output) × unmade fault
+IsEndOf written unmade (Err NoMemory) from seen before after = (after ≡ before) × AreKept from seen
+IsEndOf written unmade (Err Write) from seen before after = AreReadWell from seen × HasFailed from.output seen.output
 
 abbrev pub command_status : Result ⊤ CommandFault → ℕ
 command_status (Ok done) = 0
@@ -48,10 +48,10 @@ abbrev pub OfBoth : Option (List ℕ) → Option (List ℕ) → (List ℕ → Li
 OfBoth file text P = IfSome file (λ bytes. IfSome text (λ words. P (take MOST_TEXT bytes) (take MOST_TEXT words)))
 
 -- why there is no feasible schedule, or which input could not be read
-abbrev pub IsUnverified : InputFault → SolveWatches → SolveWatches → Option (List ℕ) → Option (List ℕ) → Type 0
-IsUnverified (File kind) from seen file text = HasFailed from.file seen.file
-IsUnverified (Text kind) from seen file text = HasFailed from.text seen.text
-IsUnverified (Verify fault) from seen file text = OfBoth file text (λ bytes words. IsAtFault bytes words fault)
+abbrev pub IsUnverified : InputFault → Counts → Counts → Option (List ℕ) → Option (List ℕ) → Type 0
+IsUnverified (File kind) from seen file text = HasFailed from.file seen.file × (seen.text ≡ from.text)
+IsUnverified (Text kind) from seen file text = (seen.file ≡ from.file) × HasFailed from.text seen.text
+IsUnverified (Verify fault) from seen file text = AreReadWell from seen × OfBoth file text (λ bytes words. IsAtFault bytes words fault)
 
 -- what is told of a feasible schedule was written
 pub record IsReported (Tells : Verified → List ℕ → Type 0) (file text : List ℕ) (before after : Option (List ℕ)) : Type 0 where
@@ -61,7 +61,7 @@ pub record IsReported (Tells : Verified → List ℕ → Type 0) (file text : Li
   pub tells : Tells verified shown
   pub wrote : Appends before after shown
 
-abbrev pub IsShowOf : (Verified → List ℕ → Type 0) → Result ⊤ CommandFault → SolveWatches → SolveWatches → Option (List ℕ) → Option (List ℕ) → Option (List ℕ) → Option (List ℕ) → Type 0
+abbrev pub IsShowOf : (Verified → List ℕ → Type 0) → Result ⊤ CommandFault → Counts → Counts → Option (List ℕ) → Option (List ℕ) → Option (List ℕ) → Option (List ℕ) → Type 0
 IsShowOf Tells ended from seen file text before after =
     IsEndOf (OfBoth file text (λ bytes words. IsReported Tells bytes words before after)) (λ fault. IsUnverified fault from seen file text) ended from seen before after
 
@@ -75,14 +75,14 @@ GivesText May v shown = (text : String Global) × May v (Ok text) × (shown ≡ 
 
 -- ---- a project's file alone
 
-abbrev pub IsUnsolved : InputFault → SolveWatches → SolveWatches → Option (List ℕ) → Type 0
-IsUnsolved (File kind) from seen file = HasFailed from.file seen.file
+abbrev pub IsUnsolved : InputFault → Counts → Counts → Option (List ℕ) → Type 0
+IsUnsolved (File kind) from seen file = HasFailed from.file seen.file × (seen.text ≡ from.text)
 IsUnsolved (Text kind) from seen file = ⊥
-IsUnsolved (Verify (verify.File fault)) from seen file = IfSome file (λ bytes. Fails fault (reading (take MOST_TEXT bytes)))
+IsUnsolved (Verify (verify.File fault)) from seen file = AreReadWell from seen × IfSome file (λ bytes. Fails fault (reading (take MOST_TEXT bytes)))
 IsUnsolved (Verify verify.Words) from seen file = ⊥
 IsUnsolved (Verify verify.TooLong) from seen file = ⊥
 IsUnsolved (Verify (verify.Breach breach)) from seen file = ⊥
-IsUnsolved (Verify verify.NoMemory) from seen file = ⊤
+IsUnsolved (Verify verify.NoMemory) from seen file = AreReadWell from seen
 
 -- as JSON or as lines
 abbrev pub told_text : Bool → SearchResult → List ℕ
@@ -97,6 +97,6 @@ pub record IsSolved (is_json : Bool) (kinds : List SearchKind) (most : ℕ) (fil
   pub finds : IsFoundByEach project kinds most found
   pub wrote : Appends before after (told_text is_json found)
 
-abbrev pub IsSolveOf : Bool → List SearchKind → ℕ → Result ⊤ CommandFault → SolveWatches → SolveWatches → Option (List ℕ) → Option (List ℕ) → Option (List ℕ) → Type 0
+abbrev pub IsSolveOf : Bool → List SearchKind → ℕ → Result ⊤ CommandFault → Counts → Counts → Option (List ℕ) → Option (List ℕ) → Option (List ℕ) → Type 0
 IsSolveOf is_json kinds most ended from seen file before after =
     IsEndOf (IfSome file (λ bytes. IsSolved is_json kinds most (take MOST_TEXT bytes) before after)) (λ fault. IsUnsolved fault from seen file) ended from seen before after

@@ -1,7 +1,8 @@
-pub mod Verified
+pub mod Commands
+pub mod Counts
 pub mod Found
 pub mod FoundText
 pub mod Improved
-pub mod Several
 pub mod Laws
-pub mod Commands
+pub mod Several
+pub mod Verified

@@ -27,7 +27,7 @@ pub struct Paths<'a> {
 }
 
 /// Tells of a fault all breaches, if they were asked for, or else why it is one.
-fn tell_more<R: Env + Eprint>(rt: &R, watches: &SolveWatches) {
+fn tell_more<R: Env + Eprint, S, T, W>(rt: &R, watches: &SolveWatches<S, T, W>) {
     match &watches.list {
         Ok(Some(list)) => {
             let _ = eprint!(rt; "{list}");
@@ -40,11 +40,11 @@ fn tell_more<R: Env + Eprint>(rt: &R, watches: &SolveWatches) {
 }
 
 /// The status of a command, with its fault on standard error, and behind it why it ended so, if that is known, or all breaches.
-pub(crate) fn end_command<R: Env + Eprint>(
+pub(crate) fn end_command<R: Env + Eprint, S, T, W>(
     rt: &R,
     paths: Paths<'_>,
     ended: Result<(), CommandFault>,
-    watches: &SolveWatches,
+    watches: &SolveWatches<S, T, W>,
 ) -> ExitCode
     ensures { exit_status result ≡ command_status ended }
 {

@@ -1,13 +1,14 @@
 //! A schedule verified, and a feasible one drawn, over any readers and writer.
-ghost use Rattle.std.specs.Prelude.{◌≡◌, ◌<◌, IfOk, IfErr};
+ghost use Rattle.std.specs.Prelude.{◌≡◌, ◌<◌, IfOk, IfErr, OnOk};
 ghost use Rattle.std.specs.Process.{exit_status};
 ghost use Rattle.mrcpsp.specs.Schedule.{IsFeasible};
 ghost use Rattle.solve_cli.specs.Verified.{IsVerified};
+ghost use Rattle.solve_cli.specs.Counts.{AreReadWell};
 ghost use Rattle.solve_cli.specs.Commands.{OfBoth, IsUnverified, IsShowOf, Ends, TellsMakespan, GivesText};
 
 use crate::ending::{MOST_TEXT, Paths, end_command};
 use crate::explaining::{list_of, why_unverified};
-use crate::fault::{CommandFault, InputFault};
+use crate::fault::{CommandFault, InputFault, VerifyFault};
 use crate::verifying::{Verified, verify};
 use crate::watches::SolveWatches;
 use schedule_files::MOST_BYTES;
@@ -16,18 +17,34 @@ use std::env::Env;
 use std::io::{Eprint, Read, Write};
 use std::process::ExitCode;
 
+/// A line of each breach, if they are asked for.
+fn list_if(
+    alloc: Global,
+    is_asked: bool,
+    bytes: &[u8],
+    words: &[u8],
+    fault: VerifyFault,
+) -> Result<Option<String>, AllocError> {
+    if is_asked {
+        list_of(alloc, bytes, words, fault)
+    } else {
+        Ok(None)
+    }
+}
+
 /// The project of a file's reader and the schedule that a text's reader tells, where that is feasible. Of the text more bytes are read
 /// than a schedule's may have, so that one that is too long is seen to be.
-fn read_verified<S: Read + Drop, T: Read + Drop>(
+fn read_verified<S: Read + Drop, T: Read + Drop, W>(
     alloc: Global,
     file: S,
     text: T,
-    watches: &mut SolveWatches,
+    watches: &mut SolveWatches<S, T, W>,
 ) -> Result<Verified, InputFault>
     ensures verified { IfOk result (λ verified.
         OfBoth (S.remaining file) (T.remaining text) (λ bytes words. IsVerified bytes words verified)) }
     ensures longer { MOST_BYTES < MOST_TEXT }
     ensures feasible { IfOk result (λ verified. IsFeasible verified.project verified.schedule) }
+    ensures read { OnOk result (AreReadWell watches.old watches.new) }
     ensures kept { watches.new.output ≡ watches.old.output }
     ensures fault { IfErr result (λ fault. IsUnverified fault watches.old watches.new (S.remaining file) (T.remaining text)) }
 {
@@ -43,9 +60,7 @@ fn read_verified<S: Read + Drop, T: Read + Drop>(
         Ok(verified) => Ok(verified),
         Err(fault) => {
             watches.why = why_unverified(alloc, &bytes, &words, fault);
-            if watches.lists_all {
-                watches.list = list_of(alloc, &bytes, &words, fault);
-            }
+            watches.list = list_if(alloc, watches.lists_all, &bytes, &words, fault);
             Err(InputFault::Verify(fault))
         }
     }
@@ -58,7 +73,7 @@ pub fn verify_read<S: Read + Drop, T: Read + Drop, W: Write>(
     file: S,
     text: T,
     writer: &mut W,
-    watches: &mut SolveWatches,
+    watches: &mut SolveWatches<S, T, W>,
 ) -> Result<(), CommandFault>
     ensures { IsShowOf TellsMakespan result watches.old watches.new (S.remaining file) (T.remaining text)
         (W.contents writer.old)
@@ -86,7 +101,7 @@ pub fn draw_read<
     file: S,
     text: T,
     writer: &mut W,
-    watches: &mut SolveWatches,
+    watches: &mut SolveWatches<S, T, W>,
     draw: D,
 ) -> Result<(), CommandFault>
     requires { (verified : Verified) → IsFeasible verified.project verified.schedule → D.pre draw verified }
@@ -116,7 +131,7 @@ pub fn verify_to<R: AllocGlobal + Env + Eprint, S: Read + Drop, T: Read + Drop, 
     file: S,
     text: T,
     writer: &mut W,
-    watches: &mut SolveWatches,
+    watches: &mut SolveWatches<S, T, W>,
 ) -> ExitCode
     ensures { Ends
         (λ ended. IsShowOf TellsMakespan ended watches.old watches.new (S.remaining file) (T.remaining text)
@@ -141,7 +156,7 @@ pub fn draw_to<
     file: S,
     text: T,
     writer: &mut W,
-    watches: &mut SolveWatches,
+    watches: &mut SolveWatches<S, T, W>,
     draw: D,
 ) -> ExitCode
     requires { (verified : Verified) → IsFeasible verified.project verified.schedule → D.pre draw verified }

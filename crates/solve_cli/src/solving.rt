@@ -1,7 +1,8 @@
 //! A project searched, over any reader and writer.
-ghost use Rattle.std.specs.Prelude.{◌≡◌, ◌≤◌, length, IfOk, IfErr, IfSome, Ok, take, string_bytes};
+ghost use Rattle.std.specs.Prelude.{◌≡◌, ◌≤◌, length, IfOk, IfErr, IfSome, OnOk, Ok, take, string_bytes};
 ghost use Rattle.std.specs.Process.{exit_status};
 ghost use Rattle.psplib_mm.specs.Reading.{reading};
+ghost use Rattle.solve_cli.specs.Counts.{AreReadWell};
 ghost use Rattle.solve_cli.specs.Commands.{IsUnsolved, IsSolveOf, Ends, told_text};
 
 use crate::ending::{MOST_TEXT, Paths, end_command};
@@ -32,13 +33,14 @@ pub struct SolveOptions<'a> {
 }
 
 /// The project of a file's reader.
-fn read_project<S: Read + Drop>(
+fn read_project<S: Read + Drop, W>(
     alloc: Global,
     file: S,
-    watches: &mut SolveWatches,
+    watches: &mut SolveWatches<S, (), W>,
 ) -> Result<Project, InputFault>
     ensures project { IfOk result (λ project.
         IfSome (S.remaining file) (λ all. reading (take MOST_TEXT all) ≡ Ok project)) }
+    ensures read { OnOk result (AreReadWell watches.old watches.new) }
     ensures kept { watches.new.output ≡ watches.old.output }
     ensures fault { IfErr result (λ fault. IsUnsolved fault watches.old watches.new (S.remaining file)) }
 {
@@ -74,7 +76,7 @@ pub fn solve_read<S: Read + Drop, W: Write, L: Observer>(
     asked: SolveOptions<'_>,
     looks: &mut L,
     writer: &mut W,
-    watches: &mut SolveWatches,
+    watches: &mut SolveWatches<S, (), W>,
 ) -> Result<(), CommandFault>
     requires few { asked.most ≤ MOST_NODES }
     requires short { length asked.kinds.now ≤ MOST_SEARCHES }
@@ -113,7 +115,7 @@ pub fn solve_to<R: AllocGlobal + Env + Eprint, S: Read + Drop, W: Write, L: Obse
     asked: SolveOptions<'_>,
     looks: &mut L,
     writer: &mut W,
-    watches: &mut SolveWatches,
+    watches: &mut SolveWatches<S, (), W>,
 ) -> ExitCode
     requires few { asked.most ≤ MOST_NODES }
     requires short { length asked.kinds.now ≤ MOST_SEARCHES }

@@ -1,3 +1,4 @@
+use Rattle.std.proofs.Common.{ap, ◌∙◌}
 use Rattle.certify_cli.specs.Certified.{CertifiesBound}
 use Rattle.certify_cli.specs.Commands.{IsOfFile, IsOfPeriods}
 use Rattle.certify_cli.proofs.CommandLemmas.{one}
@@ -5,14 +6,19 @@ use Rattle.certify_cli.proofs.bound_commands.bound_read.Goals as goal
 
 pub returns-in-Ok-certify_bound : goal.returns-in-Ok-certify_bound
 returns-in-Ok-certify_bound g c = (
-  one (g.S.Read.remaining c.args.file) c.in-Ok.bytes.items _ (λ bytes. CertifiesBound bytes c.args.periods (g.W.Write.contents c.args.writer.now) (g.W.Write.contents c.certify_bound.new.writer))
-      c.in-Ok.ensures.front c.deref.ensures.value c.in-Ok-certify_bound.ensures.ok,
+  (
+    ((c.in-Ok.ensures.noted ∙ ap (λ v. v.file) c.watches.view_is, ap (λ v. v.text) c.watches.view_is, c.in-Ok-read_front.ensures.noted ∙ ap (λ v. v.proof) c.watches.view_is), c.in-Ok-certify_bound.ensures.noted ∙ ap (λ v. v.output) c.watches.view_is),
+    one (g.S.Read.remaining c.args.file) c.in-Ok.bytes.items _ (λ bytes. CertifiesBound bytes c.args.periods (g.W.Write.contents c.args.writer.now) (g.W.Write.contents c.certify_bound.new.writer))
+        c.in-Ok.ensures.front c.deref.ensures.value c.in-Ok-certify_bound.ensures.ok,
+  ),
   tt,
 )
 
 pub returns : goal.returns
 returns g c = (
   (
+    (c.in-Ok.ensures.noted ∙ ap (λ v. v.file) c.watches.view_is, ap (λ v. v.text) c.watches.view_is, c.in-Ok-read_front.ensures.noted ∙ ap (λ v. v.proof) c.watches.view_is),
+    c.in-Err-certify_bound.ensures.noted,
     one (g.S.Read.remaining c.args.file) c.in-Ok.bytes.items _ (λ bytes. IsOfFile c.in-Err-certify_bound.fault bytes) c.in-Ok.ensures.front c.deref.ensures.value c.in-Err-certify_bound.ensures.fault.0,
     c.in-Err-certify_bound.ensures.fault.1,
   ),
