@@ -5,6 +5,7 @@ ghost use Rattle.job_table.specs.Table.{JobData, find_row, is_waiting};
 ghost use Rattle.farm_core.specs.Tenant.{line_of};
 ghost use Rattle.farm_core.specs.Step.{is_slice, has_room};
 ghost use Rattle.farm_core.specs.World.{World, view};
+ghost use Rattle.quanta_till.specs.Lease.{after_use};
 ghost use Rattle.strategy.specs.Search.{nodes_within, ran_on};
 ghost use Rattle.farm_core.specs.Farm.{ArePassed, IsNext};
 ghost use Rattle.farm_core.specs.Turn.{IsTurn, IsTaken, IsNotTaken, IsGiven, IsIdle, IsReady, IsFirstReady};
@@ -77,13 +78,14 @@ impl<J: Strategy> Turn<J> {
         self.seq
     }
 
-    /// Runs as many nodes as the turn and the job's quanta allow, or until the search is over, and tells how many. A second
-    /// call runs none.
+    /// Runs as many nodes as the turn and the job's quanta allow, or until the search is over, and tells
+    /// how many. The search's lease pays for these and for nothing else. A second call runs none.
     pub fn run(&mut self) -> u64
         requires { IsTurn self.old.slice self.old.ran (J.meaning self.old.search) }
         ensures first { self.old.ran ≡ 0 → result ≡ nodes_within self.old.slice (J.meaning self.old.search) }
         ensures again { self.old.ran ≢ 0 → result ≡ 0 }
         ensures search { J.meaning self.new.search ≡ ran_on result (J.meaning self.old.search) }
+        ensures paid { J.lease self.new.search ≡ after_use (J.lease self.old.search) result }
         ensures ran { self.new.ran ≡ self.old.ran + result }
         ensures tenant { self.new.tenant ≡ self.old.tenant }
         ensures seq { self.new.seq ≡ self.old.seq }

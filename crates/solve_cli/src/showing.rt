@@ -84,10 +84,10 @@ pub fn verify_read<S: Read + Drop, T: Read + Drop, W: Write>(
         Err(fault) => return Err(CommandFault::Input(fault)),
     };
     let line = format_args!("feasible makespan {makespan}\n");
-    match watches.output.write_text(writer, line) {
-        Ok(()) => Ok(()),
-        Err(_) => Err(CommandFault::Write),
-    }
+    let Ok(()) = watches.output.write_text(writer, line) else {
+        return Err(CommandFault::Write);
+    };
+    Ok(())
 }
 
 /// Writes the text that `draw` gives of a feasible schedule. But for a fault of the writer nothing was written at an error.
@@ -117,10 +117,10 @@ pub fn draw_read<
         Ok(picture) => picture,
         Err(_) => return Err(CommandFault::NoMemory),
     };
-    match watches.output.write_text(writer, picture) {
-        Ok(()) => Ok(()),
-        Err(_) => Err(CommandFault::Write),
-    }
+    let Ok(()) = watches.output.write_text(writer, picture) else {
+        return Err(CommandFault::Write);
+    };
+    Ok(())
 }
 
 /// `verify_read` with a status: 0 where the line was written, and 1 where its fault was told on standard error. The readers are of

@@ -2,8 +2,8 @@ use Rattle.std.proofs.Common.{refl, string_bytes, ap, ◌∙◌}
 use Rattle.solve_cli.proofs.CommandLemmas.{shown}
 use Rattle.solve_cli.proofs.showing.draw_read.Goals as goal
 
-pub returns-in-Ok-write_text : goal.returns-in-Ok-write_text
-returns-in-Ok-write_text g c = (
+pub returns : goal.returns
+returns g c = (
   (
     (ap (λ v. v.file) c.watches.view_is ∙ c.in-Ok.ensures.read.0, ap (λ v. v.text) c.watches.view_is ∙ c.in-Ok.ensures.read.1),
     c.in-Ok-write_text.ensures.noted ∙ ap (λ v. v.output) c.watches.view_is ∙ c.read_verified.ensures.kept,
