@@ -167,7 +167,9 @@ fn quanta_drawn_beside_the_jobs(rt: HostRuntime) {
 #[test]
 fn quanta_used_at_another_till(rt: HostRuntime) {
     let (till, mut desk) = Till::new(rt.alloc(), 0, 100).expect(&rt, "no memory for a till");
-    let elsewhere = till.lease(&mut desk, A).expect(&rt, "no memory for a lease");
+    let elsewhere = till
+        .lease(&mut desk, A)
+        .expect(&rt, "no memory for a lease");
     let tree = tree_of(&rt, rt.alloc(), elsewhere);
     let mut stand = Stand::new(&rt, rt.alloc(), 100);
     stand.submit(&rt, A, 16, tree);
