@@ -1,5 +1,7 @@
--- What a command asks for, when it may need memory, and who waits once it was answered.
+-- What a command asks for, with which searches, when it may need memory, and who waits once it was answered.
 use Rattle.std.specs.Prelude.{◌≡◌, ⊤, ℕ, Bool, true, false, not, ◌&&◌, [], ◌∷◌, ◌++◌}
+use Rattle.strategy.specs.Search.{Meaning}
+use Rattle.job_table.specs.Job.{fresh_search}
 use Rattle.farm_core.specs.declared.command.Command.{Command}
 use Rattle.farm_core.specs.declared.command.Command.TheVariants as command
 use Rattle.farm_core.specs.declared.entry.Event.{Event}
@@ -19,6 +21,11 @@ event_of (command.Fetch seq) = Fetch seq
 event_of (command.Cancel seq) = Cancel seq
 event_of (command.Forget seq) = Forget seq
 event_of command.Ledger = Ledger
+
+-- the search of a job that is submitted has run nothing, holds nothing and is of this tenant and of the job's plan
+abbrev pub IsFresh : {J : Type 0} → (J → Meaning) → ℕ → Command J → Type 0
+IsFresh meaning t (command.Submit plan quanta search) = meaning search ≡ fresh_search t plan
+IsFresh meaning t command = ⊤
 
 -- an answer that tells where a job stands
 abbrev pub is_line : Answer → Bool

@@ -4,7 +4,7 @@ ghost use Rattle.farm_core.specs.declared.reply.Line.{Line};
 ghost use Rattle.farm_core.specs.Step.{Replied, step};
 ghost use Rattle.farm_core.specs.World.{view};
 ghost use Rattle.farm_core.specs.Farm.{IsReply};
-ghost use Rattle.farm_core.specs.Command.{event_of, WaitsThen};
+ghost use Rattle.farm_core.specs.Command.{event_of, IsFresh, WaitsThen};
 
 use crate::{Event, Farm, Reply};
 use strategy::{Plan, Strategy};
@@ -18,7 +18,7 @@ pub enum Command<J> {
         plan: Plan,
         /// How many quanta the job is given.
         quanta: u64,
-        /// Its search, which has to be fresh, without quanta, and of this tenant and plan.
+        /// Its search, which has run nothing, holds nothing and is of this tenant and plan.
         search: J,
     },
     /// So many quanta more for the job of this number.
@@ -43,7 +43,8 @@ pub enum Command<J> {
 impl<J: Strategy> Farm<J> {
     /// Makes the call that a command asks for: `submit`, `fund`, `status`, `result`, `cancel`, `forget` or `ledger`. Refused as that call is.
     pub fn command(&mut self, tenant: u32, command: Command<J>) -> Reply
-        requires { tenant < length self.old.config.tenants }
+        requires known { tenant < length self.old.config.tenants }
+        requires fresh { IsFresh J.meaning tenant command }
         ensures follows { IsReply self.old tenant (event_of command) result self.new }
         ensures turns { WaitsThen self.old tenant (event_of command) result self.new }
         ensures accepted { (seq : ℕ) (line : Line) → event_of command ≡ Event.Cancel seq

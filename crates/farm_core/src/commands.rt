@@ -3,7 +3,7 @@ ghost use Rattle.std.specs.Prelude.{◌≡◌, ℕ, ◌<◌, ◌≤◌, ◌+◌,
 ghost use Rattle.std.specs.Option.{option_copied};
 ghost use Rattle.mrcpsp.specs.Project.{is_project};
 ghost use Rattle.job_table.specs.Table.{JobData, is_out, is_ended};
-ghost use Rattle.job_table.specs.Job.{given_up};
+ghost use Rattle.job_table.specs.Job.{fresh_search, given_up};
 ghost use Rattle.farm_core.specs.declared.reply.Line.{Line};
 ghost use Rattle.farm_core.specs.Tenant.{Tenant, find_job, line_of};
 ghost use Rattle.farm_core.specs.Step.{Replied, step, has_room, is_amount};
@@ -117,13 +117,13 @@ impl<J: Strategy> Farm<J> {
         self.noted(tenant, Event::Status(seq), reply)
     }
 
-    /// Takes in a job for a plan, with so many quanta and its search. The search has to be fresh, without quanta, and of this
-    /// tenant and plan; any other is answered `NoMemory` where such a one would be taken in. Where the job is refused, the
-    /// search is dropped. A job that is taken in stands behind all others that wait. Refused, the first of: `NoRoom`, `NoAmount`,
-    /// `NoJobs`, `NoShort`; `NoMemory` in place of any answer but `NoRoom`.
+    /// Takes in a job for a plan, with so many quanta and its search, which has run nothing, holds nothing and is of this tenant
+    /// and plan. Where the job is refused, the search is dropped. A job that is taken in stands behind all others that wait.
+    /// Refused, the first of: `NoRoom`, `NoAmount`, `NoJobs`, `NoShort`; `NoMemory` in place of any answer but `NoRoom`.
     #[tactic(auto, using(crate::proofs::StepLemmas::submit_amount, crate::proofs::StepLemmas::submit_full))]
     pub fn submit(&mut self, tenant: u32, plan: Plan, quanta: u64, search: J) -> Reply
-        requires { tenant < length self.old.config.tenants }
+        requires known { tenant < length self.old.config.tenants }
+        requires fresh { J.meaning search ≡ fresh_search tenant plan }
         ensures follows { IsReply self.old tenant (Event.Submit plan quanta) result self.new }
         ensures turns { (seq : ℕ) → result ≡ Reply.Job seq → self.new.waiting ≡ self.old.waiting ++ (tenant, seq) ∷ [] }
     {
@@ -165,6 +165,7 @@ impl<J: Strategy> Farm<J> {
     /// The same where so many quanta may be given, and the tenant may keep a job more.
     fn submit_job(&mut self, tenant: u32, event: Event, plan: Plan, quanta: u64, search: J) -> Reply
         requires known { tenant < length self.old.config.tenants }
+        requires fresh { J.meaning search ≡ fresh_search tenant plan }
         requires event { event ≡ Event.Submit plan quanta }
         requires planned { IsTrue (is_project plan.project) }
         requires amount { is_amount quanta ≡ true }
@@ -186,7 +187,7 @@ impl<J: Strategy> Farm<J> {
         let Ok(()) = keep_room(&mut self.journal, self.jobs.len()) else {
             return Reply::NoMemory;
         };
-        let Some(job) = Job::new(self.alloc, tenant, seq, plan, quanta, search) else {
+        let Ok(job) = Job::new(self.alloc, tenant, seq, plan, quanta, search) else {
             return Reply::NoMemory;
         };
         let Ok(()) = self.jobs.insert(tenant, job) else {

@@ -30,7 +30,7 @@ use Rattle.farm_pool.specs.declared.held.FarmAnswer.TheVariants as given
 use Rattle.farm_core.specs.Command.{may_need}
 use Rattle.farm_core.specs.declared.command.Command.{Command}
 use Rattle.farm_pool.specs.Served.{tenant_at, entry_if, IsStep, IsAnswered, Answers}
-use Rattle.farm_pool.specs.Calls.{call_image, MayAsk, DoesOn, AnswersOn}
+use Rattle.farm_pool.specs.Calls.{call_image, MayAsk, MayCall, DoesOn, AnswersOn}
 
 -- one entry or none, as a list
 pub one_or_none : (noted : Bool) (x : Entry) → cond {A = List Entry} noted (x ∷ []) [] ≡ listed (cond {A = Option Entry} noted (Some x) None)
@@ -79,10 +79,10 @@ replies old new t e reply.NoAmount known at f needs = let it = steps_on old new 
 replies old new t e reply.NoJobs known at f needs = let it = steps_on old new t e (Replied reply.NoJobs) at f in record { entry = entry_if t e (Replied reply.NoJobs); config = f.config; journal = it.journal; stands = it.steps }
 replies old new t e (reply.NoShort free) known at f needs = let it = steps_on old new t e (Replied (reply.NoShort free)) at f in record { entry = entry_if t e (Replied (reply.NoShort free)); config = f.config; journal = it.journal; stands = it.steps }
 
--- a tenant that may ask is the farm's
-pub asked_known : {J : Type 0} (meaning : J → Meaning) (config : ConfigData) (call : FarmCall J) (t : ℕ) (command : Command J) → call ≡ asked.Asked t command → MayAsk meaning config call
-    → t < length config.tenants
-asked_known {J} meaning config call t command is may = subst (λ (c : FarmCall J). MayAsk meaning config c) is may
+-- a tenant that may ask may make its command
+pub asked_may : {J : Type 0} (meaning : J → Meaning) (config : ConfigData) (call : FarmCall J) (t : ℕ) (command : Command J) → call ≡ asked.Asked t command → MayAsk meaning config call
+    → MayCall meaning config t command
+asked_may {J} meaning config call t command is may = subst (λ (c : FarmCall J). MayAsk meaning config c) is may
 
 -- an answer to a tenant
 pub asked_replied : {J : Type 0} (meaning : J → Meaning) (old new : World) (call : FarmCall J) (t : ℕ) (e : Event) (r : Reply) → call_image meaning call ≡ said.Asked t e

@@ -1,9 +1,10 @@
 -- Calls and answers as plain data, by what searches mean.
-use Rattle.std.specs.Prelude.{◌≡◌, ⊤, ◌<◌, ◌++◌, length, Option}
+use Rattle.std.specs.Prelude.{◌≡◌, ⊤, ℕ, ◌<◌, ◌++◌, length, Option}
 use Rattle.strategy.specs.Search.{Meaning}
 use Rattle.farm_core.specs.declared.entry.Entry.{Entry}
 use Rattle.farm_core.specs.Turn.{TurnData}
-use Rattle.farm_core.specs.Command.{event_of}
+use Rattle.farm_core.specs.declared.command.Command.{Command}
+use Rattle.farm_core.specs.Command.{event_of, IsFresh}
 use Rattle.farm_core.specs.Config.{ConfigData}
 use Rattle.farm_core.specs.Turn.{IsTurn}
 use Rattle.farm_core.specs.World.{World}
@@ -37,13 +38,18 @@ answer_image meaning given.NoMemory = told.NoMemory
 answer_image meaning (given.Gave answer) = told.Gave answer
 answer_image meaning (given.Stray turn) = told.Stray
 
+-- a command that a tenant of the configuration may make
+pub record MayCall {J : Type 0} (meaning : J → Meaning) (config : ConfigData) (t : ℕ) (command : Command J) : Type 0 where
+  pub known : t < length config.tenants
+  pub fresh : IsFresh meaning t command
+
 -- a turn that may be taken back
 pub record MayComeBack {J : Type 0} (meaning : J → Meaning) (config : ConfigData) (turn : TurnData J) : Type 0 where
   pub known : turn.tenant < length config.tenants
   pub is : IsTurn turn.slice turn.ran (meaning turn.search)
 
 abbrev pub MayAsk : {J : Type 0} → (J → Meaning) → ConfigData → FarmCall J → Type 0
-MayAsk meaning config (asked.Asked t command) = t < length config.tenants
+MayAsk meaning config (asked.Asked t command) = MayCall meaning config t command
 MayAsk meaning config (asked.Next slice) = ⊤
 MayAsk meaning config (asked.Back turn) = MayComeBack meaning config turn
 

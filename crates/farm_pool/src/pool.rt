@@ -3,7 +3,7 @@ ghost use Rattle.std.specs.Prelude.{◌≡◌, ◌≢◌, ◌<◌, length, IfOk,
 ghost use Rattle.turn_lock.specs.Plays.{having_split, newcomer, BothSeen, Called};
 ghost use Rattle.turn_lock.specs.Rule.{opened};
 ghost use Rattle.turn_lock.specs.Values.{IsPassOf};
-ghost use Rattle.farm_core.specs.Command.{event_of};
+ghost use Rattle.farm_core.specs.Command.{event_of, IsFresh};
 ghost use Rattle.farm_pool.specs.declared.image.AnswerImage.TheVariants as told;
 ghost use Rattle.farm_pool.specs.declared.image.CallImage.TheVariants as said;
 ghost use Rattle.farm_pool.specs.Calls.{call_image, answer_image, MayAsk};
@@ -115,6 +115,7 @@ impl Pool {
     ) -> Reply
         requires own { IsPassOf self.now.lock pass.old }
         requires known { tenant < length self.now.lock.opening.tenants }
+        requires fresh { IsFresh (λ b. meaning b) tenant command }
         ensures own { IsPassOf self.now.lock pass.new }
         ensures called { Called Served pass.old.view
             (said.Asked tenant (event_of command)) (told.Replied result) pass.new.view }

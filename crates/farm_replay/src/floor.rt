@@ -9,6 +9,7 @@ ghost use Rattle.farm_core.specs.Held.{is_out_of};
 ghost use Rattle.session_lines.specs.declared.request.What.TheVariants as what;
 ghost use Rattle.farm_core.specs.Tills.{AreTillsOf, IsTillOf};
 ghost use Rattle.farm_session.specs.Branch.{tills_of, HasLeased, HasLeasedFor};
+ghost use Rattle.farm_session.specs.Ready.{MakesFresh};
 ghost use Rattle.farm_replay.specs.Floor.{IsFloor, IsTold, is_turn_of, untaken};
 
 use farm_core::{Config, Event, Farm, Line, NoTurn, Reply, Stranger, Turn};
@@ -68,6 +69,7 @@ impl<J: Strategy> Floor<J> {
         requires known { tenant < length self.old.farm.config.tenants }
         requires till { IsTillOf self.old.farm.config tenant branch.old.till }
         requires make { M.IsAlwaysCallable make.now }
+        requires fresh { MakesFresh J.meaning (M.post make.now) }
         requires floor { IsFloor J.meaning self.old.farm self.old.held.items }
         ensures leased { (search : _) × HasLeased (M.post make.now) branch.old
             (record { plan = plan; lease = empty_lease branch.old.till tenant })
@@ -161,6 +163,7 @@ impl<J: Strategy> Floor<J> {
         requires known { tenant < length self.old.farm.config.tenants }
         requires tills { AreTillsOf self.old.farm.config (tills_of branches.old) }
         requires make { M.IsAlwaysCallable make.now }
+        requires fresh { MakesFresh J.meaning (M.post make.now) }
         requires floor { IsFloor J.meaning self.old.farm self.old.held.items }
         ensures leased { HasLeasedFor (M.post make.now)
             self.old.farm.config tenant asked branches.old branches.new }

@@ -6,7 +6,9 @@ ghost use Rattle.session_lines.specs.Known.{Writes};
 ghost use Rattle.session_lines.specs.ReplyText.{reply_line};
 ghost use Rattle.session_lines.specs.Script.{requests_of};
 ghost use Rattle.farm_core.specs.Tills.{AreTillsOf};
+ghost use Rattle.job_table.specs.Job.{fresh_search};
 ghost use Rattle.farm_session.specs.Branch.{tills_of};
+ghost use Rattle.farm_session.specs.Ready.{MakesFresh};
 ghost use Rattle.farm_replay.specs.Floor.{IsFloor};
 ghost use Rattle.farm_replay.specs.Headline.{HasWritten, IsIsolated, IsTruthful};
 ghost use Rattle.farm_replay.specs.Leases.{AreLeasesOf};
@@ -107,6 +109,7 @@ fn play<J: Strategy, R: Read, W: Write, M: Fn(Ready) -> Option<J>>(
     requires farm { floor.old.farm ≡ opened config.now }
     requires tills { AreTillsOf config.now (tills_of branches.old) }
     requires make { M.IsAlwaysCallable make.now }
+    requires fresh { MakesFresh J.meaning (M.post make.now) }
     requires floor { IsFloor J.meaning floor.old.farm floor.old.held.items }
     requires notes { is_some notes.old.refused ≡ false }
     ensures written { OnOk result (IfSome (script_rest R.remaining script.old) (λ bytes.
@@ -187,7 +190,10 @@ pub fn replay<R: Read + Drop, W: Write>(
     let Ok(mut floor) = Floor::<Box<dyn Strategy>>::new(alloc, config) else {
         return Err(ReplayFault::NoMemory);
     };
-    let make = |ready: Ready| -> Option<Box<dyn Strategy>> {
+    let make = |ready: Ready| -> Option<Box<dyn Strategy>>
+        ensures { IfSome result (λ search.
+            (Strategy-box search).meaning search.value ≡ fresh_search ready.lease.tenant ready.plan) }
+    {
         match ready.kind() {
             Kind::Tree => {
                 let search: Box<dyn Strategy> = ready.tree(alloc)?;

@@ -4,6 +4,7 @@ ghost use Rattle.watched_io.specs.Failure.{IsNoted};
 ghost use Rattle.quanta_till.specs.Lease.{empty_lease};
 ghost use Rattle.farm_core.specs.declared.entry.Event.TheVariants as event;
 ghost use Rattle.farm_session.specs.Branch.{tills_of, HasLeased, HasLeasedFor, HasLeasedBy};
+ghost use Rattle.farm_session.specs.Ready.{MakesFresh};
 ghost use Rattle.farm_session.specs.Command.{event_in};
 ghost use Rattle.farm_service.specs.Asked.{IsSaidTo, IsSubmitted};
 ghost use Rattle.farm_service.specs.Known.{IsKnown};
@@ -83,6 +84,7 @@ fn submit<D: Shared, R: Wait, M: Fn(Ready) -> Option<D::Search>>(
     requires known { tenant < length (D.config office.now.shared.now).tenants }
     requires till { IsTillOf (D.config office.now.shared.now) tenant branch.old.till }
     requires make { M.IsAlwaysCallable office.now.make.now }
+    requires fresh { MakesFresh D.means (M.post office.now.make.now) }
     ensures own { D.owns office.now.shared.now token.new }
     ensures told { IsSubmitted (D.tells office.now.shared.now token.old tenant)
         token.old (event.Submit plan quanta) result token.new }
@@ -116,6 +118,7 @@ fn answer<D: Shared, R: Wait, M: Fn(Ready) -> Option<D::Search>>(
     requires known { tenant < length office.now.config.now.tenants }
     requires tills { AreTillsOf office.now.config.now (tills_of branches.old) }
     requires make { M.IsAlwaysCallable office.now.make.now }
+    requires fresh { MakesFresh D.means (M.post office.now.make.now) }
     ensures own { D.owns office.now.shared.now token.new }
     ensures said { IsSaidTo (D.tells office.now.shared.now token.old tenant)
         token.old (event_in asked) result token.new }
@@ -159,6 +162,7 @@ fn reply<D: Shared, R: Wait, W: Write, M: Fn(Ready) -> Option<D::Search>>(
     requires tills { AreTillsOf office.now.config.now (tills_of branches.old) }
     requires known { IsKnown office.now.config.now heard }
     requires make { M.IsAlwaysCallable office.now.make.now }
+    requires fresh { MakesFresh D.means (M.post office.now.make.now) }
     ensures own { D.owns office.now.shared.now token.new }
     ensures told { IsToldOf (D.tells office.now.shared.now) token.old heard result
         (W.contents writer.old)
@@ -192,6 +196,7 @@ fn serve_next<D: Shared, R: Wait, I: BufRead, O: Write, M: Fn(Ready) -> Option<D
     requires config { D.config office.now.shared.now ≡ office.now.config.now }
     requires tills { AreTillsOf office.now.config.now (tills_of branches.old) }
     requires make { M.IsAlwaysCallable office.now.make.now }
+    requires fresh { MakesFresh D.means (M.post office.now.make.now) }
     ensures own { D.owns office.now.shared.now token.new }
     ensures tills { AreTillsOf office.now.config.now (tills_of branches.new) }
     ensures answered { (heard : Heard) × HasAnswered office.now.config.now
@@ -224,6 +229,7 @@ pub(crate) fn session<D: Shared, R: Wait, I: BufRead, O: Write, M: Fn(Ready) -> 
     requires config { D.config office.now.shared.now ≡ office.now.config.now }
     requires tills { AreTillsOf office.now.config.now (tills_of branches.old) }
     requires make { M.IsAlwaysCallable office.now.make.now }
+    requires fresh { MakesFresh D.means (M.post office.now.make.now) }
     ensures own { D.owns office.now.shared.now token.new }
     ensures served { IsSession office.now.config.now
         (D.tells office.now.shared.now)

@@ -1,8 +1,10 @@
 //! A farm that answers requests over connections.
-ghost use Rattle.std.specs.Prelude.{◌≡◌, All, map, None, IfOk, OnOk};
+ghost use Rattle.std.specs.Prelude.{◌≡◌, All, map, None, IfOk, IfSome, OnOk};
+ghost use Rattle.job_table.specs.Job.{fresh_search};
 ghost use Rattle.farm_core.specs.Config.{ConfigData};
 ghost use Rattle.farm_core.specs.Tills.{AreSeated, AreTillsOf};
 ghost use Rattle.farm_session.specs.Branch.{tills_of};
+ghost use Rattle.farm_session.specs.Ready.{MakesFresh};
 ghost use Rattle.farm_pool.specs.Settle.{books_of, words_at, AreLoaded, first_unsettled};
 ghost use Rattle.farm_service.specs.Role.{IsAtTills};
 ghost use Rattle.farm_service.specs.Session.{HasPlayedRole, IsClientServed};
@@ -61,6 +63,7 @@ fn welcome<D: Shared, R: Wait, M: Fn(Ready) -> Option<D::Search>>(
     requires config { D.config office.now.shared.now ≡ office.now.config.now }
     requires tills { AreTillsOf office.now.config.now (tills_of own.old) }
     requires make { M.IsAlwaysCallable office.now.make.now }
+    requires fresh { MakesFresh D.means (M.post office.now.make.now) }
     ensures own { D.owns office.now.shared.now token.new }
     ensures served { IsClientServed office.now.config.now
         (D.tells office.now.shared.now)
@@ -92,6 +95,7 @@ fn play_role<'a, D: Shared, R: Wait + Clock, M: Fn(Ready) -> Option<D::Search>>(
     requires config { D.config office.now.shared.now ≡ office.now.config.now }
     requires tills { IsAtTills office.now.config.now role }
     requires make { M.IsAlwaysCallable office.now.make.now }
+    requires fresh { MakesFresh D.means (M.post office.now.make.now) }
     ensures own { D.owns office.now.shared.now result.0 }
     ensures role { HasPlayedRole office.now.config.now
         (D.tells office.now.shared.now)
@@ -156,6 +160,7 @@ fn attend<
     requires config { D.config shared.now ≡ config.now }
     requires tills { All (λ own. AreTillsOf config.now (tills_of own.items)) places.items }
     requires make { M.IsAlwaysCallable make.now }
+    requires fresh { MakesFresh D.means (M.post make.now) }
     ensures { D.owns shared.now token.new }
 {
     let lobby = Lobby::new(places.len() as u64);
@@ -170,7 +175,8 @@ fn attend<
             requires { D.owns shared.now mine
                 × (D.config shared.now ≡ config.now)
                 × All (λ own. AreTillsOf config.now (tills_of own.items)) places.items
-                × M.IsAlwaysCallable make.now }
+                × M.IsAlwaysCallable make.now
+                × MakesFresh D.means (M.post make.now) }
             ensures { D.owns shared.entry.now result.0 }
         {
             let (mut mine, mut places) = (mine, places);
@@ -192,7 +198,8 @@ fn attend<
                         requires { D.owns shared.now theirs
                             × (D.config shared.now ≡ config.now)
                             × IsAtTills config.now role
-                            × M.IsAlwaysCallable make.now }
+                            × M.IsAlwaysCallable make.now
+                            × MakesFresh D.means (M.post make.now) }
                         ensures { D.owns shared.entry.now result }
                     {
                         let office = Office {
@@ -244,7 +251,10 @@ pub fn serve<R: Threads + Wait + Clock + Sync>(
     let Ok(places) = places(alloc, tills, desks, sessions) else {
         return Err(ServeFault::NoMemory);
     };
-    let make = |ready: Ready| -> Option<Box<dyn Strategy>> {
+    let make = |ready: Ready| -> Option<Box<dyn Strategy>>
+        ensures { IfSome result (λ search.
+            (Strategy-box search).meaning search.value ≡ fresh_search ready.lease.tenant ready.plan) }
+    {
         match ready.kind() {
             Kind::Tree => {
                 let search: Box<dyn Strategy> = ready.tree(alloc)?;

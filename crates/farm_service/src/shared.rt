@@ -1,10 +1,11 @@
 //! What the threads of a service share: a pool, as they see it.
 //!
-//! A pool's calls are those of a farm of boxed searches. A contract cannot be stated of a closure
-//! that makes such boxes, so what runs in threads is generic in what makes searches and in what it
-//! shares, and only `serve` names the boxes.
+//! A pool's calls are those of a farm of boxed searches. What runs in threads is generic in what
+//! makes searches and in what it shares, and only `serve` names the boxes.
 ghost use Rattle.std.specs.Prelude.{◌≡◌, ℕ, ◌<◌, All, length};
 ghost use Rattle.std.specs.Vec.{vec_len, vec_capacity};
+ghost use Rattle.strategy.specs.Search.{Meaning};
+ghost use Rattle.job_table.specs.Job.{fresh_search};
 ghost use Rattle.farm_core.specs.Config.{ConfigData};
 ghost use Rattle.farm_core.specs.declared.entry.Event.{Event};
 ghost use Rattle.farm_core.specs.declared.entry.Event.TheVariants as event;
@@ -29,13 +30,16 @@ pub(crate) trait Shared {
 
     ghost config: { Self → ConfigData };
 
+    ghost means: { Self.Search → Meaning };
+
     ghost owns: { Self → Self.Token → Type 0 };
 
     ghost tells: { Self → Self.Token → ℕ → Event → Reply → Self.Token → Type 0 };
 
     ghost works: { Self → Self.Token → Self.Token → Type 0 };
 
-    /// Submits a tenant's job, with its search: the reply is to that call of the tenant.
+    /// Submits a tenant's job, with its search, which has run nothing and holds nothing: the reply is
+    /// to that call of the tenant.
     fn submit<R: Wait>(
         &self,
         rt: &R,
@@ -47,6 +51,7 @@ pub(crate) trait Shared {
     ) -> Reply
         requires own { owns self.now token.old }
         requires known { tenant < length (config self.now).tenants }
+        requires fresh { means search ≡ fresh_search tenant plan }
         ensures own { owns self.now token.new }
         ensures told { tells self.now token.old tenant (event.Submit plan quanta) result token.new };
 
@@ -97,6 +102,8 @@ impl Shared for Pool {
     ghost use Rattle.std.specs.Prelude.{ℕ};
 
     ghost config = { λ pool. pool.lock.opening };
+
+    ghost means = { λ b. (Strategy-box b).meaning b.value };
 
     ghost owns = { λ pool pass. IsPassOf pool.lock pass };
 

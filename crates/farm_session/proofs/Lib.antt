@@ -1,2 +1,3 @@
+pub mod FreshLemmas
 pub mod SeatLemmas
 pub mod TillLemmas

@@ -2,6 +2,7 @@
 ghost use Rattle.std.specs.Prelude.{◌≡◌, IfSome};
 ghost use Rattle.strategy.specs.declared.kind.Kind.TheVariants as kind;
 ghost use Rattle.quanta_till.specs.Lease.{IsEmpty, empty_lease};
+ghost use Rattle.job_table.specs.Job.{fresh_search};
 ghost use Rattle.farm_session.specs.Branch.{HasLeased};
 ghost use Rattle.tree_search.specs.Search as tree_search;
 ghost use Rattle.rule_search.specs.Rule.{IsRule};
@@ -64,7 +65,8 @@ impl Ready {
     /// The search of the precedence tree.
     pub fn tree(self, alloc: Global) -> Option<Box<TreeSearch>>
         requires { self.plan.kind ≡ kind.Tree }
-        ensures { IfSome result (λ search. search.value ≡ tree_search.fresh self.plan self.lease) }
+        ensures made { IfSome result (λ search. search.value ≡ tree_search.fresh self.plan self.lease) }
+        ensures fresh { IfSome result (λ search. search.value.0 ≡ fresh_search self.lease.tenant self.plan) }
     {
         let Ready { plan, lease } = self;
         let search = TreeSearch::new(alloc, plan, lease).ok()?;
@@ -74,7 +76,8 @@ impl Ready {
     /// The search of passes drawn from a seed.
     pub fn sample(self, alloc: Global) -> Option<Box<SampleSearch>>
         requires { IsSample self.plan.kind }
-        ensures { IfSome result (λ search. search.value ≡ sample_search.fresh self.plan self.lease) }
+        ensures made { IfSome result (λ search. search.value ≡ sample_search.fresh self.plan self.lease) }
+        ensures fresh { IfSome result (λ search. search.value.0 ≡ fresh_search self.lease.tenant self.plan) }
     {
         let Ready { plan, lease } = self;
         let search = SampleSearch::new(alloc, plan, lease).ok()?;
@@ -84,7 +87,8 @@ impl Ready {
     /// The search of one pass by a rule.
     pub fn rule(self, alloc: Global) -> Option<Box<RuleSearch>>
         requires { IsRule self.plan.kind }
-        ensures { IfSome result (λ search. search.value ≡ rule_search.fresh self.plan self.lease) }
+        ensures made { IfSome result (λ search. search.value ≡ rule_search.fresh self.plan self.lease) }
+        ensures fresh { IfSome result (λ search. search.value.0 ≡ fresh_search self.lease.tenant self.plan) }
     {
         let Ready { plan, lease } = self;
         let search = RuleSearch::new(alloc, plan, lease).ok()?;

@@ -4,7 +4,7 @@ ghost use Rattle.farm_core.specs.Turn.{IsTurn};
 
 use crate::fixtures::{Planned, Text};
 use farm_core::{Farm, Line, NoTurn, Reply, Stranger, Turn};
-use job_table::Phase;
+use job_table::{Phase, is_fresh};
 use mrcpsp::Schedule;
 use strategy::{Kind, Plan, Strategy, Verdict};
 use tenant_book::Book;
@@ -196,7 +196,7 @@ pub(crate) fn submit<J: Strategy>(
     let Some(Planned { plan, search }) = ready else {
         return CallAnswer::Unmade;
     };
-    if farm.tenants() <= tenant {
+    if farm.tenants() <= tenant || !is_fresh(&search, tenant, &plan) {
         return CallAnswer::Unmade;
     }
     answer_of(farm.submit(tenant, plan, quanta, search))

@@ -2,7 +2,7 @@
 use crate::fixtures::{Planned, Purses, Text, Wanted, planned_for};
 use crate::plain_table::{PlainTable, Row};
 use job_table::Phase::{Cancelled, Closed, Dry, Leaving, Out, Waiting};
-use job_table::{Job, JobTable, Phase};
+use job_table::{Job, JobTable, Phase, is_fresh};
 use std::alloc::Global;
 use std::process::Abort;
 use strategy::{Kind, Strategy};
@@ -91,12 +91,12 @@ fn insert<J: Strategy>(
     planned: Planned<J>,
 ) -> bool {
     let Planned { plan, search } = planned;
-    if table.find(tenant, seq).is_some() {
+    if table.find(tenant, seq).is_some() || !is_fresh(&search, tenant, &plan) {
         return false;
     }
     match Job::new(alloc, tenant, seq, plan, 1, search) {
-        Some(job) => table.insert(tenant, job).is_ok(),
-        None => false,
+        Ok(job) => table.insert(tenant, job).is_ok(),
+        Err(_) => false,
     }
 }
 

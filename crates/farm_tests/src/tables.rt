@@ -5,7 +5,7 @@ use crate::fixtures::{Planned, Purse, Text, Wanted, planned_for};
 use crate::table_cancels::{CASES, Case, cancel_in};
 use crate::table_moves::{fund, send, take_back};
 use crate::table_turns::{FRESH, Line, is_told, run, turn};
-use job_table::{Job, JobTable, Phase};
+use job_table::{Job, JobTable, Phase, is_fresh};
 use std::alloc::Global;
 use std::process::Abort;
 use strategy::{Kind, Strategy, Verdict};
@@ -19,12 +19,12 @@ fn insert<J: Strategy>(
     planned: Planned<J>,
 ) -> bool {
     let Planned { plan, search } = planned;
-    if table.find(tenant, 1).is_some() {
+    if table.find(tenant, 1).is_some() || !is_fresh(&search, tenant, &plan) {
         return false;
     }
     match Job::new(alloc, tenant, 1, plan, u64::from(quanta), search) {
-        Some(job) => table.insert(tenant, job).is_ok(),
-        None => false,
+        Ok(job) => table.insert(tenant, job).is_ok(),
+        Err(_) => false,
     }
 }
 

@@ -46,6 +46,10 @@ is_turn slice Dry = false
 is_turn slice Closed = false
 is_turn slice Cancelled = false
 
+-- a tenant's search for a plan that has run nothing and holds nothing
+abbrev pub fresh_search : ℕ → Plan → Meaning
+fresh_search tenant plan = record { tenant = tenant; plan = plan; nodes = 0; left = 0; taken = false }
+
 -- what the search of a tenant's job is
 abbrev pub meaning_of : ℕ → JobData → Meaning
 meaning_of tenant job = record { tenant = tenant; plan = job.plan; nodes = job.nodes; left = job.left; taken = false }

@@ -1,5 +1,5 @@
 //! Jobs: what is known of a search, and the search unless it is out or over.
-ghost use Rattle.std.specs.Prelude.{◌≡◌, ◌+◌, ◌-◌, ◌≤◌, ◌↔◌, IsTrue, IsFalse, Some, None, IfSome, OnSome, IfNone, is_some, false, true, option_map, if◌then◌else◌};
+ghost use Rattle.std.specs.Prelude.{◌≡◌, ◌+◌, ◌-◌, ◌≤◌, ◌↔◌, IsTrue, IsFalse, Some, None, IfSome, OnSome, IfNone, IfOk, is_some, false, true, option_map, if◌then◌else◌};
 ghost use Rattle.std.specs.Option.{option_copied};
 ghost use Rattle.mrcpsp.specs.Project.{size, is_project};
 ghost use Rattle.mrcpsp.specs.Schedule.{makespan};
@@ -7,14 +7,14 @@ ghost use Rattle.strategy.specs.Outcome.{best_after, is_closed, verdict_after};
 ghost use Rattle.quanta_till.specs.Lease.{after_draw};
 ghost use Rattle.strategy.specs.Search.{Meaning, funded};
 ghost use Rattle.job_table.specs.Table.{JobData};
-ghost use Rattle.job_table.specs.Job.{is_turn, is_here, phase_after, IsOwn};
+ghost use Rattle.job_table.specs.Job.{fresh_search, is_turn, is_here, phase_after, IsOwn};
 ghost use Rattle.job_table.specs.Lent.{search_of, returned, with_work, in_phase};
 
 use crate::Phase;
 use crate::best::Best;
 use mrcpsp::{Schedule, makespan};
 use quanta_till::LEASE_LIMIT;
-use std::alloc::Global;
+use std::alloc::{AllocError, Global};
 use std::marker::Model;
 use strategy::{Plan, Strategy, Verdict, same_plan};
 
@@ -73,6 +73,15 @@ fn agrees<S: Strategy>(search: &S, tenant: u32, plan: &Plan, nodes: u64, left: u
         && same_plan(search.plan(), plan)
 }
 
+/// Whether a search has run nothing, holds nothing, and is of that tenant and plan: such a one may be submitted.
+pub fn is_fresh<S: Strategy>(search: &S, tenant: u32, plan: &Plan) -> bool
+    ensures { IsTrue result ↔ (S.meaning search.now ≡ fresh_search tenant plan.now) }
+{
+    // (each of a project's readers tells that it is one)
+    plan.project.activities();
+    agrees(search, tenant, plan, 0, 0)
+}
+
 /// Draws so many quanta for a search that is at this point. False where it is at another; then nothing is drawn.
 fn fund_own<S: Strategy>(
     search: &mut S,
@@ -108,21 +117,22 @@ fn is_turn(slice: u64, phase: Phase) -> bool
 }
 
 impl<J: Strategy> Work<J> {
-    #[tactic(auto, using(crate::proofs::JobLemmas::sound_fresh))]
-    fn new(alloc: Global, tenant: u32, plan: Plan, quanta: u64, mut search: J) -> Option<Work<J>>
-        requires { quanta ≤ LEASE_LIMIT }
-        ensures made { IfSome result
+    #[tactic(auto, using(crate::proofs::JobLemmas::fresh_goes, crate::proofs::JobLemmas::sound_fresh))]
+    fn new(
+        alloc: Global,
+        tenant: u32,
+        plan: Plan,
+        quanta: u64,
+        mut search: J,
+    ) -> Result<Work<J>, AllocError>
+        requires limited { quanta ≤ LEASE_LIMIT }
+        requires fresh { J.meaning search ≡ fresh_search tenant plan }
+        ensures { IfOk result
             (λ work. work ≡ record { plan = plan; nodes = 0; left = quanta; here = true }) }
-        ensures own { OnSome result
-            (J.meaning search ≡ record { tenant = tenant; plan = plan; nodes = 0; left = 0; taken = false }) }
     {
-        let Ok(best) = Best::new(alloc, plan.project.activities().len()) else {
-            return None;
-        };
-        if !fund_own(&mut search, tenant, &plan, 0, 0, quanta) {
-            return None;
-        }
-        Some(Work {
+        let best = Best::new(alloc, plan.project.activities().len())?;
+        search.fund(quanta);
+        Ok(Work {
             plan,
             nodes: 0,
             left: quanta,
@@ -319,8 +329,7 @@ impl<J> Job<J> {
 }
 
 impl<J: Strategy> Job<J> {
-    /// A job that waits, with `quanta` in a search that has run nothing. `None` if there is no memory for it, or if the
-    /// search is not fresh, or is of another tenant or plan.
+    /// A job that waits, with `quanta` in its search, which has run nothing. An error is want of memory.
     pub fn new(
         alloc: Global,
         tenant: u32,
@@ -328,21 +337,17 @@ impl<J: Strategy> Job<J> {
         plan: Plan,
         quanta: u64,
         search: J,
-    ) -> Option<Job<J>>
-        requires { quanta ≤ LEASE_LIMIT }
-        ensures made { IfSome result
+    ) -> Result<Job<J>, AllocError>
+        requires limited { quanta ≤ LEASE_LIMIT }
+        requires fresh { J.meaning search ≡ fresh_search tenant plan }
+        ensures { IfOk result
             (λ job. job ≡ record { seq = seq; plan = plan; phase = Phase.Waiting; nodes = 0; left = quanta }) }
-        ensures own { OnSome result
-            (J.meaning search ≡ record { tenant = tenant; plan = plan; nodes = 0; left = 0; taken = false }) }
     {
-        match Work::new(alloc, tenant, plan, quanta, search) {
-            Some(work) => Some(Job {
-                seq,
-                phase: Phase::Waiting,
-                work,
-            }),
-            None => None,
-        }
+        Ok(Job {
+            seq,
+            phase: Phase::Waiting,
+            work: Work::new(alloc, tenant, plan, quanta, search)?,
+        })
     }
 
     /// Whether the search is this job's, after so many nodes of a turn for at most `slice`.

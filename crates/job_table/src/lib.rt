@@ -21,6 +21,6 @@ mod phase;
 mod queue;
 mod table;
 
-pub use job::{Job, Work};
+pub use job::{Job, Work, is_fresh};
 pub use phase::Phase;
 pub use table::JobTable;

@@ -1,10 +1,12 @@
 //! What is asked of a pool, and the text of what it answers.
-ghost use Rattle.std.specs.Prelude.{◌≡◌, ◌<◌, length};
+ghost use Rattle.std.specs.Prelude.{◌≡◌, ℕ, ◌<◌, length};
+ghost use Rattle.farm_core.specs.Command.{IsFresh};
 ghost use Rattle.turn_lock.specs.Values.{IsPassOf};
 
 use crate::fixtures::{A, Planned};
 use crate::gates::Open;
 use farm_core::{Name, Reply};
+use job_table::is_fresh;
 use farm_pool::{Command, Pool, PoolPass};
 use session_lines::{Said, write_reply};
 use std::alloc::Global;
@@ -56,7 +58,9 @@ pub(crate) fn is_line(rt: &impl Abort, alloc: Global, reply: Reply, line: &str) 
 }
 
 /// A command that needs no search: the ledger, where it is none of the others.
-pub(crate) fn command_of(ask: Ask) -> Command<Box<dyn Strategy>> {
+pub(crate) fn command_of(ask: Ask) -> Command<Box<dyn Strategy>>
+    ensures { (tenant : ℕ) → IsFresh (λ b. (Strategy-box b).meaning b.value) tenant result }
+{
     match ask {
         Ask::Fund(seq, quanta) => Command::Fund { seq, quanta },
         Ask::Status(seq) => Command::Status(seq),
@@ -85,8 +89,11 @@ fn submit_of<R: Abort>(
     rt: &R,
     ready: &mut Vec<Planned>,
     quanta: u64,
-) -> Command<Box<dyn Strategy>> {
+) -> Command<Box<dyn Strategy>>
+    ensures { IsFresh (λ b. (Strategy-box b).meaning b.value) 0 result }
+{
     let Planned { plan, search } = ready.pop().expect(rt, "a search");
+    assert!(rt; is_fresh(&search, A, &plan), "a search that has run");
     Command::Submit {
         plan,
         quanta,

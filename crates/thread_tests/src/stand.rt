@@ -1,11 +1,13 @@
 //! A pool of two tenants with a pass, and the tills of their purses.
 ghost use Rattle.std.specs.Prelude.{◌≡◌, ◌<◌, length};
+ghost use Rattle.farm_core.specs.Command.{IsFresh};
 ghost use Rattle.quanta_till.specs.Lease.{IsEmpty};
 ghost use Rattle.turn_lock.specs.Values.{IsPassOf};
 
 use crate::crew::{work_both, work_in_fours, work_while_cancelled};
 use crate::fixtures::{A, B, Planned, Purse, config_of, pool_of, settle, settle_shared};
 use farm_core::{Config, Reply};
+use job_table::is_fresh;
 use farm_pool::{Command, Gate, Pool, PoolPass, Settled, Unsettled, WorkEnd};
 use quanta_till::Lease;
 use std::alloc::Global;
@@ -68,7 +70,8 @@ impl Stand {
         tenant: u32,
         command: Command<Box<dyn Strategy>>,
     ) -> Reply
-        requires { tenant < 2 }
+        requires known { tenant < 2 }
+        requires fresh { IsFresh (λ b. (Strategy-box b).meaning b.value) tenant command }
         ensures { self.new.pool ≡ self.old.pool }
     {
         self.pool.call(rt, &mut self.pass, tenant, command)
@@ -88,7 +91,7 @@ impl Stand {
     }
 
     /// Submits a search for one of the tenants.
-    pub(crate) fn submit<R: Wait>(
+    pub(crate) fn submit<R: Wait + Abort>(
         &mut self,
         rt: &R,
         tenant: u32,
@@ -99,6 +102,7 @@ impl Stand {
         ensures { self.new.pool ≡ self.old.pool }
     {
         let Planned { plan, search } = planned;
+        assert!(rt; is_fresh(&search, tenant, &plan), "a search that has run");
         let command = Command::Submit {
             plan,
             quanta,

@@ -53,7 +53,7 @@ wrote g c =
     let farm : IsFarm w (vec_capacity c.self.inside.journal) = subst (λ (x : World). IsFarm x (vec_capacity c.self.inside.journal)) c.self.view_is c.self.invariant.0 in
     let v : World = record { config = c.self.inside.config; rows = c.insert.new.self.rows; waiting = c.insert.new.self.waiting; journal = c.write_down.new.journal.items; books = c.write_down.new.ledgers.books.items; numbers = c.write_down.new.ledgers.numbers.items } in
     let is : v ≡ moved w t (add_job t new (table_of w)) then (one_entry t (Submit c.args.plan c.args.quanta)) = moved_is w c.self.inside.config c.self.inside.jobs (c.insert.new.self) c.self.inside.journal.items c.write_down.new.journal.items c.self.inside.ledgers.books.items c.write_down.new.ledgers.books.items c.self.inside.ledgers.numbers.items c.write_down.new.ledgers.numbers.items t c.purse_of-purse.result (add_job t new (table_of w)) then (Submit c.args.plan c.args.quanta)
-    c.self.view_is c.purse_of-purse.ensures.exact (c.in-Ok-insert.ensures.added ∙ ap (λ (x : World). add_job t c.in-Some.job (table_of x)) c.self.view_is ∙ ap (λ (j : JobData). add_job t j (table_of w)) c.in-Some.ensures.made) books_are c.write_down.ensures.numbers event_is in
+    c.self.view_is c.purse_of-purse.ensures.exact (c.in-Ok-insert.ensures.added ∙ ap (λ (x : World). add_job t c.in-Ok-new.job (table_of x)) c.self.view_is ∙ ap (λ (j : JobData). add_job t j (table_of w)) c.in-Ok-new.ensures) books_are c.write_down.ensures.numbers event_is in
     let room : length w.journal + 1 + owed (add_row (record { tenant = t; job = new }) w.rows) ≤ vec_capacity c.write_down.new.journal = omega (arith, owed_add (record { tenant = t; job = new }) w.rows, owed-most w.rows, c.in-Ok.ensures.room, c.write_down.ensures.capacity, c.len.ensures, ap (λ (x : World). length x.journal) c.self.view_is, ap (λ (x : World). length x.rows) c.self.view_is) in
     written_more w v t (add_job t new (table_of w)) then (Submit c.args.plan c.args.quanta) (Replied (reply.Job c.account-account.result.next)) (vec_capacity c.self.inside.journal) (vec_capacity c.write_down.new.journal) c.self.inside.passed farm (moves g c) is room
     (more_come t account.next true w.waiting (add_job t new (table_of w)).waiting refl) (subst (λ (x : World). ArePassed x c.self.inside.passed) c.self.view_is c.self.invariant.2)
@@ -66,7 +66,7 @@ returns-clause-follows g c = (wrote g c).1
 
 pub insert-requires : goal.insert-requires
 insert-requires g c =
-    let named : c.in-Some.job.seq ≡ c.account-account.result.next = ap (λ (j : JobData). j.seq) c.in-Some.ensures.made in
+    let named : c.in-Ok-new.job.seq ≡ c.account-account.result.next = ap (λ (j : JobData). j.seq) c.in-Ok-new.ensures in
     ap (λ n. find_row c.args.tenant n c.self.inside.jobs.rows) named ∙ ap (λ (x : World). find_row c.args.tenant c.account-account.result.next x.rows) c.self.view_is
     ∙ next_free c.args.self.now c.args.tenant (vec_capacity c.self.inside.journal) c.account-account.result (subst (λ (x : World). IsFarm x (vec_capacity c.self.inside.journal)) c.self.view_is c.self.invariant.0) c.requires.known c.account-account.ensures.exact
 
@@ -74,7 +74,7 @@ pub returns-clause-turns : goal.returns-clause-turns
 returns-clause-turns g c seq told =
     let named : c.account-account.result.next ≡ seq = cc in
     ap (λ (d : TableData). d.waiting) c.in-Ok-insert.ensures.added
-    ∙ ap (λ (j : JobData). waiting_then c.args.tenant j.seq false (is_waiting j.phase) c.self.inside.jobs.waiting) c.in-Some.ensures.made
+    ∙ ap (λ (j : JobData). waiting_then c.args.tenant j.seq false (is_waiting j.phase) c.self.inside.jobs.waiting) c.in-Ok-new.ensures
     ∙ ap (λ (x : World). x.waiting ++ (c.args.tenant, c.account-account.result.next) ∷ []) c.self.view_is
     ∙ ap (λ n. c.args.self.now.waiting ++ (c.args.tenant, n) ∷ []) named
 
