@@ -4,7 +4,11 @@ use Rattle.farm_pool.specs.declared.image.AnswerImage.TheVariants as told
 use Rattle.farm_pool.specs.declared.image.CallImage.TheVariants as said
 use Rattle.farm_pool.specs.Served.{Served}
 use Rattle.farm_service.proofs.AskedLemmas.{asked_some, asked_nothing}
+use Rattle.farm_session.proofs.FreshLemmas.{command_fresh}
 use Rattle.farm_service.proofs.shared.PoolShared.ask.Goals as goal
+
+pub call-requires-clause-fresh : goal.call-requires-clause-fresh
+call-requires-clause-fresh g c = command_fresh _ c.args.tenant c.args.asked.now c.in-Some.command c.in-Some.ensures
 
 pub returns-in-Some-clause-told : goal.returns-in-Some-clause-told
 returns-in-Some-clause-told g c =
