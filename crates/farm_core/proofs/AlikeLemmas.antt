@@ -11,7 +11,7 @@ use Rattle.mrcpsp.specs.Numbers.{first_from}
 use Rattle.strategy.specs.Outcome.{is_closed}
 use Rattle.strategy.specs.declared.plan.Plan.{Plan}
 use Rattle.job_table.specs.Table.{JobData, is_waiting, is_out, is_ended}
-use Rattle.job_table.specs.Job.{is_here, phase_after, back}
+use Rattle.job_table.specs.Job.{gone_out, is_here, phase_after, back}
 use Rattle.job_table.specs.declared.phase.Phase.{Phase}
 use Rattle.job_table.specs.declared.phase.Phase.TheVariants.{Waiting, Out, Leaving, Dry, Closed, Cancelled}
 use Rattle.farm_core.specs.declared.config.TenantLine.{TenantLine}
@@ -24,6 +24,7 @@ use Rattle.farm_core.specs.Tenant.{Tenant, Member, Purse, new_member, newcomers,
 use Rattle.farm_core.specs.Step.{Answer, Replied, Sent, NoTurn, Step, Changes, done, step, fresh_job, may_have_run}
 use Rattle.farm_core.specs.World.{World, Call, Steps, Leads, Run, opened, opened_purse, member, purse, view, purse_in, place_in}
 use Rattle.farm_core.specs.Need.{nodes_for, accepted, asked_by, are_gifts, AreAtRest, members_in, AllMembers, HasRested, AreAlike, EachEndsAlike}
+use Rattle.farm_core.proofs.HomeLemmas.{going_here}
 use Rattle.farm_core.proofs.DecisionLemmas.{Cases, each_decision, unasked}
 use Rattle.farm_core.proofs.PlaceLemmas.{same_below}
 use Rattle.farm_core.proofs.SeatLemmas.{named, place_known, held_whole, own_seen, each_view_is_a_seat, same_book, purse_after, purse_stays}
@@ -64,6 +65,7 @@ record Stands (g : Gift) (job : JobData) : Type 0 where
   seq : g.seq ≡ job.seq
   plan : g.plan ≡ job.plan
   has : StandsIn job.phase job.plan job.nodes job.left g.given
+  home : job.here ≡ is_here job.phase
 
 abbrev AreGiven : List Gift → List JobData → Type 0
 AreGiven [] [] = ⊤
@@ -198,22 +200,22 @@ goes_on x k t it = record {
   adds = λ plan quanta room some _.
       let job : JobData = fresh_job t plan quanta in
       let gift : Gift = record { seq = x.next; plan = plan; given = quanta } in
-      let stands : Stands gift job = record { seq = sym it.next; plan = refl; has = (omega arith, none_before plan) } in
+      let stands : Stands gift job = record { seq = sym it.next; plan = refl; has = (omega arith, none_before plan); home = refl } in
       record { next = omega (arith, it.next); jobs = given_push gift job x.all t.jobs stands it.jobs; spent = omega (arith, it.spent, nodes_push job t.jobs) };
   funds = λ s quanta job room found can _.
       let new : JobData = record job { phase = Waiting; left = job.left + quanta } in
       let more : (h : Gift) → Stands h job → Stands (record h { given = h.given + quanta }) new =
-      λ h one. let had = stands_there job.phase job.plan job.nodes job.left h.given can.here can.going one.has in record { seq = one.seq; plan = one.plan; has = (omega (arith, had.0), had.1) } in
+      λ h one. let had = stands_there job.phase job.plan job.nodes job.left h.given can.here can.going one.has in record { seq = one.seq; plan = one.plan; has = (omega (arith, had.0), had.1); home = one.home ∙ going_here job.phase can.here can.going } in
       changed_on x (record x { all = add_gift s quanta x.all }) k t s 0 job new (Replied (reply.Line (line_of new))) found refl (omega arith) refl (given_more s quanta job new x.all t.jobs found more it.jobs) it;
   cancels = λ s job new room found gone no. absurd (cc);
   drops = λ s job room found ended no. absurd (cc);
   takes = λ s slice job room found waits _.
-      let new : JobData = record job { phase = Out slice } in
-      let same : (h : Gift) → Stands h job → Stands h new = λ h one. record { seq = one.seq; plan = one.plan; has = waiting_stands job.phase job.plan job.nodes job.left h.given waits one.has } in
+      let new : JobData = gone_out slice job in
+      let same : (h : Gift) → Stands h job → Stands h new = λ h one. record { seq = one.seq; plan = one.plan; has = waiting_stands job.phase job.plan job.nodes job.left h.given waits one.has; home = refl } in
       changed_on x x k t s 0 job new (Sent (line_of new)) found refl (omega arith) refl (given_put s job new x.all t.jobs found same it.jobs) it;
   gives = λ s ran job found may _.
       let new : JobData = back ran job in
-      let same : (h : Gift) → Stands h job → Stands h new = λ h one. record { seq = one.seq; plan = one.plan; has = back_stands job.phase job ran h.given may one.has } in
+      let same : (h : Gift) → Stands h job → Stands h new = λ h one. record { seq = one.seq; plan = one.plan; has = back_stands job.phase job ran h.given may one.has; home = refl } in
       changed_on x x k t s ran job new (Replied (reply.Ran ran (line_of new))) found refl refl refl (given_put s job new x.all t.jobs found same it.jobs) it;
 }
 
@@ -380,7 +382,8 @@ run_stood config calls w p run rested =
 abbrev rest_of : Gift → JobData
 rest_of g =
     let nodes = nodes_for g.plan g.given in
-    record { seq = g.seq; plan = g.plan; phase = cond (is_closed g.plan nodes) Closed Dry; nodes = nodes; left = 0 }
+    let phase = cond (is_closed g.plan nodes) Closed Dry in
+    record { seq = g.seq; plan = g.plan; phase = phase; nodes = nodes; left = 0; here = is_here phase }
 
 rest_is : (plan : Plan) (nodes left given : ℕ) (phase : Phase) → StandsIn phase plan nodes left given → (phase ≡ Dry) ⊎ (phase ≡ Closed)
     → (phase ≡ cond (is_closed plan (nodes_for plan given)) Closed Dry) × (nodes ≡ nodes_for plan given) × (left ≡ 0)
@@ -398,8 +401,9 @@ rest_is plan nodes left given Closed h rest =
     let over : is_closed plan (first_from (is_closed plan) given 0) ≡ true = ap (is_closed plan) (sym all) ∙ h.3 in
     (rw over refl, all, h.2)
 
-same_job_of : (job : JobData) (s n l : ℕ) (p : Plan) (phase : Phase) → job.seq ≡ s → job.plan ≡ p → job.phase ≡ phase → job.nodes ≡ n → job.left ≡ l → job ≡ record { seq = s; plan = p; phase = phase; nodes = n; left = l }
-same_job_of job s n l p phase a b c d e = rw (← a, ← b, ← c, ← d, ← e) refl
+same_job_of : (job : JobData) (s n l : ℕ) (p : Plan) (phase : Phase) → job.seq ≡ s → job.plan ≡ p → job.phase ≡ phase → job.nodes ≡ n → job.left ≡ l → job.here ≡ is_here job.phase
+    → job ≡ record { seq = s; plan = p; phase = phase; nodes = n; left = l; here = is_here phase }
+same_job_of job s n l p phase a b c d e f = rw (← a, ← b, ← c, ← d, ← e, ← f) refl
 
 job_rests : (g : Gift) (job : JobData) → Stands g job → (job.phase ≡ Dry) ⊎ (job.phase ≡ Closed) → job ≡ rest_of g
 job_rests g job it rest =
@@ -407,7 +411,7 @@ job_rests g job it rest =
     let plan = sym it.plan in
     let nodes : job.nodes ≡ nodes_for g.plan g.given = told.1 ∙ ap (λ (p : Plan). nodes_for p g.given) plan in
     let phase : job.phase ≡ cond (is_closed g.plan (nodes_for g.plan g.given)) Closed Dry = told.0 ∙ ap (λ (p : Plan). cond (is_closed p (nodes_for p g.given)) Closed Dry) plan in
-    same_job_of job g.seq (nodes_for g.plan g.given) 0 g.plan (cond (is_closed g.plan (nodes_for g.plan g.given)) Closed Dry) (sym it.seq) plan phase nodes told.2
+    same_job_of job g.seq (nodes_for g.plan g.given) 0 g.plan (cond (is_closed g.plan (nodes_for g.plan g.given)) Closed Dry) (sym it.seq) plan phase nodes told.2 it.home
 
 jobs_rest : (gs : List Gift) (jobs : List JobData) → AreGiven gs jobs → AreAtRest jobs → jobs ≡ map rest_of gs
 jobs_rest [] [] all rest = refl

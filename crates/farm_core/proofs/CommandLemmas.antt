@@ -54,10 +54,10 @@ forget_moves w t s capacity account line farm l is room line_is ended =
     dropped_moves w t s capacity account it.job (Forget s) farm l is (own_row w t s it.job it.found) none (forget_steps (view t w) s it.job room it.found ended_is) tt
 
 gone_owed : (job new : JobData) (phase : Phase) → given_up job phase ≡ Some new → owed_in new.phase + 1 ≤ owed_in phase
-gone_owed job new Waiting gone = let same : record job { phase = Cancelled; left = 0 } ≡ new = cc in omega (arith, ap (λ (j : JobData). owed_in j.phase) same)
+gone_owed job new Waiting gone = let same : record job { phase = Cancelled; left = 0; here = false } ≡ new = cc in omega (arith, ap (λ (j : JobData). owed_in j.phase) same)
 gone_owed job new (Out slice) gone = let same : record job { phase = Leaving slice } ≡ new = cc in omega (arith, ap (λ (j : JobData). owed_in j.phase) same)
 gone_owed job new (Leaving slice) gone = absurd (cc)
-gone_owed job new Dry gone = let same : record job { phase = Cancelled; left = 0 } ≡ new = cc in omega (arith, ap (λ (j : JobData). owed_in j.phase) same)
+gone_owed job new Dry gone = let same : record job { phase = Cancelled; left = 0; here = false } ≡ new = cc in omega (arith, ap (λ (j : JobData). owed_in j.phase) same)
 gone_owed job new Closed gone = absurd (cc)
 gone_owed job new Cancelled gone = absurd (cc)
 
@@ -180,13 +180,13 @@ fund_line w t s quanta capacity account line farm l is line_is some limited =
 -- a job more
 pub submit_moves : (w : World) (t capacity quanta : ℕ) (account : Account) (plan : Plan) → IsFarm w capacity → t < length w.config.tenants → account ≡ account_of w t
     → has_room 1 (view t w) ≡ true → is_amount quanta ≡ true → nat_lt (length (view t w).jobs) (view t w).terms.jobs ≡ true → quanta ≤ account.book.free → IsTrue (is_project plan.project)
-    → let new : JobData = record { seq = account.next; plan = plan; phase = Waiting; nodes = 0; left = quanta } in
+    → let new : JobData = record { seq = account.next; plan = plan; phase = Waiting; nodes = 0; left = quanta; here = true } in
     IsMove w t (add_job t new (table_of w)) (record account { book = after_hold quanta account.book; next = account.next + 1; used = account.used + 1 }) (Submit plan quanta) (Replied (reply.Job account.next))
 submit_moves w t capacity quanta account plan farm l is room amount more some planned =
     let a = account_in w t capacity account farm l is in
     let free_is = free_in w t capacity account farm l is in
     let steps = submit_steps (view t w) plan quanta room amount more (omega (arith, some, free_is)) in
-    let new : JobData = record { seq = account.next; plan = plan; phase = Waiting; nodes = 0; left = quanta } in
+    let new : JobData = record { seq = account.next; plan = plan; phase = Waiting; nodes = 0; left = quanta; here = true } in
     added_moves w t capacity account new (after_hold quanta account.book) (Submit plan quanta) farm l is refl
     (rw a.next steps) refl refl refl (omega (arith, whole_in w t capacity account farm l is, some)) planned
 

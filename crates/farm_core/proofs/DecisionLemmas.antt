@@ -6,8 +6,8 @@ use Rattle.mrcpsp.specs.Schedule.{makespan}
 use Rattle.strategy.specs.Outcome.{best_after, verdict_after}
 use Rattle.strategy.specs.declared.plan.Plan.{Plan}
 use Rattle.job_table.specs.Table.{JobData, is_waiting, is_out, is_ended}
-use Rattle.job_table.specs.Job.{given_up, back}
-use Rattle.job_table.specs.declared.phase.Phase.TheVariants.{Waiting, Out}
+use Rattle.job_table.specs.Job.{gone_out, given_up, back}
+use Rattle.job_table.specs.declared.phase.Phase.TheVariants.{Waiting}
 use Rattle.farm_core.specs.declared.entry.Event.{Event}
 use Rattle.farm_core.specs.declared.entry.Event.TheVariants.{Submit, Fund, Status, Fetch, Cancel, Forget, Ledger, Take, Give}
 use Rattle.farm_core.specs.declared.reply.Reply.{Reply}
@@ -58,7 +58,7 @@ pub record Cases (t : Tenant) (P : Event → Effect → Type 0) : Type 0 where
       → P (Cancel s) (Changes new 0 (Replied (reply.Line (line_of new))))
   pub drops : (s : ℕ) (job : JobData) → has_room 1 t ≡ true → find_job s t.jobs ≡ Some job → is_ended job.phase ≡ true → P (Forget s) (Drops job.seq)
   pub takes : (s slice : ℕ) (job : JobData) → has_room 2 t ≡ true → find_job s t.jobs ≡ Some job → is_waiting job.phase ≡ true →
-      let new : JobData = record job { phase = Out slice } in P (Take s slice) (Changes new 0 (Sent (line_of new)))
+      let new : JobData = gone_out slice job in P (Take s slice) (Changes new 0 (Sent (line_of new)))
   pub gives : (s ran : ℕ) (job : JobData) → find_job s t.jobs ≡ Some job → may_have_run ran job job.phase ≡ true
       → P (Give s ran) (Changes (back ran job) ran (Replied (reply.Ran ran (line_of (back ran job)))))
 

@@ -16,6 +16,7 @@ use Rattle.strategy.specs.declared.plan.Plan.{Plan}
 use Rattle.strategy.specs.declared.verdict.Verdict.{Verdict}
 use Rattle.strategy.specs.declared.verdict.Verdict.TheVariants.{Going, Optimal}
 use Rattle.job_table.specs.Table.{Row, is_key, find_row, does_wait}
+use Rattle.job_table.specs.Job.{is_here}
 use Rattle.job_table.specs.declared.phase.Phase.{Phase}
 use Rattle.job_table.specs.declared.phase.Phase.TheVariants.{Waiting, Out, Leaving, Dry, Closed, Cancelled}
 use Rattle.farm_core.specs.declared.config.TenantLine.{TenantLine}
@@ -213,7 +214,7 @@ purses_numbered = refl
 -- before the second, since that has come back
 
 abbrev row : ℕ → ℕ → Phase → Row
-row t s phase = record { tenant = t; job = record { seq = s; plan = by RuleLft; phase = phase; nodes = 0; left = 5 } }
+row t s phase = record { tenant = t; job = record { seq = s; plan = by RuleLft; phase = phase; nodes = 0; left = 5; here = is_here phase } }
 
 abbrev queue : World
 queue = record {
@@ -249,7 +250,7 @@ third_of_1_is_next : IsFirstReady queue 1 3 5
 unfolding view member purse kept
 third_of_1_is_next = record {
   ready = record {
-    job = record { seq = 3; plan = by RuleLft; phase = Waiting; nodes = 0; left = 5 };
+    job = record { seq = 3; plan = by RuleLft; phase = Waiting; nodes = 0; left = 5; here = true };
     known = omega arith;
     found = refl;
     waits = refl;

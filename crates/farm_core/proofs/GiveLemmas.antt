@@ -9,7 +9,7 @@ use Rattle.strategy.specs.Outcome.{is_closed}
 use Rattle.strategy.specs.declared.plan.Plan.{Plan}
 use Rattle.strategy.specs.Search.{Meaning, nodes_within}
 use Rattle.job_table.specs.Table.{Row, JobData, TableData, is_waiting, is_out, find_row, put_row, without, waiting_then, change_job}
-use Rattle.job_table.specs.Job.{is_turn, phase_after, back, meaning_of, IsOwn, IsSent, IsBack}
+use Rattle.job_table.specs.Job.{gone_out, is_turn, phase_after, back, meaning_of, IsOwn, IsSent, IsBack}
 use Rattle.job_table.specs.declared.phase.Phase.{Phase}
 use Rattle.job_table.specs.declared.phase.Phase.TheVariants.{Waiting, Out, Leaving, Dry, Closed, Cancelled}
 use Rattle.farm_core.specs.declared.entry.Event.TheVariants.{Take, Give}
@@ -60,7 +60,7 @@ pub record IsGoing (w : World) (t s slice : ℕ) (account : Account) (m : Meanin
   pub found : find_job s (view t w).jobs ≡ Some job
   pub search : m ≡ meaning_of t job
   pub turns : all.waiting ≡ without t s w.waiting
-  pub moves : IsMove w t all (record account { book = account.book; used = account.used + 1 }) (Take s slice) (Sent (line_of (record job { phase = Out slice })))
+  pub moves : IsMove w t all (record account { book = account.book; used = account.used + 1 }) (Take s slice) (Sent (line_of (gone_out slice job)))
   pub room : owed all.rows ≤ 2 * length w.rows
 
 pub take_moves : (w : World) (t s slice capacity : ℕ) (account : Account) (line : Line) (m : Meaning) (all : TableData) → IsFarm w capacity → t < length w.config.tenants → account ≡ account_of w t
@@ -70,9 +70,9 @@ take_moves w t s slice capacity account line m all farm l is line_is may did =
     let it = told (view t w) s line line_is in
     let there = own_row w t s it.job it.found in
     let job_is : did.job ≡ it.job = same_job did.job it.job (find_row t s w.rows) did.found there in
-    let new : JobData = record it.job { phase = Out slice } in
+    let new : JobData = gone_out slice it.job in
     let after : TableData = change_job t s it.job new (table_of w) in
-    let after_is : all ≡ after = did.after ∙ ap (λ (j : JobData). change_job t s j (record j { phase = Out slice }) (table_of w)) job_is in
+    let after_is : all ≡ after = did.after ∙ ap (λ (j : JobData). change_job t s j (gone_out slice j) (table_of w)) job_is in
     let may_is = and_parts (is_waiting line.phase && is_slice slice) (has_room 2 (view t w)) may in
     let may_wait = and_parts (is_waiting line.phase) (is_slice slice) may_is.0 in
     let waits : is_waiting it.job.phase ≡ true = ap (λ (x : Line). is_waiting x.phase) it.line_is ∙ may_wait.0 in

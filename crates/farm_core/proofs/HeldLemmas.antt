@@ -8,7 +8,7 @@ use Rattle.strategy.specs.Outcome.{is_closed}
 use Rattle.strategy.specs.Search.{Meaning, nodes_within}
 use Rattle.strategy.specs.declared.plan.Plan.{Plan}
 use Rattle.job_table.specs.Table.{JobData, is_waiting, is_out, is_ended}
-use Rattle.job_table.specs.Job.{given_up, is_turn, back}
+use Rattle.job_table.specs.Job.{gone_out, given_up, is_turn, back}
 use Rattle.job_table.specs.declared.phase.Phase.{Phase}
 use Rattle.job_table.specs.declared.phase.Phase.TheVariants.{Waiting, Out, Leaving, Dry, Closed, Cancelled}
 use Rattle.farm_core.specs.declared.entry.Event.{Event}
@@ -137,10 +137,10 @@ leaves distinct s e job slice is = record {
 }
 
 gone_change : (distinct : Type 0) (s : ℕ) (e : Event) (job : JobData) (phase : Phase) → job.phase ≡ phase → IsGone distinct s e job (given_up job phase)
-gone_change distinct s e job Waiting is = is_quiet distinct s e (Some job) (Some (record job { phase = Cancelled; left = 0 })) (ap is_out is) (λ _. refl)
+gone_change distinct s e job Waiting is = is_quiet distinct s e (Some job) (Some (record job { phase = Cancelled; left = 0; here = false })) (ap is_out is) (λ _. refl)
 gone_change distinct s e job (Out slice) is = leaves distinct s e job slice is
 gone_change distinct s e job (Leaving slice) is = tt
-gone_change distinct s e job Dry is = is_quiet distinct s e (Some job) (Some (record job { phase = Cancelled; left = 0 })) (ap is_out is) (λ _. refl)
+gone_change distinct s e job Dry is = is_quiet distinct s e (Some job) (Some (record job { phase = Cancelled; left = 0; here = false })) (ap is_out is) (λ _. refl)
 gone_change distinct s e job Closed is = tt
 gone_change distinct s e job Cancelled is = tt
 
@@ -202,7 +202,7 @@ changes s t = record {
       (drop_change s n (Forget n) job t.jobs found (not_out job.phase ended));
   takes = λ n slice job room found waits.
       let here : is_out job.phase ≡ false = waits_here job.phase waits in
-      put_change (AreDistinct t.jobs) s n (Take n slice) job (record job { phase = Out slice }) t.jobs found refl
+      put_change (AreDistinct t.jobs) s n (Take n slice) job (gone_out slice job) t.jobs found refl
       (λ same. record {
         stays = λ one is_one out other. let one_is : job ≡ one = cc in absurd (both_ways (is_out one.phase) (sym (ap (λ (j : JobData). is_out j.phase) one_is) ∙ here) out);
         goes = λ _ _. inr (eq-eqb n s (sym same));
@@ -253,11 +253,11 @@ turns_stay_held old new t e answer h u s slice m it other =
 -- a turn was sent, and not refused
 record WasSent (t : Tenant) (s slice : ℕ) (job : JobData) (f : Effect) : Type 0 where
   here : is_out job.phase ≡ false
-  out : find_job s (done t f).after.jobs ≡ Some (record job { phase = Out slice })
+  out : find_job s (done t f).after.jobs ≡ Some (gone_out slice job)
 
 was_sent : (t : Tenant) (s slice : ℕ) (job : JobData) (line : Line) → find_job s t.jobs ≡ Some job → Sent line ≡ (done t (to_take t slice job)).answer → WasSent t s slice job (to_take t slice job)
 was_sent t s slice job line found =
-    let new : JobData = record job { phase = Out slice } in
+    let new : JobData = gone_out slice job in
     let seq : job.seq ≡ s = found_seq s t.jobs job found in
     cond_both (is_waiting job.phase && is_slice slice && has_room 2 t) (effect.Changes new 0 (Sent (line_of new))) (Nothing NoTurn)
     (λ (f : Effect). Sent line ≡ (done t f).answer → WasSent t s slice job f)
@@ -269,14 +269,14 @@ was_sent t s slice job line found =
 
 taken_was_sent : (old new : World) (t s slice : ℕ) (m : Meaning) → (it : IsTaken old t s slice m new) → WasSent (view t old) s slice it.job (to_take (view t old) slice it.job)
 taken_was_sent old new t s slice m it =
-    was_sent (view t old) s slice it.job (line_of (record it.job { phase = Out slice })) it.found
+    was_sent (view t old) s slice it.job (line_of (gone_out slice it.job)) it.found
     (it.follows.answer_is ∙ ap (λ (there : Option JobData). (done (view t old) (about (Nothing NoTurn) (to_take (view t old) slice) there)).answer) it.found)
 
 pub taken_jobs_were_not_out : TakenJobsWereNotOut
 taken_jobs_were_not_out old new t s slice m it = ap is_out_of it.found ∙ (taken_was_sent old new t s slice m it).here
 
 -- and its job is out
-pub taken_out : (old new : World) (t s slice : ℕ) (m : Meaning) → (it : IsTaken old t s slice m new) → find_job s (view t new).jobs ≡ Some (record it.job { phase = Out slice })
+pub taken_out : (old new : World) (t s slice : ℕ) (m : Meaning) → (it : IsTaken old t s slice m new) → find_job s (view t new).jobs ≡ Some (gone_out slice it.job)
 taken_out old new t s slice m it =
     ap (λ (v : Tenant). find_job s v.jobs) it.follows.own
     ∙ ap (λ (there : Option JobData). find_job s (done (view t old) (about (Nothing NoTurn) (to_take (view t old) slice) there)).after.jobs) it.found ∙ (taken_was_sent old new t s slice m it).out
@@ -284,7 +284,7 @@ taken_out old new t s slice m it =
 pub taken_turns_are_held : TakenTurnsAreHeld
 taken_turns_are_held old new t s slice m it =
     record {
-      job = record it.job { phase = Out slice };
+      job = gone_out slice it.job;
       found = taken_out old new t s slice m it;
       own = record {
         turn = eq-eqb slice slice refl;

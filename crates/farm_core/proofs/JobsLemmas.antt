@@ -4,7 +4,7 @@ use Rattle.strategy.specs.Outcome.{is_closed}
 use Rattle.strategy.specs.Search.{Meaning}
 use Rattle.strategy.specs.declared.plan.Plan.{Plan}
 use Rattle.job_table.specs.Table.{JobData, Row, TableData, find_row, change_job}
-use Rattle.job_table.specs.Job.{meaning_of, given_up, is_here, phase_after, back, IsOwn, IsSent, IsBack, IsFunded, IsGivenUp}
+use Rattle.job_table.specs.Job.{gone_out, meaning_of, given_up, is_here, phase_after, back, IsOwn, IsSent, IsBack, IsFunded, IsGivenUp}
 use Rattle.job_table.specs.Lent.{WorkData, search_of, returned, with_work, in_phase, change_found, IsLent}
 use Rattle.job_table.specs.declared.phase.Phase.{Phase}
 use Rattle.job_table.specs.declared.phase.Phase.TheVariants.{Waiting, Out, Leaving, Dry, Closed, Cancelled}
@@ -40,14 +40,14 @@ pub sent_out : (old mid new : TableData) (t s slice : ℕ) (m : Meaning) (work t
     → m ≡ search_of t work → is_closed work.plan work.nodes ≡ false → then ≡ record work { here = false } → mid ≡ change_found t s (with_work then) old → new ≡ change_found t s (in_phase (Out slice)) mid → IsSent old t s slice m new
 sent_out old mid new t s slice m work then it told search going sent written put =
     let job = it.job in
-    let after : with_work then job ≡ job = ap (λ w. with_work w job) sent ∙ it.lent in
+    let after : with_work then job ≡ record job { here = false } = ap (λ w. with_work w job) sent ∙ ap (λ (j : JobData). record j { here = false }) it.lent in
     record {
       job = job;
       found = it.found;
       waits = lent_phase old.rows t s work Waiting it told;
       going = ap (λ (j : JobData). is_closed j.plan j.nodes) (sym it.lent) ∙ going;
       search = search ∙ ap (meaning_of t) it.lent;
-      after = changed_as t s job (in_phase (Out slice) (with_work then job)) (record job { phase = Out slice }) old new (moved_on old mid new t s work then (Out slice) it written put) (ap (in_phase (Out slice)) after);
+      after = changed_as t s job (in_phase (Out slice) (with_work then job)) (gone_out slice job) old new (moved_on old mid new t s work then (Out slice) it written put) (ap (in_phase (Out slice)) after);
     }
 
 pub funded_so : (old mid new : TableData) (t s quanta : ℕ) (phase : Phase) (work then : WorkData) (it : IsLent old.rows t s work) → Some phase ≡ option_map (λ j. j.phase) (find_row t s old.rows) → is_here phase ≡ true
@@ -62,7 +62,7 @@ funded_so old mid new t s quanta phase work then it told here drawn written put 
       after = changed_as t s job (in_phase Waiting (with_work then job)) (record job { phase = Waiting; left = job.left + quanta }) old new (moved_on old mid new t s work then Waiting it written put) (ap (in_phase Waiting) after);
     }
 
-here_gone : (job : JobData) (phase : Phase) → is_here phase ≡ true → given_up job phase ≡ Some (record job { phase = Cancelled; left = 0 })
+here_gone : (job : JobData) (phase : Phase) → is_here phase ≡ true → given_up job phase ≡ Some (record job { phase = Cancelled; left = 0; here = false })
 here_gone job Waiting here = refl
 here_gone job (Out n) here = absurd (cc)
 here_gone job (Leaving n) here = absurd (cc)
@@ -74,13 +74,13 @@ pub dropped_so : (old mid new : TableData) (t s : ℕ) (phase : Phase) (work the
     → then ≡ record work { left = 0; here = false } → mid ≡ change_found t s (with_work then) old → new ≡ change_found t s (in_phase Cancelled) mid → IsGivenUp old t s new
 dropped_so old mid new t s phase work then it told here gone written put =
     let job = it.job in
-    let after : with_work then job ≡ record job { left = 0 } = ap (λ w. with_work w job) gone ∙ ap (λ (j : JobData). record j { left = 0 }) it.lent in
+    let after : with_work then job ≡ record job { left = 0; here = false } = ap (λ w. with_work w job) gone ∙ ap (λ (j : JobData). record j { left = 0; here = false }) it.lent in
     record {
       job = job;
-      then = record job { phase = Cancelled; left = 0 };
+      then = record job { phase = Cancelled; left = 0; here = false };
       found = it.found;
       gone = here_gone job job.phase (ap is_here (lent_phase old.rows t s work phase it told) ∙ here);
-      after = changed_as t s job (in_phase Cancelled (with_work then job)) (record job { phase = Cancelled; left = 0 }) old new (moved_on old mid new t s work then Cancelled it written put) (ap (in_phase Cancelled) after);
+      after = changed_as t s job (in_phase Cancelled (with_work then job)) (record job { phase = Cancelled; left = 0; here = false }) old new (moved_on old mid new t s work then Cancelled it written put) (ap (in_phase Cancelled) after);
     }
 
 -- what a search that is a job's own leaves of it
@@ -91,7 +91,7 @@ back_is t slice ran m job work phase own lent stands =
     let plan : work.plan ≡ job.plan = ap (λ (j : JobData). j.plan) lent in
     let put : phase ≡ phase_after job.phase (is_closed job.plan (job.nodes + ran)) (job.left - ran) =
     stands ∙ ap (λ (p : Plan). phase_after job.phase (is_closed p m.nodes) m.left) plan ∙ ap (λ n. phase_after job.phase (is_closed job.plan n) m.left) own.nodes ∙ ap (phase_after job.phase (is_closed job.plan (job.nodes + ran))) left in
-    let made : Plan → ℕ → ℕ → Phase → JobData = λ p n l f. record job { plan = p; nodes = n; left = cond (is_here f) l 0; phase = f } in
+    let made : Plan → ℕ → ℕ → Phase → JobData = λ p n l f. record job { plan = p; nodes = n; left = cond (is_here f) l 0; phase = f; here = is_here f } in
     ap (λ p. made p m.nodes m.left phase) plan ∙ ap (λ n. made job.plan n m.left phase) own.nodes ∙ ap (λ l. made job.plan (job.nodes + ran) l phase) left ∙ ap (made job.plan (job.nodes + ran) (job.left - ran)) put
 
 pub back_so : (old mid new : TableData) (t s slice ran : ℕ) (m : Meaning) (job : JobData) (work then : WorkData) (phase : Phase) → find_row t s old.rows ≡ Some job → IsOwn t slice ran m job → IsLent old.rows t s work

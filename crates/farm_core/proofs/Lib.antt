@@ -25,6 +25,7 @@ pub mod ReplyLemmas
 pub mod OrderLemmas
 pub mod ChangeLemmas
 pub mod CommandLemmas
+pub mod HomeLemmas
 pub mod JobsLemmas
 pub mod TurnLemmas
 pub mod GiveLemmas

@@ -8,7 +8,7 @@ use Rattle.mrcpsp.proofs.NumbersLemmas.{first_from-le}
 use Rattle.strategy.specs.Outcome.{is_closed}
 use Rattle.strategy.specs.declared.plan.Plan.{Plan}
 use Rattle.job_table.specs.Table.{JobData, is_waiting, is_out, is_ended}
-use Rattle.job_table.specs.Job.{given_up, is_here, phase_after, back}
+use Rattle.job_table.specs.Job.{gone_out, given_up, is_here, phase_after, back}
 use Rattle.job_table.specs.declared.phase.Phase.{Phase}
 use Rattle.job_table.specs.declared.phase.Phase.TheVariants.{Waiting, Out, Leaving, Dry, Closed, Cancelled}
 use Rattle.farm_core.specs.declared.entry.Event.{Event}
@@ -286,7 +286,7 @@ keeps g t kept = record {
   };
   takes = λ s slice job room found waiting.
       let it = found_funded g t.next s t.jobs job found kept.jobs in
-      let new : JobData = record job { phase = Out slice } in
+      let new : JobData = gone_out slice job in
       let had = waits job.phase job.plan job.nodes job.left (g job.seq) waiting it.0 in
       changes g (Take s slice) t (Sent (line_of new)) 0 new (λ n ne. refl) it.2 (omega (arith, had.0), had.1) kept;
   gives = λ s ran job found may.

@@ -7,7 +7,7 @@ use Rattle.tenant_book.specs.Book.{BookData}
 use Rattle.std.proofs.lemmas.Bool.Decides.{nat_tests}
 use Rattle.strategy.specs.Outcome.{is_closed}
 use Rattle.job_table.specs.Table.{JobData, is_out, is_ended}
-use Rattle.job_table.specs.Job.{given_up, is_here, phase_after, back}
+use Rattle.job_table.specs.Job.{gone_out, given_up, is_here, phase_after, back}
 use Rattle.job_table.specs.declared.phase.Phase.{Phase}
 use Rattle.job_table.specs.declared.phase.Phase.TheVariants.{Waiting, Out, Leaving, Dry, Closed, Cancelled}
 use Rattle.farm_core.specs.declared.entry.Event.{Event}
@@ -191,7 +191,7 @@ runs t it = record {
         covered = omega (arith, it.covered, held_drop s job t.jobs found);
       });
   takes = λ s slice job room found waits.
-      let new : JobData = record job { phase = Out slice } in
+      let new : JobData = gone_out slice job in
       changed_runs t s job new 0 (Sent (line_of new)) found refl
       (record {
         entries = omega (arith, room_is 2 t room);

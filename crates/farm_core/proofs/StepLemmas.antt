@@ -6,7 +6,7 @@ use Rattle.mrcpsp.specs.Schedule.{makespan}
 use Rattle.strategy.specs.Outcome.{best_after, verdict_after}
 use Rattle.strategy.specs.declared.plan.Plan.{Plan}
 use Rattle.job_table.specs.Table.{JobData, is_waiting, is_out, is_ended, find_row}
-use Rattle.job_table.specs.Job.{given_up, back}
+use Rattle.job_table.specs.Job.{gone_out, given_up, back}
 use Rattle.job_table.specs.declared.phase.Phase.{Phase}
 use Rattle.job_table.specs.declared.phase.Phase.TheVariants.{Waiting, Out, Leaving, Dry, Closed, Cancelled}
 use Rattle.farm_core.specs.declared.entry.Event.TheVariants.{Submit, Fund, Status, Fetch, Cancel, Forget, Take, Give}
@@ -116,10 +116,10 @@ cancel_told t s freed line then is gives freed_is =
     }
 
 given_less : (job new : JobData) (phase : Phase) → job.phase ≡ phase → given_up job phase ≡ Some new → (new.left ≤ job.left) × (new.seq ≡ job.seq)
-given_less job new Waiting is gone = let same : record job { phase = Cancelled; left = 0 } ≡ new = cc in (omega (arith, ap (λ (j : JobData). j.left) same), sym (ap (λ (j : JobData). j.seq) same))
+given_less job new Waiting is gone = let same : record job { phase = Cancelled; left = 0; here = false } ≡ new = cc in (omega (arith, ap (λ (j : JobData). j.left) same), sym (ap (λ (j : JobData). j.seq) same))
 given_less job new (Out slice) is gone = let same : record job { phase = Leaving slice } ≡ new = cc in (omega (arith, ap (λ (j : JobData). j.left) same), sym (ap (λ (j : JobData). j.seq) same))
 given_less job new (Leaving slice) is gone = absurd (cc)
-given_less job new Dry is gone = let same : record job { phase = Cancelled; left = 0 } ≡ new = cc in (omega (arith, ap (λ (j : JobData). j.left) same), sym (ap (λ (j : JobData). j.seq) same))
+given_less job new Dry is gone = let same : record job { phase = Cancelled; left = 0; here = false } ≡ new = cc in (omega (arith, ap (λ (j : JobData). j.left) same), sym (ap (λ (j : JobData). j.seq) same))
 given_less job new Closed is gone = absurd (cc)
 given_less job new Cancelled is gone = absurd (cc)
 
@@ -203,7 +203,7 @@ pub take_not : (t : Tenant) (s slice : ℕ) (job : JobData) → find_job s t.job
 take_not t s slice job found not = rw (found, not) refl
 
 pub take_steps : (t : Tenant) (s slice : ℕ) (job : JobData) → find_job s t.jobs ≡ Some job → is_waiting job.phase ≡ true → is_slice slice ≡ true → has_room 2 t ≡ true
-    → let new : JobData = record job { phase = Out slice } in decided t (Take s slice) ≡ Changes new 0 (Sent (line_of new))
+    → let new : JobData = gone_out slice job in decided t (Take s slice) ≡ Changes new 0 (Sent (line_of new))
 take_steps t s slice job found waits slice_is room = rw (found, waits, slice_is, room) refl
 
 pub give_steps : (t : Tenant) (s ran : ℕ) (job : JobData) → find_job s t.jobs ≡ Some job → may_have_run ran job job.phase ≡ true

@@ -7,7 +7,7 @@ use Rattle.strategy.specs.Outcome.{best_after, verdict_after}
 use Rattle.strategy.specs.declared.plan.Plan.{Plan}
 use Rattle.strategy.proofs.OutcomeLemmas.{each_best, optimal_is_true, infeasible_is_true}
 use Rattle.job_table.specs.Table.{JobData}
-use Rattle.job_table.specs.Job.{given_up, back}
+use Rattle.job_table.specs.Job.{gone_out, given_up, back}
 use Rattle.job_table.specs.declared.phase.Phase.{Phase}
 use Rattle.job_table.specs.declared.phase.Phase.TheVariants.{Waiting, Out, Leaving, Dry, Closed, Cancelled}
 use Rattle.farm_core.specs.declared.entry.Event.{Event}
@@ -122,7 +122,7 @@ sound made t all =
           changed_sound made t (Cancel s) new 0 (Replied (reply.Line (line_of new))) all one (line_true made new one);
       drops = λ s job room found ended. (tt, λ _ _. drop_known made job.seq t.jobs all);
       takes = λ s slice job room found waits.
-          let new : JobData = record job { phase = Out slice } in
+          let new : JobData = gone_out slice job in
           let one : IsKnown made new = record { plan = (known s job found).plan; project = (known s job found).project } in
           changed_sound made t (Take s slice) new 0 (Sent (line_of new)) all one (line_true made new one);
       gives = λ s ran job found may.

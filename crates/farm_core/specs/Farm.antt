@@ -1,8 +1,8 @@
 -- What a farm keeps.
 use Rattle.std.specs.Prelude.{◌≡◌, ◌⊎◌, ℕ, ◌+◌, ◌<◌, ◌≤◌, List, [], ◌∷◌, length, map, true, false, Option, Some, None, ⊤, IsTrue, slice_get}
 use Rattle.std.specs.List.{range_with_len}
-use Rattle.job_table.specs.Table.{Row, JobData}
-use Rattle.job_table.specs.Job.{given_up}
+use Rattle.job_table.specs.Table.{Row, JobData, find_row}
+use Rattle.job_table.specs.Job.{is_here, given_up}
 use Rattle.job_table.specs.declared.phase.Phase.{Phase}
 use Rattle.job_table.specs.declared.phase.Phase.TheVariants.{Waiting, Out, Leaving, Dry, Closed, Cancelled}
 use Rattle.farm_core.specs.declared.account.Account.{Account}
@@ -44,6 +44,10 @@ AreFrom t (row ∷ rows) = (t ≤ row.tenant) × AreFrom row.tenant rows
 abbrev pub AreOf : ℕ → List Row → Type 0
 AreOf count [] = ⊤
 AreOf count (row ∷ rows) = (row.tenant < count) × AreOf count rows
+
+-- a job that waits or is dry has its search with it, and no other has
+abbrev pub AreAtHome : List Row → Type 0
+AreAtHome rows = (t s : ℕ) (job : JobData) → find_row t s rows ≡ Some job → job.here ≡ is_here job.phase
 
 -- some calls lead to it from the farm in which nothing has happened, and what was submitted in them were projects
 pub record IsReached (w : World) : Type 0 where

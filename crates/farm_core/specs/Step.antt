@@ -1,10 +1,10 @@
 -- What each call of a tenant comes to, which its part of the farm alone decides, and what that does: five effects for nine calls.
-use Rattle.std.specs.Prelude.{ℕ, ◌+◌, Bool, not, ◌&&◌, ◌||◌, ◌==◌, nat_le, nat_lt, List, [], ◌∷◌, ◌++◌, length, if◌then◌else◌, Option, Some, None, option_map}
+use Rattle.std.specs.Prelude.{ℕ, ◌+◌, Bool, not, ◌&&◌, ◌||◌, ◌==◌, true, nat_le, nat_lt, List, [], ◌∷◌, ◌++◌, length, if◌then◌else◌, Option, Some, None, option_map}
 use Rattle.mrcpsp.specs.Schedule.{makespan}
 use Rattle.strategy.specs.Outcome.{best_after, verdict_after}
 use Rattle.strategy.specs.declared.plan.Plan.{Plan}
 use Rattle.job_table.specs.Table.{JobData, is_waiting, is_out, is_ended}
-use Rattle.job_table.specs.Job.{given_up, back}
+use Rattle.job_table.specs.Job.{gone_out, given_up, back}
 use Rattle.job_table.specs.declared.phase.Phase.{Phase}
 use Rattle.job_table.specs.declared.phase.Phase.TheVariants.{Waiting, Out}
 use Rattle.farm_core.specs.declared.config.TheConstants.{MOST_QUANTA, MOST_SLICE}
@@ -68,9 +68,9 @@ is_slice slice = nat_lt 0 slice && nat_le slice MOST_SLICE
 
 -- ---- what each call comes to, where it is about a job that there is
 
--- a job for a plan that holds some quanta
+-- a job for a plan, with its search and some quanta
 abbrev pub fresh_job : Tenant → Plan → ℕ → JobData
-fresh_job t plan quanta = record { seq = t.next; plan = plan; phase = Waiting; nodes = 0; left = quanta }
+fresh_job t plan quanta = record { seq = t.next; plan = plan; phase = Waiting; nodes = 0; left = quanta; here = true }
 
 unfoldable pub to_submit : Tenant → Plan → ℕ → Effect
 to_submit t plan quanta = unless
@@ -106,7 +106,7 @@ to_forget job = unless ((not (is_ended job.phase), reply.NoBusy) ∷ []) (Drops 
 
 abbrev pub to_take : Tenant → ℕ → JobData → Effect
 to_take t slice job = if is_waiting job.phase && is_slice slice && has_room 2 t
-    then (let new : JobData = record job { phase = Out slice } in Changes new 0 (Sent (line_of new)))
+    then (let new : JobData = gone_out slice job in Changes new 0 (Sent (line_of new)))
     else Nothing NoTurn
 
 -- a turn that is back ran nothing, or all that it could

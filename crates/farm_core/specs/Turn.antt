@@ -2,8 +2,7 @@
 use Rattle.std.specs.Prelude.{◌≡◌, ◌⊎◌, ℕ, ◌<◌, true, false, length, Some, slice_get}
 use Rattle.strategy.specs.Search.{Meaning, ran_on, nodes_within}
 use Rattle.job_table.specs.Table.{JobData, find_row, is_waiting, without, waiting_then, AreWaiting}
-use Rattle.job_table.specs.Job.{meaning_of, back, IsOwn}
-use Rattle.job_table.specs.declared.phase.Phase.TheVariants.{Out}
+use Rattle.job_table.specs.Job.{gone_out, meaning_of, back, IsOwn}
 use Rattle.farm_core.specs.declared.entry.Event.TheVariants.{Take, Give}
 use Rattle.farm_core.specs.declared.reply.Reply.{Reply}
 use Rattle.farm_core.specs.declared.reply.NoTurn.{NoTurn}
@@ -34,7 +33,7 @@ pub record IsTaken (old : World) (t s slice : ℕ) (m : Meaning) (new : World) :
   pub found : find_job s (view t old).jobs ≡ Some job
   pub search : m ≡ meaning_of t job
   pub turns : new.waiting ≡ without t s old.waiting
-  pub follows : Follows old t (Take s slice) (Sent (line_of (record job { phase = Out slice }))) new
+  pub follows : Follows old t (Take s slice) (Sent (line_of (gone_out slice job))) new
 
 -- none was: the call follows, or there was no memory, and nothing has changed
 abbrev pub IsNotTaken : World → ℕ → ℕ → ℕ → NoTurn → World → Type 0

@@ -5,7 +5,7 @@ ghost use Rattle.farm_core.specs.Tenant.{book, ledger_of, find_job, line_of};
 ghost use Rattle.farm_core.specs.Step.{has_room};
 ghost use Rattle.farm_core.specs.World.{World, table_of, purse, view, account_of, new_numbers, opened, opened_books, purse_in, purses_in, IsOfJournal, IsOnlyNoted};
 ghost use Rattle.farm_core.specs.Config.{is_config};
-ghost use Rattle.farm_core.specs.Farm.{IsAccount, IsReached, IsReply, ArePassed, purse_numbers};
+ghost use Rattle.farm_core.specs.Farm.{IsAccount, IsReached, AreAtHome, IsReply, ArePassed, purse_numbers};
 ghost use Rattle.farm_core.specs.Truth.{IsPlanned};
 
 use crate::{
@@ -232,10 +232,12 @@ impl<J> Farm<J> {
     }
 
     /// The entries of all tenants, in the order in which they came. The farm is where they lead, and a run leads to it.
+    /// A job that waits or is dry has its search with it, and no other has.
     pub fn journal(&self) -> &[Entry]
         ensures exact { result.now ≡ self.now.journal }
         ensures replayed { IsOfJournal self.now }
         ensures reached { IsReached self.now }
+        ensures home { AreAtHome self.now.rows }
     {
         self.journal.as_slice()
     }

@@ -7,6 +7,7 @@ use Rattle.std.proofs.lemmas.List.{map-append}
 use mathlib.Core.List.{IsPrefix}
 use Rattle.strategy.specs.Search.{Meaning}
 use Rattle.job_table.specs.Table.{JobData}
+use Rattle.job_table.specs.Job.{gone_out}
 use Rattle.job_table.specs.declared.phase.Phase.TheVariants.{Out}
 use Rattle.farm_core.specs.declared.entry.Entry.{Entry}
 use Rattle.farm_core.specs.declared.entry.Event.{Event}
@@ -57,8 +58,8 @@ step_is config before t event e answer is =
 
 -- a job of which a turn went out, as the turn tells it
 pub sent_job : (i : TurnImage) (job : JobData) (slice : ℕ) → job.seq ≡ i.seq → i.plan ≡ job.plan → i.nodes ≡ job.nodes → i.left ≡ job.left → i.slice ≡ slice
-    → let told : JobData = record { seq = i.seq; plan = i.plan; phase = Out i.slice; nodes = i.nodes; left = i.left } in
-    told ≡ record job { phase = Out slice }
+    → let told : JobData = record { seq = i.seq; plan = i.plan; phase = Out i.slice; nodes = i.nodes; left = i.left; here = false } in
+    told ≡ gone_out slice job
 sent_job i job slice seq plan nodes left at = rw (seq, plan, nodes, left, at) refl
 
 sent_is : (config : ConfigData) (before : List Entry) (slice : ℕ) (e : Entry) (i : TurnImage) → IsSentOut config before slice (Some e) i
@@ -67,7 +68,7 @@ sent_is config before slice e i it =
     ap (λ (job : JobData). Sent (line_of job))
     (sent_job i it.job slice (found_seq i.seq (tenant_at config before i.tenant).jobs it.job it.found)
     (ap (λ (m : Meaning). m.plan) it.search) (ap (λ (m : Meaning). m.nodes) it.search) (ap (λ (m : Meaning). m.left) it.search) it.slice_is)
-    ∙ step_is config before i.tenant (Take i.seq slice) e (Sent (line_of (record it.job { phase = Out slice }))) it.steps
+    ∙ step_is config before i.tenant (Take i.seq slice) e (Sent (line_of (gone_out slice it.job))) it.steps
 
 replied_is : (config : ConfigData) (before : List Entry) (t : ℕ) (event : Event) (e : Entry) (r : Reply) → IsAnswered config before t event (Some e) r
     → Replied r ≡ stepped config before e

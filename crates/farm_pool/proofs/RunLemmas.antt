@@ -4,7 +4,7 @@ use Rattle.std.specs.Prelude.{slice_get}
 use Rattle.std.proofs.lemmas.Bool.{cond_both, and_parts, both_ways, cases_Bool}
 use Rattle.std.proofs.lemmas.Bool.Decides.{nat_tests}
 use Rattle.job_table.specs.Table.{JobData, is_waiting, is_out}
-use Rattle.job_table.specs.Job.{is_turn, back}
+use Rattle.job_table.specs.Job.{gone_out, is_turn, back}
 use Rattle.job_table.specs.declared.phase.Phase.{Phase}
 use Rattle.job_table.specs.declared.phase.Phase.TheVariants.{Waiting, Out, Leaving, Dry, Closed, Cancelled}
 use Rattle.farm_core.specs.declared.entry.Entry.{Entry}
@@ -97,7 +97,7 @@ command_served config before legal t known e command planned turn =
 
 -- a turn that its job's tenant takes
 sent_answer : (t s slice : ℕ) (jobs : List JobData) (job : JobData) → find_job s jobs ≡ Some job
-    → Sent (line_of (record job { phase = Out slice })) ≡ answer_in (told.Sent (turn_of t s slice 0 job))
+    → Sent (line_of (gone_out slice job)) ≡ answer_in (told.Sent (turn_of t s slice 0 job))
 sent_answer t s slice jobs job found =
     let nodes : job.nodes + 0 ≡ job.nodes = omega arith in
     let left : job.left - 0 ≡ job.left = omega arith in
@@ -110,7 +110,7 @@ take_answered : (config : ConfigData) (before : List Entry) → LegalFrom Served
 take_answered config before legal t known s slice None is = λ turn. absurd (turn refl)
 take_answered config before legal t known s slice (Some job) is =
     let tenant : Tenant = tenant_at config before t in
-    let new : JobData = record job { phase = Out slice } in
+    let new : JobData = gone_out slice job in
     cond_both (is_waiting job.phase && is_slice slice && has_room 2 tenant) (Changes new 0 (Sent (line_of new))) (Nothing NoTurn)
     (λ (f : Effect). (done tenant f).answer ≢ NoTurn → IsServed config before t (Take s slice) (done tenant f).answer)
     (λ may _.

@@ -2,7 +2,7 @@
 use Rattle.farm_pool.specs.declared.held.FarmAnswer.{FarmAnswer}
 use Rattle.std.proofs.Common.{◌≡◌, ℕ, Bool, true, false, cond, List, [], ◌∷◌, ◌++◌, Option, Some, None, refl, sym, ap, ◌∙◌, subst, ◌<◌, length, ⊎_elim, inl, inr}
 use Rattle.strategy.specs.Search.{Meaning}
-use Rattle.job_table.specs.Job.{IsStrange}
+use Rattle.job_table.specs.Job.{gone_out, IsStrange}
 use Rattle.farm_core.specs.declared.entry.Entry.{Entry}
 use Rattle.farm_core.specs.declared.entry.Event.{Event}
 use Rattle.farm_core.specs.declared.entry.Event.TheVariants.{Take, Give}
@@ -12,7 +12,6 @@ use Rattle.farm_core.specs.Turn.{TurnData}
 use Rattle.farm_core.specs.Tenant.{Tenant, Purse, seat, find_job, line_of}
 use Rattle.farm_core.specs.Step.{Answer, Replied, Sent, step, is_slice, has_room}
 use Rattle.farm_core.specs.Config.{ConfigData}
-use Rattle.job_table.specs.declared.phase.Phase.TheVariants.{Out}
 use Rattle.farm_core.specs.Turn.{IsTaken, IsIdle, IsReady, IsGiven}
 use Rattle.farm_core.specs.World.{World, purse_in, place_in, view, is_noted, Follows, IsOfJournal, Run}
 use Rattle.farm_core.proofs.SeatLemmas.{each_view_is_a_seat}
@@ -102,7 +101,7 @@ pub sent_out : {J : Type 0} (meaning : J → Meaning) (old new : World) (slice :
     → turn.slice ≡ slice → turn.ran ≡ 0 → AnswersOn meaning old (asked.Next slice) (given.Sent turn) new
 sent_out meaning old new slice turn at taken slice_is ran =
     let t = turn.tenant in
-    let answer : Answer = Sent (line_of (record taken.job { phase = Out slice })) in
+    let answer : Answer = Sent (line_of (gone_out slice taken.job)) in
     let it = steps_on old new t (Take turn.seq slice) answer at taken.follows in
     record {
       entry = entry_if t (Take turn.seq slice) answer;

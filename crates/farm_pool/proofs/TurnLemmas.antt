@@ -2,7 +2,7 @@
 use Rattle.std.proofs.Common.{◌≡◌, ℕ, ◌+◌, ◌-◌, ◌<◌, ◌≤◌, true, List, [], ◌++◌, length, min, Option, Some, refl, sym, ap, ◌∙◌, arith}
 use Rattle.strategy.specs.Outcome.{is_closed}
 use Rattle.job_table.specs.Table.{JobData, is_waiting}
-use Rattle.job_table.specs.Job.{is_turn, meaning_of, back}
+use Rattle.job_table.specs.Job.{gone_out, is_turn, meaning_of, back}
 use Rattle.job_table.specs.declared.phase.Phase.{Phase}
 use Rattle.job_table.specs.declared.phase.Phase.TheVariants.{Waiting, Out, Leaving, Dry, Closed, Cancelled}
 use Rattle.farm_core.specs.declared.entry.Entry.{Entry}
@@ -74,11 +74,11 @@ fresh_turn t s slice job =
 pub take_served : (config : ConfigData) (before : List Entry) → LegalFrom Served config [] before → (t s slice : ℕ) (job : JobData)
     → t < length config.tenants → find_job s (tenant_at config before t).jobs ≡ Some job → is_waiting job.phase ≡ true → is_slice slice ≡ true
     → has_room 2 (tenant_at config before t) ≡ true
-    → let answer : Answer = Sent (line_of (record job { phase = Out slice })) in
+    → let answer : Answer = Sent (line_of (gone_out slice job)) in
     Served config before (said.Next slice) (entry_if t (Take s slice) answer) (told.Sent (turn_of t s slice 0 job))
 take_served config before legal t s slice job known found waits slices room =
     let tenant : Tenant = tenant_at config before t in
-    let new : JobData = record job { phase = Out slice } in
+    let new : JobData = gone_out slice job in
     let answer : Answer = Sent (line_of new) in
     let is : (step tenant (Take s slice)).answer ≡ answer = ap (λ (e : Effect). (done tenant e).answer) (take_steps tenant s slice job found waits slices room) in
     serves config before legal t (Take s slice) answer (said.Next slice) (told.Sent (turn_of t s slice 0 job)) known tt is
@@ -96,7 +96,7 @@ take_made : (config : ConfigData) (log : List (ℕ × Entry)) (number splits : �
     → t < length config.tenants → find_job s (tenant_at config (history.events_of log) t).jobs ≡ Some job → is_waiting job.phase ≡ true → is_slice slice ≡ true
     → has_room 2 (tenant_at config (history.events_of log) t) ≡ true → IsTold config log number splits (said.Next slice) (told.Sent (turn_of t s slice 0 job))
 take_made config log number splits legal t s slice job known found waits slices room =
-    told_by config log number splits (said.Next slice) (told.Sent (turn_of t s slice 0 job)) (entry_if t (Take s slice) (Sent (line_of (record job { phase = Out slice })))) legal
+    told_by config log number splits (said.Next slice) (told.Sent (turn_of t s slice 0 job)) (entry_if t (Take s slice) (Sent (line_of (gone_out slice job)))) legal
     (take_served config (history.events_of log) legal t s slice job known found waits slices room)
 
 -- a turn has run no more than its job had quanta

@@ -1,5 +1,5 @@
 -- What two closed pools told a purse, and what their farms hold of it.
-use Rattle.std.specs.Prelude.{◌≡◌, ℕ, true, List, ◌∷◌, ◌++◌, length, map, Some, slice_get}
+use Rattle.std.specs.Prelude.{◌≡◌, ℕ, true, false, List, ◌∷◌, ◌++◌, length, map, Some, slice_get}
 use mathlib.Core.List.{IsPrefix}
 use Rattle.job_table.specs.declared.phase.Phase.TheVariants.{Out}
 use Rattle.farm_core.specs.declared.entry.Entry.{Entry}
@@ -29,7 +29,7 @@ entry_in c = record { tenant = c.tenant; event = c.event }
 abbrev pub answer_in : AnswerImage → Answer
 answer_in (told.Replied reply) = Replied reply
 answer_in (told.Gave reply) = Replied reply
-answer_in (told.Sent i) = Sent (line_of (record { seq = i.seq; plan = i.plan; phase = Out i.slice; nodes = i.nodes; left = i.left }))
+answer_in (told.Sent i) = Sent (line_of (record { seq = i.seq; plan = i.plan; phase = Out i.slice; nodes = i.nodes; left = i.left; here = false }))
 answer_in told.Idle = NoTurn
 answer_in told.NoMemory = Replied reply.NoMemory
 answer_in told.Stray = NoTurn

@@ -2,8 +2,7 @@
 use Rattle.std.specs.Prelude.{◌≡◌, ◌⊎◌, ℕ, ◌<◌, true, false, List, length, Option, Some, None, cond, ◌++◌}
 use Rattle.strategy.specs.Search.{Meaning}
 use Rattle.job_table.specs.Table.{JobData, is_waiting}
-use Rattle.job_table.specs.Job.{IsOwn, meaning_of}
-use Rattle.job_table.specs.declared.phase.Phase.TheVariants.{Out}
+use Rattle.job_table.specs.Job.{gone_out, IsOwn, meaning_of}
 use Rattle.farm_core.specs.declared.entry.Entry.{Entry}
 use Rattle.farm_core.specs.declared.entry.Event.{Event}
 use Rattle.farm_core.specs.declared.entry.Event.TheVariants.{Take, Give}
@@ -56,7 +55,7 @@ pub record IsSentOut (config : ConfigData) (before : List Entry) (slice : ℕ) (
   pub search : meaning_in i ≡ meaning_of i.tenant job
   pub slice_is : i.slice ≡ slice
   pub ran : i.ran ≡ 0
-  pub steps : IsStep config before i.tenant (Take i.seq slice) entry (Sent (line_of (record job { phase = Out slice })))
+  pub steps : IsStep config before i.tenant (Take i.seq slice) entry (Sent (line_of (gone_out slice job)))
 
 -- there is none to take there
 pub record IsIdleAt (config : ConfigData) (before : List Entry) (slice : ℕ) (entry : Option Entry) : Type 0 where

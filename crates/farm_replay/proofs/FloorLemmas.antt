@@ -11,7 +11,7 @@ use Rattle.std.proofs.lemmas.List.Folds.{list_any-append}
 use Rattle.std.proofs.lemmas.List.Quantifiers.{position-Some}
 use Rattle.strategy.specs.Search.{Meaning, nodes_within, ran_on}
 use Rattle.job_table.specs.Table.{JobData, is_out}
-use Rattle.job_table.specs.Job.{is_turn, back, IsStrange}
+use Rattle.job_table.specs.Job.{gone_out, is_turn, back, IsStrange}
 use Rattle.job_table.specs.declared.phase.Phase.{Phase}
 use Rattle.job_table.specs.declared.phase.Phase.TheVariants.{Waiting, Out, Leaving, Dry, Closed, Cancelled}
 use Rattle.farm_core.specs.declared.entry.Event.{Event}
@@ -172,7 +172,7 @@ pub floor_taken : {J : Type 0} (meaning : J → Meaning) (old new : World) (t s 
     → (turns : List (TurnData J)) → IsFloor meaning old turns → IsFloor meaning new (turns ++ x ∷ [])
 floor_taken meaning old new t s slice x it tenant seq most ran known turns floor =
     let f = it.follows in
-    let answer : Answer = Sent (line_of (record it.job { phase = Out slice })) in
+    let answer : Answer = Sent (line_of (gone_out slice it.job)) in
     let none : has_turn t s turns ≡ false =
     elim (has_turn t s turns) as (λ b. has_turn t s turns ≡ b → b ≡ false) [
       | true ↦ λ has. absurd (both_ways (is_out_of (find_job s (view t old).jobs)) (taken_jobs_were_not_out old new t s slice (meaning x.search) it) (all_out meaning old turns t s floor.held has))
@@ -225,13 +225,13 @@ some_line job line found is told = cc (ap (option_map line_of) is)
 
 -- a turn that goes out is of a job that there is
 pub told_out : (old new : World) (t s slice : ℕ) (m : Meaning) → IsTaken old t s slice m new → option_map line_of (find_job s (view t new).jobs) ≡ None → ⊥
-told_out old new t s slice m it none = let both : Some (line_of (record it.job { phase = Out slice })) ≡ None = sym (ap (option_map line_of) (taken_out old new t s slice m it)) ∙ none in cc
+told_out old new t s slice m it none = let both : Some (line_of (gone_out slice it.job)) ≡ None = sym (ap (option_map line_of) (taken_out old new t s slice m it)) ∙ none in cc
 
 -- the line that is told of a turn that goes out is that of its job
 pub sent_line : (old new : World) (t s slice : ℕ) (m : Meaning) (line : Line) → IsTaken old t s slice m new → Some line ≡ option_map line_of (find_job s (view t new).jobs)
     → Follows old t (Take s slice) (Sent line) new
 sent_line old new t s slice m line it told =
-    let out : JobData = record it.job { phase = Out slice } in
+    let out : JobData = gone_out slice it.job in
     subst (λ l. Follows old t (Take s slice) (Sent l) new) (some_line out line (find_job s (view t new).jobs) (taken_out old new t s slice m it) told) it.follows
 
 -- ---- what is told is its purse's

@@ -54,12 +54,16 @@ fresh_search tenant plan = record { tenant = tenant; plan = plan; nodes = 0; lef
 abbrev pub meaning_of : ℕ → JobData → Meaning
 meaning_of tenant job = record { tenant = tenant; plan = job.plan; nodes = job.nodes; left = job.left; taken = false }
 
+-- the job once its search has gone out, for a turn of at most so many nodes
+abbrev pub gone_out : ℕ → JobData → JobData
+gone_out slice job = record job { phase = Out slice; here = false }
+
 -- the job with its search given up, where it is not at its end
 abbrev pub given_up : JobData → Phase → Option JobData
-given_up job Waiting = Some (record job { phase = Cancelled; left = 0 })
+given_up job Waiting = Some (record job { phase = Cancelled; left = 0; here = false })
 given_up job (Out slice) = Some (record job { phase = Leaving slice })
 given_up job (Leaving slice) = None
-given_up job Dry = Some (record job { phase = Cancelled; left = 0 })
+given_up job Dry = Some (record job { phase = Cancelled; left = 0; here = false })
 given_up job Closed = None
 given_up job Cancelled = None
 
@@ -69,9 +73,9 @@ abbrev pub phase_after : Phase → Bool → ℕ → Phase
 phase_after (Leaving slice) closed left = Cancelled
 phase_after phase closed left = cond closed Closed (cond (left == 0) Dry Waiting)
 
--- a job holds quanta only while its search is with it or out
+-- a job whose search is back: in that phase it keeps the search with its quanta, or neither
 abbrev pub settled : JobData → Phase → JobData
-settled job phase = record job { phase = phase; left = cond (is_here phase) job.left 0 }
+settled job phase = record job { phase = phase; left = cond (is_here phase) job.left 0; here = is_here phase }
 
 -- after a turn of so many nodes, whose search is back
 abbrev pub back : ℕ → JobData → JobData
@@ -94,7 +98,7 @@ pub record IsSent (old : TableData) (t s slice : ℕ) (m : Meaning) (new : Table
   pub waits : job.phase ≡ Waiting
   pub going : is_closed job.plan job.nodes ≡ false
   pub search : m ≡ meaning_of t job
-  pub after : new ≡ change_job t s job (record job { phase = Out slice }) old
+  pub after : new ≡ change_job t s job (gone_out slice job) old
 
 -- and comes back;
 pub record IsBack (old : TableData) (t s slice ran : ℕ) (m : Meaning) (new : TableData) : Type 0 where

@@ -5,7 +5,7 @@ use Rattle.strategy.specs.declared.plan.Plan.{Plan}
 use Rattle.job_table.specs.Table.{JobData, Row, TableData, find_row, change_job}
 use Rattle.job_table.specs.declared.phase.Phase.{Phase}
 
--- a job without its number and its phase: what is searched and how, how many nodes were paid, how many quanta it holds, and whether the search is there
+-- a job without its number and its phase: what is searched and how, how many nodes were paid, how many quanta it holds, and whether the search is with it
 pub record WorkData : Type 0 where
   pub plan : Plan
   pub nodes : ℕ
@@ -22,7 +22,7 @@ returned keep m work = record work { nodes = m.nodes; left = cond keep m.left 0;
 
 -- a job with other work, and in another phase
 abbrev pub with_work : WorkData → JobData → JobData
-with_work work job = record job { plan = work.plan; nodes = work.nodes; left = work.left }
+with_work work job = record job { plan = work.plan; nodes = work.nodes; left = work.left; here = work.here }
 
 abbrev pub in_phase : Phase → JobData → JobData
 in_phase phase job = record job { phase = phase }

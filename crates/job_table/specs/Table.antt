@@ -5,13 +5,15 @@ use Rattle.strategy.specs.declared.plan.Plan.{Plan}
 use Rattle.job_table.specs.declared.phase.Phase.{Phase}
 use Rattle.job_table.specs.declared.phase.Phase.TheVariants.{Waiting, Out, Leaving, Dry, Closed, Cancelled}
 
--- a job: its number, what is searched and how, its phase, how many nodes were paid, and how many quanta it holds
+-- a job: its number, what is searched and how, its phase, how many nodes were paid, how many quanta it holds, and whether its
+-- search is with it
 pub record JobData : Type 0 where
   pub seq : ℕ
   pub plan : Plan
   pub phase : Phase
   pub nodes : ℕ
   pub left : ℕ
+  pub here : Bool
 
 -- a job, and whose it is
 pub record Row : Type 0 where

@@ -56,7 +56,14 @@ impl<J> Model for Job<J> {
 
     ghost Value = { JobData };
 
-    ghost view = { λ j. record { seq = j.seq; plan = j.work.plan; phase = j.phase; nodes = j.work.nodes; left = j.work.left } };
+    ghost view = { λ j. record {
+      seq = j.seq;
+      plan = j.work.plan;
+      phase = j.phase;
+      nodes = j.work.nodes;
+      left = j.work.left;
+      here = j.work.here;
+    } };
 }
 
 /// Whether a search is at this point, with its best schedule, and not over.
@@ -341,7 +348,7 @@ impl<J: Strategy> Job<J> {
         requires limited { quanta ≤ LEASE_LIMIT }
         requires fresh { J.meaning search ≡ fresh_search tenant plan }
         ensures { IfOk result
-            (λ job. job ≡ record { seq = seq; plan = plan; phase = Phase.Waiting; nodes = 0; left = quanta }) }
+            (λ job. job ≡ record { seq = seq; plan = plan; phase = Phase.Waiting; nodes = 0; left = quanta; here = true }) }
     {
         Ok(Job {
             seq,

@@ -35,7 +35,7 @@ overflow_add-account g c =
     let it = account_in c.args.self.now c.args.tenant (vec_capacity c.self.inside.journal) c.account-account.result (subst (λ (x : World). IsFarm x (vec_capacity c.self.inside.journal)) c.self.view_is c.self.invariant.0) c.requires.known c.account-account.ensures.exact in
     omega (arith, it.used, c.has_room.ensures.few, next_few c.args.self.now c.args.tenant (vec_capacity c.self.inside.journal) c.account-account.result (subst (λ (x : World). IsFarm x (vec_capacity c.self.inside.journal)) c.self.view_is c.self.invariant.0) c.requires.known c.account-account.ensures.exact)
 
-moves : (g : Over) (c : After-write_down g) → let new : JobData = record { seq = c.account-account.result.next; plan = c.args.plan; phase = Waiting; nodes = 0; left = c.args.quanta } in
+moves : (g : Over) (c : After-write_down g) → let new : JobData = record { seq = c.account-account.result.next; plan = c.args.plan; phase = Waiting; nodes = 0; left = c.args.quanta; here = true } in
     IsMove c.args.self.now c.args.tenant (add_job c.args.tenant new (table_of c.args.self.now)) (record c.account-account.result { book = after_hold c.args.quanta c.account-account.result.book; next = c.account-account.result.next + 1; used = c.account-account.result.used + 1 }) (Submit c.args.plan c.args.quanta) (Replied (reply.Job c.account-account.result.next))
 moves g c = submit_moves c.args.self.now c.args.tenant (vec_capacity c.self.inside.journal) c.args.quanta c.account-account.result c.args.plan (subst (λ (x : World). IsFarm x (vec_capacity c.self.inside.journal)) c.self.view_is c.self.invariant.0) c.requires.known c.account-account.ensures.exact (sym c.has_room.ensures.exact ∙ c.if-not-has_room.false) c.requires.amount c.requires.jobs (c.in_default.ensures.enough.0 refl) c.requires.planned
 
@@ -47,7 +47,7 @@ wrote g c =
     let t = c.args.tenant in
     let account : Account = c.account-account.result in
     let then : Account = record account { book = after_hold c.args.quanta account.book; next = account.next + 1; used = account.used + 1 } in
-    let new : JobData = record { seq = account.next; plan = c.args.plan; phase = Waiting; nodes = 0; left = c.args.quanta } in
+    let new : JobData = record { seq = account.next; plan = c.args.plan; phase = Waiting; nodes = 0; left = c.args.quanta; here = true } in
     let event_is : c.write_down.new.journal.items ≡ c.self.inside.journal.items ++ one_entry t (Submit c.args.plan c.args.quanta) = c.write_down.ensures.journal ∙ ap (λ es. es ++ one_entry t c.args.event) c.keep_room.ensures.kept ∙ ap (λ (e : Event). c.self.inside.journal.items ++ one_entry t e) c.requires.event in
     let books_are : c.write_down.new.ledgers.books.items ≡ set c.self.inside.ledgers.books.items c.purse_of-purse.result then.book = c.write_down.ensures.books ∙ ap (set c.self.inside.ledgers.books.items c.purse_of-purse.result) c.in_default.ensures.held in
     let farm : IsFarm w (vec_capacity c.self.inside.journal) = subst (λ (x : World). IsFarm x (vec_capacity c.self.inside.journal)) c.self.view_is c.self.invariant.0 in

@@ -3,8 +3,7 @@ use Rattle.std.specs.Vec.{vec_capacity}
 use Rattle.std.proofs.lemmas.Bool.{and_parts}
 use Rattle.strategy.specs.Search.{Meaning}
 use Rattle.job_table.specs.Table.{is_waiting}
-use Rattle.job_table.specs.Job.{IsSent}
-use Rattle.job_table.specs.declared.phase.Phase.TheVariants.{Out}
+use Rattle.job_table.specs.Job.{gone_out, IsSent}
 use Rattle.farm_core.specs.Tenant.{line_of}
 use Rattle.farm_core.proofs.GiveLemmas.{IsGoing, take_moves, take_ready, take_refused}
 use Rattle.farm_core.proofs.TurnLemmas.{turn_fresh}
@@ -26,12 +25,12 @@ it g c =
     take_moves c.args.self.now c.args.tenant c.args.seq c.args.slice (vec_capacity c.self.inside.journal) c.account-account.result c.in-Some.line (g.J.Strategy.meaning c.in-Some-send.search) c.send.new.jobs (subst (λ (x : World). IsFarm x (vec_capacity c.self.inside.journal)) c.self.view_is c.self.invariant.0) c.requires c.account-account.ensures.exact
     (sym c.snapshot.ensures ∙ c.in-Some.is) (sym c.may_take.ensures.exact ∙ c.if-not-may_take.false) sent
 
-moves : (g : Over) (c : After-write_down g) → IsMove c.args.self.now c.args.tenant c.send.new.jobs (record c.account-account.result { book = c.account-account.result.book; used = c.account-account.result.used + 1 }) (Take c.args.seq c.args.slice) (Sent (line_of (record (it g c).job { phase = Out c.args.slice })))
+moves : (g : Over) (c : After-write_down g) → IsMove c.args.self.now c.args.tenant c.send.new.jobs (record c.account-account.result { book = c.account-account.result.book; used = c.account-account.result.used + 1 }) (Take c.args.seq c.args.slice) (Sent (line_of (gone_out c.args.slice (it g c).job)))
 moves g c = (it g c).moves
 
 wrote : (g : Over) (c : After-write_down g) →
     let v : World = record { config = c.self.inside.config; rows = c.send.new.jobs.rows; waiting = c.send.new.jobs.waiting; journal = c.write_down.new.journal.items; books = c.write_down.new.ledgers.books.items; numbers = c.write_down.new.ledgers.numbers.items } in
-    IsFarm v (vec_capacity c.write_down.new.journal) × Follows c.args.self.now c.args.tenant (Take c.args.seq c.args.slice) (Sent (line_of (record (it g c).job { phase = Out c.args.slice }))) v × ArePassed v c.self.inside.passed
+    IsFarm v (vec_capacity c.write_down.new.journal) × Follows c.args.self.now c.args.tenant (Take c.args.seq c.args.slice) (Sent (line_of (gone_out c.args.slice (it g c).job))) v × ArePassed v c.self.inside.passed
 wrote g c =
     let w : World = c.args.self.now in
     let t = c.args.tenant in
@@ -42,7 +41,7 @@ wrote g c =
     let is : v ≡ moved w t (c.send.new.jobs) then (one_entry t (Take c.args.seq c.args.slice)) = moved_is w c.self.inside.config c.self.inside.jobs (c.send.new.jobs) c.self.inside.journal.items c.write_down.new.journal.items c.self.inside.ledgers.books.items c.write_down.new.ledgers.books.items c.self.inside.ledgers.numbers.items c.write_down.new.ledgers.numbers.items t c.purse_of-purse.result (c.send.new.jobs) then (Take c.args.seq c.args.slice)
     c.self.view_is c.purse_of-purse.ensures.exact (refl) c.write_down.ensures.books c.write_down.ensures.numbers (c.write_down.ensures.journal ∙ ap (λ es. es ++ one_entry t (Take c.args.seq c.args.slice)) c.keep_room.ensures.kept) in
     let room : length w.journal + 1 + owed c.send.new.jobs.rows ≤ vec_capacity c.write_down.new.journal = omega (arith, (it g c).room, c.in-Ok.ensures.room, c.write_down.ensures.capacity, c.len.ensures, ap (λ (x : World). length x.journal) c.self.view_is, ap (λ (x : World). length x.rows) c.self.view_is) in
-    written_less w v t (c.send.new.jobs) then (Take c.args.seq c.args.slice) (Sent (line_of (record (it g c).job { phase = Out c.args.slice }))) (vec_capacity c.self.inside.journal) (vec_capacity c.write_down.new.journal) c.self.inside.passed farm (moves g c) is room
+    written_less w v t (c.send.new.jobs) then (Take c.args.seq c.args.slice) (Sent (line_of (gone_out c.args.slice (it g c).job))) (vec_capacity c.self.inside.journal) (vec_capacity c.write_down.new.journal) c.self.inside.passed farm (moves g c) is room
     (λ none. let room = (and_parts (is_waiting c.in-Some.line.phase && is_slice c.args.slice) (has_room 2 (view t w)) (sym c.may_take.ensures.exact ∙ c.if-not-may_take.false)).1 in absurd (cc))
     (subst (λ (x : World). ArePassed x c.self.inside.passed) c.self.view_is c.self.invariant.2)
 
