@@ -4,10 +4,10 @@ ghost use Rattle.farm_core.specs.Command.{IsFresh};
 ghost use Rattle.turn_lock.specs.Values.{IsPassOf};
 
 use crate::fixtures::{A, Planned};
-use crate::gates::Open;
+use crate::gates::Counting;
 use farm_core::{Name, Reply};
-use job_table::is_fresh;
 use farm_pool::{Command, Pool, PoolPass};
+use job_table::is_fresh;
 use session_lines::{Said, write_reply};
 use std::alloc::Global;
 use std::process::Abort;
@@ -71,25 +71,22 @@ pub(crate) fn command_of(ask: Ask) -> Command<Box<dyn Strategy>>
     }
 }
 
-/// What is said of a worker that takes what there is.
+/// What is said of a worker that takes what there is, and asks once whether to go on.
 fn work<R: Wait>(rt: &R, pool: &Pool, pass: &mut PoolPass) -> &'static str
     requires { IsPassOf pool.now.lock pass.old }
     ensures { IsPassOf pool.now.lock pass.new }
 {
-    let end = pool.work(rt, pass, &Open);
-    match (end.turns, end.strangers) {
-        (1, 0) => WORKED,
-        (0, 0) => SCARCE,
+    let gate = Counting::new();
+    let end = pool.work(rt, pass, &gate);
+    match (end.turns, end.strangers, gate.asked()) {
+        (1, 0, 1) => WORKED,
+        (0, 0, 1) => SCARCE,
         _ => "@a worked otherwise\n",
     }
 }
 
 /// The submit of the last of the searches that are ready.
-fn submit_of<R: Abort>(
-    rt: &R,
-    ready: &mut Vec<Planned>,
-    quanta: u64,
-) -> Command<Box<dyn Strategy>>
+fn submit_of<R: Abort>(rt: &R, ready: &mut Vec<Planned>, quanta: u64) -> Command<Box<dyn Strategy>>
     ensures { IsFresh (λ b. (Strategy-box b).meaning b.value) 0 result }
 {
     let Planned { plan, search } = ready.pop().expect(rt, "a search");

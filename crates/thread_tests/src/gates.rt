@@ -1,5 +1,7 @@
 //! Gates.
 use farm_pool::Gate;
+use std::alloc::Global;
+use std::sync::Arc;
 use std::sync::atomic::{AtomicU64, Ordering};
 
 /// The most polls of a worker that waits for another one.
@@ -14,6 +16,37 @@ impl Gate for Open {
     fn after(&self, _tenant: u32, _seq: u64) {}
 
     fn idle(&self) -> bool {
+        false
+    }
+}
+
+/// A gate that holds nobody, and counts how often its worker asked whether to go on. It ends then.
+#[derive(Drop)]
+pub(crate) struct Counting {
+    times: AtomicU64,
+}
+
+impl Counting {
+    /// A gate that nobody has asked.
+    pub(crate) fn new() -> Counting {
+        Counting {
+            times: AtomicU64::new(0),
+        }
+    }
+
+    /// How often it was asked.
+    pub(crate) fn asked(&self) -> u64 {
+        self.times.load(Ordering::SeqCst)
+    }
+}
+
+impl Gate for Counting {
+    fn before(&self, _tenant: u32, _seq: u64) {}
+
+    fn after(&self, _tenant: u32, _seq: u64) {}
+
+    fn idle(&self) -> bool {
+        self.times.fetch_add(1, Ordering::SeqCst);
         false
     }
 }
@@ -36,11 +69,21 @@ impl Meeting {
         }
     }
 
+    /// Comes, and goes on at once.
+    fn come(&self) {
+        self.come.fetch_add(1, Ordering::SeqCst);
+    }
+
+    /// How many have come.
+    fn here(&self) -> u64 {
+        self.come.load(Ordering::SeqCst)
+    }
+
     /// Comes, and waits for another one.
     pub(crate) fn wait(&self) {
-        self.come.fetch_add(1, Ordering::SeqCst);
+        self.come();
         for _ in 0..MOST_POLLS {
-            if self.come.load(Ordering::SeqCst) >= 2 {
+            if self.here() >= 2 {
                 return;
             }
         }
@@ -49,7 +92,7 @@ impl Meeting {
 
     /// Whether two have come, and nobody has gone on without another one.
     pub(crate) fn was_met(&self) -> bool {
-        self.come.load(Ordering::SeqCst) >= 2 && self.alone.load(Ordering::SeqCst) == 0
+        self.here() >= 2 && self.alone.load(Ordering::SeqCst) == 0
     }
 }
 
@@ -65,6 +108,51 @@ impl Gate for Pair {
     }
 
     fn after(&self, _tenant: u32, _seq: u64) {}
+
+    fn idle(&self) -> bool {
+        false
+    }
+}
+
+/// A gate for one turn, of a search whose first node comes to a meeting: the gate comes there before the node, and leaves after it.
+#[derive(Drop)]
+pub(crate) struct Escort {
+    meeting: Arc<Meeting, Global>,
+    /// How often a node had come before the gate, or had not come when it was left.
+    astray: AtomicU64,
+}
+
+impl Escort {
+    /// A gate that nobody has passed.
+    pub(crate) fn new(meeting: Arc<Meeting, Global>) -> Escort {
+        Escort {
+            meeting,
+            astray: AtomicU64::new(0),
+        }
+    }
+
+    /// Whether the node came between.
+    pub(crate) fn has_met(&self) -> bool {
+        self.meeting.was_met() && self.astray.load(Ordering::SeqCst) == 0
+    }
+
+    /// Notes whether others than so many have come.
+    fn look(&self, wanted: u64) {
+        if self.meeting.here() != wanted {
+            self.astray.fetch_add(1, Ordering::SeqCst);
+        }
+    }
+}
+
+impl Gate for Escort {
+    fn before(&self, _tenant: u32, _seq: u64) {
+        self.look(0);
+        self.meeting.come();
+    }
+
+    fn after(&self, _tenant: u32, _seq: u64) {
+        self.look(2);
+    }
 
     fn idle(&self) -> bool {
         false

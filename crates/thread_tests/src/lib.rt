@@ -9,8 +9,8 @@
 //! - `threads`: threads that add to one counter, and passes that come back from them.
 //! - `turns`: a counter under the lock, at which many threads take turns.
 //! - `fixtures`: a project, its searches in boxes, tills, configurations and pools.
-//! - `gates`: a gate that no worker waits at, one that two turns have to pass at once, and where
-//!   two meet.
+//! - `gates`: gates that no worker waits at, one that two turns have to pass at once, one that a
+//!   turn's first node passes in its time, and where two meet.
 //! - `patient`: a search that waits at its first node for another one's.
 //! - `stand`: a pool of two tenants with a pass and their purses.
 //! - `crew`: workers at once, and passes that come back from them.

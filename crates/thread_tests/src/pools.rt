@@ -3,7 +3,7 @@ ghost use Rattle.std.specs.Prelude.{◌<◌};
 
 use crate::calls::is_line;
 use crate::fixtures::{A, B, patient_of, tree_of};
-use crate::gates::{Meeting, Open, Pair, Witness};
+use crate::gates::{Escort, Meeting, Open, Pair, Witness};
 use crate::stand::Stand;
 use farm_pool::{Command, Unsettled, WorkEnd};
 use quanta_till::Till;
@@ -87,6 +87,20 @@ fn two_searches_run_at_once(rt: HostRuntime) {
     let ends = stand.work_both(&rt, &Open);
     assert!(rt; meeting.was_met());
     assert!(rt; turns_of(ends) == 4 && strangers_of(ends) == 0);
+    assert!(rt; matches!(stand.settle(), Some(Ok(_))));
+}
+
+// The gate comes to the meeting before the turn's first node, and is left after it.
+#[test]
+fn nodes_run_between_the_gates_calls(rt: HostRuntime) {
+    let mut stand = Stand::new(&rt, rt.alloc(), 100);
+    let meeting = Arc::new(rt.alloc(), Meeting::new()).expect(&rt, "no memory for a meeting");
+    let patient = patient_of(&rt, rt.alloc(), stand.lease(&rt, A), &meeting);
+    stand.submit(&rt, A, 2, patient);
+    let gate = Escort::new(meeting);
+    let end = stand.work(&rt, &gate);
+    assert!(rt; end.turns == 1 && end.strangers == 0);
+    assert!(rt; gate.has_met());
     assert!(rt; matches!(stand.settle(), Some(Ok(_))));
 }
 
