@@ -1,5 +1,5 @@
 -- Searches that are submitted are fresh.
-use Rattle.std.proofs.Common.{◌≡◌, ℕ, Option, Some}
+use Rattle.std.proofs.Common.{◌≡◌, ℕ, Option, Some, subst}
 use Rattle.quanta_till.specs.Lease.{empty_lease}
 use Rattle.strategy.specs.Search.{Meaning}
 use Rattle.strategy.specs.declared.plan.Plan.{Plan}
@@ -16,16 +16,16 @@ use Rattle.farm_session.specs.Ready.{ReadyData, MakesFresh}
 
 -- a request that submits nothing asks for no submit
 of_submit : (request : What) (plan : Plan) (quanta : ℕ) → event_in request ≡ Some (event.Submit plan quanta) → IsNoSubmit request → ⊥
-of_submit (Submit kind n project) plan quanta e no = no
-of_submit (Fund seq n) plan quanta e no = absurd (cc)
-of_submit (Status seq) plan quanta e no = absurd (cc)
-of_submit (Fetch seq) plan quanta e no = absurd (cc)
-of_submit (Cancel seq) plan quanta e no = absurd (cc)
-of_submit (Forget seq) plan quanta e no = absurd (cc)
-of_submit Ledger plan quanta e no = absurd (cc)
-of_submit (Take seq slice) plan quanta e no = absurd (cc)
-of_submit (Give seq) plan quanta e no = absurd (cc)
-of_submit (Turn seq slice) plan quanta e no = absurd (cc)
+of_submit (Submit kind n project) plan quanta e is = is
+of_submit (Fund seq n) plan quanta e is = absurd (cc)
+of_submit (Status seq) plan quanta e is = absurd (cc)
+of_submit (Fetch seq) plan quanta e is = absurd (cc)
+of_submit (Cancel seq) plan quanta e is = absurd (cc)
+of_submit (Forget seq) plan quanta e is = absurd (cc)
+of_submit Ledger plan quanta e is = absurd (cc)
+of_submit (Take seq slice) plan quanta e is = absurd (cc)
+of_submit (Give seq) plan quanta e is = absurd (cc)
+of_submit (Turn seq slice) plan quanta e is = absurd (cc)
 
 -- so its command needs no search
 pub command_fresh : {J : Type 0} (meaning : J → Meaning) (t : ℕ) (request : What) (asked : Command J) → IsCommandOf request (Some asked) → IsFresh meaning t asked
@@ -39,5 +39,9 @@ command_fresh meaning t request command.Ledger is = tt
 
 -- a search that was made for a tenant's plan is fresh
 pub made_fresh : {J : Type 0} (meaning : J → Meaning) (made : ReadyData → Option J → Type 0) → MakesFresh meaning made →
-    (old new : BranchValue) (t : ℕ) (plan : Plan) (search : J) → HasLeased made old (record { plan = plan; lease = empty_lease old.till t }) (Some search) new → meaning search ≡ fresh_search t plan
-made_fresh meaning made makes old new t plan search leased = makes (record { plan = plan; lease = empty_lease old.till t }) search leased.1
+    (old new : BranchValue) (t : ℕ) (plan : Plan) (result : Option J) (search : J) → result ≡ Some search →
+    HasLeased made old (record { plan = plan; lease = empty_lease old.till t }) result new → meaning search ≡ fresh_search t plan
+made_fresh meaning made makes old new t plan result search is leased =
+    let ready : ReadyData = record { plan = plan; lease = empty_lease old.till t } in
+    let some : HasLeased made old ready (Some search) new = subst (λ r. HasLeased made old ready r new) is leased in
+    makes ready search some.1

@@ -10,7 +10,7 @@ use Rattle.farm_session.proofs.FreshLemmas.{command_fresh}
 use Rattle.farm_replay.proofs.floor.Floor.answer.Goals as goal
 
 pub command-requires-clause-fresh : goal.command-requires-clause-fresh
-command-requires-clause-fresh g c = command_fresh g.J.Strategy.meaning c.args.tenant c.args.asked c.in-Some.command c.in-Some.ensures
+command-requires-clause-fresh g c κs within = command_fresh g.J.Strategy.meaning c.args.tenant c.args.asked c.in-Some.command c.in-Some.ensures
 
 pub returns-in-Some-clause-told : goal.returns-in-Some-clause-told
 returns-in-Some-clause-told g c =

@@ -6,8 +6,8 @@ use Rattle.farm_session.proofs.FreshLemmas.{made_fresh}
 use Rattle.farm_replay.proofs.floor.Floor.submit.Goals as goal
 
 pub submit-requires-clause-fresh : goal.submit-requires-clause-fresh
-submit-requires-clause-fresh g c =
-    made_fresh g.J.Strategy.meaning (goal.M-post g c.args.make.now) c.requires.fresh c.args.branch.now c.search_of.new.branch c.args.tenant c.args.plan c.in_default.search c.search_of.ensures
+submit-requires-clause-fresh g c κs within =
+    made_fresh g.J.Strategy.meaning (goal.M-post g c.args.make.now) c.requires.fresh c.args.branch.now c.search_of.new.branch c.args.tenant c.args.plan c.search_of.result c.in-Some.search c.in-Some.is c.search_of.ensures
 
 pub returns-in_default-clause-told : goal.returns-in_default-clause-told
 returns-in_default-clause-told g c = unanswered c.args.self.now.farm c.args.tenant (what.Submit c.args.plan.kind c.args.quanta c.args.plan.project) c.requires.known refl
