@@ -9,4 +9,5 @@ spawn_with-spawned-requires-clause-runs g c κs within = (
   c.requires.1,
   c.in-Ok.ensures.own c.captures.config.now c.loop-i.invariant.tills,
   c.requires.3,
+  c.requires.4,
 )
