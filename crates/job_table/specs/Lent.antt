@@ -5,7 +5,8 @@ use Rattle.strategy.specs.declared.plan.Plan.{Plan}
 use Rattle.job_table.specs.Table.{JobData, Row, TableData, find_row, change_job}
 use Rattle.job_table.specs.declared.phase.Phase.{Phase}
 
--- a job without its number and its phase: what is searched and how, how many nodes were paid, how many quanta it holds, and whether the search is with it
+-- a job without its number and its phase: what is searched and how, how many nodes were paid, how
+-- many quanta it holds, and whether its search is with it
 pub record WorkData : Type 0 where
   pub plan : Plan
   pub nodes : ℕ

@@ -5,8 +5,8 @@ use Rattle.strategy.specs.declared.plan.Plan.{Plan}
 use Rattle.job_table.specs.declared.phase.Phase.{Phase}
 use Rattle.job_table.specs.declared.phase.Phase.TheVariants.{Waiting, Out, Leaving, Dry, Closed, Cancelled}
 
--- a job: its number, what is searched and how, its phase, how many nodes were paid, how many quanta it holds, and whether its
--- search is with it
+-- a job: its number, what is searched and how, its phase, how many nodes were paid, how many quanta
+-- it holds, and whether its search is with it
 pub record JobData : Type 0 where
   pub seq : ℕ
   pub plan : Plan
