@@ -200,6 +200,25 @@ pub(crate) fn pool_of(alloc: Global, config: &Config, tenants: usize) -> Option<
     Pool::new(alloc, config).ok()
 }
 
+/// Whether no lease of a till holds any of its quanta.
+fn is_whole(till: &Till, desk: &mut Desk) -> bool
+    requires { desk.old.id ≡ till.now.id }
+{
+    let words = till.words(desk);
+    words.pool.checked_add(words.spent) == Some(words.granted)
+}
+
+/// How a farm ended, where jobs that held quanta were dropped with it: then all quanta are back.
+fn once_dropped(
+    ended: Result<Settled, Unsettled>,
+    is_whole: bool,
+) -> Option<Result<Settled, Unsettled>> {
+    if !is_whole && matches!(&ended, Err(Unsettled::Held(_, _))) {
+        return None;
+    }
+    Some(ended)
+}
+
 /// How a farm of two purses is settled with them.
 #[tactic(auto, using(crate::proofs::SeatLemmas::two_seated, crate::proofs::SeatLemmas::two_tills))]
 pub(crate) fn settle(
@@ -213,9 +232,24 @@ pub(crate) fn settle(
     if config.purses() != 2 || !first.is_of(config, 0) || !second.is_of(config, 1) {
         return None;
     }
-    let tills = [first.till, second.till];
-    let mut desks = [first.desk, second.desk];
-    Some(finish(farm, &tills, &mut desks))
+    let Purse {
+        till: one,
+        desk: mut at_one,
+        ..
+    } = first;
+    let Purse {
+        till: other,
+        desk: mut at_other,
+        ..
+    } = second;
+    let mut beside_one = one.desk(&mut at_one);
+    let mut beside_other = other.desk(&mut at_other);
+    let tills = [one, other];
+    let mut desks = [at_one, at_other];
+    let ended = finish(farm, &tills, &mut desks);
+    let [one, other] = tills;
+    let is_whole = is_whole(&one, &mut beside_one) && is_whole(&other, &mut beside_other);
+    once_dropped(ended, is_whole)
 }
 
 /// How a farm of one purse is settled with it.
@@ -230,7 +264,11 @@ pub(crate) fn settle_shared(
     if config.purses() != 1 || !purse.is_of(config, 0) {
         return None;
     }
-    let tills = [purse.till];
-    let mut desks = [purse.desk];
-    Some(finish(farm, &tills, &mut desks))
+    let Purse { till, mut desk, .. } = purse;
+    let mut beside = till.desk(&mut desk);
+    let tills = [till];
+    let mut desks = [desk];
+    let ended = finish(farm, &tills, &mut desks);
+    let [till] = tills;
+    once_dropped(ended, is_whole(&till, &mut beside))
 }
