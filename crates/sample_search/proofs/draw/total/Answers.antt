@@ -1,18 +1,12 @@
-use Rattle.std.proofs.Common.{◌≡◌, ℕ, ◌+◌, ◌*◌, length, arith, ap}
-use Rattle.std.specs.Prelude.{sum_by}
-use Rattle.strategy.specs.Pass.{weight_of}
+use Rattle.std.proofs.Common.{ℕ, ◌+◌, ◌*◌, length, arith, ap}
 use Rattle.sample_search.proofs.DrawLemmas.{all_weights, weights_some}
-use Rattle.sample_search.proofs.draw.total.Given.{Over}
 use Rattle.sample_search.proofs.draw.total.Goals as goal
 
-all : (g : Over) (c : goal.After-struct_known-2-1 g) → sum_by (weight_of g.project c.args.activities.now) c.args.activities.now + c.args.finishes.sum ≡ length c.args.activities.now * (c.args.finishes.greatest + 1)
-all g c = omega (arith, all_weights g.project c.args.activities.now, c.requires.1.1.0, ap (λ (greatest : ℕ). length c.args.activities.now * (greatest + 1)) c.requires.1.0)
-
 pub overflow_sub-result : goal.overflow_sub-result
-overflow_sub-result g c = omega (arith, all g c)
+overflow_sub-result g c = omega (arith, all_weights g.project c.args.activities.now, c.requires.1.1.0, ap (λ (greatest : ℕ). length c.args.activities.now * (greatest + 1)) c.requires.1.0)
 
 pub returns-clause-exact : goal.returns-clause-exact
-returns-clause-exact g c = omega (arith, all g c)
+returns-clause-exact g c = omega (arith, all_weights g.project c.args.activities.now, c.requires.1.1.0, ap (λ (greatest : ℕ). length c.args.activities.now * (greatest + 1)) c.requires.1.0)
 
 pub returns-clause-some : goal.returns-clause-some
-returns-clause-some g c some = omega (arith, all g c, weights_some g.project c.args.activities.now, some)
+returns-clause-some g c some = omega (arith, all_weights g.project c.args.activities.now, c.requires.1.1.0, ap (λ (greatest : ℕ). length c.args.activities.now * (greatest + 1)) c.requires.1.0, weights_some g.project c.args.activities.now, some)
