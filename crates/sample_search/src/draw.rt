@@ -20,20 +20,33 @@ fn latest_finish(measures: &Measures, activity: usize) -> u32
     measures.lft(activity)
 }
 
-/// The greatest latest finish time of these activities.
-#[tactic(auto, using(crate::proofs::DrawLemmas::largest_more))]
-fn greatest(measures: &Measures, activities: &[usize]) -> u32
+/// Latest finish times of some activities.
+#[derive(Clone, Copy)]
+struct Finishes {
+    /// The greatest of them.
+    greatest: u32,
+    /// The sum of them all.
+    sum: u32,
+}
+
+/// The latest finish times of these activities.
+#[tactic(auto, using(crate::proofs::DrawLemmas::largest_more, crate::proofs::DrawLemmas::sum_more))]
+fn finishes_of(measures: &Measures, activities: &[usize]) -> Finishes
     ghost project: { ProjectData }
     requires measures { AreMeasures project measures.now }
     requires activities { AreActivities project activities.now }
-    ensures exact { result ≡ largest (map (lft project) activities.now) }
-    ensures most { result ≤ MOST_HORIZON }
+    ensures greatest { result.greatest ≡ largest (map (lft project) activities.now) }
+    ensures sum { result.sum ≡ sum_by (lft project) activities.now }
+    ensures most { result.greatest ≤ MOST_HORIZON }
 {
     let mut greatest = 0;
+    let mut sum = 0;
     for activity in activities {
-        greatest = greatest.max(latest_finish(measures, *activity));
+        let latest = latest_finish(measures, *activity);
+        greatest = greatest.max(latest);
+        sum += latest;
     }
-    greatest
+    Finishes { greatest, sum }
 }
 
 /// How much sooner than this period an activity has to finish, and one more.
@@ -49,21 +62,18 @@ fn weight(measures: &Measures, greatest: u32, activity: usize) -> u32
     greatest - latest_finish(measures, activity) + 1
 }
 
-/// The sum of the weights of these activities, whose greatest latest finish time is given.
-fn total(measures: &Measures, activities: &[usize], greatest: u32) -> u32
+/// The sum of the weights of these activities, whose latest finish times are given.
+fn total(activities: &[usize], finishes: Finishes) -> u32
     ghost project: { ProjectData }
-    requires measures { AreMeasures project measures.now }
     requires activities { AreActivities project activities.now }
-    requires greatest { greatest ≡ largest (map (lft project) activities.now) }
-    requires most { greatest ≤ MOST_HORIZON }
+    requires greatest { finishes.greatest ≡ largest (map (lft project) activities.now) }
+    requires sum { finishes.sum ≡ sum_by (lft project) activities.now }
+    requires most { finishes.greatest ≤ MOST_HORIZON }
     ensures exact { result ≡ sum_by (weight_of project activities.now) activities.now }
     ensures some { 0 < length activities.now → 0 < result }
 {
-    let mut total = 0;
-    for activity in activities {
-        total += weight(measures, greatest, *activity);
-    }
-    total
+    let count = activities.len() as u32;
+    count * (finishes.greatest + 1) - finishes.sum
 }
 
 /// The activity that a word draws from these, none where there are none: the first at which the running sum of their
@@ -78,10 +88,10 @@ pub(crate) fn draw_activity(measures: &Measures, activities: &[usize], word: u32
     if activities.is_empty() {
         return None;
     }
-    let greatest = greatest(measures, activities);
-    let mut rest = word % total(measures, activities, greatest);
+    let finishes = finishes_of(measures, activities);
+    let mut rest = word % total(activities, finishes);
     for activity in activities {
-        let weight = weight(measures, greatest, *activity);
+        let weight = weight(measures, finishes.greatest, *activity);
         if rest < weight {
             return Some(*activity);
         }

@@ -131,6 +131,7 @@ impl Nodes for SamplePasses {
         self.best.schedule()
     }
 
+    #[inline(always)]
     fn advance(&mut self) {
         let activities = self.pass.project().activities().len();
         run_node(&mut self.pass, &self.measures, &mut self.words);

@@ -9,6 +9,6 @@ weight-weight-requires g c =
       c.requires.0,
       (
         c.requires.1.inside i 0 here,
-        (omega (arith, lft-le-greatest g.project c.args.activities.now i here, c.greatest-greatest.ensures.exact), c.greatest-greatest.ensures.most),
+        (omega (arith, lft-le-greatest g.project c.args.activities.now i here, c.finishes_of-finishes.ensures.greatest), c.finishes_of-finishes.ensures.most),
       ),
     )

@@ -2,8 +2,8 @@ use Rattle.std.proofs.Common.{◌≡◌, drop}
 use Rattle.strategy.specs.Pass.{weight_of, drawn_at, drawn_activity}
 use Rattle.sample_search.proofs.draw.draw_activity.Given as goal
 
-abbrev pub ghost-greatest : goal.ghost-greatest
-ghost-greatest g a = g.project
+abbrev pub ghost-finishes_of : goal.ghost-finishes_of
+ghost-finishes_of g a = g.project
 
 abbrev pub ghost-total : goal.ghost-total
 ghost-total g a = g.project
