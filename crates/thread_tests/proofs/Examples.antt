@@ -110,7 +110,7 @@ take_served : Served config first (said.Next 100) (Some (entry (Take 1 100))) (t
 unfolding newcomers first_member purse_of members_of place_of to_submit held free kept line_of
 take_served = record {
   answers = record {
-    job = record { seq = 1; plan = plan; phase = Waiting; nodes = 0; left = 9 };
+    job = record { seq = 1; plan = plan; phase = Waiting; nodes = 0; left = 9; here = true };
     known = omega arith;
     found = refl;
     search = refl;
@@ -125,7 +125,7 @@ give_served : Served config second (said.Back run) (Some (entry (Give 1 3))) (to
 unfolding newcomers first_member purse_of members_of place_of to_submit held free kept line_of nodes_of_turn best_after is_closed verdict_after tree.tree_best_after tree.is_tree_over tree.all_visits tree.candidates tree.is_pruned tree.updated tree.visit_one pass chosen_at eligible_ones allowed_modes is_allowed_mode placed_from lft duration size modes renewables nonrenewables mode_count successors request consumption capacity stock precedes load shortest least placed_use placed_consumption last_start are_ready fits is_allowed earliest is_eligible is_executable reserve is_affordable tail schedule_of makespan finish start_of mode_of bound
 give_served = record {
   answers = record {
-    job = record { seq = 1; plan = plan; phase = Out 100; nodes = 0; left = 9 };
+    job = record { seq = 1; plan = plan; phase = Out 100; nodes = 0; left = 9; here = false };
     found = refl;
     own = record { turn = refl; owner = refl; plan = refl; nodes = refl; left = refl };
     steps = record { answer_is = refl; entry_is = refl };

@@ -2,10 +2,9 @@
 ghost use Rattle.std.specs.Prelude.{◌≡◌, length};
 ghost use Rattle.turn_lock.specs.Values.{IsPassOf};
 
-use crate::calls::{Ask, command_of};
 use crate::fixtures::A;
 use farm_core::Reply;
-use farm_pool::{Gate, Pool, PoolPass, WorkEnd};
+use farm_pool::{Command, Gate, Pool, PoolPass, WorkEnd};
 use std::sync::Wait;
 use std::sync::atomic::{AtomicU64, Ordering};
 use std::thread;
@@ -62,8 +61,8 @@ fn cancel_twice<R: Wait>(rt: &R, pool: &Pool, pass: &mut PoolPass, gate: &Barrie
     ensures own { IsPassOf pool.now.lock pass.new }
 {
     wait_for(&gate.held);
-    let first = pool.call(rt, pass, A, command_of(Ask::Cancel(1)));
-    let second = pool.call(rt, pass, A, command_of(Ask::Cancel(1)));
+    let first = pool.call(rt, pass, A, Command::Cancel(1));
+    let second = pool.call(rt, pass, A, Command::Cancel(1));
     gate.opened.store(1, Ordering::SeqCst);
     (first, second)
 }

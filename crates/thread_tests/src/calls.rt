@@ -1,5 +1,5 @@
 //! What is asked of a pool, and the text of what it answers.
-ghost use Rattle.std.specs.Prelude.{◌≡◌, ℕ, ◌<◌, length};
+ghost use Rattle.std.specs.Prelude.{◌≡◌, ◌<◌, length};
 ghost use Rattle.farm_core.specs.Command.{IsFresh};
 ghost use Rattle.turn_lock.specs.Values.{IsPassOf};
 
@@ -58,8 +58,8 @@ pub(crate) fn is_line(rt: &impl Abort, alloc: Global, reply: Reply, line: &str) 
 }
 
 /// A command that needs no search: the ledger, where it is none of the others.
-pub(crate) fn command_of(ask: Ask) -> Command<Box<dyn Strategy>>
-    ensures { (tenant : ℕ) → IsFresh (λ b. (Strategy-box b).meaning b.value) tenant result }
+fn command_of(ask: Ask) -> Command<Box<dyn Strategy>>
+    ensures { IsFresh (λ b. (Strategy-box b).meaning b.value) 0 result }
 {
     match ask {
         Ask::Fund(seq, quanta) => Command::Fund { seq, quanta },
@@ -108,6 +108,26 @@ fn bytes_of(rt: &impl Abort, alloc: Global, said: &str) -> Vec<u8> {
     text
 }
 
+/// What the pool replies to a call of tenant a.
+fn reply_to<R: Wait + Abort>(
+    rt: &R,
+    pool: &Pool,
+    pass: &mut PoolPass,
+    ready: &mut Vec<Planned>,
+    ask: Ask,
+) -> Reply
+    requires own { IsPassOf pool.now.lock pass.old }
+    requires known { length pool.now.lock.opening.tenants ≡ 1 }
+    ensures own { IsPassOf pool.now.lock pass.new }
+{
+    if let Ask::Submit(quanta) = ask {
+        let command = submit_of(rt, ready, quanta);
+        return pool.call(rt, pass, A, command);
+    }
+    let command = command_of(ask);
+    pool.call(rt, pass, A, command)
+}
+
 /// Makes a call, and tells what is said of it. A submit takes the last of the searches that are
 /// ready.
 pub(crate) fn make<R: Wait + Abort>(
@@ -122,10 +142,9 @@ pub(crate) fn make<R: Wait + Abort>(
     requires known { length pool.now.lock.opening.tenants ≡ 1 }
     ensures own { IsPassOf pool.now.lock pass.new }
 {
-    let command = match ask {
-        Ask::Work => return bytes_of(rt, alloc, work(rt, pool, pass)),
-        Ask::Submit(quanta) => submit_of(rt, ready, quanta),
-        _ => command_of(ask),
-    };
-    text_of(rt, alloc, pool.call(rt, pass, A, command))
+    if matches!(ask, Ask::Work) {
+        return bytes_of(rt, alloc, work(rt, pool, pass));
+    }
+    let reply = reply_to(rt, pool, pass, ready, ask);
+    text_of(rt, alloc, reply)
 }

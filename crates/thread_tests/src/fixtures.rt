@@ -247,8 +247,7 @@ pub(crate) fn settle(
     let tills = [one, other];
     let mut desks = [at_one, at_other];
     let ended = finish(farm, &tills, &mut desks);
-    let [one, other] = tills;
-    let is_whole = is_whole(&one, &mut beside_one) && is_whole(&other, &mut beside_other);
+    let is_whole = is_whole(&tills[0], &mut beside_one) && is_whole(&tills[1], &mut beside_other);
     once_dropped(ended, is_whole)
 }
 
@@ -269,6 +268,5 @@ pub(crate) fn settle_shared(
     let tills = [till];
     let mut desks = [desk];
     let ended = finish(farm, &tills, &mut desks);
-    let [till] = tills;
-    once_dropped(ended, is_whole(&till, &mut beside))
+    once_dropped(ended, is_whole(&tills[0], &mut beside))
 }

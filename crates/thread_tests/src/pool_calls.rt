@@ -4,11 +4,11 @@ ghost use Rattle.turn_lock.specs.Values.{IsPassOf};
 
 use crate::beside::{Barrier, cancel_beside};
 use crate::calls::Ask::{Cancel, Fetch, Forget, Fund, Ledger, Status, Submit, Work};
-use crate::calls::{WORKED, command_of, is_line, make};
+use crate::calls::{WORKED, is_line, make};
 use crate::fixtures::{A, Purse, config_of, pool_of, trees_of};
 use crate::play::{ALONE, Known, Step, play};
 use farm_core::Reply;
-use farm_pool::{Pool, PoolPass};
+use farm_pool::{Command, Pool, PoolPass};
 use std::alloc::Global;
 use std::process::Abort;
 use std::sync::Wait;
@@ -165,7 +165,7 @@ fn cancel_while_out<R: Threads + Wait + Sync + Abort>(
         )
     );
     assert!(rt; is_line(rt, alloc, second, "@a no over\n"));
-    let third = pool.call(rt, pass, A, command_of(Status(1)));
+    let third = pool.call(rt, pass, A, Command::Status(1));
     assert!(rt;
         is_line(
             rt,

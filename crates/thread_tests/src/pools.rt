@@ -1,5 +1,6 @@
 //! Pools with their workers in threads.
 ghost use Rattle.std.specs.Prelude.{◌<◌};
+ghost use Rattle.farm_core.specs.Command.{IsFresh};
 
 use crate::calls::is_line;
 use crate::fixtures::{A, B, patient_of, tree_of};
@@ -24,7 +25,8 @@ fn tells<R: Wait + Abort>(
     command: Command<Box<dyn Strategy>>,
     line: &str,
 )
-    requires { tenant < 2 }
+    requires known { tenant < 2 }
+    requires fresh { IsFresh (λ b. (Strategy-box b).meaning b.value) tenant command }
 {
     let reply = stand.ask(rt, tenant, command);
     assert!(rt; is_line(rt, alloc, reply, line), "{line}");
