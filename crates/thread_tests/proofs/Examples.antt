@@ -1,5 +1,5 @@
 -- A pool in which a job was submitted, searched to its end by a worker's turn, and its best schedule was asked for.
-use Rattle.std.proofs.Common.{◌≡◌, ℕ, false, List, [], ◌∷◌, Some, None, refl, subst, arith}
+use Rattle.std.proofs.Common.{◌≡◌, ℕ, true, false, List, [], ◌∷◌, Some, None, refl, subst, arith}
 use Rattle.mrcpsp.specs.Project.{ProjectData, ModeData, size, renewables, nonrenewables, modes, mode_count, successors, duration, request, consumption, capacity, stock, precedes}
 use Rattle.mrcpsp.specs.Schedule.{ScheduleData, IsOptimal, mode_of, start_of, finish, load, makespan}
 use Rattle.mrcpsp.specs.Values.{shortest, least, tail, lft, bound}
