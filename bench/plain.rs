@@ -53,9 +53,9 @@ impl<T: Nodes> Search for Paid<T> {
 
     fn verdict(&self) -> &'static str {
         match (self.nodes.is_over(), self.best()) {
-            (false, _) => "Going",
-            (true, None) => "Infeasible",
-            (true, Some(_)) => "Optimal",
+            (false, _) => "open",
+            (true, None) => "infeasible",
+            (true, Some(_)) => "optimal",
         }
     }
 }
