@@ -81,12 +81,12 @@ impl<'a, R: Wait + Clock> Gate for Seat<'a, R> {
     fn idle(&self) -> bool {
         let bell = self.lobby.bell.lock(self.rt);
         let seen = self.seen.get();
-        let bell = if bell.left > 0 && bell.rings == seen {
-            let rest = Duration::from_millis(LONGEST_REST);
-            self.lobby.rung.wait_timeout(self.rt, bell, rest).0
-        } else {
-            bell
-        };
+        let rest = Duration::from_millis(LONGEST_REST);
+        let is_quiet = |bell: &mut Bell| bell.left > 0 && bell.rings == seen;
+        let (bell, _) = self
+            .lobby
+            .rung
+            .wait_timeout_while(self.rt, bell, rest, is_quiet);
         self.seen.set(bell.rings);
         bell.left > 0
     }

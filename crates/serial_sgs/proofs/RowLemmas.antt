@@ -51,3 +51,19 @@ consumption_small p j m r project inside known =
     (λ (among : r < nonrenewables p). let limited = project.limited j m inside known in limited.consumptions r 0 (omega (arith, limited.nonrenewables)))
     (λ (past : nonrenewables p ≤ r). omega (arith, consumption_past p j m r project inside known past))
     (cases_lt r (nonrenewables p))
+
+pub capacity_small : (p : ProjectData) (r : ℕ) → IsProject p → capacity p r ≤ 1000000
+unfolding capacity renewables
+capacity_small p r project =
+    ⊎_elim
+    (λ (among : r < renewables p). project.capacities r 0 among)
+    (λ (past : renewables p ≤ r). omega (arith, capacity_past p r past))
+    (cases_lt r (renewables p))
+
+pub stock_small : (p : ProjectData) (r : ℕ) → IsProject p → stock p r ≤ 1000000
+unfolding stock nonrenewables
+stock_small p r project =
+    ⊎_elim
+    (λ (among : r < nonrenewables p). project.stocks r 0 among)
+    (λ (past : nonrenewables p ≤ r). omega (arith, stock_past p r past))
+    (cases_lt r (nonrenewables p))

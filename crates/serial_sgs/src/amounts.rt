@@ -8,9 +8,12 @@ use mrcpsp::MOST_RESOURCES;
 /// An amount of each resource.
 pub(crate) type Amounts = [u32; MOST_RESOURCES];
 
-/// The most that two amounts that are added may come to, which 32 bits hold. It is enough: of a nonrenewable resource at most
+/// The most that two amounts that are added may come to, below `GUARD`. It is enough: of a nonrenewable resource at most
 /// `MOST_AMOUNT` is needed for each activity, and of a renewable one at most its capacity is used in a period.
-pub(crate) const MOST_SUM: u32 = 4_000_000_000;
+pub(crate) const MOST_SUM: u32 = 2_000_000_000;
+
+/// The highest bit. A difference of two amounts has it where more is taken away than there is.
+const GUARD: u32 = 1 << 31;
 
 /// Adds these amounts to those.
 pub(crate) fn add(amounts: &mut Amounts, more: &Amounts)
@@ -41,14 +44,15 @@ pub(crate) fn subtract(amounts: &mut Amounts, less: &Amounts)
 /// Whether these amounts are within the most of each, with so much more of each.
 pub(crate) fn fits(amounts: &Amounts, more: &Amounts, most: &Amounts) -> bool
     requires few { (r : ℕ) → r < MOST_RESOURCES → slice_index amounts.now r + slice_index more.now r ≤ MOST_SUM }
+    requires most { (r : ℕ) → r < MOST_RESOURCES → slice_index most.now r ≤ MOST_SUM }
     ensures { IsTrue result ↔ ((r : ℕ) → r < MOST_RESOURCES
         → slice_index amounts.now r + slice_index more.now r ≤ slice_index most.now r) }
 {
     let mut over: u32 = 0;
     for kind in 0..MOST_RESOURCES {
-        over |= (amounts[kind] + more[kind]).saturating_sub(most[kind]);
+        over |= most[kind].wrapping_sub(amounts[kind] + more[kind]);
     }
-    over == 0
+    over < GUARD
 }
 
 /// Whether these amounts are the same as those.

@@ -96,7 +96,7 @@ fn rows_of(
     requires activity { activity < size project.now }
     ensures { IfOk result (λ rows. AreRows project.now activity (mode_count project.now activity) rows.items) }
 {
-    let mut rows = Vec::new(alloc);
+    let mut rows = Vec::with_capacity(alloc, project.mode_count(activity))?;
     for mode in 0..project.mode_count(activity) {
         rows.push(row_of(project, measures, activity, mode))?;
     }
@@ -113,7 +113,7 @@ fn all_rows(
     requires measured { measures.now ≡ measures_of project.now }
     ensures { IfOk result (λ table. HasRows project.now (size project.now) table.items) }
 {
-    let mut table = Vec::new(alloc);
+    let mut table = Vec::with_capacity(alloc, project.size())?;
     for activity in 0..project.size() {
         table.push(Sequence::from(rows_of(alloc, project, measures, activity)?))?;
     }

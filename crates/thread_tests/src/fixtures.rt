@@ -14,6 +14,7 @@ use mrcpsp::Sequence;
 use psplib_mm::read;
 use quanta_till::{Desk, Lease, Till};
 use rule_search::RuleSearch;
+use sample_search::SampleSearch;
 use std::alloc::Global;
 use std::process::Abort;
 use std::sync::Arc;
@@ -115,6 +116,17 @@ pub(crate) fn patient_of(
     let search: Box<dyn Strategy> = Box::new(alloc, patient).expect(rt, "no memory for a box");
     let plan = plan_of(alloc, Kind::RuleSpt).expect(rt, "no memory for a plan");
     Planned { plan, search }
+}
+
+/// The diamond's sampling with an empty lease.
+pub(crate) fn sample_of(rt: &impl Abort, alloc: Global, lease: Lease) -> SampleSearch
+    requires { IsEmpty lease }
+{
+    let plan = plan_of(alloc, Kind::Sample(7)).expect(rt, "no memory for a plan");
+    let Ok(search) = SampleSearch::new(alloc, plan, lease) else {
+        panic!(rt; "no memory");
+    };
+    search
 }
 
 /// A purse's number, the quanta that it was granted, its till and its desk.

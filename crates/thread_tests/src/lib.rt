@@ -8,6 +8,7 @@
 //! - `counter`: a number that keeps what was added to it.
 //! - `threads`: threads that add to one counter, and passes that come back from them.
 //! - `turns`: a counter under the lock, at which many threads take turns.
+//! - `payments`: when a search pays.
 //! - `fixtures`: a project, its searches in boxes, tills, configurations and pools.
 //! - `gates`: gates that no worker waits at, one that two turns have to pass at once, one that a
 //!   turn's first node passes in its time, and where two meet.
@@ -39,6 +40,8 @@ mod gates;
 mod leases;
 #[cfg(test)]
 mod patient;
+#[cfg(test)]
+mod payments;
 #[cfg(test)]
 mod play;
 #[cfg(test)]

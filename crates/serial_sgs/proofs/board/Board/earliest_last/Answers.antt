@@ -7,6 +7,7 @@ use Rattle.mrcpsp.proofs.EarliestLemmas.{earliest-allowed}
 use Rattle.mrcpsp.proofs.BoundLemmas.{earliest-le-latest}
 use Rattle.serial_sgs.proofs.BoardLemmas.{latest_small}
 use Rattle.serial_sgs.proofs.OrderLemmas.{eligible_misses, ready_later}
+use Rattle.serial_sgs.proofs.RowLemmas.{capacity_small}
 use Rattle.serial_sgs.proofs.WalkLemmas.{at_once, few_at, last_fits, first_fit_earliest}
 use Rattle.serial_sgs.proofs.board.Board.earliest_last.Goals as goal
 
@@ -55,6 +56,9 @@ first_fit-requires-clause-few c =
     let may : is_eligible p placed j ≡ true = rw (← c.self.view_is) at c.requires.eligible in
     let row = c.row-row.ensures p c.self.invariant.tabled known moded in
     rw c.deref.ensures.value (λ k r inside within. few_at p placed j m b.points.items c.row-row.result.now k c.self.invariant.board c.self.invariant.profile known moded row inside r within)
+
+pub first_fit-requires-clause-most : goal.first_fit-requires-clause-most
+first_fit-requires-clause-most c = λ r within. omega (arith, c.self.invariant.tabled.capacities r within, capacity_small c.self.inside.project r c.self.invariant.board.project)
 
 pub first_fit-requires-clause-last : goal.first_fit-requires-clause-last
 first_fit-requires-clause-last c =

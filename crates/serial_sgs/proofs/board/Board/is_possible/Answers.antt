@@ -1,7 +1,7 @@
 use Rattle.std.proofs.Common.{◌≡◌, ◌<◌, true, false, sym, ◌∙◌, arith}
 use Rattle.mrcpsp.specs.Project.{size, mode_count}
 use Rattle.mrcpsp.specs.Placed.{is_placed, is_executable, is_affordable}
-use Rattle.serial_sgs.proofs.RowLemmas.{consumption_small}
+use Rattle.serial_sgs.proofs.RowLemmas.{consumption_small, stock_small}
 use Rattle.serial_sgs.proofs.StockLemmas.{amounts_small, affordable_unplaced}
 use Rattle.serial_sgs.proofs.board.Board.is_possible.Goals as goal
 
@@ -10,7 +10,10 @@ fits-requires c =
     let b = c.self.inside in
     let known : c.args.activity < size b.project = rw (← c.self.view_is) at c.requires.activity in
     let in_mode : c.args.mode < mode_count b.project c.args.activity = rw (← c.self.view_is) at c.requires.mode in
-    record { few = λ r within. omega (arith, amounts_small b.project b.placed.items b.needed c.self.invariant.board c.self.invariant.needed r within, (c.row-row.ensures b.project c.self.invariant.tabled known in_mode).extra r within, consumption_small b.project c.args.activity c.args.mode r c.self.invariant.board.project known in_mode) }
+    record {
+      few = λ r within. omega (arith, amounts_small b.project b.placed.items b.needed c.self.invariant.board c.self.invariant.needed r within, (c.row-row.ensures b.project c.self.invariant.tabled known in_mode).extra r within, consumption_small b.project c.args.activity c.args.mode r c.self.invariant.board.project known in_mode);
+      most = λ r within. omega (arith, c.self.invariant.tabled.stocks r within, stock_small b.project r c.self.invariant.board.project);
+    }
 
 pub returns-then-row : goal.returns-then-row
 returns-then-row c =
