@@ -5,8 +5,8 @@
 //! so many schedules more. Each schedule that it shows was checked: it is feasible, and its makespan is the one that is named.
 //! That it is short is not proved, nor that there is one. All numbers are whole: a seed gives the same schedules anywhere.
 //!
-//! The walk itself is proved to be safe and to end, and to count each schedule that it generates; what it finds rests on the
-//! check alone.
+//! The walk itself is proved to be safe and to end, and its count only grows; what it finds rests on the check
+//! alone.
 //!
 //! - `rows`: rows of numbers, read and written at any place.
 //! - `modes`, `arcs`, `tables`: the numbers of a project, without modes that can't run or are dominated.

@@ -5,7 +5,7 @@ use Rattle.mrcpsp.specs.Schedule.{IsFeasible, makespan}
 use Rattle.strategy.specs.declared.verdict.Verdict.TheVariants.{Going}
 use Rattle.solve_cli.specs.declared.searching.SearchResult.{SearchResult}
 
--- no more schedules than that were generated, the best is feasible and has the makespan that is told, and nothing is shown of others
+-- no more nodes than that are told, the best is feasible and has the makespan that is told, and nothing is shown of others
 pub record IsImproved (p : ProjectData) (most : ℕ) (f : SearchResult) : Type 0 where
   pub nodes : f.nodes ≤ most
   pub feasible : IfSome f.best (IsFeasible p)
