@@ -36,7 +36,7 @@ have_program() {
         echo "farm: no program was built from the sources as they are, and ${program%/*} cannot be written" >&2
         exit 1
     fi
-    echo "farm: no program was built from the sources as they are: proving and building it, some 15 minutes on four processors (./farm try runs it unproved in one)" >&2
+    echo "farm: no program was built from the sources as they are: proving and building it, some 25 minutes on four processors (./farm try runs it unproved in one)" >&2
     "$top/tools/build" "$1" >&2 || {
         echo "farm: the program could not be proved and built" >&2
         exit 1
