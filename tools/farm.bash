@@ -53,8 +53,8 @@ _farm() {
         solve) words="--search --nodes --json --progress --quiet --improvements --help" ;;
         verify) words="--all --help" ;;
         draw) words="--order --help" ;;
-        prove) words="--seconds --jobs --nodes --from --keep --solver --help" ;;
-        bench) words="--search --nodes --jobs --optima --progress --quiet --help" ;;
+        prove) words="--seconds --jobs --nodes --memory --from --keep --solver --help" ;;
+        bench) words="--search --nodes --jobs --prove --seconds --optima --schedules --resume --report --progress --quiet --help" ;;
         replay) words="--config --strict --help" ;;
         serve) words="--config --port --sessions --help" ;;
         *) words=--help ;;

@@ -43,11 +43,13 @@ _farm() {
     verify) _arguments '--all[tell each breach]' '--help[help]' '1:file:_files -g "*.mm"' '2:schedule:_files' ;;
     draw) _arguments '--order[the order of the rows]:order:(number start)' '--help[help]' '1:file:_files -g "*.mm"' '2:schedule:_files' ;;
     bench)
-        _arguments '--search[searches]:search:_farm_searches' '--nodes[nodes]:nodes:' '--jobs[processes]:jobs:' '--optima[known optima]:file:_files' '--progress[tell progress]' \
+        _arguments '--search[searches]:search:_farm_searches' '--nodes[nodes]:nodes:' '--jobs[processes]:jobs:' '--prove[run farm prove]' \
+            '--seconds[the most seconds of a file]:seconds:' '--optima[known optima]:file:_files' '--schedules[folder for schedules]:folder:_files -/' \
+            '--resume[rows of an earlier run]:file:_files' '--report[a page of the rows]:file:_files' '--progress[tell progress]' \
             '--quiet[tell nothing]' '--help[help]' '*:file or folder:_files'
         ;;
     prove)
-        _arguments '--seconds[the most seconds]:seconds:' '--jobs[processes]:jobs:' '--nodes[nodes before the solver]:nodes:' '--from[a schedule to begin with]:schedule:_files' \
+        _arguments '--seconds[the most seconds]:seconds:' '--jobs[processes]:jobs:' '--nodes[nodes before the solver]:nodes:' '--memory[megabytes of a solver]:megabytes:' '--from[a schedule to begin with]:schedule:_files' \
             '--keep[keep the proof in a folder]:folder:_files -/' '--solver[the solver]:solver:(cadical kissat)' '--help[help]' '1:file:_files -g "*.mm"'
         ;;
     replay) _arguments '--config[the configuration]:file:_files -g "*.json"' '--strict[end with 1 if a request is refused]' '--help[help]' '1:script:_files' ;;
