@@ -1,14 +1,17 @@
 """The record of wrong bodies: when each was last seen refused, and of which texts.
 
 It is the file `tests/refused.txt`, a sorted line for each edit: its crate and name, a key of its own crate, a key of the crates below, and the day. The keys
-are sums of all that the prover reads: the edit and the sources, definitions and proofs of its crate; those of all crates below; and in both HANDLES, the crates'
-lines in `crates.txt` and the kit. So they are computed anew from the files by each run, and a line whose keys differ from these says nothing.
+are sums of all that the prover reads: the edit and the sources, definitions and proofs of its crate, but for lines that are comments; those of all crates below;
+and in both HANDLES, the crates' lines in `crates.txt` and the kit. So they are computed anew from the files by each run, and a line whose keys differ from these says
+nothing.
 """
 import datetime
 import hashlib
 import os
+import re
 
-SUFFIXES = (".rt", ".antt")
+# The files that the prover reads, and the lines of them that are comments.
+COMMENTS = {".rt": re.compile(rb"(?m)^[ \t]*//.*(\n|\Z)"), ".antt": re.compile(rb"(?m)^[ \t]*--.*(\n|\Z)")}
 
 
 class Keys:
@@ -28,10 +31,11 @@ class Keys:
         for part in "src", "specs", "proofs":
             for at, folders, names in os.walk(f"{crate.folder}/{part}"):
                 folders.sort()
-                for name in sorted(it for it in names if it.endswith(SUFFIXES)):
+                for name in sorted(it for it in names if os.path.splitext(it)[1] in COMMENTS):
                     path = f"{at}/{name}"
                     with open(path, "rb") as it:
-                        found.update(repr((os.path.relpath(path, crate.folder), it.read())).encode())
+                        text = COMMENTS[os.path.splitext(name)[1]].sub(b"", it.read())
+                    found.update(repr((os.path.relpath(path, crate.folder), text)).encode())
         return found.digest()
 
     def of(self, crate, edit):
