@@ -1,17 +1,26 @@
 """The record of wrong bodies: when each was last seen refused, and of which texts.
 
 It is the file `tests/refused.txt`, a sorted line for each edit: its crate and name, a key of its own crate, a key of the crates below, and the day. The keys
-are sums of all that the prover reads: the edit and the sources, definitions and proofs of its crate, but for lines that are comments; those of all crates below;
-and in both HANDLES, the crates' lines in `crates.txt` and the kit. So they are computed anew from the files by each run, and a line whose keys differ from these says
-nothing.
+are sums of all that the prover reads: the edit and the sources, definitions and proofs of its crate, but for lines that are comments and empty lines between
+items; those of all crates below; and in both HANDLES, the crates' lines in `crates.txt` and the kit. So they are computed anew from the files by each run, and
+a line whose keys differ from these says nothing.
 """
 import datetime
 import hashlib
 import os
 import re
 
-# The files that the prover reads, and the lines of them that are comments.
+# The files that the prover reads, and the lines of them that are comments; and empty lines at the beginning of a file or after what ends a line of code, where
+# no text in quotes can hold them.
 COMMENTS = {".rt": re.compile(rb"(?m)^[ \t]*//.*(\n|\Z)"), ".antt": re.compile(rb"(?m)^[ \t]*--.*(\n|\Z)")}
+EMPTY = re.compile(rb"(\A|(?<=[;{}\]]\n))(?:[ \t]*\n)+")
+
+
+def bare(path, text):
+    """Returns what the keys take of a file."""
+    ending = os.path.splitext(path)[1]
+    text = COMMENTS[ending].sub(b"", text)
+    return EMPTY.sub(b"", text) if ending == ".rt" else text
 
 
 class Keys:
@@ -34,8 +43,7 @@ class Keys:
                 for name in sorted(it for it in names if os.path.splitext(it)[1] in COMMENTS):
                     path = f"{at}/{name}"
                     with open(path, "rb") as it:
-                        text = COMMENTS[os.path.splitext(name)[1]].sub(b"", it.read())
-                    found.update(repr((os.path.relpath(path, crate.folder), text)).encode())
+                        found.update(repr((os.path.relpath(path, crate.folder), bare(path, it.read()))).encode())
         return found.digest()
 
     def of(self, crate, edit):
