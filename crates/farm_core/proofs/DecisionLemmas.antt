@@ -1,5 +1,5 @@
 -- What a call can come to. Whatever is said of each decision is shown here for the nine calls at once, from what it says of each effect.
-use Rattle.std.proofs.Common.{◌≡◌, ℕ, ◌+◌, Bool, true, false, not, nat_le, nat_lt, ◌&&◌, [], length, Option, Some, None, refl}
+use Rattle.std.proofs.Common.{◌≡◌, ◌⊎◌, inl, inr, ℕ, ◌+◌, Bool, true, false, not, nat_le, nat_lt, ◌&&◌, [], length, Option, Some, None, refl, subst}
 use Rattle.std.specs.Prelude.{⊤, option_map}
 use Rattle.std.proofs.lemmas.Bool.{cond_both, and_parts}
 use Rattle.mrcpsp.specs.Schedule.{makespan}
@@ -184,3 +184,33 @@ entry_told t =
 pub unasked : (e : Event) → (accepted e (Replied reply.NoRoom) ≡ []) × (accepted e NoTurn ≡ [])
 unasked (Submit plan quanta) = (refl, refl)
 unasked e = (refl, refl)
+
+-- ---- what a decision rests on
+
+abbrev pub Grounds : Tenant → Effect → Event → Type 0
+Grounds t (Nothing answer) e = (answer ≡ Replied reply.NoRoom) ⊎ (answer ≡ NoTurn)
+Grounds t (Notes answer) e = (has_room 1 t ≡ true) × IsNote t e answer
+Grounds t (Adds job) e = (has_room 1 t ≡ true) × ((plan : Plan) × (quanta : ℕ) × (e ≡ Submit plan quanta) × (job ≡ fresh_job t plan quanta))
+Grounds t (Changes new ran answer) (Fund s quanta) =
+    (has_room 1 t ≡ true) × ((job : JobData) × (find_job s t.jobs ≡ Some job) × (new ≡ record job { phase = Waiting; left = job.left + quanta })) × (nat_le quanta (free t) ≡ true)
+Grounds t (Changes new ran answer) (Cancel s) = (has_room 1 t ≡ true) × ((job : JobData) × (find_job s t.jobs ≡ Some job) × (given_up job job.phase ≡ Some new))
+Grounds t (Changes new ran answer) e = ⊤
+Grounds t (Drops n) e = (has_room 1 t ≡ true) × ((s : ℕ) × (job : JobData) × (e ≡ Forget s) × (n ≡ job.seq) × (find_job s t.jobs ≡ Some job) × (is_ended job.phase ≡ true))
+
+grounds : (t : Tenant) (e : Event) → Grounds t (decided t e) e
+grounds t =
+    each_decision t (λ e f. Grounds t f e)
+    (record {
+      full = λ e. inl refl;
+      idle = λ e. inr refl;
+      notes = λ e answer room it. (room, it);
+      adds = λ plan quanta room some. (room, (plan, quanta, refl, refl));
+      funds = λ s quanta job room found can. (room, (job, found, refl), can.some);
+      cancels = λ s job new room found gone. (room, (job, found, gone));
+      drops = λ s job room found ended. (room, (s, job, refl, refl, found, ended));
+      takes = λ s slice job room found waits. tt;
+      gives = λ s ran job found may. tt;
+    })
+
+pub grounds_of : (t : Tenant) (e : Event) (f : Effect) → decided t e ≡ f → Grounds t f e
+grounds_of t e f is = subst (λ g. Grounds t g e) is (grounds t e)

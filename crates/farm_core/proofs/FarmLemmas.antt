@@ -203,7 +203,7 @@ read_of w t capacity line account out farm l line_is account_is out_is =
       limited = granted_most w t farm.config l;
     }
 
-owed_in-most : (phase : Phase) → owed_in phase ≤ 2
+pub owed_in-most : (phase : Phase) → owed_in phase ≤ 2
 owed_in-most Waiting = omega arith
 owed_in-most (Out slice) = omega arith
 owed_in-most (Leaving slice) = omega arith

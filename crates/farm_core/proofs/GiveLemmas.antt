@@ -79,7 +79,7 @@ take_moves w t s slice capacity account line m all farm l is line_is may did =
     let steps = take_steps (view t w) s slice it.job it.found waits may_wait.1 may_is.1 in
     let whole = whole_in w t capacity account farm l is in
     let moves : IsMove w t after (record account { book = account.book; used = account.used + 1 }) (Take s slice) (Sent (line_of new)) =
-    changed_moves w t s capacity account it.job new 0 account.book (Take s slice) (Sent (line_of new)) farm l is there refl steps (omega arith) refl refl refl whole tt in
+    changed_moves w t s capacity account it.job new 0 account.book (Take s slice) (Sent (line_of new)) farm l is there refl steps (omega arith) refl refl whole tt in
     record {
       job = it.job;
       found = it.found;
@@ -185,7 +185,7 @@ give_moves w t s slice ran capacity account m all farm l is turn did =
     let steps = give_steps (view t w) s ran job own may in
     let after : TableData = change_job t s job new (table_of w) in
     let moves : IsMove w t after (record account { book = then; used = account.used + 1 }) (Give s ran) (Replied (reply.Ran ran (line_of new))) =
-    changed_moves w t s capacity account job new ran then (Give s ran) (Replied (reply.Ran ran (line_of new))) farm l is did.found refl steps (omega arith) refl refl
+    changed_moves w t s capacity account job new ran then (Give s ran) (Replied (reply.Ran ran (line_of new))) farm l is did.found refl steps (omega arith) refl
     (omega (arith, most, ran_is.1, left_most)) (omega (arith, whole, spent, freed)) tt in
     record {
       job = job;

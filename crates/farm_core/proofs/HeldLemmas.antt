@@ -28,8 +28,7 @@ use Rattle.farm_core.proofs.CommandLemmas.{own_row}
 use Rattle.farm_core.proofs.PlaceLemmas.{first_from-most}
 use Rattle.farm_core.proofs.SeatLemmas.{each_view_is_a_seat, steps_of, jobs_stay}
 use Rattle.farm_core.proofs.NeedLemmas.{IsNumberOf, AreDistinct, alone_distinct}
-use Rattle.farm_core.proofs.RunningLemmas.{found_seq, out_in, after_back}
-use Rattle.farm_core.proofs.StepLemmas.{given_up_seq}
+use Rattle.farm_core.proofs.RunningLemmas.{found_seq, out_in, after_back, gone_less}
 
 -- the turn that a job has out is out as before
 pub record IsSameTurn (job : JobData) (after : Option JobData) : Type 0 where
@@ -195,7 +194,7 @@ changes s t = record {
       let new : JobData = record job { phase = Waiting; left = job.left + quanta } in
       put_change (AreDistinct t.jobs) s n (Fund n quanta) job new t.jobs found refl (λ _. is_quiet (AreDistinct t.jobs) s (Fund n quanta) (Some job) (Some new) can.here (λ _. refl));
   cancels = λ n job new room found gone.
-      put_change (AreDistinct t.jobs) s n (Cancel n) job new t.jobs found (given_up_seq job new gone)
+      put_change (AreDistinct t.jobs) s n (Cancel n) job new t.jobs found (gone_less job new gone).0
       (λ _. subst (IsGone (AreDistinct t.jobs) s (Cancel n) job) gone (gone_change (AreDistinct t.jobs) s (Cancel n) job job.phase refl));
   drops = λ n job room found ended.
       subst (λ k. IsChange (AreDistinct t.jobs) s (Forget n) (find_job s t.jobs) (find_job s (drop_job k t.jobs))) (sym (found_seq n t.jobs job found))

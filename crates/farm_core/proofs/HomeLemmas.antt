@@ -2,14 +2,14 @@
 use Rattle.std.proofs.Common.{◌≡◌, ℕ, ◌+◌, ◌==◌, List, [], ◌∷◌, ◌++◌, true, false, Option, Some, refl, sym, ap, ◌∙◌, subst, ⊎_elim}
 use Rattle.std.specs.Prelude.{⊤}
 use Rattle.std.proofs.lemmas.Bool.{cond_both, cases_eq}
-use Rattle.job_table.specs.Table.{JobData, is_out, is_ended, find_row}
+use Rattle.job_table.specs.Table.{JobData, is_out, is_ended}
 use Rattle.job_table.specs.Job.{is_here, gone_out, given_up, back}
 use Rattle.job_table.specs.declared.phase.Phase.{Phase}
 use Rattle.job_table.specs.declared.phase.Phase.TheVariants.{Waiting, Out, Leaving, Dry, Closed, Cancelled}
 use Rattle.farm_core.specs.Tenant.{Tenant, Member, find_job, put_job, drop_job}
 use Rattle.farm_core.specs.Step.{done, fresh_job}
 use Rattle.farm_core.specs.Config.{ConfigData}
-use Rattle.farm_core.specs.World.{World, Call, opened, view, Steps, Leads, Run}
+use Rattle.farm_core.specs.World.{World, Call, opened, view, Steps, Leads}
 use Rattle.farm_core.specs.Farm.{IsReached, AreAtHome}
 use Rattle.farm_core.proofs.DecisionLemmas.{Cases, each_decision}
 use Rattle.farm_core.proofs.AloneLemmas.{member_opened}

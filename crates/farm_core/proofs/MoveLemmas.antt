@@ -11,9 +11,9 @@ use Rattle.tenant_book.specs.Book.{BookData}
 use Rattle.farm_core.specs.declared.account.Numbers.{Numbers}
 use Rattle.farm_core.specs.Config.{ConfigData, purse_names}
 use Rattle.farm_core.specs.declared.reply.Reply.TheVariants as reply
-use Rattle.farm_core.specs.Tenant.{Tenant, Member, book, held, free, kept}
-use Rattle.farm_core.specs.Step.{Answer, Replied, Effect, Nothing, Notes, done, decided, step, has_room}
-use Rattle.farm_core.specs.World.{World, table_of, Call, Leads, Run, Steps, new_numbers, no_book, opened, purse_in, account_of, member, view, entries_of, is_noted, entry_of, KeepsOrder, Follows, IsOnlyNoted}
+use Rattle.farm_core.specs.Tenant.{Tenant, Member, book, free, kept}
+use Rattle.farm_core.specs.Step.{Answer, Replied, Effect, Nothing, done, decided, step}
+use Rattle.farm_core.specs.World.{World, Call, Leads, Run, Steps, new_numbers, no_book, opened, purse_in, account_of, member, view, entries_of, is_noted, entry_of, KeepsOrder, Follows}
 use Rattle.farm_core.specs.Truth.{IsPlanned, ArePlanned}
 use Rattle.farm_core.specs.Farm.{IsAccount, IsFarm, IsReached, AreFrom, AreOf, owed, IsReply}
 use Rattle.farm_core.proofs.ViewLemmas.{IsKnown, moved, set_own, set_other, follows_from}
@@ -165,10 +165,6 @@ known_in w t capacity farm l =
 pub account_in : (w : World) (t capacity : ℕ) (account : Account) → IsFarm w capacity → t < length w.config.tenants → account ≡ account_of w t → IsAccount (view t w) account
 account_in w t capacity account farm l is = rw is (farm.each t (omega (arith, farm.count)))
 
-pub spent_in : (w : World) (t capacity : ℕ) (account : Account) → IsFarm w capacity → t < length w.config.tenants → account ≡ account_of w t → account.book.spent ≡ (view t w).spent
-unfolding book
-spent_in w t capacity account farm l is = ap (λ b. b.spent) (account_in w t capacity account farm l is).book
-
 -- an answer is never that there is no memory
 pub reply_is : (w : World) (t : ℕ) (event : Event) (answer : Reply) (new : World) → is_noted (Replied answer) ≡ true → Follows w t event (Replied answer) new → IsReply w t event answer new
 reply_is w t event (reply.Job s) new told h = h
@@ -198,28 +194,6 @@ stays_follows w t event answer known decides told = record {
   journal = rw told (no_more w.journal);
   config = refl;
 }
-
--- a command that changes nothing but the journal
-pub noted_moves : (w : World) (t capacity : ℕ) (account : Account) (event : Event) (answer : Reply) → IsFarm w capacity → t < length w.config.tenants → account ≡ account_of w t
-    → has_room 1 (view t w) ≡ true → IsOnlyNoted (view t w) event answer → IsPlanned event → IsMove w t (table_of w) (record account { used = account.used + 1 }) event (Replied answer)
-unfolding view member book held free kept
-noted_moves w t capacity account event answer farm l is room it planned =
-    let a = account_in w t capacity account farm l is in
-    let spent = spent_in w t capacity account farm l is in
-    let decides : decided (view t w) event ≡ Notes answer = it.decides ∙ cond-true (has_room 1 (view t w)) (Notes answer) (Nothing (Replied reply.NoRoom)) room in
-    record {
-      known = known_in w t capacity farm l;
-      planned = planned;
-      told = sym (ap (λ (f : Effect). (done (view t w) f).answer) decides);
-      after = ap (λ (f : Effect). (done (view t w) f).after) decides ∙ rw (spent, a.next) refl;
-      noted = it.noted;
-      told_of = record { book = a.book ∙ rw spent refl; next = refl; used = omega (arith, a.used) };
-      kept_less = omega arith;
-      others = λ u differ. refl;
-      order = inl refl;
-      whose = farm.whose;
-      stands = farm.order;
-    }
 
 -- the world after a table, an account and an entry were written
 pub moved_is : (w : World) (config : ConfigData) (jobs new_jobs : TableData) (journal new_journal : List Entry) (books after_books : List BookData) (numbers after_numbers : List Numbers)

@@ -128,7 +128,7 @@ changed_runs t s job new ran answer found named fit it =
     })
 
 -- a job that is given up is out as before, or it has ended and holds nothing
-abbrev IsLess : JobData → Option JobData → Type 0
+abbrev pub IsLess : JobData → Option JobData → Type 0
 IsLess job None = ⊤
 IsLess job (Some new) = (new.seq ≡ job.seq) × (new.nodes ≡ job.nodes) × (out_in new.phase ≡ out_in job.phase) × (new.left ≤ job.left) × (is_ended new.phase ≡ true → new.left ≡ 0)
 
@@ -139,6 +139,9 @@ given_up_less job (Leaving slice) is = tt
 given_up_less job Dry is = (refl, refl, rw is refl, omega arith, λ e. refl)
 given_up_less job Closed is = tt
 given_up_less job Cancelled is = tt
+
+pub gone_less : (job new : JobData) → given_up job job.phase ≡ Some new → IsLess job (Some new)
+gone_less job new gone = subst (IsLess job) gone (given_up_less job job.phase refl)
 
 -- a turn that came back is no longer out, and holds what it had less what it ran, or nothing
 abbrev pub IsBack : ℕ → ℕ → Phase → Type 0
@@ -175,7 +178,7 @@ runs t it = record {
         covered = omega (arith, it.covered, leb-true quanta (free t) can.some);
       }) it;
   cancels = λ s job new room found gone.
-      let less : IsLess job (Some new) = subst (IsLess job) gone (given_up_less job job.phase refl) in
+      let less = gone_less job new gone in
       changed_runs t s job new 0 (Replied (reply.Line (line_of new))) found less.0
       (record {
         entries = omega (arith, room_is 1 t room, less.2);

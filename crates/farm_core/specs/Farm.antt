@@ -2,18 +2,17 @@
 use Rattle.std.specs.Prelude.{◌≡◌, ◌⊎◌, ℕ, ◌+◌, ◌<◌, ◌≤◌, List, [], ◌∷◌, length, map, true, false, Option, Some, None, ⊤, IsTrue, slice_get}
 use Rattle.std.specs.List.{range_with_len}
 use Rattle.job_table.specs.Table.{Row, JobData, find_row}
-use Rattle.job_table.specs.Job.{is_here, given_up}
+use Rattle.job_table.specs.Job.{is_here}
 use Rattle.job_table.specs.declared.phase.Phase.{Phase}
 use Rattle.job_table.specs.declared.phase.Phase.TheVariants.{Waiting, Out, Leaving, Dry, Closed, Cancelled}
 use Rattle.farm_core.specs.declared.account.Account.{Account}
 use Rattle.farm_core.specs.declared.entry.Event.{Event}
-use Rattle.farm_core.specs.declared.reply.Line.{Line}
 use Rattle.farm_core.specs.declared.reply.Reply.{Reply}
 use Rattle.farm_core.specs.declared.reply.Reply.TheVariants as reply
 use Rattle.farm_core.specs.Config.{ConfigData, is_config}
-use Rattle.farm_core.specs.Tenant.{Tenant, book, find_job, line_of}
-use Rattle.farm_core.specs.Step.{Replied, Notes, has_room, to_fund}
-use Rattle.farm_core.specs.World.{World, Call, Run, purse_in, purses_in, account_of, view, is_noted, Follows, IsOfJournal}
+use Rattle.farm_core.specs.Tenant.{Tenant, book}
+use Rattle.farm_core.specs.Step.{Replied, has_room}
+use Rattle.farm_core.specs.World.{World, Call, Run, purse_in, purses_in, account_of, view, Follows, IsOfJournal}
 use Rattle.farm_core.specs.Truth.{ArePlanned}
 
 -- how many entries may still come of a job without asking for memory: one for its cancel, one for its give
@@ -93,17 +92,3 @@ pub record IsNext (w : World) (count : ℕ) (next : Option (ℕ × ℕ)) : Type 
 abbrev pub IsReply : World → ℕ → Event → Reply → World → Type 0
 IsReply old t event reply.NoMemory new = (new ≡ old) × (has_room 1 (view t old) ≡ true)
 IsReply old t event answer new = Follows old t event (Replied answer) new
-
--- why a job in this phase is not given so many quanta, whatever else stands
-pub record IsFundRefusal (phase : Phase) (quanta : ℕ) (answer : Reply) : Type 0 where
-  pub decides : (t : Tenant) (job : JobData) → job.phase ≡ phase → to_fund t quanta job ≡ Notes answer
-  pub noted : is_noted (Replied answer) ≡ true
-
--- a tenant's job of that number that can be given up, what it frees, and what is told of it then
-pub record IsGivenUpTo (t : Tenant) (s freed : ℕ) (line : Line) : Type 0 where
-  pub job : JobData
-  pub then : JobData
-  pub found : find_job s t.jobs ≡ Some job
-  pub gone : given_up job job.phase ≡ Some then
-  pub line_is : line ≡ line_of then
-  pub freed_is : then.left + freed ≡ job.left

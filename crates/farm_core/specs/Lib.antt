@@ -11,6 +11,7 @@ pub mod Truth
 pub mod Need
 pub mod Farm
 pub mod Command
+pub mod Decided
 pub mod Turn
 pub mod Held
 pub mod NoTurnText

@@ -6,7 +6,7 @@ use Rattle.strategy.specs.declared.plan.Plan.{Plan}
 use Rattle.job_table.specs.Table.{JobData, is_waiting, is_out, is_ended}
 use Rattle.job_table.specs.Job.{gone_out, given_up, back}
 use Rattle.job_table.specs.declared.phase.Phase.{Phase}
-use Rattle.job_table.specs.declared.phase.Phase.TheVariants.{Waiting, Out}
+use Rattle.job_table.specs.declared.phase.Phase.TheVariants.{Waiting}
 use Rattle.farm_core.specs.declared.config.TheConstants.{MOST_QUANTA, MOST_SLICE}
 use Rattle.farm_core.specs.declared.entry.Event.{Event}
 use Rattle.farm_core.specs.declared.entry.Event.TheVariants.{Submit, Fund, Status, Fetch, Cancel, Forget, Ledger, Take, Give}

@@ -9,12 +9,11 @@ use Rattle.farm_core.specs.declared.account.Numbers.{Numbers}
 use Rattle.farm_core.specs.declared.config.TenantLine.{TenantLine}
 use Rattle.farm_core.specs.declared.entry.Entry.{Entry}
 use Rattle.farm_core.specs.declared.entry.Event.{Event}
-use Rattle.farm_core.specs.declared.reply.Reply.{Reply}
 use Rattle.farm_core.specs.declared.reply.Reply.TheVariants as reply
 use Rattle.farm_core.specs.Purses.{purse_of, purses, members_of, place_of}
 use Rattle.farm_core.specs.Config.{ConfigData, purse_names, no_terms, member_lines, granted_by}
 use Rattle.farm_core.specs.Tenant.{Tenant, Member, Purse, terms_of, newcomers, seated_at, seat, with_seat}
-use Rattle.farm_core.specs.Step.{Answer, Replied, Sent, NoTurn, Notes, command, decided, step}
+use Rattle.farm_core.specs.Step.{Answer, Replied, Sent, NoTurn, step}
 
 -- one table of jobs and one journal for all, the jobs that wait in the order in which they take their turns, a ledger for each purse, and for each
 -- tenant the number of its next job and how many entries are its own
@@ -106,11 +105,6 @@ is_noted (Replied reply.NoMemory) = false
 is_noted (Replied answer) = true
 is_noted (Sent line) = true
 is_noted NoTurn = false
-
--- the call changes nothing but the journal, which has its entry where there is room
-pub record IsOnlyNoted (t : Tenant) (event : Event) (answer : Reply) : Type 0 where
-  pub decides : decided t event ≡ command t (Notes answer)
-  pub noted : is_noted (Replied answer) ≡ true
 
 abbrev pub entry_of : ℕ → Event → Answer → List Entry
 entry_of t event answer = cond (is_noted answer) (record { tenant = t; event = event } ∷ []) []

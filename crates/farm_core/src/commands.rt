@@ -1,17 +1,19 @@
 //! What tenants ask of the farm.
-ghost use Rattle.std.specs.Prelude.{◌≡◌, ℕ, ◌<◌, ◌≤◌, ◌+◌, ◌++◌, [], ◌∷◌, true, false, Some, None, IfOk, IfSome, IfNone, IsTrue, length, option_map, nat_lt};
+ghost use Rattle.std.specs.Prelude.{◌≡◌, ℕ, ◌<◌, ◌≤◌, ◌+◌, ◌++◌, [], ◌∷◌, true, IfOk, OnErr, IsTrue, length, option_map, nat_lt};
 ghost use Rattle.std.specs.Option.{option_copied};
 ghost use Rattle.mrcpsp.specs.Project.{is_project};
-ghost use Rattle.job_table.specs.Table.{JobData, is_out, is_ended};
+ghost use Rattle.job_table.specs.Table.{JobData};
 ghost use Rattle.job_table.specs.Job.{fresh_search, given_up};
 ghost use Rattle.farm_core.specs.declared.reply.Line.{Line};
-ghost use Rattle.farm_core.specs.Tenant.{Tenant, find_job, line_of};
+ghost use Rattle.farm_core.specs.Tenant.{line_of};
 ghost use Rattle.farm_core.specs.Step.{Replied, step, has_room, is_amount};
-ghost use Rattle.farm_core.specs.World.{World, view, IsOnlyNoted, KeepsTurns};
-ghost use Rattle.farm_core.specs.Farm.{IsReply, IsFundRefusal, IsGivenUpTo};
+ghost use Rattle.farm_core.specs.World.{World, view, KeepsTurns};
+ghost use Rattle.farm_core.specs.Farm.{IsReply};
+ghost use Rattle.farm_core.specs.Decided.{IsDecided};
 
-use crate::farm::{keep_room, write_down};
-use crate::{Account, Event, Farm, Line, MOST_QUANTA, NotedPlan, Reply, jobs};
+use crate::effect::{Change, Effect};
+use crate::farm::line_of;
+use crate::{Event, Farm, Line, MOST_QUANTA, NotedPlan, Reply};
 use job_table::{Job, Phase};
 use mrcpsp::Schedule;
 use std::alloc::{AllocError, Global};
@@ -47,26 +49,6 @@ fn submission(alloc: Global, plan: &Plan, quanta: u64) -> Result<Event, AllocErr
     Ok(Event::Submit(NotedPlan::of(alloc, plan)?, quanta))
 }
 
-/// Why a job in this phase is not given so many quanta.
-#[tactic(auto, unfolding(crate::specs::Step::to_fund))]
-fn fund_refusal(phase: Phase, quanta: u64) -> Option<Reply>
-    ensures refused { IfSome result (λ reply. IsFundRefusal phase quanta reply) }
-    ensures out { IfNone result (is_out phase ≡ false) }
-    ensures ended { IfNone result (is_ended phase ≡ false) }
-    ensures amount { IfNone result (is_amount quanta ≡ true) }
-{
-    if phase.is_out() {
-        return Some(Reply::NoBusy);
-    }
-    if phase.is_ended() {
-        return Some(Reply::NoOver);
-    }
-    if !is_amount(quanta) {
-        return Some(Reply::NoAmount);
-    }
-    None
-}
-
 /// What is told of a job once it is given up, where it is not at its end.
 #[tactic(auto, unfolding(crate::specs::Tenant::line_of))]
 fn given_up(line: Line) -> Option<Line>
@@ -87,58 +69,6 @@ fn given_up(line: Line) -> Option<Line>
 }
 
 impl<J: Strategy> Farm<J> {
-    /// Tells a tenant's ledger. Refused: `NoRoom`; `NoMemory` in place of the ledger.
-    pub fn ledger(&mut self, tenant: u32) -> Reply
-        requires { tenant < length self.old.config.tenants }
-        ensures { IsReply self.old tenant Event.Ledger result self.new }
-    {
-        let book = self.book(tenant);
-        self.noted(tenant, Event::Ledger, Reply::Ledger(book))
-    }
-
-    /// What is told of a job, or that there is none of that number.
-    #[tactic(auto, using(crate::proofs::StepLemmas::status_told, crate::proofs::StepLemmas::status_unknown))]
-    fn told(&self, tenant: u32, seq: u64) -> Reply
-        requires { tenant < length self.now.config.tenants }
-        ensures { IsOnlyNoted (view tenant self.now) (Event.Status seq) result }
-    {
-        match self.snapshot(tenant, seq) {
-            Some(line) => Reply::Line(line),
-            None => Reply::NoUnknown,
-        }
-    }
-
-    /// Tells where a job stands. Refused, the first of: `NoRoom`, `NoUnknown`; `NoMemory` in place of any answer but `NoRoom`.
-    pub fn status(&mut self, tenant: u32, seq: u64) -> Reply
-        requires { tenant < length self.old.config.tenants }
-        ensures { IsReply self.old tenant (Event.Status seq) result self.new }
-    {
-        let reply = self.told(tenant, seq);
-        self.noted(tenant, Event::Status(seq), reply)
-    }
-
-    /// Takes in a job for a plan, with so many quanta and its search, which has run nothing, holds nothing and is of this tenant
-    /// and plan. Where the job is refused, the search is dropped. A job that is taken in stands behind all others that wait.
-    /// Refused, the first of: `NoRoom`, `NoAmount`, `NoJobs`, `NoShort`; `NoMemory` in place of any answer but `NoRoom`.
-    #[tactic(auto, using(crate::proofs::StepLemmas::submit_amount, crate::proofs::StepLemmas::submit_full))]
-    pub fn submit(&mut self, tenant: u32, plan: Plan, quanta: u64, search: J) -> Reply
-        requires known { tenant < length self.old.config.tenants }
-        requires fresh { J.meaning search ≡ fresh_search tenant plan }
-        ensures follows { IsReply self.old tenant (Event.Submit plan quanta) result self.new }
-        ensures turns { (seq : ℕ) → result ≡ Reply.Job seq → self.new.waiting ≡ self.old.waiting ++ (tenant, seq) ∷ [] }
-    {
-        let Ok(event) = submission(self.alloc, &plan, quanta) else {
-            return self.unanswered(tenant);
-        };
-        if !is_amount(quanta) {
-            return self.noted(tenant, event, Reply::NoAmount);
-        }
-        if !self.may_keep_more(tenant) {
-            return self.noted(tenant, event, Reply::NoJobs);
-        }
-        self.submit_job(tenant, event, plan, quanta, search)
-    }
-
     /// Whether a tenant keeps fewer jobs than it may.
     #[tactic(auto, unfolding(crate::specs::World::view, crate::specs::World::member))]
     fn may_keep_more(&self, tenant: u32) -> bool
@@ -149,74 +79,115 @@ impl<J: Strategy> Farm<J> {
         (self.jobs.count_of(tenant) as u64) < line.jobs
     }
 
-    /// The answer where there is no memory for a command.
-    fn unanswered(&self, tenant: u32) -> Reply
+    fn decide_ledger(&self, tenant: u32) -> Effect<J>
         requires { tenant < length self.now.config.tenants }
-        ensures room { has_room 1 (view tenant self.now) ≡ true → result ≡ Reply.NoMemory }
-        ensures none { has_room 1 (view tenant self.now) ≡ false → result ≡ Reply.NoRoom }
+        ensures { IsDecided (view tenant self.now) Event.Ledger result }
     {
-        if self.has_room(tenant, 1) {
-            Reply::NoMemory
-        } else {
-            Reply::NoRoom
+        if !self.has_room(tenant, 1) {
+            return Effect::Nothing(Reply::NoRoom);
         }
+        Effect::Notes(Reply::Ledger(self.book(tenant)))
     }
 
-    /// The same where so many quanta may be given, and the tenant may keep a job more.
-    fn submit_job(&mut self, tenant: u32, event: Event, plan: Plan, quanta: u64, search: J) -> Reply
+    /// Tells a tenant's ledger. Refused: `NoRoom`; `NoMemory` in place of the ledger.
+    pub fn ledger(&mut self, tenant: u32) -> Reply
+        requires { tenant < length self.old.config.tenants }
+        ensures { IsReply self.old tenant Event.Ledger result self.new }
+    {
+        let effect = self.decide_ledger(tenant);
+        self.commit(tenant, Event::Ledger, effect)
+    }
+
+    fn decide_status(&self, tenant: u32, seq: u64) -> Effect<J>
+        requires { tenant < length self.now.config.tenants }
+        ensures { IsDecided (view tenant self.now) (Event.Status seq) result }
+    {
+        if !self.has_room(tenant, 1) {
+            return Effect::Nothing(Reply::NoRoom);
+        }
+        let Some(job) = self.job(tenant, seq) else {
+            return Effect::Notes(Reply::NoUnknown);
+        };
+        Effect::Notes(Reply::Line(line_of(job)))
+    }
+
+    /// Tells where a job stands. Refused, the first of: `NoRoom`, `NoUnknown`; `NoMemory` in place of any answer but `NoRoom`.
+    pub fn status(&mut self, tenant: u32, seq: u64) -> Reply
+        requires { tenant < length self.old.config.tenants }
+        ensures { IsReply self.old tenant (Event.Status seq) result self.new }
+    {
+        let effect = self.decide_status(tenant, seq);
+        self.commit(tenant, Event::Status(seq), effect)
+    }
+
+    /// The journal has room: `submit` looks before it copies the plan. The only memory taken is the job's.
+    #[tactic(auto, unfolding(crate::specs::Step::to_submit))]
+    fn decide_submit(
+        &self,
+        tenant: u32,
+        plan: Plan,
+        quanta: u64,
+        search: J,
+    ) -> Result<Effect<J>, AllocError>
+        requires known { tenant < length self.now.config.tenants }
+        requires room { has_room 1 (view tenant self.now) ≡ true }
+        requires fresh { J.meaning search ≡ fresh_search tenant plan }
+        ensures { IfOk result (λ effect. IsDecided (view tenant self.now) (Event.Submit plan quanta) effect) }
+    {
+        if !is_amount(quanta) {
+            return Ok(Effect::Notes(Reply::NoAmount));
+        }
+        if !self.may_keep_more(tenant) {
+            return Ok(Effect::Notes(Reply::NoJobs));
+        }
+        let mut account = self.account(tenant);
+        if let Err(short) = account.book.hold(quanta) {
+            return Ok(Effect::Notes(Reply::NoShort(short.0)));
+        }
+        let job = Job::new(self.alloc, tenant, account.next, plan, quanta, search)?;
+        Ok(Effect::Adds(job, account))
+    }
+
+    /// Takes in a job for a plan, with so many quanta and its search, which has run nothing, holds nothing and is of this tenant
+    /// and plan. Where the job is refused, the search is dropped. A job that is taken in stands behind all others that wait.
+    /// Refused, the first of: `NoRoom`, `NoAmount`, `NoJobs`, `NoShort`; `NoMemory` in place of any answer but `NoRoom`.
+    pub fn submit(&mut self, tenant: u32, plan: Plan, quanta: u64, search: J) -> Reply
         requires known { tenant < length self.old.config.tenants }
         requires fresh { J.meaning search ≡ fresh_search tenant plan }
-        requires event { event ≡ Event.Submit plan quanta }
-        requires planned { IsTrue (is_project plan.project) }
-        requires amount { is_amount quanta ≡ true }
-        requires jobs { nat_lt (length (view tenant self.old).jobs) (view tenant self.old).terms.jobs ≡ true }
         ensures follows { IsReply self.old tenant (Event.Submit plan quanta) result self.new }
         ensures turns { (seq : ℕ) → result ≡ Reply.Job seq → self.new.waiting ≡ self.old.waiting ++ (tenant, seq) ∷ [] }
     {
         if !self.has_room(tenant, 1) {
             return Reply::NoRoom;
         }
-        let purse = self.purse_of(tenant);
-        let mut account = self.account(tenant);
-        if let Err(short) = account.book.hold(quanta) {
-            return self.noted(tenant, event, Reply::NoShort(short.0));
-        }
-        let seq = account.next;
-        account.next += 1;
-        account.used += 1;
-        let Ok(()) = keep_room(&mut self.journal, self.jobs.len()) else {
+        let Ok(event) = submission(self.alloc, &plan, quanta) else {
             return Reply::NoMemory;
         };
-        let Ok(job) = Job::new(self.alloc, tenant, seq, plan, quanta, search) else {
+        let Ok(effect) = self.decide_submit(tenant, plan, quanta, search) else {
             return Reply::NoMemory;
         };
-        let Ok(()) = self.jobs.insert(tenant, job) else {
-            return Reply::NoMemory;
-        };
-        write_down(
-            &mut self.ledgers,
-            &mut self.journal,
-            purse,
-            tenant,
-            account,
-            event,
-        );
-        Reply::Job(seq)
+        self.commit(tenant, event, effect)
     }
 
-    /// The best schedule of a job, unless that is out.
-    #[tactic(auto, using(crate::proofs::StepLemmas::fetch_unknown, crate::proofs::StepLemmas::fetch_busy, crate::proofs::StepLemmas::fetch_told))]
-    fn fetched(&self, tenant: u32, seq: u64) -> Result<Reply, AllocError>
-        ensures { IfOk result (λ reply. IsOnlyNoted (view tenant self.now) (Event.Fetch seq) reply) }
+    /// Takes memory for the copy of the schedule alone.
+    #[tactic(auto, unfolding(crate::specs::Step::to_fetch))]
+    fn decide_result(&self, tenant: u32, seq: u64) -> Result<Effect<J>, AllocError>
+        requires { tenant < length self.now.config.tenants }
+        ensures decided { IfOk result (λ effect. IsDecided (view tenant self.now) (Event.Fetch seq) effect) }
+        ensures room { OnErr result (has_room 1 (view tenant self.now) ≡ true) }
     {
-        let Some(job) = self.jobs.find(tenant, seq) else {
-            return Ok(Reply::NoUnknown);
+        if !self.has_room(tenant, 1) {
+            return Ok(Effect::Nothing(Reply::NoRoom));
+        }
+        let Some(job) = self.job(tenant, seq) else {
+            return Ok(Effect::Notes(Reply::NoUnknown));
         };
         if job.phase().is_out() {
-            return Ok(Reply::NoBusy);
+            return Ok(Effect::Notes(Reply::NoBusy));
         }
         let best = clone_best(self.alloc, job.best())?;
-        Ok(Reply::Best(seq, best, job.makespan(), job.verdict()))
+        let reply = Reply::Best(job.seq(), best, job.makespan(), job.verdict());
+        Ok(Effect::Notes(reply))
     }
 
     /// Hands out a job's best schedule with its makespan and verdict. Refused, the first of: `NoRoom`, `NoUnknown`, `NoBusy`;
@@ -225,78 +196,78 @@ impl<J: Strategy> Farm<J> {
         requires { tenant < length self.old.config.tenants }
         ensures { IsReply self.old tenant (Event.Fetch seq) result self.new }
     {
-        let Ok(reply) = self.fetched(tenant, seq) else {
-            return self.unanswered(tenant);
+        let Ok(effect) = self.decide_result(tenant, seq) else {
+            return Reply::NoMemory;
         };
-        self.noted(tenant, Event::Fetch(seq), reply)
+        self.commit(tenant, Event::Fetch(seq), effect)
+    }
+
+    #[tactic(auto, unfolding(crate::specs::Step::to_fund))]
+    fn decide_fund(&self, tenant: u32, seq: u64, quanta: u64) -> Effect<J>
+        requires { tenant < length self.now.config.tenants }
+        ensures { IsDecided (view tenant self.now) (Event.Fund seq quanta) result }
+    {
+        if !self.has_room(tenant, 1) {
+            return Effect::Nothing(Reply::NoRoom);
+        }
+        let Some(job) = self.job(tenant, seq) else {
+            return Effect::Notes(Reply::NoUnknown);
+        };
+        if job.phase().is_out() {
+            return Effect::Notes(Reply::NoBusy);
+        }
+        if job.phase().is_ended() {
+            return Effect::Notes(Reply::NoOver);
+        }
+        if !is_amount(quanta) {
+            return Effect::Notes(Reply::NoAmount);
+        }
+        let mut account = self.account(tenant);
+        if let Err(short) = account.book.hold(quanta) {
+            return Effect::Notes(Reply::NoShort(short.0));
+        }
+        let line = Line {
+            phase: Phase::Waiting,
+            left: job.left() + quanta,
+            ..line_of(job)
+        };
+        Effect::Changes(line, account, Change::Fund(quanta))
     }
 
     /// Gives a job so many quanta more of those that are free, and it waits: behind all others where it was dry, and else at its
     /// place. Refused, the first of: `NoRoom`, `NoUnknown`, `NoBusy`, `NoOver`, `NoAmount`, `NoShort`; `NoMemory` in place of any
     /// answer but `NoRoom`.
-    #[tactic(auto, using(crate::proofs::StepLemmas::fund_unknown, crate::proofs::StepLemmas::fund_refused, crate::proofs::OrderLemmas::same_turns))]
     pub fn fund(&mut self, tenant: u32, seq: u64, quanta: u64) -> Reply
         requires { tenant < length self.old.config.tenants }
         ensures follows { IsReply self.old tenant (Event.Fund seq quanta) result self.new }
         ensures turns { KeepsTurns self.old tenant seq self.new }
     {
-        let event = Event::Fund(seq, quanta);
-        let Some(line) = self.snapshot(tenant, seq) else {
-            return self.noted(tenant, event, Reply::NoUnknown);
-        };
-        if let Some(refusal) = fund_refusal(line.phase, quanta) {
-            return self.noted(tenant, event, refusal);
-        }
-        self.fund_job(tenant, seq, line, quanta)
+        let effect = self.decide_fund(tenant, seq, quanta);
+        self.commit(tenant, Event::Fund(seq, quanta), effect)
     }
 
-    /// The same for a job that is not out or at its end.
-    #[tactic(auto, using(crate::proofs::OrderLemmas::same_turns))]
-    fn fund_job(&mut self, tenant: u32, seq: u64, line: Line, quanta: u64) -> Reply
-        requires known { tenant < length self.old.config.tenants }
-        requires line { option_map line_of (find_job seq (view tenant self.old).jobs) ≡ Some line }
-        requires out { is_out line.phase ≡ false }
-        requires ended { is_ended line.phase ≡ false }
-        requires amount { is_amount quanta ≡ true }
-        ensures follows { IsReply self.old tenant (Event.Fund seq quanta) result self.new }
-        ensures turns { KeepsTurns self.old tenant seq self.new }
+    #[tactic(auto, unfolding(crate::specs::Step::to_cancel))]
+    fn decide_cancel(&self, tenant: u32, seq: u64) -> Effect<J>
+        requires { tenant < length self.now.config.tenants }
+        ensures { IsDecided (view tenant self.now) (Event.Cancel seq) result }
     {
         if !self.has_room(tenant, 1) {
-            return Reply::NoRoom;
+            return Effect::Nothing(Reply::NoRoom);
         }
-        let purse = self.purse_of(tenant);
+        let Some(job) = self.job(tenant, seq) else {
+            return Effect::Notes(Reply::NoUnknown);
+        };
+        let Some(line) = given_up(line_of(job)) else {
+            return Effect::Notes(Reply::NoOver);
+        };
         let mut account = self.account(tenant);
-        let event = Event::Fund(seq, quanta);
-        if let Err(short) = account.book.hold(quanta) {
-            return self.noted(tenant, event, Reply::NoShort(short.0));
-        }
-        let Ok(()) = keep_room(&mut self.journal, self.jobs.len()) else {
-            return Reply::NoMemory;
-        };
-        if !jobs::fund(&mut self.jobs, tenant, seq, quanta) {
-            return Reply::NoMemory;
-        }
-        account.used += 1;
-        let funded = Line {
-            phase: Phase::Waiting,
-            left: line.left + quanta,
-            ..line
-        };
-        write_down(
-            &mut self.ledgers,
-            &mut self.journal,
-            purse,
-            tenant,
-            account,
-            event,
-        );
-        Reply::Line(funded)
+        account.book.free_up(job.left() - line.left);
+        Effect::Changes(line, account, Change::GiveUp)
     }
 
     /// Gives a job up that is not at its end: while a worker holds its turn it is leaving, and else it is cancelled and
     /// what it held is free. Takes no memory where it does. Refused, the first of: `NoRoom`, `NoUnknown`, `NoOver`; `NoMemory`
     /// in place of the last two.
-    #[tactic(auto, using(crate::proofs::StepLemmas::cancel_unknown, crate::proofs::StepLemmas::cancel_over, crate::proofs::StepLemmas::cancel_told, crate::proofs::StepLemmas::cancel_less, crate::proofs::OrderLemmas::same_turns))]
     pub fn cancel(&mut self, tenant: u32, seq: u64) -> Reply
         requires { tenant < length self.old.config.tenants }
         ensures follows { IsReply self.old tenant (Event.Cancel seq) result self.new }
@@ -305,88 +276,34 @@ impl<J: Strategy> Farm<J> {
             → (step (view tenant self.old) (Event.Cancel seq)).answer ≡ Replied (Reply.Line line)
             → result ≡ Reply.Line line }
     {
-        let Some(line) = self.snapshot(tenant, seq) else {
-            return self.noted(tenant, Event::Cancel(seq), Reply::NoUnknown);
-        };
-        let Some(then) = given_up(line) else {
-            return self.noted(tenant, Event::Cancel(seq), Reply::NoOver);
-        };
-        self.cancel_job(tenant, seq, line.left - then.left, then)
+        let effect = self.decide_cancel(tenant, seq);
+        self.commit(tenant, Event::Cancel(seq), effect)
     }
 
-    /// The same for a job that is not at its end, which is then told of so, with so many quanta less.
-    #[tactic(auto, using(crate::proofs::OrderLemmas::same_turns))]
-    fn cancel_job(&mut self, tenant: u32, seq: u64, freed: u64, then: Line) -> Reply
-        requires known { tenant < length self.old.config.tenants }
-        requires given_up { IsGivenUpTo (view tenant self.old) seq freed then }
-        ensures follows { IsReply self.old tenant (Event.Cancel seq) result self.new }
-        ensures turns { KeepsTurns self.old tenant seq self.new }
-        ensures accepted { has_room 1 (view tenant self.old) ≡ true → result ≡ Reply.Line then }
+    #[tactic(auto, unfolding(crate::specs::Step::to_forget))]
+    fn decide_forget(&self, tenant: u32, seq: u64) -> Effect<J>
+        requires { tenant < length self.now.config.tenants }
+        ensures { IsDecided (view tenant self.now) (Event.Forget seq) result }
     {
         if !self.has_room(tenant, 1) {
-            return Reply::NoRoom;
+            return Effect::Nothing(Reply::NoRoom);
         }
-        let purse = self.purse_of(tenant);
-        let mut account = self.account(tenant);
-        let passed = self.passed_without(tenant);
-        account.book.free_up(freed);
-        account.used += 1;
-        self.passed = passed;
-        jobs::cancel(&mut self.jobs, tenant, seq);
-        write_down(
-            &mut self.ledgers,
-            &mut self.journal,
-            purse,
-            tenant,
-            account,
-            Event::Cancel(seq),
-        );
-        Reply::Line(then)
+        let Some(job) = self.job(tenant, seq) else {
+            return Effect::Notes(Reply::NoUnknown);
+        };
+        if !job.phase().is_ended() {
+            return Effect::Notes(Reply::NoBusy);
+        }
+        Effect::Drops(job.seq())
     }
 
     /// Keeps a job no longer that has come to its end. Refused, the first of: `NoRoom`, `NoUnknown`, `NoBusy`; `NoMemory` in
     /// place of any answer but `NoRoom`.
-    #[tactic(auto, using(crate::proofs::StepLemmas::forget_unknown, crate::proofs::StepLemmas::forget_busy))]
     pub fn forget(&mut self, tenant: u32, seq: u64) -> Reply
         requires { tenant < length self.old.config.tenants }
         ensures { IsReply self.old tenant (Event.Forget seq) result self.new }
     {
-        let Some(line) = self.snapshot(tenant, seq) else {
-            return self.noted(tenant, Event::Forget(seq), Reply::NoUnknown);
-        };
-        if !line.phase.is_ended() {
-            return self.noted(tenant, Event::Forget(seq), Reply::NoBusy);
-        }
-        self.forget_job(tenant, seq, line)
-    }
-
-    /// The same for a job that has come to its end.
-    fn forget_job(&mut self, tenant: u32, seq: u64, line: Line) -> Reply
-        requires known { tenant < length self.old.config.tenants }
-        requires line { option_map line_of (find_job seq (view tenant self.old).jobs) ≡ Some line }
-        requires ended { is_ended line.phase ≡ true }
-        ensures { IsReply self.old tenant (Event.Forget seq) result self.new }
-    {
-        if !self.has_room(tenant, 1) {
-            return Reply::NoRoom;
-        }
-        let purse = self.purse_of(tenant);
-        let mut account = self.account(tenant);
-        let passed = self.passed_without(tenant);
-        let Ok(()) = keep_room(&mut self.journal, self.jobs.len()) else {
-            return Reply::NoMemory;
-        };
-        account.used += 1;
-        self.passed = passed;
-        self.jobs.remove(tenant, seq);
-        write_down(
-            &mut self.ledgers,
-            &mut self.journal,
-            purse,
-            tenant,
-            account,
-            Event::Forget(seq),
-        );
-        Reply::Forgotten(seq)
+        let effect = self.decide_forget(tenant, seq);
+        self.commit(tenant, Event::Forget(seq), effect)
     }
 }

@@ -1,15 +1,15 @@
 //! The farm.
 ghost use Rattle.std.specs.Prelude.{◌≡◌, ℕ, ◌<◌, ◌≤◌, ◌+◌, ◌++◌, ◌*◌, [], ◌∷◌, IsTrue, true, length, map, get_or, option_map, slice_set, false, None, IfOk, OnOk};
+ghost use Rattle.std.specs.Option.{option_copied};
 ghost use Rattle.std.specs.Vec.{vec_len, vec_capacity};
-ghost use Rattle.farm_core.specs.Tenant.{book, ledger_of, find_job, line_of};
+ghost use Rattle.farm_core.specs.Tenant.{book, held, ledger_of, find_job, line_of};
 ghost use Rattle.farm_core.specs.Step.{has_room};
-ghost use Rattle.farm_core.specs.World.{World, table_of, purse, view, account_of, new_numbers, opened, opened_books, purse_in, purses_in, IsOfJournal, IsOnlyNoted};
+ghost use Rattle.farm_core.specs.World.{World, purse, view, account_of, new_numbers, opened, opened_books, purse_in, purses_in, IsOfJournal};
 ghost use Rattle.farm_core.specs.Config.{is_config};
-ghost use Rattle.farm_core.specs.Farm.{IsAccount, IsReached, AreAtHome, IsReply, ArePassed, purse_numbers};
-ghost use Rattle.farm_core.specs.Truth.{IsPlanned};
+ghost use Rattle.farm_core.specs.Farm.{IsAccount, IsReached, AreAtHome, ArePassed, purse_numbers};
 
 use crate::{
-    Account, Config, Entry, Event, Line, MOST_ENTRIES, MOST_QUANTA, MOST_TENANTS, Numbers, Reply,
+    Account, Config, Entry, Event, Line, MOST_ENTRIES, MOST_QUANTA, MOST_TENANTS, Numbers,
 };
 use job_table::{Job, JobTable};
 use std::alloc::{AllocError, Global};
@@ -130,31 +130,31 @@ pub(crate) fn keep_room(journal: &mut Vec<Entry>, jobs: usize) -> Result<(), All
     journal.reserve(more)
 }
 
-/// Writes an entry down, and what its tenant's account tells then.
-pub(crate) fn write_down(
-    ledgers: &mut Ledgers,
-    journal: &mut Vec<Entry>,
-    purse: u32,
-    tenant: u32,
-    account: Account,
-    event: Event,
-)
-    requires known { tenant < length ledgers.old.numbers.items }
-    requires purse { purse < length ledgers.old.books.items }
-    requires room { vec_len journal.old < vec_capacity journal.old }
-    ensures purses { ledgers.new.purses.items ≡ ledgers.old.purses.items }
-    ensures books { ledgers.new.books.items ≡ slice_set ledgers.old.books.items purse account.book }
-    ensures numbers { ledgers.new.numbers.items
-        ≡ slice_set ledgers.old.numbers.items tenant (record { next = account.next; used = account.used }) }
-    ensures journal { journal.new.items ≡ journal.old.items ++ record { tenant = tenant; event = event } ∷ [] }
-    ensures capacity { vec_capacity journal.new ≡ vec_capacity journal.old }
-{
-    ledgers.books[purse as usize] = account.book;
-    ledgers.numbers[tenant as usize] = Numbers {
-        next: account.next,
-        used: account.used,
-    };
-    journal.push_reserved(Entry { tenant, event });
+impl Ledgers {
+    /// Writes an entry down, and what its tenant's account tells then.
+    pub(crate) fn write_down(
+        &mut self,
+        journal: &mut Vec<Entry>,
+        purse: u32,
+        tenant: u32,
+        account: Account,
+        event: Event,
+    )
+        requires known { tenant < length self.old.numbers.items }
+        requires purse { purse < length self.old.books.items }
+        requires room { vec_len journal.old < vec_capacity journal.old }
+        ensures purses { self.new.purses.items ≡ self.old.purses.items }
+        ensures books { self.new.books.items ≡ slice_set self.old.books.items purse account.book }
+        ensures numbers { self.new.numbers.items
+            ≡ slice_set self.old.numbers.items tenant (record { next = account.next; used = account.used }) }
+        ensures journal { journal.new.items ≡ journal.old.items ++ record { tenant = tenant; event = event } ∷ [] }
+        ensures capacity { vec_capacity journal.new ≡ vec_capacity journal.old }
+    {
+        let Account { book, next, used } = account;
+        self.books[purse as usize] = book;
+        self.numbers[tenant as usize] = Numbers { next, used };
+        journal.push_reserved(Entry { tenant, event });
+    }
 }
 
 /// What is told of a job.
@@ -222,6 +222,7 @@ impl<J> Farm<J> {
         requires { tenant < length self.now.config.tenants }
         ensures exact { result ≡ account_of self.now tenant }
         ensures told { IsAccount (view tenant self.now) result }
+        ensures covered { held (view tenant self.now) + (view tenant self.now).spent ≤ (view tenant self.now).granted }
     {
         let numbers = self.ledgers.numbers[tenant as usize];
         Account {
@@ -258,13 +259,21 @@ impl<J> Farm<J> {
         self.ledgers.books[number as usize]
     }
 
-    /// What is told of a tenant's job of that number. Leaves no entry.
+    /// A tenant's job of that number.
     #[tactic(auto, using(crate::proofs::ViewLemmas::found_own), unfolding(crate::specs::World::view, crate::specs::World::member))]
+    pub(crate) fn job(&self, tenant: u32, seq: u64) -> Option<&Job<J>>
+        requires { tenant < length self.now.config.tenants }
+        ensures { option_copied result ≡ find_job seq (view tenant self.now).jobs }
+    {
+        self.jobs.find(tenant, seq)
+    }
+
+    /// What is told of a tenant's job of that number. Leaves no entry.
     pub fn snapshot(&self, tenant: u32, seq: u64) -> Option<Line>
         requires { tenant < length self.now.config.tenants }
         ensures { result ≡ option_map line_of (find_job seq (view tenant self.now).jobs) }
     {
-        match self.jobs.find(tenant, seq) {
+        match self.job(tenant, seq) {
             Some(job) => Some(line_of(job)),
             None => None,
         }
@@ -296,34 +305,5 @@ impl<J> Farm<J> {
         } else {
             None
         }
-    }
-
-    /// Answers a command that changes no job: leaves its entry, where there is room and memory for one.
-    pub(crate) fn noted(&mut self, tenant: u32, event: Event, reply: Reply) -> Reply
-        requires known { tenant < length self.old.config.tenants }
-        requires step { IsOnlyNoted (view tenant self.old) event reply }
-        requires planned { IsPlanned event }
-        ensures follows { IsReply self.old tenant event result self.new }
-        ensures job { (seq : ℕ) → result ≡ Reply.Job seq → reply ≡ Reply.Job seq }
-        ensures table { table_of self.new ≡ table_of self.old }
-    {
-        if !self.has_room(tenant, 1) {
-            return Reply::NoRoom;
-        }
-        let purse = self.purse_of(tenant);
-        let mut account = self.account(tenant);
-        let Ok(()) = keep_room(&mut self.journal, self.jobs.len()) else {
-            return Reply::NoMemory;
-        };
-        account.used += 1;
-        write_down(
-            &mut self.ledgers,
-            &mut self.journal,
-            purse,
-            tenant,
-            account,
-            event,
-        );
-        reply
     }
 }

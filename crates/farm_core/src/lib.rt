@@ -11,8 +11,9 @@
 //! - `reply`: what the farm answers.
 //! - `purses`: who shares a purse, and how purses are numbered.
 //! - `account`: what is kept of each tenant beside its jobs.
-//! - `farm`: `Farm`: its making, its readers, and a call that changes nothing but the journal.
+//! - `farm`: `Farm`: its making, and its readers.
 //! - `jobs`: how a job in the table changes.
+//! - `effect`: what a command does, and the one step that makes it and writes it down.
 //! - `commands`: submit, fund, status, result, cancel, forget, ledger.
 //! - `command`: what a tenant asks for as a value, and one call for all seven.
 //! - `turn`: turns, and how they are taken and given back.
@@ -23,6 +24,7 @@ mod account;
 mod command;
 mod commands;
 mod config;
+mod effect;
 mod entry;
 mod farm;
 mod jobs;

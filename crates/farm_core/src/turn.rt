@@ -10,7 +10,7 @@ ghost use Rattle.strategy.specs.Search.{nodes_within, ran_on};
 ghost use Rattle.farm_core.specs.Farm.{ArePassed, IsNext};
 ghost use Rattle.farm_core.specs.Turn.{IsTurn, IsTaken, IsNotTaken, IsGiven, IsIdle, IsReady, IsFirstReady};
 
-use crate::farm::{keep_room, line_of, write_down};
+use crate::farm::{keep_room, line_of};
 use crate::jobs::{send, take_back};
 use crate::{Event, Farm, Line, MOST_ENTRIES, MOST_SLICE, NoTurn, Reply};
 use job_table::JobTable;
@@ -152,14 +152,9 @@ impl<J: Strategy> Farm<J> {
         let Some(search) = send(&mut self.jobs, tenant, seq, slice) else {
             return Err(NoTurn::NoMemory);
         };
-        write_down(
-            &mut self.ledgers,
-            &mut self.journal,
-            purse,
-            tenant,
-            account,
-            Event::Take(seq, slice),
-        );
+        let event = Event::Take(seq, slice);
+        self.ledgers
+            .write_down(&mut self.journal, purse, tenant, account, event);
         Ok(Turn {
             tenant,
             seq,
@@ -207,14 +202,9 @@ impl<J: Strategy> Farm<J> {
         account.used += 1;
         account.book.spend(ran);
         account.book.free_up(before.left - ran - line.left);
-        write_down(
-            &mut self.ledgers,
-            &mut self.journal,
-            purse,
-            tenant,
-            account,
-            Event::Give(seq, ran),
-        );
+        let event = Event::Give(seq, ran);
+        self.ledgers
+            .write_down(&mut self.journal, purse, tenant, account, event);
         Ok(Reply::Ran(ran, line))
     }
 

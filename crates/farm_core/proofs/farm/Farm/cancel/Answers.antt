@@ -1,19 +1,6 @@
-use Rattle.std.proofs.Common.{◌≡◌, ◌-◌, Some, sym, ◌∙◌, arith}
-use Rattle.std.specs.Prelude.{option_map}
-use Rattle.job_table.specs.Table.{JobData}
-use Rattle.job_table.specs.Job.{given_up}
-use Rattle.farm_core.specs.Tenant.{line_of}
-use Rattle.farm_core.specs.World.{view}
-use Rattle.farm_core.proofs.StepLemmas.{cancel_less, cancel_told}
+use Rattle.farm_core.proofs.CommandLemmas.{cancel_accepted}
 use Rattle.farm_core.proofs.farm.Farm.cancel.Goals as goal
 
-pub overflow_sub-line : goal.overflow_sub-line
-overflow_sub-line g c =
-    cancel_less (view c.args.tenant c.args.self.now) c.args.seq c.in-Some.line c.in-Some-given_up.then (sym c.snapshot.ensures ∙ c.in-Some.is) (λ job is. sym c.in-Some-given_up.is ∙ c.given_up.ensures job is)
-
-pub cancel_job-requires-clause-given_up : goal.cancel_job-requires-clause-given_up
-cancel_job-requires-clause-given_up g c κs within =
-    let told = sym c.snapshot.ensures ∙ c.in-Some.is in
-    let gives : (job : JobData) → c.in-Some.line ≡ line_of job → Some c.in-Some-given_up.then ≡ option_map line_of (given_up job job.phase) = λ job is. sym c.in-Some-given_up.is ∙ c.given_up.ensures job is in
-    let less = cancel_less (view c.args.tenant c.args.self.now) c.args.seq c.in-Some.line c.in-Some-given_up.then told gives in
-    cancel_told (view c.args.tenant c.args.self.now) c.args.seq (c.in-Some.line.left - c.in-Some-given_up.then.left) c.in-Some.line c.in-Some-given_up.then told gives (omega (arith, less))
+pub returns-clause-accepted : goal.returns-clause-accepted
+returns-clause-accepted g c line accepts =
+    cancel_accepted c.args.self.now c.commit.new.self c.args.tenant c.args.seq c.decide_cancel-effect.result c.commit.result line c.decide_cancel-effect.ensures c.commit.ensures.follows c.commit.ensures.memory accepts

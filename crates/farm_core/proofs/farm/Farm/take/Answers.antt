@@ -29,7 +29,7 @@ moves : (g : Over) (c : After-write_down g) → IsMove c.args.self.now c.args.te
 moves g c = (it g c).moves
 
 wrote : (g : Over) (c : After-write_down g) →
-    let v : World = record { config = c.self.inside.config; rows = c.send.new.jobs.rows; waiting = c.send.new.jobs.waiting; journal = c.write_down.new.journal.items; books = c.write_down.new.ledgers.books.items; numbers = c.write_down.new.ledgers.numbers.items } in
+    let v : World = record { config = c.self.inside.config; rows = c.send.new.jobs.rows; waiting = c.send.new.jobs.waiting; journal = c.write_down.new.journal.items; books = c.write_down.new.self.books.items; numbers = c.write_down.new.self.numbers.items } in
     IsFarm v (vec_capacity c.write_down.new.journal) × Follows c.args.self.now c.args.tenant (Take c.args.seq c.args.slice) (Sent (line_of (gone_out c.args.slice (it g c).job))) v × ArePassed v c.self.inside.passed
 wrote g c =
     let w : World = c.args.self.now in
@@ -37,8 +37,8 @@ wrote g c =
     let account : Account = c.account-account.result in
     let then : Account = record account { book = account.book; used = account.used + 1 } in
     let farm : IsFarm w (vec_capacity c.self.inside.journal) = subst (λ (x : World). IsFarm x (vec_capacity c.self.inside.journal)) c.self.view_is c.self.invariant.0 in
-    let v : World = record { config = c.self.inside.config; rows = c.send.new.jobs.rows; waiting = c.send.new.jobs.waiting; journal = c.write_down.new.journal.items; books = c.write_down.new.ledgers.books.items; numbers = c.write_down.new.ledgers.numbers.items } in
-    let is : v ≡ moved w t (c.send.new.jobs) then (one_entry t (Take c.args.seq c.args.slice)) = moved_is w c.self.inside.config c.self.inside.jobs (c.send.new.jobs) c.self.inside.journal.items c.write_down.new.journal.items c.self.inside.ledgers.books.items c.write_down.new.ledgers.books.items c.self.inside.ledgers.numbers.items c.write_down.new.ledgers.numbers.items t c.purse_of-purse.result (c.send.new.jobs) then (Take c.args.seq c.args.slice)
+    let v : World = record { config = c.self.inside.config; rows = c.send.new.jobs.rows; waiting = c.send.new.jobs.waiting; journal = c.write_down.new.journal.items; books = c.write_down.new.self.books.items; numbers = c.write_down.new.self.numbers.items } in
+    let is : v ≡ moved w t (c.send.new.jobs) then (one_entry t (Take c.args.seq c.args.slice)) = moved_is w c.self.inside.config c.self.inside.jobs (c.send.new.jobs) c.self.inside.journal.items c.write_down.new.journal.items c.self.inside.ledgers.books.items c.write_down.new.self.books.items c.self.inside.ledgers.numbers.items c.write_down.new.self.numbers.items t c.purse_of-purse.result (c.send.new.jobs) then (Take c.args.seq c.args.slice)
     c.self.view_is c.purse_of-purse.ensures.exact (refl) c.write_down.ensures.books c.write_down.ensures.numbers (c.write_down.ensures.journal ∙ ap (λ es. es ++ one_entry t (Take c.args.seq c.args.slice)) c.keep_room.ensures.kept) in
     let room : length w.journal + 1 + owed c.send.new.jobs.rows ≤ vec_capacity c.write_down.new.journal = omega (arith, (it g c).room, c.in-Ok.ensures.room, c.write_down.ensures.capacity, c.len.ensures, ap (λ (x : World). length x.journal) c.self.view_is, ap (λ (x : World). length x.rows) c.self.view_is) in
     written_less w v t (c.send.new.jobs) then (Take c.args.seq c.args.slice) (Sent (line_of (gone_out c.args.slice (it g c).job))) (vec_capacity c.self.inside.journal) (vec_capacity c.write_down.new.journal) c.self.inside.passed farm (moves g c) is room

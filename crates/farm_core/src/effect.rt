@@ -1,0 +1,142 @@
+//! Decide, then commit: a command's effect is decided while nothing changes, and then made and written down at once.
+ghost use Rattle.std.specs.Prelude.{◌≡◌, ◌+◌, ◌*◌, ◌<◌, ◌≤◌, ◌^◌, true, false, length, None, IfOk, OnOk, OnErr};
+ghost use Rattle.std.specs.Vec.{vec_capacity};
+ghost use Rattle.farm_core.specs.declared.reply.Reply.{Reply};
+ghost use Rattle.farm_core.specs.Step.{has_room};
+ghost use Rattle.farm_core.specs.World.{World, view};
+ghost use Rattle.farm_core.specs.Farm.{IsReply, ArePassed};
+ghost use Rattle.farm_core.specs.Truth.{IsPlanned};
+ghost use Rattle.farm_core.specs.Command.{WaitsThen};
+ghost use Rattle.farm_core.specs.Decided.{IsDecided, Fits, IsMade, takes_memory, may_leave};
+
+use crate::farm::keep_room;
+use crate::{Account, Entry, Event, Farm, Line, Reply, jobs};
+use job_table::{Job, JobTable};
+use std::alloc::AllocError;
+use strategy::Strategy;
+
+/// How a command changes a job.
+#[derive(Clone, Copy, Debug)]
+pub(crate) enum Change {
+    /// It draws this many quanta, and waits.
+    Fund(u64),
+    /// It is given up.
+    GiveUp,
+}
+
+/// What a command does, as in `specs/Step`. An `Account` has the purse's ledger after it.
+#[derive(Drop)]
+pub(crate) enum Effect<J> {
+    /// No change.
+    Nothing(Reply),
+    /// A journal entry only.
+    Notes(Reply),
+    /// An entry and a new job.
+    Adds(Job<J>, Account),
+    /// An entry, and the job is then as this line tells.
+    Changes(Line, Account, Change),
+    /// An entry, and the job of this number is removed.
+    Drops(u64),
+}
+
+impl<J: Strategy> Effect<J> {
+    /// Makes it in the jobs and in the account, with space in the journal for its entry, and returns its reply. No job has
+    /// changed after an error.
+    fn make(
+        self,
+        tenant: u32,
+        jobs: &mut JobTable<J>,
+        journal: &mut Vec<Entry>,
+        account: &mut Account,
+    ) -> Result<Reply, AllocError>
+        requires fits { Fits tenant self jobs.old.rows }
+        requires few { account.old.used + account.old.next < 2 ^ 63 }
+        ensures made { IfOk result (λ reply. IsMade tenant self jobs.old account.old jobs.new account.new reply) }
+        ensures kept { OnErr result (jobs.new ≡ jobs.old) }
+        ensures room { takes_memory self ≡ true
+            → OnOk result (length journal.old.items + 2 * length jobs.old.rows + 3 ≤ vec_capacity journal.new) }
+        ensures memory { OnErr result (takes_memory self ≡ true) }
+        ensures journal { journal.new.items ≡ journal.old.items }
+        ensures capacity { vec_capacity journal.old ≤ vec_capacity journal.new }
+    {
+        account.used += 1;
+        match self {
+            Effect::Nothing(reply) | Effect::Notes(reply) => {
+                keep_room(journal, jobs.len())?;
+                Ok(reply)
+            }
+            Effect::Adds(job, after) => {
+                keep_room(journal, jobs.len())?;
+                let seq = job.seq();
+                let Ok(()) = jobs.insert(tenant, job) else {
+                    return Err(AllocError);
+                };
+                account.book = after.book;
+                account.next += 1;
+                Ok(Reply::Job(seq))
+            }
+            Effect::Changes(line, after, change) => match change {
+                Change::Fund(quanta) => {
+                    keep_room(journal, jobs.len())?;
+                    if !jobs::fund(jobs, tenant, line.seq, quanta) {
+                        return Err(AllocError);
+                    }
+                    account.book = after.book;
+                    Ok(Reply::Line(line))
+                }
+                // Takes no memory: space for the entry of a cancel is kept since the job came in.
+                Change::GiveUp => {
+                    jobs::cancel(jobs, tenant, line.seq);
+                    account.book = after.book;
+                    Ok(Reply::Line(line))
+                }
+            },
+            Effect::Drops(seq) => {
+                keep_room(journal, jobs.len())?;
+                jobs.remove(tenant, seq);
+                Ok(Reply::Forgotten(seq))
+            }
+        }
+    }
+}
+
+impl<J: Strategy> Farm<J> {
+    /// Up to which job all are passed once the effect is made.
+    fn passed_after(&self, tenant: u32, effect: &Effect<J>) -> Option<(u32, u64)>
+        requires { tenant < length self.now.config.tenants }
+        ensures passed { ArePassed self.now result }
+        ensures begins { may_leave effect.now ≡ true → has_room 2 (view tenant self.now) ≡ false → result ≡ None }
+    {
+        match effect {
+            Effect::Changes(_, _, Change::GiveUp) | Effect::Drops(_) => {
+                self.passed_without(tenant)
+            }
+            _ => self.passed,
+        }
+    }
+
+    /// Makes the effect that was decided for a command, and writes the entry. `NoMemory` if there is no memory for one of
+    /// them; then nothing has changed.
+    pub(crate) fn commit(&mut self, tenant: u32, event: Event, effect: Effect<J>) -> Reply
+        requires known { tenant < length self.old.config.tenants }
+        requires decided { IsDecided (view tenant self.old) event effect }
+        requires planned { IsPlanned event }
+        ensures follows { IsReply self.old tenant event result self.new }
+        ensures turns { WaitsThen self.old tenant event result self.new }
+        ensures memory { result ≡ Reply.NoMemory → takes_memory effect ≡ true }
+    {
+        let effect = match effect {
+            Effect::Nothing(reply) => return reply,
+            effect => effect,
+        };
+        let (purse, mut account) = (self.purse_of(tenant), self.account(tenant));
+        let passed = self.passed_after(tenant, &effect);
+        let Ok(reply) = effect.make(tenant, &mut self.jobs, &mut self.journal, &mut account) else {
+            return Reply::NoMemory;
+        };
+        self.passed = passed;
+        self.ledgers
+            .write_down(&mut self.journal, purse, tenant, account, event);
+        reply
+    }
+}
