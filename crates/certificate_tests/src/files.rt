@@ -1,5 +1,5 @@
-//! A file whose optimum is 4: the second activity takes 3 periods and two of three units, the third 2 periods and two units
-//! or 4 periods and one.
+//! A file whose optimum is 4. Activity 2 takes 3 periods and two of three units. Activity 3 takes 2
+//! periods and two units, or 4 periods and one.
 use certify_cli::CertifyFault::{self, Certificate, Words};
 use certify_cli::{certify, certify_infeasible, write_clauses};
 use clause_proof::ProofFault::{self, Unfinished, Unproved, Word};
@@ -32,7 +32,8 @@ h
 /// A schedule of 5 periods. The clauses of 4 periods can all be true.
 const LATE: &[u8] = b"1:1:0 2:1:0 3:2:0 4:1:5";
 
-/// Texts of schedules, and what is said of each with an empty proof. The clauses of 3 periods are refuted without one.
+/// Texts of schedules, and the result of each with an empty proof. The clauses of 3 periods are
+/// refuted without a proof.
 const TEXTS: [(&[u8], Result<(), CertifyFault>); 8] = [
     (b"1:1:0 2:1:0 3:2:0 4:1:4", Ok(())),
     (
@@ -75,8 +76,8 @@ fn refuses_what_is_feasible_and_too_long(rt: HostRuntime) -> Result<(), AllocErr
     Ok(())
 }
 
-/// Bytes that prove nothing of clauses which can all be true and do not speak of the variable 100,000, and the fault of each: its
-/// first bad step, by the line in which that ends, or in the binary form by its number.
+/// Bytes that prove nothing of clauses that can all be true, without the variable 100,000. The
+/// fault names the first bad step: its last line, or in the binary form its number.
 const REFUSED: [(&[u8], ProofFault); 9] = [
     (b"", Unfinished),
     (b"d 7 0\n", Unfinished),

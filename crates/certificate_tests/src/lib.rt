@@ -1,8 +1,5 @@
-//! Proofs in both forms, certificates of a small file, and their faults. Expected values are worked by hand; larger files and
-//! damaged proofs are those of `tests/certificates`.
-//!
-//! - `proofs`: proofs of four clauses.
-//! - `files`: a small file, its clauses and its certificates.
+//! Proofs in both forms (`proofs`), certificates of a small file (`files`), and their faults,
+//! worked by hand. Larger files and damaged proofs are in `tests/certificates`.
 #![tactic(auto)]
 
 #[cfg(test)]

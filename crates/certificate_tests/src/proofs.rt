@@ -1,4 +1,4 @@
-//! Proofs of the four clauses over two variables, of which no values make all true.
+//! Proofs of four clauses over two variables that no values make all true.
 use clause_proof::ProofFault::{self, Unfinished, Unproved, Word};
 use clause_proof::refute;
 use std::alloc::{AllocError, Global};
@@ -11,7 +11,7 @@ fn square(alloc: Global) -> Result<Vec<Vec<u32>>, AllocError> {
     Ok(clauses)
 }
 
-/// Proofs, and what is said of them. The binary ones begin with the byte `a`.
+/// Proofs, and the result of each. The binary ones begin with the byte `a`.
 const PROOFS: [(&[u8], Result<(), ProofFault>); 12] = [
     (b"2 0\n0\n", Ok(())),
     (b"  2\r\n0 1 2 0", Ok(())),

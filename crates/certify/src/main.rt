@@ -1,5 +1,5 @@
-//! The program `certify`: `certify clauses FILE BOUND`, `certify check FILE SCHEDULE [PROOF]` and `certify infeasible FILE PROOF`.
-//! A path `-` is standard input.
+//! The program `certify`, with the subcommands `clauses`, `check`, `infeasible` and `bound`. A path
+//! `-` is standard input.
 #![tactic(auto)]
 
 ghost use Rattle.std.specs.Prelude.{◌≤◌};
@@ -12,12 +12,10 @@ use std::process::ExitCode;
 use std::rt::Runtime;
 use std::{env, io};
 
-/// An argument that has to be there.
 fn needed<'a>(alloc: Global, name: &'a str, help: &'a str) -> Arg<'a> {
     Arg::new(alloc, name).help(help).required(true)
 }
 
-/// The command with its subcommands, or an error where there is no memory for it.
 fn command<'a>(alloc: Global) -> Result<Command<'a>, AllocError> {
     let clauses = Command::new(alloc, "clauses")
         .about("Writes the clauses of a project and a bound in DIMACS form")
@@ -64,7 +62,6 @@ fn command<'a>(alloc: Global) -> Result<Command<'a>, AllocError> {
         .subcommand(bound)
 }
 
-/// Runs the subcommand that was chosen.
 fn run_chosen<R: Runtime + AllocGlobal>(rt: &R, matches: &ArgMatches<'_>) -> ExitCode {
     match matches.subcommand() {
         Some(("clauses", chosen)) => certify_cli::run_clauses(
@@ -93,12 +90,11 @@ fn run_chosen<R: Runtime + AllocGlobal>(rt: &R, matches: &ArgMatches<'_>) -> Exi
     }
 }
 
-/// The words of the process, or an error where one is not UTF-8 or there is no memory for them.
+/// Fails if a word is not UTF-8, or for want of memory.
 fn words_of<R: Runtime + AllocGlobal>(rt: &R) -> io::Result<Vec<String>> {
     Ok(env::args(rt)?.collect::<Vec<String>>(rt.alloc())?)
 }
 
-/// The status if the words of the process cannot be read: that of wrong words, or of want of memory.
 fn unread_words<R: Runtime>(rt: &R, kind: ErrorKind) -> ExitCode
     ensures { exit_status result ≤ 2 }
 {

@@ -1,4 +1,4 @@
--- What a line of a certificate says.
+-- What a line of a certificate means.
 use Rattle.std.specs.Prelude.{◌≡◌, ℕ, ◌≤◌, List, ◌∷◌, ◌++◌, [], Option, Ok, codes, decimal}
 use Rattle.std.specs.Io.KnownBytes.{Appends}
 use Rattle.mrcpsp.specs.Project.{ProjectData}
@@ -7,10 +7,11 @@ use Rattle.mrcpsp.specs.Values.{bound}
 use Rattle.psplib_mm.specs.Reading.{reading}
 use Rattle.schedule_files.specs.ScheduleText.{Tells}
 
+-- the line of an optimal makespan
 abbrev pub optimal_line : ℕ → List ℕ
 optimal_line makespan = codes "optimal " ++ decimal makespan ++ 10 ∷ []
 
--- the file is of a project, the text tells an optimal schedule of it, and its makespan was written
+-- the file is a project, the text writes an optimal schedule of it, and its makespan was written
 pub record CertifiesOptimal (file text : List ℕ) (before after : Option (List ℕ)) : Type 0 where
   pub project : ProjectData
   pub schedule : ScheduleData
@@ -19,13 +20,14 @@ pub record CertifiesOptimal (file text : List ℕ) (before after : Option (List 
   pub optimal : IsOptimal project schedule
   pub wrote : Appends before after (optimal_line (makespan project schedule))
 
--- the file is of a project without a feasible schedule, and `infeasible` was written
+-- the file is a project without a feasible schedule, and `infeasible` was written
 pub record CertifiesInfeasible (file : List ℕ) (before after : Option (List ℕ)) : Type 0 where
   pub project : ProjectData
   pub read : reading file ≡ Ok project
   pub infeasible : IsInfeasible project
   pub wrote : Appends before after (codes "infeasible" ++ 10 ∷ [])
 
+-- the line of a lower bound
 abbrev pub bound_line : ℕ → List ℕ
 bound_line periods = codes "at least " ++ decimal periods ++ 10 ∷ []
 
@@ -33,14 +35,16 @@ bound_line periods = codes "at least " ++ decimal periods ++ 10 ∷ []
 abbrev pub TakesAtLeast : ProjectData → ℕ → Type 0
 TakesAtLeast p periods = (s : ScheduleData) → IsFeasible p s → periods ≤ makespan p s
 
--- the file is of a project of which no feasible schedule takes fewer periods, and `at least` with their number was written
+-- no feasible schedule of the file's project takes fewer periods, and `at least` with their number
+-- was written
 pub record CertifiesBound (file : List ℕ) (periods : ℕ) (before after : Option (List ℕ)) : Type 0 where
   pub project : ProjectData
   pub read : reading file ≡ Ok project
   pub least : TakesAtLeast project periods
   pub wrote : Appends before after (bound_line periods)
 
--- the number that was written is the project's longest chain, by shortest durations
+-- the critical path of the file's project, by shortest durations, was written (Kelley and Walker
+-- 1959)
 pub record CertifiesChain (file : List ℕ) (before after : Option (List ℕ)) : Type 0 where
   pub project : ProjectData
   pub read : reading file ≡ Ok project

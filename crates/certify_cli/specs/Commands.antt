@@ -1,4 +1,4 @@
--- What the commands of certificates write of the bytes that are read, and with which status they end.
+-- What the commands of certificates write of the bytes that are read, and their exit statuses.
 use Rattle.std.specs.Prelude.{◌≡◌, ℕ, ◌-◌, ◌<◌, ◌≤◌, List, length, ⊤, Option, Result, Ok, Err, IfSome, take}
 use Rattle.mrcpsp.specs.Project.{ProjectData}
 use Rattle.mrcpsp.specs.Schedule.{ScheduleData}
@@ -17,12 +17,13 @@ use Rattle.certify_cli.specs.declared.fault.CertifyFault.TheVariants as why
 use Rattle.certify_cli.specs.declared.fault.CommandFault.{CommandFault}
 use Rattle.certify_cli.specs.declared.fault.CommandFault.TheVariants.{File, Text, Proof, Certify}
 
--- the file is of a project
+-- the file is a project
 pub record IsFile (file : List ℕ) : Type 0 where
   pub project : ProjectData
   pub read : reading file ≡ Ok project
 
--- the fault of a file is that of its bytes; any other but want of memory or of a write is told only of a file that is of a project
+-- a fault of the file is that of its bytes; any other fault but want of memory and of a write comes
+-- only if the file is a project
 abbrev pub IsOfFile : CertifyFault → List ℕ → Type 0
 IsOfFile (why.File fault) file = Fails fault (reading file)
 IsOfFile why.Words file = IsFile file
@@ -31,7 +32,7 @@ IsOfFile (why.Certificate fault) file = IsFile file
 IsOfFile why.NoMemory file = ⊤
 IsOfFile why.Write file = ⊤
 
--- this is why the schedule that the text tells is not certified for the file's project
+-- why the schedule of the text is not certified for the file's project
 pub record IsUncertified (file text : List ℕ) (fault : CertificateFault) : Type 0 where
   pub project : ProjectData
   pub schedule : ScheduleData
@@ -39,7 +40,7 @@ pub record IsUncertified (file text : List ℕ) (fault : CertificateFault) : Typ
   pub told : Tells text schedule
   pub of_schedule : IsOfSchedule project schedule fault
 
--- the fault of a certificate is that of the schedule,
+-- a fault of the certificate is that of the schedule
 abbrev pub IsOfText : CertifyFault → List ℕ → List ℕ → Type 0
 IsOfText (why.File fault) file text = ⊤
 IsOfText why.Words file text = length text ≤ MOST_BYTES
@@ -48,7 +49,7 @@ IsOfText (why.Certificate fault) file text = IsUncertified file text fault
 IsOfText why.NoMemory file text = ⊤
 IsOfText why.Write file text = ⊤
 
--- and where no schedule is asked for, never that there is none, a breach or a horizon
+-- without a schedule, a certificate's fault is never a missing schedule, a breach or a horizon
 abbrev pub IsOfProofAlone : CertifyFault → Type 0
 IsOfProofAlone (why.File fault) = ⊤
 IsOfProofAlone why.Words = ⊥
@@ -71,8 +72,8 @@ abbrev pub IsLineNoted : Result ⊤ CertifyFault → ℕ → ℕ → Type 0
 IsLineNoted (Err why.Write) old new = HasFailed old new
 IsLineNoted ended old new = new ≡ old
 
--- how a command ends: a line was written of a certificate; or an input could not be read; or nothing is certified of the file. By what
--- its watches had counted before it and count then
+-- how a command ends: its line was written, an input could not be read, or nothing is certified.
+-- `from` and `seen` are the counts of its watches before and after
 abbrev pub IsEndOf : Type 0 → Result ⊤ CommandFault → Counts → Counts → Option (List ℕ) → Option (List ℕ) → Option (List ℕ) → Type 0
 IsEndOf written (Ok done) from seen file before after = AreKept from seen × written
 IsEndOf written (Err (File kind)) from seen file before after = (after ≡ before) × HasFailed from.file seen.file × (seen.output ≡ from.output)
@@ -82,7 +83,7 @@ IsEndOf written (Err (Certify fault)) from seen file before after =
     AreReadWell from seen × IsLineNoted (Err fault) from.output seen.output
     × IfSome file (λ bytes. IsOfFile fault (take MOST_TEXT bytes)) × IsStopped fault (HasFailed from.output seen.output) before after
 
--- of which schedule a certificate's fault is
+-- the certificate's fault is that of the text's schedule
 abbrev pub IsJudged : Result ⊤ CommandFault → Option (List ℕ) → Option (List ℕ) → Type 0
 IsJudged (Ok done) file text = ⊤
 IsJudged (Err (File kind)) file text = ⊤
@@ -90,12 +91,12 @@ IsJudged (Err (Text kind)) file text = ⊤
 IsJudged (Err (Proof kind)) file text = ⊤
 IsJudged (Err (Certify fault)) file text = IfSome file (λ bytes. IfSome text (λ words. IsOfText fault (take MOST_TEXT bytes) (take MOST_TEXT words)))
 
--- of a file and of a schedule's text no more than so many bytes are read
+-- the end of a command with a schedule: of its file and of its text `MOST_TEXT` bytes are read
 abbrev pub IsCertifyOf : Result ⊤ CommandFault → Counts → Counts → Option (List ℕ) → Option (List ℕ) → Option (List ℕ) → Option (List ℕ) → Type 0
 IsCertifyOf ended from seen file text before after =
     IsEndOf (IfSome file (λ bytes. IfSome text (λ words. CertifiesOptimal (take MOST_TEXT bytes) (take MOST_TEXT words) before after))) ended from seen file before after × IsJudged ended file text
 
--- where no schedule is asked for, its text is never what could not be read
+-- without a schedule, no fault is that of a text
 abbrev pub IsJudgedAlone : Result ⊤ CommandFault → Type 0
 IsJudgedAlone (Ok done) = ⊤
 IsJudgedAlone (Err (File kind)) = ⊤
@@ -103,17 +104,18 @@ IsJudgedAlone (Err (Text kind)) = ⊥
 IsJudgedAlone (Err (Proof kind)) = ⊤
 IsJudgedAlone (Err (Certify fault)) = IsOfProofAlone fault
 
+-- the end of a command that certifies infeasibility
 abbrev pub IsInfeasibleOf : Result ⊤ CommandFault → Counts → Counts → Option (List ℕ) → Option (List ℕ) → Option (List ℕ) → Type 0
 IsInfeasibleOf ended from seen file before after =
     IsEndOf (IfSome file (λ bytes. CertifiesInfeasible (take MOST_TEXT bytes) before after)) ended from seen file before after × IsJudgedAlone ended
 
--- this is why no proof shows that each feasible schedule of the file's project takes so many periods
+-- why no proof shows that each feasible schedule of the file's project takes `periods` periods
 pub record IsUnbounded (file : List ℕ) (periods : ℕ) (fault : CertificateFault) : Type 0 where
   pub project : ProjectData
   pub read : reading file ≡ Ok project
   pub of_bound : IsOfBound project (periods - 1) fault
 
--- the fault of a bound is that of its clauses or of its proof
+-- a fault of a bound is that of its clauses or of its proof
 abbrev pub IsOfPeriods : CertifyFault → List ℕ → ℕ → Type 0
 IsOfPeriods (why.File fault) file periods = ⊤
 IsOfPeriods why.Words file periods = ⊥
@@ -122,7 +124,7 @@ IsOfPeriods (why.Certificate fault) file periods = IsUnbounded file periods faul
 IsOfPeriods why.NoMemory file periods = ⊤
 IsOfPeriods why.Write file periods = ⊤
 
--- where a bound is asked for, no text is what could not be read
+-- with a bound, no fault is that of a text
 abbrev pub IsJudgedBound : Result ⊤ CommandFault → Option (List ℕ) → ℕ → Type 0
 IsJudgedBound (Ok done) file periods = ⊤
 IsJudgedBound (Err (File kind)) file periods = ⊤
@@ -130,26 +132,28 @@ IsJudgedBound (Err (Text kind)) file periods = ⊥
 IsJudgedBound (Err (Proof kind)) file periods = ⊤
 IsJudgedBound (Err (Certify fault)) file periods = IfSome file (λ bytes. IsOfPeriods fault (take MOST_TEXT bytes) periods)
 
+-- the end of a command that certifies a bound
 abbrev pub IsBoundOf : Result ⊤ CommandFault → ℕ → Counts → Counts → Option (List ℕ) → Option (List ℕ) → Option (List ℕ) → Type 0
 IsBoundOf ended periods from seen file before after =
     IsEndOf (IfSome file (λ bytes. CertifiesBound (take MOST_TEXT bytes) periods before after)) ended from seen file before after × IsJudgedBound ended file periods
 
--- of the chain, only the file can be at fault
+-- the end of a command that certifies the critical path: only the file can be at fault
 abbrev pub IsChainOf : Result ⊤ CommandFault → Counts → Counts → Option (List ℕ) → Option (List ℕ) → Option (List ℕ) → Type 0
 IsChainOf ended from seen file before after =
     IsEndOf (IfSome file (λ bytes. CertifiesChain (take MOST_TEXT bytes) before after)) ended from seen file before after
 
+-- the exit status of a command: 1 for a fault
 abbrev pub command_status : Result ⊤ CommandFault → ℕ
 command_status (Ok done) = 0
 command_status (Err fault) = 1
 
--- the status is that of a command which ends so
+-- the status is that of a command with such an end
 pub record Ends (IsSo : Result ⊤ CommandFault → Type 0) (status : ℕ) : Type 0 where
   pub ended : Result ⊤ CommandFault
   pub is : IsSo ended
   pub ends : status ≡ command_status ended
 
--- that of the clauses of a file
+-- the exit status of a command that writes clauses: 1 for a fault
 abbrev pub clauses_status : Result ⊤ CertifyFault → ℕ
 clauses_status (Ok done) = 0
 clauses_status (Err fault) = 1

@@ -1,17 +1,17 @@
 -- What the watches of a command have counted.
 use Rattle.std.specs.Prelude.{◌≡◌, ℕ}
 
--- the failures of its project's file, of its schedule's text, of its proof, and of its writer
+-- the failures of the file, of the schedule's text, of the proof, and of the writer
 pub record Counts : Type 0 where
   pub file : ℕ
   pub text : ℕ
   pub proof : ℕ
   pub output : ℕ
 
--- no failed read was counted between,
+-- no failed read was counted between
 abbrev pub AreReadWell : Counts → Counts → Type 0
 AreReadWell old new = (new.file ≡ old.file) × (new.text ≡ old.text) × (new.proof ≡ old.proof)
 
--- and no failed write
+-- neither a failed read nor a failed write was counted between
 abbrev pub AreKept : Counts → Counts → Type 0
 AreKept old new = AreReadWell old new × (new.output ≡ old.output)

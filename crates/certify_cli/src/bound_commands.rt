@@ -12,7 +12,7 @@ use std::env::Env;
 use std::io::{Eprint, Read, Write};
 use std::process::ExitCode;
 
-/// `certify_bound` of the file that the first reader gives and the proof that the second one gives.
+/// Is `certify_bound` of what `file` and `proof` give.
 pub fn bound_read<S: Read + Drop, P: Read + Drop, W: Write>(
     alloc: Global,
     file: S,
@@ -40,7 +40,7 @@ pub fn bound_read<S: Read + Drop, P: Read + Drop, W: Write>(
     }
 }
 
-/// `certify_chain` of the file that the reader gives.
+/// Is `certify_chain` of what `file` gives.
 pub fn chain_read<S: Read + Drop, W: Write>(
     alloc: Global,
     file: S,
@@ -62,8 +62,7 @@ pub fn chain_read<S: Read + Drop, W: Write>(
     }
 }
 
-/// `bound_read` with a status: 0 if the line was written, or 1 and its fault on standard error. The readers are of
-/// the files at `paths`.
+/// Is `bound_read` with a status: 0, or 1 with the fault on standard error.
 pub fn bound_to<R: AllocGlobal + Env + Eprint, S: Read + Drop, P: Read + Drop, W: Write>(
     rt: &R,
     paths: Paths<'_>,
@@ -81,7 +80,7 @@ pub fn bound_to<R: AllocGlobal + Env + Eprint, S: Read + Drop, P: Read + Drop, W
     end_command(rt, paths, ended, &watches.why)
 }
 
-/// `chain_read` with a status, in the same way.
+/// Is `chain_read` with a status: 0, or 1 with the fault on standard error.
 pub fn chain_to<R: AllocGlobal + Env + Eprint, S: Read + Drop, W: Write>(
     rt: &R,
     paths: Paths<'_>,

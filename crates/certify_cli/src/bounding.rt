@@ -15,7 +15,7 @@ use std::alloc::Global;
 use std::io::Write;
 use watched_io::Watch;
 
-/// Checks a proof that no feasible schedule takes fewer periods. None takes fewer than 0.
+/// No schedule takes fewer than 0 periods, whatever the proof.
 fn exceeded(
     alloc: Global,
     project: &Project,
@@ -31,10 +31,9 @@ fn exceeded(
     schedule_clauses::certify_bound(alloc, project, periods - 1, proof)
 }
 
-/// Checks a proof that no feasible schedule of a file's project takes fewer than `periods` periods, and writes
-/// `at least L` with their number and a line feed. The proof is one in DRAT form of the clauses of one period
-/// less; an empty one does if the longest chain of activities takes so long. An error is the first fault, in the
-/// order of the file, the bound and the proof; nothing is written then, unless a write failed.
+/// Checks a DRAT proof that no feasible schedule of `file` takes fewer than `periods` periods, and
+/// writes `at least L`. The proof is of the clauses of one period less; it may be empty if the
+/// longest chain decides. On any error except `Write`, nothing was written.
 pub fn certify_bound<W: Write>(
     alloc: Global,
     file: &[u8],
@@ -59,9 +58,8 @@ pub fn certify_bound<W: Write>(
     }
 }
 
-/// Writes `at least L` and a line feed, where L is the longest chain of activities of a file's project, by shortest
-/// durations: no feasible schedule takes fewer periods. An error is a fault of the file, want of memory, or a write
-/// that failed; nothing is written at the first two.
+/// Writes `at least L` for the longest chain of activities of `file` by shortest durations: no
+/// feasible schedule takes fewer periods. On any error except `Write`, nothing was written.
 pub fn certify_chain<W: Write>(
     alloc: Global,
     file: &[u8],

@@ -17,9 +17,9 @@ use std::alloc::Global;
 use std::io::Write;
 use watched_io::Watch;
 
-/// Checks a schedule of a file's project, and a proof that no schedule is shorter, and writes `optimal M` with its makespan
-/// and a line feed. An error is the first fault, in the order of the file, the text, the schedule and the proof; but for a
-/// fault of the writer nothing was written then. `Write` comes only where the line could not be written, as the watch tells.
+/// Checks a schedule of `file` and a proof that none is shorter, and writes `optimal M`. Fails with
+/// the first fault, in the order of file, text, schedule and proof. On any error except `Write`,
+/// nothing was written.
 pub fn certify<W: Write>(
     alloc: Global,
     file: &[u8],
@@ -50,9 +50,8 @@ pub fn certify<W: Write>(
     }
 }
 
-/// Checks a proof that no modes fit the stocks of a file's project, so that no schedule is feasible, and writes `infeasible`
-/// and a line feed. An error is the first fault; but for a fault of the writer nothing was written then. `Write` comes only
-/// where the line could not be written, as the watch tells.
+/// Checks a proof that no modes fit the stocks of `file`, and writes `infeasible`. On any error
+/// except `Write`, nothing was written.
 pub fn certify_infeasible<W: Write>(
     alloc: Global,
     file: &[u8],
@@ -76,8 +75,8 @@ pub fn certify_infeasible<W: Write>(
     }
 }
 
-/// Writes the clauses that a file's project and a bound on the makespan make, in DIMACS form; without a bound those on modes
-/// and stocks alone. But for a fault of the writer nothing was written at an error.
+/// Writes the clauses of `file` and `bound` in DIMACS form; without a bound, those on modes and
+/// stocks. On any error except `Write`, nothing was written.
 pub fn write_clauses<W: Write>(
     alloc: Global,
     file: &[u8],

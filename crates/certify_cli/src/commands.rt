@@ -14,9 +14,8 @@ use std::env::Env;
 use std::io::{Eprint, Read, Write};
 use std::process::ExitCode;
 
-/// Writes `optimal M` and a line feed, where the proof that the third reader gives makes the schedule that the second one tells
-/// optimal for the project whose file the first one gives, and M is its makespan. But for a fault of the writer nothing was written
-/// at an error. Of the text more bytes are read than a schedule's may have, so that one that is too long is seen to be.
+/// Is `certify` of what the readers give. Of `text` one byte more is read than a schedule may have,
+/// so that excess is seen.
 pub fn certify_read<S: Read + Drop, T: Read + Drop, P: Read + Drop, W: Write>(
     alloc: Global,
     file: S,
@@ -51,8 +50,7 @@ pub fn certify_read<S: Read + Drop, T: Read + Drop, P: Read + Drop, W: Write>(
     }
 }
 
-/// Writes `infeasible` and a line feed, where the proof that the second reader gives leaves the project whose file the first one
-/// gives without a feasible schedule. But for a fault of the writer nothing was written at an error.
+/// Is `certify_infeasible` of what `file` and `proof` give.
 pub fn infeasible_read<S: Read + Drop, P: Read + Drop, W: Write>(
     alloc: Global,
     file: S,
@@ -79,8 +77,7 @@ pub fn infeasible_read<S: Read + Drop, P: Read + Drop, W: Write>(
     }
 }
 
-/// `certify_read` with a status: 0 where the line was written, and 1 where its fault was told on standard error. The readers are of
-/// the files at the paths.
+/// Is `certify_read` with a status: 0, or 1 with the fault on standard error.
 pub fn certify_to<
     R: AllocGlobal + Env + Eprint,
     S: Read + Drop,
@@ -106,7 +103,7 @@ pub fn certify_to<
     end_command(rt, paths, ended, &watches.why)
 }
 
-/// `infeasible_read` with a status, in the same way.
+/// Is `infeasible_read` with a status: 0, or 1 with the fault on standard error.
 pub fn infeasible_to<R: AllocGlobal + Env + Eprint, S: Read + Drop, P: Read + Drop, W: Write>(
     rt: &R,
     paths: Paths<'_>,

@@ -1,10 +1,9 @@
-//! Clauses in DIMACS form: a line `p cnf VARIABLES CLAUSES`, and each clause as numbers ended by 0, a negative number for a
-//! negated variable. Lines that begin with `c` tell what the clauses say, and which variable says `starts J T`, that activity
-//! J starts at T or before, or `mode J M`, that it has the mode M.
+//! Clauses in DIMACS form: `p cnf VARIABLES CLAUSES`, and each clause as numbers ended by 0. Lines
+//! that begin with `c` explain the clauses and the variables: `starts J T`, activity J starts at T
+//! or before, and `mode J M`, it has mode M.
 use schedule_clauses::{CapacityRow, Fact, Formula, Kind};
 use std::io::{self, Write};
 
-/// What the clauses of a kind say.
 fn said_by(kind: Kind) -> &'static str {
     match kind {
         Kind::Modes => "each activity has exactly one mode",
@@ -18,7 +17,6 @@ fn said_by(kind: Kind) -> &'static str {
     }
 }
 
-/// Tells which clauses say what, by their numbers from 1.
 fn write_sections<W: Write>(writer: &mut W, formula: &Formula) -> io::Result<()> {
     let mut before = 0usize;
     for section in &formula.sections {
@@ -33,7 +31,6 @@ fn write_sections<W: Write>(writer: &mut W, formula: &Formula) -> io::Result<()>
     Ok(())
 }
 
-/// Tells which rows are left out. Resources are numbered from 1.
 fn write_left_out<W: Write>(writer: &mut W, formula: &Formula) -> io::Result<()> {
     for row in &formula.left_out {
         match row {
@@ -56,7 +53,7 @@ fn write_left_out<W: Write>(writer: &mut W, formula: &Formula) -> io::Result<()>
     Ok(())
 }
 
-/// Tells what a variable says, where a schedule can be read off it. Activities and modes are numbered from 1.
+/// Writes only the variables by which a schedule can be read.
 fn write_meaning<W: Write>(writer: &mut W, variable: usize, meaning: Fact) -> io::Result<()> {
     match meaning {
         Fact::StartsBy { activity, time } => {
@@ -72,7 +69,6 @@ fn write_meaning<W: Write>(writer: &mut W, variable: usize, meaning: Fact) -> io
     }
 }
 
-/// Tells which variables say a mode or a start.
 fn write_meanings<W: Write>(writer: &mut W, formula: &Formula) -> io::Result<()> {
     for variable in 1..formula.meanings.len() {
         write_meaning(writer, variable, formula.meanings[variable])?;
@@ -89,7 +85,6 @@ fn write_clause<W: Write>(writer: &mut W, clause: &[u32]) -> io::Result<()> {
     writeln!(writer, "0")
 }
 
-/// Writes clauses, with what they say ahead of them.
 pub(crate) fn write_formula<W: Write>(writer: &mut W, formula: &Formula) -> io::Result<()> {
     write_sections(writer, formula)?;
     write_left_out(writer, formula)?;

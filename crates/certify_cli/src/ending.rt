@@ -1,4 +1,3 @@
-//! How a command of certificates ends.
 ghost use Rattle.std.specs.Prelude.{◌≡◌};
 ghost use Rattle.std.specs.Process.{exit_status};
 ghost use Rattle.certify_cli.specs.Commands.{command_status};
@@ -10,27 +9,22 @@ use std::io::Eprint;
 use std::process::ExitCode;
 use watched_io::{reason, tell_unread, tell_why};
 
-/// The most bytes that are read of a project's file or of a schedule's text: one more than a file may have.
+/// The most bytes that are read of a file or a text: one more than a file may have.
 pub const MOST_TEXT: u64 = MOST_BYTES as u64 + 1;
 
-// So a file that is too long is seen to be.
 const _: () = prove!((psplib_mm::MOST_BYTES as u64) < MOST_TEXT);
 
 /// The most bytes that are read of a proof.
 pub const MOST_PROOF: u64 = 4_000_000_000;
 
-/// The paths of a project's file, of a schedule's text and of a proof, as their faults are told.
+/// A `Paths` is the paths of a project's file, a schedule's text and a proof, for messages.
 #[derive(Clone, Copy, Debug, PartialEq, Eq)]
 pub struct Paths<'a> {
-    /// Of the project's file.
     pub file: &'a str,
-    /// Of the schedule's text.
     pub text: &'a str,
-    /// Of the proof.
     pub proof: &'a str,
 }
 
-/// The status of a command, with its fault on standard error, and on a second line why there is one, if that is known.
 pub(crate) fn end_command<R: Env + Eprint>(
     rt: &R,
     paths: Paths<'_>,

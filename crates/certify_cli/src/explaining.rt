@@ -1,4 +1,4 @@
-//! What a second line says of why nothing is certified.
+//! The second line on why nothing is certified.
 use crate::fault::CertifyFault;
 use clause_proof::ProofFault;
 use explain::{why_breach_of, why_file, why_no_schedule};
@@ -7,7 +7,6 @@ use psplib_mm::read;
 use schedule_clauses::CertificateFault;
 use std::alloc::{AllocError, Global};
 
-/// Why a proof does not do, for the project of a file.
 fn why_unproved(
     alloc: Global,
     file: &[u8],
@@ -31,7 +30,7 @@ fn why_unproved(
     }
 }
 
-/// Why nothing is certified of these texts of a project's file and of a schedule; the second one is empty if there is none.
+/// `text` is empty if there is no schedule.
 pub(crate) fn why_uncertified(
     alloc: Global,
     file: &[u8],
@@ -54,7 +53,6 @@ pub(crate) fn why_uncertified(
     }
 }
 
-/// Why it is not certified that the project of a file has no feasible schedule.
 pub(crate) fn why_not_infeasible(
     alloc: Global,
     file: &[u8],

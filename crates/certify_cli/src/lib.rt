@@ -1,22 +1,16 @@
-//! Commands of certificates: the clauses of a project in DIMACS form, and the check of a proof that a schedule is optimal or
-//! that none is feasible.
+//! Commands of certificates: clauses in DIMACS form, and checks of proofs.
 //!
-//! [`certify`] writes `optimal M` only where the text tells a schedule of the file's project that is optimal and takes M
-//! periods, and [`certify_infeasible`] writes `infeasible` only where no schedule of it is feasible: that is their contract
-//! (`specs/Certified`). What [`write_clauses`] writes is tested; a solver that is misled by it can only write a proof that is refused.
+//! [`certify`] writes `optimal M` only if the text has an optimal schedule of makespan M.
+//! [`certify_infeasible`] writes `infeasible` only if no schedule is feasible (`specs/Certified`).
+//! What [`write_clauses`] writes is only tested: if it misleads a solver, the proof is refused.
 //!
-//! [`certify_to`] and [`infeasible_to`] are the commands over any readers and writer, with the status that goes with what was written
-//! (`specs/Commands`); that the program hands them the files that are named, and standard output, is the shape of `program`.
+//! [`certify_to`] and [`infeasible_to`] are the commands over any readers and writer
+//! (`specs/Commands`).
 //!
-//! - `dimacs`: clauses in DIMACS form.
-//! - `fault`: why nothing is certified.
-//! - `bounding`, `bound_commands`: `certify_bound`, `certify_chain`, and both over readers and a writer.
-//! - `certifying`: `certify`, `certify_infeasible`, `write_clauses`.
-//! - `commands`: `certify_to`, `infeasible_to`.
-//! - `ending`: how a command ends.
-//! - `explaining`: what a second line says of why nothing is certified.
-//! - `watches`: whether a command could not read its inputs, or not write its line.
-//! - `program`: the commands for files, with an exit status.
+//! - `certifying`, `bounding`: checks of proofs, and `write_clauses`.
+//! - `commands`, `bound_commands`, `watches`: these over any readers and writer.
+//! - `fault`, `ending`, `explaining`: why nothing is certified, and how a command ends.
+//! - `dimacs`, `program`: clauses in DIMACS form; the commands on files.
 //! - `laws`: the limits of what is read, in figures.
 #![tactic(auto)]
 

@@ -17,7 +17,6 @@ use std::process::ExitCode;
 use std::rt::Runtime;
 use watched_io::{Source, Watch, explains, open, reason, tell_unread, tell_why};
 
-/// The status of a command, with its fault on standard error.
 fn end<R: Eprint>(rt: &R, ended: Result<(), CertifyFault>) -> ExitCode
     ensures exact { exit_status result ≡ clauses_status ended }
     ensures few { exit_status result ≤ 1 }
@@ -31,7 +30,6 @@ fn end<R: Eprint>(rt: &R, ended: Result<(), CertifyFault>) -> ExitCode
     }
 }
 
-/// The status of a command whose bound is no number, with that on standard error, and on a second line what is wanted.
 fn end_unbounded<R: Env + Eprint>(rt: &R, bound: &str, wanted: &str) -> ExitCode
     ensures { exit_status result ≡ 1 }
 {
@@ -42,7 +40,7 @@ fn end_unbounded<R: Env + Eprint>(rt: &R, bound: &str, wanted: &str) -> ExitCode
     ExitCode::FAILURE
 }
 
-/// What was opened or read of the path. `None` is told on standard error.
+/// On `None` the reason is on standard error.
 fn told<R: Env + Eprint, T: Drop>(rt: &R, path: &str, got: io::Result<T>) -> Option<T> {
     match got {
         Ok(value) => Some(value),
@@ -53,12 +51,11 @@ fn told<R: Env + Eprint, T: Drop>(rt: &R, path: &str, got: io::Result<T>) -> Opt
     }
 }
 
-/// What the path names.
 fn open_path<R: Runtime>(rt: &R, path: &str) -> Option<Source<R::Reader, R::File>> {
     told(rt, path, open(rt, path))
 }
 
-/// The same of a proof; without a path it is an empty one.
+/// Without a path the proof is empty.
 fn open_proof<R: Runtime>(rt: &R, path: Option<&str>) -> Option<Source<R::Reader, R::File>> {
     match path {
         Some(path) => open_path(rt, path),
@@ -66,8 +63,8 @@ fn open_proof<R: Runtime>(rt: &R, path: Option<&str>) -> Option<Source<R::Reader
     }
 }
 
-/// Prints `optimal M` where the proof in the third file makes the schedule in the second one optimal for the project in the
-/// first one. Where the longest chain of activities alone takes so long, no proof is needed.
+/// Prints `optimal M` if `proof` shows that `schedule` is optimal for `file`. Without a proof, the
+/// longest chain of activities has to show it.
 pub fn run_certify<R: Runtime + AllocGlobal>(
     rt: &R,
     file: &str,
@@ -95,7 +92,7 @@ pub fn run_certify<R: Runtime + AllocGlobal>(
     certify_to(rt, paths, project, text, steps, &mut output, &mut watches)
 }
 
-/// Prints `infeasible` where the proof makes the project infeasible.
+/// Prints `infeasible` if `proof` shows that no schedule of `file` is feasible.
 pub fn run_infeasible<R: Runtime + AllocGlobal>(rt: &R, file: &str, proof: &str) -> ExitCode
     ensures { exit_status result ≤ 1 }
 {
@@ -115,7 +112,6 @@ pub fn run_infeasible<R: Runtime + AllocGlobal>(rt: &R, file: &str, proof: &str)
     infeasible_to(rt, paths, project, steps, &mut output, &mut watches)
 }
 
-/// Prints `at least L` for the longest chain of the project in a file.
 fn run_chain<R: Runtime + AllocGlobal>(rt: &R, file: &str) -> ExitCode
     ensures { exit_status result ≤ 1 }
 {
@@ -132,8 +128,8 @@ fn run_chain<R: Runtime + AllocGlobal>(rt: &R, file: &str) -> ExitCode
     chain_to(rt, paths, project, &mut output, &mut watches)
 }
 
-/// Prints `at least L` if the proof shows that no feasible schedule of the project takes fewer than `bound` periods;
-/// without a bound that of the longest chain of activities, which needs no proof.
+/// Prints `at least L` if `proof` shows that no schedule of `file` takes fewer than `bound`
+/// periods. Without a bound, L is the longest chain of activities.
 pub fn run_bound<R: Runtime + AllocGlobal>(
     rt: &R,
     file: &str,
@@ -172,7 +168,7 @@ pub fn run_bound<R: Runtime + AllocGlobal>(
     )
 }
 
-/// Prints the clauses of the project in a file and a bound: a number of periods, or `none`.
+/// Prints the clauses of `file` and `bound`, a number of periods or `none`.
 pub fn run_clauses<R: Runtime + AllocGlobal>(rt: &R, file: &str, bound: &str) -> ExitCode
     ensures { exit_status result ≤ 1 }
 {

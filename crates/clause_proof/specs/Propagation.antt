@@ -1,15 +1,16 @@
--- Clauses that follow by unit propagation (Goldberg and Novikov 2003: Verification of proofs of unsatisfiability for CNF
--- formulas), checked backwards from the last one (Wetzler, Heule and Hunt 2014: DRAT-trim). A literal stands as true where its
--- number in `values` is the mark or above: each check has the next mark.
+-- Clauses that follow by unit propagation (Goldberg and Novikov 2003: Verification of proofs of
+-- unsatisfiability for CNF formulas), checked backwards from the last one (Wetzler, Heule and Hunt
+-- 2014: DRAT-trim). A literal is marked true if its number in `values` is the mark or above: each
+-- check has the next mark.
 use Rattle.std.specs.Prelude.{◌≡◌, ◌⊎◌, ℕ, ◌+◌, ◌<◌, ◌≤◌, Bool, true, false, List, All, Vec, length, slice_index, slice_index_or}
 use Rattle.std.specs.declared.alloc.Global.{Global}
 use Rattle.clause_proof.specs.Clauses.{literal_true, clause_true, negated}
 
--- what stands as true is true
+-- what is marked true is true
 pub record IsSound (v : ℕ → Bool) (values : List ℕ) (mark : ℕ) : Type 0 where
   pub each : (l : ℕ) → mark ≤ slice_index values l → literal_true v l ≡ true
 
--- nothing stands as true with this mark
+-- nothing is marked true
 pub record IsFresh (values : List ℕ) (mark : ℕ) : Type 0 where
   pub each : (l : ℕ) → slice_index values l < mark
 
@@ -17,21 +18,21 @@ pub record IsFresh (values : List ℕ) (mark : ℕ) : Type 0 where
 pub record IsAssigned (before after : List ℕ) (l mark : ℕ) : Type 0 where
   pub each : (k : ℕ) → (slice_index after k ≡ slice_index before k) ⊎ ((k ≡ l) × (slice_index after k ≡ mark))
 
--- literals other than `other` all stand as false
+-- all literals other than `other` are marked false
 pub record HasOnly (clause values : List ℕ) (mark other : ℕ) : Type 0 where
   pub each : All (λ q. (q ≡ other) ⊎ (mark ≤ slice_index values (negated q))) clause
 
--- all literals stand as false
+-- all literals are marked false
 pub record HasNone (clause values : List ℕ) (mark : ℕ) : Type 0 where
   pub each : All (λ q. mark ≤ slice_index values (negated q)) clause
 
--- where the clause is true, what stands as true afterwards follows from what stood so before, and there is no conflict
+-- if the clause is true and the old marks are sound, so are the new ones, and there is no conflict
 pub record Infers (clause before after : List ℕ) (mark : ℕ) (conflict : Bool) : Type 0 where
   pub sound : (v : ℕ → Bool) → clause_true v clause ≡ true → IsSound v before mark → IsSound v after mark
   pub none : conflict ≡ true → (v : ℕ → Bool) → clause_true v clause ≡ true → IsSound v before mark → ⊥
   pub fresh : IsFresh before (mark + 1) → IsFresh after (mark + 1)
 
--- what stands as true is true wherever the first literals of a clause are false
+-- what is marked true is true if the first `count` literals of a clause are false
 pub record Assumes (clause : List ℕ) (count : ℕ) (values : List ℕ) (mark : ℕ) : Type 0 where
   pub sound : (v : ℕ → Bool) → ((k d : ℕ) → k < count → literal_true v (slice_index_or clause k d) ≡ false) → IsSound v values mark
 
@@ -43,7 +44,7 @@ pub record IsTautology (clause : List ℕ) : Type 0 where
 pub record SatisfiesUsed (v : ℕ → Bool) (clauses : List (Vec ℕ Global)) (used : List Bool) (count : ℕ) : Type 0 where
   pub each : (k : ℕ) (d : Vec ℕ Global) → k < count → slice_index_or used k false ≡ true → clause_true v (slice_index_or clauses k d).items ≡ true
 
--- a clause is true wherever all used clauses before it are
+-- a clause is true if all used clauses before it are
 pub record Follows (clauses : List (Vec ℕ Global)) (used : List Bool) (at : ℕ) : Type 0 where
   pub sure : (v : ℕ → Bool) (d : Vec ℕ Global) → SatisfiesUsed v clauses used at → clause_true v (slice_index_or clauses at d).items ≡ true
 

@@ -1,21 +1,17 @@
-//! Clauses one behind another in one list of words, numbered from 0 in the order in which they came.
+//! Clauses in one list of words, numbered from 0 in the order in which they came.
 ghost use Rattle.std.specs.Prelude.{◌<◌};
 
 use std::alloc::{AllocError, Global};
 
-/// Stands for no clause.
 pub(crate) const NO_CLAUSE: u32 = u32::MAX;
 
-/// Stands for no literal.
 pub(crate) const NO_LITERAL: u32 = u32::MAX;
 
-/// The greatest length of a clause that is kept.
 const MOST_LITERALS: usize = 1_000_000_000;
 
-/// Whether a clause takes part in propagation.
 #[derive(Clone, Copy, PartialEq, Eq)]
 pub(crate) enum State {
-    /// It is watched by no literals.
+    /// No literals watch it.
     Idle,
     Watched,
     /// It is watched, and a step of the proof rests on it.
@@ -23,22 +19,20 @@ pub(crate) enum State {
     Deleted,
 }
 
-/// The literals of clause `c` stand from `starts[c]` on. Right before them stand the clause's number, and 4 · its length and its
-/// state, so that a visit by propagation reads one place in memory.
+/// The literals of clause `c` begin at `starts[c]`. Right before them are the clause's number, and
+/// 4 · length + state: so a visit by propagation reads one place in memory.
 #[derive(Drop)]
 pub(crate) struct ClauseList {
     words: Vec<u32>,
     starts: Vec<usize>,
 }
 
-/// The places of a clause's literals.
 #[derive(Clone, Copy)]
 pub(crate) struct Span {
     pub(crate) start: usize,
     pub(crate) end: usize,
 }
 
-/// A clause as a visit finds it.
 #[derive(Clone, Copy)]
 pub(crate) struct Entry {
     pub(crate) clause: u32,
@@ -66,7 +60,6 @@ fn state_of(word: u32) -> State {
     }
 }
 
-/// The places of so many literals as the word says.
 fn span_of(start: usize, word: u32) -> Span {
     Span {
         start,
@@ -82,7 +75,6 @@ impl ClauseList {
         }
     }
 
-    /// How many clauses there are.
     pub(crate) fn count(&self) -> u32 {
         match u32::try_from(self.starts.len()) {
             Ok(count) => count,
@@ -90,7 +82,6 @@ impl ClauseList {
         }
     }
 
-    /// Adds a clause behind the others, which takes no part yet.
     pub(crate) fn push(&mut self, clause: &[u32]) -> Result<(), AllocError> {
         let length = clause.len().min(MOST_LITERALS) as u32;
         let number = self.count();
@@ -103,7 +94,6 @@ impl ClauseList {
         Ok(())
     }
 
-    /// The word at a place, `NO_LITERAL` where there is none.
     pub(crate) fn literal(&self, place: usize) -> u32 {
         match self.words.get(place) {
             Some(word) => *word,
@@ -111,12 +101,10 @@ impl ClauseList {
         }
     }
 
-    /// The place of a clause's first literal, if there is such a clause.
     pub(crate) fn start(&self, clause: u32) -> Option<usize> {
         self.starts.get(clause as usize).copied()
     }
 
-    /// The clause whose literals stand from this place on.
     pub(crate) fn entry(&self, start: usize) -> Entry {
         let word = self.literal(start.saturating_sub(1));
         Entry {
@@ -126,7 +114,6 @@ impl ClauseList {
         }
     }
 
-    /// Returns the places of a clause, none where there is no such clause.
     pub(crate) fn span(&self, clause: u32) -> Span {
         match self.start(clause) {
             Some(start) => span_of(start, self.literal(start.saturating_sub(1))),
@@ -150,7 +137,6 @@ impl ClauseList {
         }
     }
 
-    /// Returns the literals of a clause.
     pub(crate) fn literals(&self, clause: u32) -> &[u32] {
         let span = self.span(clause);
         if span.start <= span.end && span.end <= self.words.len() {
@@ -160,7 +146,6 @@ impl ClauseList {
         }
     }
 
-    /// Exchanges two literals.
     pub(crate) fn swap(&mut self, one: usize, other: usize) {
         if one < self.words.len() && other < self.words.len() {
             self.words.swap(one, other);

@@ -1,10 +1,9 @@
-//! From which clauses a clause follows: the reasons of a propagation, collected backwards from its conflict.
+//! The hints of a clause: the reasons of a propagation, collected backwards from its conflict.
 use crate::clause_list::{NO_CLAUSE, State};
 use crate::propagator::Propagator;
 use crate::replay::negated;
 use std::alloc::{AllocError, Global};
 
-/// The clauses of a proof, and the hints of the clause that was derived last.
 #[derive(Drop)]
 pub(crate) struct Derivations {
     pub(crate) propagator: Propagator,
@@ -39,7 +38,7 @@ impl Derivations {
         }
     }
 
-    /// Adds a hint, which is of the core from now on. Its false literals are seen.
+    /// The hint is of the core from now on, and its false literals are seen.
     fn push_hint(&mut self, clause: u32, implied: u32) -> Result<(), AllocError> {
         self.hints.push(clause)?;
         let clauses = &mut self.propagator.clauses;
@@ -56,7 +55,7 @@ impl Derivations {
         Ok(())
     }
 
-    /// Adds the reasons of the literals that were assigned after the first `root` and that are seen.
+    /// Adds the reasons of the seen literals that were assigned behind the first `root`.
     fn push_reasons(&mut self, root: usize) -> Result<(), AllocError> {
         let count = self.propagator.assignment.count();
         for back in root..count {
@@ -78,7 +77,7 @@ impl Derivations {
         Ok(())
     }
 
-    /// Adds the unit clauses of the literals of a hint that are seen still.
+    /// Adds the unit clauses of a hint's literals that are still seen.
     fn push_units(&mut self, hint: u32) -> Result<(), AllocError> {
         let span = self.propagator.clauses.span(hint);
         for place in span.start..span.end {
@@ -91,7 +90,7 @@ impl Derivations {
         Ok(())
     }
 
-    /// Collects the hints of a clause whose literals were assumed false, of which `conflict` has come.
+    /// The literals of a clause were assumed false, and `conflict` came of it.
     fn explain(&mut self, conflict: u32, root: usize) -> Result<(), AllocError> {
         self.push_hint(conflict, u32::MAX)?;
         self.push_reasons(root)?;
@@ -104,7 +103,8 @@ impl Derivations {
         Ok(())
     }
 
-    /// Assumes the literals of a clause false. Returns whether one of them is true, whose reason is the hint.
+    /// Assumes the literals of `clause` false. Returns whether one is true; its reason is then the
+    /// hint.
     fn assume(&mut self, clause: u32) -> Result<bool, AllocError> {
         let span = self.propagator.clauses.span(clause);
         for place in span.start..span.end {
@@ -121,8 +121,8 @@ impl Derivations {
         Ok(false)
     }
 
-    /// Derives a clause by propagation, or if all its literals are those of `conflict` from that clause. Returns whether it
-    /// follows.
+    /// Returns whether a clause follows: from `conflict`, whose other literals are false, or by
+    /// propagation.
     pub(crate) fn derive(&mut self, clause: u32, conflict: u32) -> Result<bool, AllocError> {
         self.hints.clear();
         let root = self.propagator.assignment.count();

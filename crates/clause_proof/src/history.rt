@@ -1,4 +1,4 @@
-//! The steps of a proof: read from the first to the last, and taken back from the last to the first.
+//! The steps of a proof, read from the first to the last, and taken back again.
 use crate::clause_list::{NO_CLAUSE, State};
 use crate::derivations::Derivations;
 use crate::fault::ProofFault;
@@ -6,7 +6,7 @@ use crate::index::{Index, signature};
 use crate::reader::{Reader, Step};
 use std::alloc::{AllocError, Global};
 
-/// A literal that is true by the clauses alone: its unit clause, and the clause from which that follows.
+/// A literal that is true by the clauses alone: its unit clause, and the clause that makes it unit.
 #[derive(Clone, Copy)]
 struct Root {
     unit: u32,
@@ -15,7 +15,7 @@ struct Root {
     before: usize,
 }
 
-/// A clause that was deleted, and how many clauses there were.
+/// A deleted clause, and how many clauses there were then.
 #[derive(Clone, Copy)]
 struct Deletion {
     clause: u32,
@@ -37,7 +37,6 @@ pub(crate) struct History {
 }
 
 impl History {
-    /// The clauses before the first step, and what follows from them by propagation.
     pub(crate) fn new(
         alloc: Global,
         clauses: &[Vec<u32>],
@@ -62,17 +61,14 @@ impl History {
         Ok(history)
     }
 
-    /// How many clauses there are.
     pub(crate) fn count(&self) -> u32 {
         self.derivations.propagator.clauses.count()
     }
 
-    /// How many clauses there were before the first step.
     pub(crate) fn originals(&self) -> u32 {
         self.originals
     }
 
-    /// Returns the literals of a clause.
     pub(crate) fn clause(&self, clause: u32) -> &[u32] {
         self.derivations.propagator.clauses.literals(clause)
     }
@@ -87,7 +83,6 @@ impl History {
         self.derivations.propagator.push(clause)
     }
 
-    /// Lets all clauses take part, and propagates.
     fn attach_all(&mut self) -> Result<(), AllocError> {
         let propagator = &mut self.derivations.propagator;
         for clause in 0..propagator.clauses.count() {
@@ -100,8 +95,8 @@ impl History {
         Ok(())
     }
 
-    /// Adds a unit clause for each literal but the first `from` that is true by the clauses alone. At a conflict the empty
-    /// clause is next.
+    /// Adds a unit clause for each literal behind the first `from` that is true by the clauses
+    /// alone. At a conflict the empty clause is next.
     fn settle(&mut self, from: usize) -> Result<(), AllocError> {
         for before in from..self.derivations.propagator.assignment.count() {
             self.settle_one(before)?;
@@ -146,7 +141,7 @@ impl History {
         Ok(())
     }
 
-    /// Adds a clause, after a derivation where the steps are checked. Returns whether it follows, or was not checked.
+    /// Returns whether the clause follows, or was not checked.
     fn add(&mut self, clause: &[u32], is_checked: bool) -> Result<bool, AllocError> {
         let number = self.push(clause)?;
         if is_checked && !self.derivations.derive(number, NO_CLAUSE)? {
@@ -163,7 +158,6 @@ impl History {
         Ok(true)
     }
 
-    /// No longer looks at a clause.
     fn delete(&mut self, clause: &[u32]) -> Result<(), AllocError> {
         if let Some(at) = self.index.remove(signature(clause))
             && let Ok(number) = u32::try_from(at)
@@ -180,7 +174,7 @@ impl History {
         Ok(())
     }
 
-    /// Reads a proof up to a conflict of the clauses alone. Returns the first fault, if there is one before that.
+    /// Reads up to a conflict of the clauses alone. Returns the first fault before it.
     pub(crate) fn read(
         &mut self,
         proof: &[u8],
@@ -212,7 +206,6 @@ impl History {
         self.derivations.propagator.watch_all()
     }
 
-    /// Takes back deletions until there were `count` clauses.
     fn undelete(&mut self, count: u32) -> Result<(), AllocError> {
         for _ in 0..self.deletions.len() {
             let Some(last) = self.deletions.last().copied() else {
@@ -229,7 +222,7 @@ impl History {
         Ok(())
     }
 
-    /// Takes back the last clause. Finds by which clauses it follows if it is used.
+    /// Takes back the last clause, and finds its hints if it is used.
     pub(crate) fn take_back(&mut self, at: usize, is_used: bool) -> Result<(), AllocError> {
         let Ok(clause) = u32::try_from(at) else {
             return Ok(());

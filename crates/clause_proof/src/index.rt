@@ -1,4 +1,4 @@
-//! Which clauses have which signature, so that a clause to be deleted is found. A hint alone.
+//! Finds a clause to be deleted by its signature. No proof rests on it.
 use std::alloc::{AllocError, Global};
 
 const NONE: u32 = u32::MAX;
@@ -11,7 +11,7 @@ pub(crate) struct Index {
     signatures: Vec<u64>,
 }
 
-/// A sum over the literals, the same in every order.
+/// It does not depend on the order of the literals.
 pub(crate) fn signature(clause: &[u32]) -> u64 {
     let mut sum = 0u64;
     for literal in clause {
@@ -23,7 +23,6 @@ pub(crate) fn signature(clause: &[u32]) -> u64 {
 }
 
 impl Index {
-    /// No clauses, in so many chains.
     pub(crate) fn new(alloc: Global, size: usize) -> Result<Index, AllocError> {
         let mut heads = Vec::with_capacity(alloc, size)?;
         heads.resize(size, NONE)?;
@@ -42,7 +41,6 @@ impl Index {
         }
     }
 
-    /// The next clause has this signature.
     pub(crate) fn add(&mut self, signature: u64) -> Result<(), AllocError> {
         let number = self.nexts.len();
         self.signatures.push(signature)?;
@@ -58,7 +56,6 @@ impl Index {
         Ok(())
     }
 
-    /// Takes out a clause of this signature.
     pub(crate) fn remove(&mut self, signature: u64) -> Option<usize> {
         let head = self.head_of(signature)?;
         if head >= self.heads.len() {

@@ -1,5 +1,5 @@
-//! Unit propagation over two watched literals (Moskewicz, Madigan, Zhao, Zhang and Malik 2001), clauses of the core first
-//! (Wetzler, Heule and Hunt 2014). No proof rests on what it finds.
+//! Unit propagation over two watched literals (Moskewicz, Madigan, Zhao, Zhang and Malik 2001),
+//! clauses of the core first (Wetzler, Heule and Hunt 2014). No proof rests on what it finds.
 use crate::assignment::Assignment;
 use crate::clause_list::{ClauseList, Entry, NO_CLAUSE, NO_LITERAL, Span, State};
 use crate::replay::negated;
@@ -9,7 +9,6 @@ use std::alloc::{AllocError, Global};
 /// The greatest place of a clause that is watched, so that a watch's code fits.
 const MOST_PLACE: usize = 2_000_000_000;
 
-/// What becomes of a watch whose literal is false now.
 #[derive(Clone, Copy)]
 enum Visit {
     Stays { blocker: u32 },
@@ -17,18 +16,16 @@ enum Visit {
     Conflict { clause: u32 },
 }
 
-/// What a clause that watches a false literal comes to.
 #[derive(Clone, Copy)]
 enum Look {
-    /// This literal is true.
     IsTrue(u32),
-    /// `literal` is watched from now on, which is not false.
+    /// `literal`, which is not false, is watched from now on.
     Moves { literal: u32, other: u32 },
     /// All literals but this one are false.
     Forces(u32),
 }
 
-/// Clauses, and which literals are true. The two watched literals of a clause come first in it.
+/// The two watched literals of a clause come first in it.
 #[derive(Drop)]
 pub(crate) struct Propagator {
     alloc: Global,
@@ -38,7 +35,6 @@ pub(crate) struct Propagator {
 }
 
 impl Propagator {
-    /// No clauses. Literals from `size` on are never true.
     pub(crate) fn new(alloc: Global, size: usize) -> Result<Propagator, AllocError> {
         Ok(Propagator {
             alloc,
@@ -48,7 +44,6 @@ impl Propagator {
         })
     }
 
-    /// Adds a clause that takes no part yet, and returns its number.
     pub(crate) fn push(&mut self, clause: &[u32]) -> Result<u32, AllocError> {
         let number = self.clauses.count();
         self.clauses.push(clause)?;
@@ -66,8 +61,8 @@ impl Propagator {
         None
     }
 
-    /// Lets a clause take part: it watches two literals that are not false. If there is but one, that one is true. Returns
-    /// whether all are false.
+    /// Lets a clause watch two literals that are not false, or makes the only such literal true.
+    /// Returns whether all its literals are false.
     pub(crate) fn attach(&mut self, clause: u32) -> Result<bool, AllocError> {
         let Span { start, end } = self.clauses.span(clause);
         if end <= start {
@@ -90,7 +85,6 @@ impl Propagator {
         Ok(false)
     }
 
-    /// The first two literals of a clause are watched.
     pub(crate) fn watch(&mut self, clause: u32) -> Result<(), AllocError> {
         let Span { start, end } = self.clauses.span(clause);
         if end < 2 || end - 2 < start || MOST_PLACE < start {
@@ -104,7 +98,7 @@ impl Propagator {
         self.watches.add(other, Watcher { code, blocker }, false)
     }
 
-    /// Watches the clauses anew that take part and are not of the core.
+    /// Watches only clauses that take part and are not of the core.
     pub(crate) fn watch_all(&mut self) -> Result<(), AllocError> {
         self.watches.clear();
         for clause in 0..self.clauses.count() {
@@ -115,7 +109,7 @@ impl Propagator {
         Ok(())
     }
 
-    /// Looks at a clause of three or more literals which watches `falsified`.
+    /// The clause has three or more literals, and watches `falsified`.
     fn look(&mut self, span: Span, falsified: u32) -> Look {
         let Span { start, end } = span;
         if end < 2 || end - 2 < start {
@@ -138,7 +132,7 @@ impl Propagator {
         }
     }
 
-    /// Keeps the watch of a false literal, among those of the core if the clause has come to be of it.
+    /// The watch goes to those of the core if the clause is of it by now.
     fn keep(
         &mut self,
         watch: Watcher,
@@ -154,7 +148,7 @@ impl Propagator {
         Ok(Visit::Gone)
     }
 
-    /// Visits a clause whose watched literal `falsified` is false and whose blocker is not true.
+    /// The clause watches `falsified`, and its blocker is not true.
     fn visit(
         &mut self,
         watch: Watcher,
@@ -194,7 +188,7 @@ impl Propagator {
         }
     }
 
-    /// Visits the clauses that watch a literal which is false now. Returns a clause of which all literals are false.
+    /// Returns a clause of which all literals are false, or `NO_CLAUSE`.
     fn visit_all(
         &mut self,
         list: &mut Vec<Watcher>,
@@ -223,7 +217,6 @@ impl Propagator {
         Ok(conflict)
     }
 
-    /// Visits the clauses of the core, or the others, that watch the negated of a true literal.
     fn falsify(&mut self, literal: u32, is_core: bool) -> Result<u32, AllocError> {
         let falsified = negated(literal);
         let Some(list) = self.watches.take(self.alloc, falsified, is_core) else {
@@ -235,8 +228,8 @@ impl Propagator {
         Ok(conflict)
     }
 
-    /// Propagates the true literals from place `from` on, by clauses of the core as long as there are such. Returns a
-    /// clause of which all literals are false, or `NO_CLAUSE`.
+    /// Propagates the true literals from place `from` on, through the core as long as that goes on.
+    /// Returns a clause of which all literals are false, or `NO_CLAUSE`.
     pub(crate) fn propagate(&mut self, from: usize) -> Result<u32, AllocError> {
         let (mut next_core, mut next_other) = (from, from);
         for _ in 0..usize::MAX {

@@ -1,32 +1,25 @@
-//! The steps of a proof, as the clause that each adds or deletes (Wetzler, Heule and Hunt 2014: DRAT). No proof rests on
-//! what is read: a step that was misread can only be refused.
+//! The steps of a proof in DRAT form (Wetzler, Heule and Hunt 2014). No proof rests on what is
+//! read: a step that was misread can only be refused.
 //!
-//! In a text a step is numbers with blanks between them, ended by 0: the number of a variable, behind `-` where it is
-//! negated; behind `d` it is deleted. In the binary form a step is the byte `a` or `d`, then each literal as the number
-//! 2 · variable + sign in groups of 7 bits, the lowest group first and each but the last with the high bit set, and a
-//! byte 0.
+//! In a text a step is numbers with blanks between them, ended by 0: variables, negated behind `-`.
+//! Behind `d` the clause is deleted. In the binary form a step is the byte `a` or `d`, its
+//! literals, and a byte 0. A literal is 2 · variable + sign in groups of 7 bits, the lowest first.
+//! Each group but the last has the high bit set.
 use std::alloc::AllocError;
 
-/// The greatest number of a variable.
 const MOST_VARIABLES: u32 = 1_000_000_000;
 
-/// How many bytes decide the form of a proof.
+/// The bytes that decide the form of a proof.
 const FORM_BYTES: usize = 10;
 
-/// What a step of a proof says.
 #[derive(Clone, Copy)]
 pub(crate) enum Step {
-    /// The clause is to be added.
     Add,
-    /// The clause is to be deleted.
     Delete,
-    /// This is no step.
     Unreadable,
-    /// There is no further step.
     End,
 }
 
-/// What stands next in a text.
 #[derive(Clone, Copy)]
 enum Token {
     Delete,
@@ -36,7 +29,6 @@ enum Token {
     End,
 }
 
-/// The bytes of a proof, and the place that is read next.
 #[derive(Drop)]
 pub(crate) struct Reader<'a> {
     bytes: &'a [u8],
@@ -45,7 +37,6 @@ pub(crate) struct Reader<'a> {
     is_binary: bool,
 }
 
-/// Whether a text may have this byte.
 fn is_of_text(byte: u8) -> bool {
     (b'0' <= byte && byte <= b'9')
         || byte == b'-'
@@ -56,7 +47,6 @@ fn is_of_text(byte: u8) -> bool {
         || byte == b'\n'
 }
 
-/// Whether one of the first ten bytes is none that a text may have.
 fn is_binary(bytes: &[u8]) -> bool {
     for at in 0..bytes.len().min(FORM_BYTES) {
         if !is_of_text(bytes[at]) {
@@ -67,7 +57,7 @@ fn is_binary(bytes: &[u8]) -> bool {
 }
 
 impl<'a> Reader<'a> {
-    /// A reader before the first step. A proof is binary where one of its first ten bytes is none of a text.
+    /// A proof is binary if one of its first ten bytes is none of a text.
     pub(crate) fn new(bytes: &'a [u8]) -> Reader<'a> {
         let is_binary = is_binary(bytes);
         Reader {
@@ -78,12 +68,11 @@ impl<'a> Reader<'a> {
         }
     }
 
-    /// The line of a text that was read last, from 1, or in the binary form the number of the step, from 1.
+    /// The line that was read last, from 1. In the binary form it is the number of the step.
     pub(crate) fn line(&self) -> u32 {
         self.line
     }
 
-    /// Reads one step into `literals`, which held nothing that is kept.
     pub(crate) fn step(&mut self, literals: &mut Vec<u32>) -> Result<Step, AllocError> {
         literals.clear();
         if self.is_binary {
@@ -107,7 +96,7 @@ impl<'a> Reader<'a> {
         self.at = self.bytes.len();
     }
 
-    /// A number of at most 1,000,000,009, or `None` where there is none.
+    /// A number of at most 1,000,000,009.
     fn number(&mut self) -> Option<u32> {
         let bytes = self.bytes;
         let start = self.at;
@@ -177,7 +166,6 @@ impl<'a> Reader<'a> {
         Ok(Step::Unreadable)
     }
 
-    /// The next byte, or `None` at the end.
     fn byte(&mut self) -> Option<u8> {
         if self.at >= self.bytes.len() {
             return None;
@@ -187,7 +175,7 @@ impl<'a> Reader<'a> {
         Some(byte)
     }
 
-    /// A number in groups of 7 bits: a literal, or 0 for the end of a step. `None` where it is neither.
+    /// A literal, or 0 for the end of a step.
     fn grouped(&mut self) -> Option<u32> {
         let mut value = 0u64;
         let mut factor = 1u64;

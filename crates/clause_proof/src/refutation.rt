@@ -8,7 +8,6 @@ use crate::history::History;
 use crate::replay::{is_used, replay};
 use std::alloc::{AllocError, Global};
 
-/// The greatest literal of the clauses.
 fn greatest_literal(clauses: &[Vec<u32>]) -> u32 {
     let mut greatest = 1;
     for clause in clauses {
@@ -19,7 +18,6 @@ fn greatest_literal(clauses: &[Vec<u32>]) -> u32 {
     greatest
 }
 
-/// No literal has a mark.
 fn no_marks(alloc: Global, literals: usize) -> Result<Vec<u32>, AllocError>
     ensures { IfOk result (λ values. IsFresh values.items 1) }
 {
@@ -28,7 +26,6 @@ fn no_marks(alloc: Global, literals: usize) -> Result<Vec<u32>, AllocError>
     Ok(values)
 }
 
-/// Adds the clauses that a proof added.
 #[tactic(auto, using(crate::proofs::RefutationLemmas::extend_rules))]
 fn extend(alloc: Global, clauses: &mut Vec<Vec<u32>>, history: &History) -> Result<(), AllocError>
     ensures { IfOk result (λ _. Extends clauses.old.items clauses.new.items) }
@@ -39,7 +36,7 @@ fn extend(alloc: Global, clauses: &mut Vec<Vec<u32>>, history: &History) -> Resu
     Ok(())
 }
 
-/// Adds the empty clause, which alone is used.
+/// The empty clause alone is used.
 #[tactic(auto, using(crate::proofs::RefutationLemmas::aim_rules))]
 fn aim(alloc: Global, clauses: &mut Vec<Vec<u32>>) -> Result<Vec<bool>, AllocError>
     ensures extends { OnOk result (Extends clauses.old.items clauses.new.items) }
@@ -52,7 +49,7 @@ fn aim(alloc: Global, clauses: &mut Vec<Vec<u32>>) -> Result<Vec<bool>, AllocErr
     Ok(used)
 }
 
-/// Whether the clause `at` is not used or follows from clauses before it, which are used from now on.
+/// Whether clause `at` is not used or follows from clauses before it, which are then used.
 #[tactic(auto, using(crate::proofs::RefutationLemmas::step_rules))]
 fn check_one(
     clauses: &[Vec<u32>],
@@ -77,7 +74,6 @@ fn check_one(
     Ok(well)
 }
 
-/// Checks the used clauses from the last one back to those that stood there at first.
 #[tactic(auto, using(crate::proofs::RefutationLemmas::back_rules))]
 fn check_backwards(
     clauses: &[Vec<u32>],
@@ -103,7 +99,6 @@ fn check_backwards(
     Ok(false)
 }
 
-/// Checks what a proof added, and that the empty clause follows.
 #[tactic(auto, using(crate::proofs::RefutationLemmas::check_rules))]
 fn check(
     alloc: Global,
@@ -122,7 +117,7 @@ fn check(
     Ok(well)
 }
 
-/// Whether the clauses cannot all be true, by a proof of which unused steps are not checked.
+/// Steps that no checked step uses are not checked.
 fn is_refuted(alloc: Global, clauses: &mut Vec<Vec<u32>>, proof: &[u8]) -> Result<bool, AllocError>
     ensures { IfOk result (λ well. well ≡ true → IsUnsatisfiable clauses.old.items) }
 {
@@ -136,7 +131,6 @@ fn is_refuted(alloc: Global, clauses: &mut Vec<Vec<u32>>, proof: &[u8]) -> Resul
     Ok(well)
 }
 
-/// The first fault of a proof that does not refute the clauses.
 fn first_fault(
     alloc: Global,
     clauses: &[Vec<u32>],
@@ -148,12 +142,10 @@ fn first_fault(
     Ok(fault.unwrap_or(ProofFault::Unfinished))
 }
 
-/// Checks a proof that no values of the variables make all clauses true, in either form. If the clauses alone conflict by
-/// unit propagation, the proof is not read. Of an accepted proof, steps that no checked step uses are not checked. A refused
-/// one is checked again from its first step on, all steps of it, for the first fault.
-///
-/// It is proved that each call ends, and that the clauses cannot all be true if a proof is accepted. That an error is the
-/// first fault, with its line, is tested. No clause says how long a call takes: each step is at least one byte.
+/// Checks a proof, in either form, that no values of the variables make all clauses true. It is not
+/// read if the clauses alone conflict. Steps that no checked step uses are not checked. If it is
+/// refused, all its steps are checked for the first fault. That this is the first one is only
+/// tested. Each call ends; how long it takes is in no contract.
 pub fn refute(alloc: Global, clauses: Vec<Vec<u32>>, proof: &[u8]) -> Result<(), ProofFault>
     ensures { IfOk result (λ _. IsUnsatisfiable clauses.items) }
 {

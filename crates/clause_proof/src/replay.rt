@@ -1,5 +1,5 @@
-//! Whether a clause follows from others by unit propagation, by clauses that are named in order (Cruz-Filipe, Heule, Hunt,
-//! Kaufmann and Schneider-Kamp 2017: LRAT).
+//! Whether a clause follows by unit propagation, through clauses that are named in order
+//! (Cruz-Filipe, Heule, Hunt, Kaufmann and Schneider-Kamp 2017: LRAT).
 ghost use Rattle.std.specs.Prelude.{◌≡◌, ◌+◌, ◌<◌, ◌≤◌, IfNone, length, true, false, slice_index, slice_index_or};
 ghost use Rattle.clause_proof.specs.Clauses.{negated};
 ghost use Rattle.clause_proof.specs.Propagation.{IsAssigned, HasOnly, HasNone, IsFresh, Infers, Assumes, IsTautology, Keeps, Follows};
@@ -17,7 +17,6 @@ pub(crate) fn negated(literal: u32) -> u32
     }
 }
 
-/// The mark of a literal, 0 where it has none.
 fn mark_of(values: &[u32], literal: u32) -> u32
     ensures { result ≡ slice_index values.now literal }
 {
@@ -27,7 +26,6 @@ fn mark_of(values: &[u32], literal: u32) -> u32
     }
 }
 
-/// A literal of the clause other than `other` that is not false.
 fn open_literal(clause: &[u32], values: &[u32], mark: u32, other: u32) -> Option<u32>
     ensures { IfNone result (HasOnly clause.now values.now mark other) }
 {
@@ -39,7 +37,6 @@ fn open_literal(clause: &[u32], values: &[u32], mark: u32, other: u32) -> Option
     None
 }
 
-/// Whether all literals of the clause are false.
 fn is_false(clause: &[u32], values: &[u32], mark: u32) -> bool
     ensures { result ≡ true → HasNone clause.now values.now mark }
 {
@@ -51,7 +48,6 @@ fn is_false(clause: &[u32], values: &[u32], mark: u32) -> bool
     true
 }
 
-/// Makes a literal true, unless it is of no variable.
 fn assign(values: &mut [u32], literal: u32, mark: u32)
     ensures { IsAssigned values.old values.new literal mark }
 {
@@ -92,7 +88,6 @@ fn assume(clause: &[u32], values: &mut [u32], mark: u32) -> bool
     false
 }
 
-/// Whether a clause is used.
 pub(crate) fn is_used(used: &[bool], clause: usize) -> bool
     ensures { result ≡ slice_index_or used.now clause false }
 {
@@ -102,7 +97,6 @@ pub(crate) fn is_used(used: &[bool], clause: usize) -> bool
     }
 }
 
-/// Marks a clause as used, unless there is none.
 fn mark_used(used: &mut [bool], clause: usize) -> bool
     ensures keeps { Keeps used.old used.new }
     ensures used { result ≡ true → slice_index_or used.new clause false ≡ true }
@@ -114,8 +108,8 @@ fn mark_used(used: &mut [bool], clause: usize) -> bool
     is_there
 }
 
-/// Whether the clause `at` follows from the clauses of `hints`, which are used from now on. The last of `hints` is taken
-/// first; each is to be before `at`.
+/// Whether clause `at` follows from the clauses of `hints`, which are then used. The last hint is
+/// taken first; each is to be before `at`.
 #[tactic(auto, using(crate::proofs::ReplayLemmas::replay_rules))]
 pub(crate) fn replay(
     clauses: &[Vec<u32>],

@@ -2,7 +2,6 @@
 use std::alloc::{AllocError, Global};
 use std::mem;
 
-/// A clause that watches a literal.
 #[derive(Clone, Copy)]
 pub(crate) struct Watcher {
     /// 2 · the place of the clause's first literal, and 1 more if the clause has two literals.
@@ -11,19 +10,17 @@ pub(crate) struct Watcher {
     pub(crate) blocker: u32,
 }
 
-/// For each literal the clauses of the core that watch it, and right behind them in memory the others that do.
+/// For each literal the watchers of the core, and right behind them in memory the others.
 #[derive(Drop)]
 pub(crate) struct WatchLists {
     lists: Vec<Vec<Watcher>>,
 }
 
-/// The place of a literal's list.
 fn place_of(literal: u32, is_core: bool) -> usize {
     2 * literal as usize + !is_core as usize
 }
 
 impl WatchLists {
-    /// Lists of the literals below `size`.
     pub(crate) fn new(alloc: Global, size: usize) -> Result<WatchLists, AllocError> {
         let places = size.saturating_mul(2);
         let mut lists = Vec::with_capacity(alloc, places)?;
@@ -33,7 +30,6 @@ impl WatchLists {
         Ok(WatchLists { lists })
     }
 
-    /// One more clause watches the literal.
     pub(crate) fn add(
         &mut self,
         literal: u32,
@@ -47,7 +43,6 @@ impl WatchLists {
         Ok(())
     }
 
-    /// Takes out a list of a literal, if a clause is in it.
     pub(crate) fn take(
         &mut self,
         alloc: Global,
@@ -62,7 +57,6 @@ impl WatchLists {
         }
     }
 
-    /// Puts a list of a literal back.
     pub(crate) fn put(&mut self, literal: u32, list: Vec<Watcher>, is_core: bool) {
         let at = place_of(literal, is_core);
         if at < self.lists.len() {
@@ -70,7 +64,6 @@ impl WatchLists {
         }
     }
 
-    /// No clause watches any literal.
     pub(crate) fn clear(&mut self) {
         for at in 0..self.lists.len() {
             self.lists[at].clear();

@@ -1,9 +1,8 @@
-//! By how much a schedule breaks what it breaks.
+//! By how much a schedule breaks a condition.
 use mrcpsp::{Breach, Mode, Project, Schedule, breaches_of};
 use schedule_files::read_schedule;
 use std::alloc::{AllocError, Global};
 
-/// The mode in which a schedule runs the activity at this place.
 fn mode_at<'a>(project: &'a Project, schedule: &Schedule, place: usize) -> Option<&'a Mode> {
     let activity = project.activities().get(place)?;
     let number = *schedule.modes.as_slice().get(place)?;
@@ -13,12 +12,10 @@ fn mode_at<'a>(project: &'a Project, schedule: &Schedule, place: usize) -> Optio
         .get((number as usize).checked_sub(1)?)
 }
 
-/// The start of the activity at this place, or 0.
 fn start_at(schedule: &Schedule, place: usize) -> u32 {
     schedule.starts.as_slice().get(place).copied().unwrap_or(0)
 }
 
-/// Why a schedule has not the shape of a project.
 fn tell_shape(alloc: Global, project: &Project, schedule: &Schedule) -> Result<String, AllocError> {
     let (found, wanted) = (schedule.modes.as_slice().len(), project.activities().len());
     if found != wanted {
@@ -36,7 +33,6 @@ fn tell_shape(alloc: Global, project: &Project, schedule: &Schedule) -> Result<S
     format!(in alloc; "activities of the project: {wanted}")
 }
 
-/// How an activity starts before another one ends.
 fn tell_precedence(
     alloc: Global,
     project: &Project,
@@ -53,7 +49,6 @@ fn tell_precedence(
     )
 }
 
-/// What an activity uses of a resource in a period, or 0.
 fn load_at(
     project: &Project,
     schedule: &Schedule,
@@ -76,7 +71,6 @@ fn load_at(
     }
 }
 
-/// What a schedule uses of a renewable resource in a period, and by which activities.
 fn tell_renewable(
     alloc: Global,
     project: &Project,
@@ -100,7 +94,6 @@ fn tell_renewable(
     format!(in alloc; "needs {total} of {capacity} in period {period}: activities{users}")
 }
 
-/// What a schedule consumes of a nonrenewable resource.
 fn tell_nonrenewable(
     alloc: Global,
     project: &Project,
@@ -119,7 +112,6 @@ fn tell_nonrenewable(
     format!(in alloc; "needs {total} of {stock}")
 }
 
-/// How many modes an activity has, and which one is given.
 fn tell_mode(
     alloc: Global,
     project: &Project,
@@ -136,7 +128,7 @@ fn tell_mode(
     format!(in alloc; "activity {number} is in mode {given}{more}, and has modes 1 to {count}")
 }
 
-/// By how much a schedule breaks what it is said to break.
+/// By how much `schedule` breaks `breach`.
 pub fn why_breach(
     alloc: Global,
     project: &Project,
@@ -156,14 +148,13 @@ pub fn why_breach(
     }
 }
 
-/// The same of the texts of a project's file and of a schedule.
+/// Is `why_breach` of the texts of a project's file and of a schedule.
 pub fn why_breach_of(alloc: Global, file: &[u8], text: &[u8], breach: Breach) -> Option<String> {
     let project = psplib_mm::read(alloc, file).ok()?;
     let schedule = read_schedule(alloc, text).ok()??;
     why_breach(alloc, &project, &schedule, breach).ok()
 }
 
-/// Adds a line of a breach with its amount.
 fn put_breach(
     alloc: Global,
     lines: &mut String,
@@ -175,8 +166,8 @@ fn put_breach(
     write!(lines, "farm: breach {breach}: {amount}\n")
 }
 
-/// A line of each breach of the schedule that a text tells, with its amount, what is broken first at the front. An error is want of
-/// memory, and comes also if the texts are of no project and no schedule.
+/// A line of each breach of the schedule in `text`, the first breach at the front. An error is want
+/// of memory, or a text without a project or a schedule.
 pub fn all_breaches(alloc: Global, file: &[u8], text: &[u8]) -> Result<String, AllocError> {
     let mut lines = String::new(alloc);
     let Ok(project) = psplib_mm::read(alloc, file) else {

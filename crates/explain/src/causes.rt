@@ -2,7 +2,7 @@
 use mrcpsp::{Activity, Mode, Project};
 use std::alloc::Global;
 
-/// The place of the first renewable resource of which a mode needs more than there is.
+/// The first renewable resource of which `mode` needs more than there is.
 fn beyond(mode: &Mode, capacities: &[u32]) -> Option<usize> {
     if mode.duration == 0 {
         return None;
@@ -14,7 +14,7 @@ fn beyond(mode: &Mode, capacities: &[u32]) -> Option<usize> {
         .position(|(request, capacity)| capacity < request)
 }
 
-/// Why no mode of an activity can be executed, if none can: what its first mode needs.
+/// `None` if some mode of the activity can be executed.
 fn why_stuck(
     alloc: Global,
     number: usize,
@@ -35,7 +35,7 @@ fn why_stuck(
     ).ok()
 }
 
-/// The least that an activity consumes of a nonrenewable resource, in the modes that can be executed.
+/// The least that `activity` consumes, in the modes that can be executed.
 fn least(activity: &Activity, capacities: &[u32], place: usize) -> u32 {
     let mut least = u32::MAX;
     for mode in activity.modes.as_slice() {
@@ -47,7 +47,7 @@ fn least(activity: &Activity, capacities: &[u32], place: usize) -> u32 {
     least
 }
 
-/// Why a nonrenewable resource does not last, if it does not in any modes.
+/// `None` if the resource lasts in some modes.
 fn why_short(alloc: Global, project: &Project, place: usize) -> Option<String> {
     let stock = project.nonrenewable().get(place)?;
     let mut needed = 0u64;
@@ -64,7 +64,8 @@ fn why_short(alloc: Global, project: &Project, place: usize) -> Option<String> {
     ).ok()
 }
 
-/// Why an infeasible project is: an activity that no mode suits, a nonrenewable resource that does not last, or all of these together.
+/// Why a project is infeasible: no mode of an activity can be executed, a nonrenewable resource
+/// does not last, or all of them together do not.
 pub fn why_infeasible(alloc: Global, project: &Project) -> Option<String> {
     let mut number = 0usize;
     for activity in project.activities() {
@@ -77,7 +78,6 @@ pub fn why_infeasible(alloc: Global, project: &Project) -> Option<String> {
     why_consumed(alloc, project)
 }
 
-/// Why an infeasible project is, if each activity has a mode that can be executed.
 fn why_consumed(alloc: Global, project: &Project) -> Option<String> {
     for place in 0..project.nonrenewables() {
         let why = why_short(alloc, project, place);

@@ -8,7 +8,6 @@ use crate::sheet::{Sheet, sheet_of};
 use psplib_mm::{MmFault, SectionName};
 use std::alloc::{AllocError, Global};
 
-/// Adds the name of a row: a job, or a mode of one.
 fn put_row(text: &mut String, row: &FileRow) -> Result<(), AllocError> {
     let job = row.job;
     match row.mode {
@@ -17,7 +16,6 @@ fn put_row(text: &mut String, row: &FileRow) -> Result<(), AllocError> {
     }
 }
 
-/// Adds a number of words.
 fn put_words(text: &mut String, count: usize) -> Result<(), AllocError> {
     if count == 1 {
         text.push_str("1 word")
@@ -26,7 +24,6 @@ fn put_words(text: &mut String, count: usize) -> Result<(), AllocError> {
     }
 }
 
-/// Adds which words a row needs.
 fn put_needs(text: &mut String, row: &FileRow) -> Result<(), AllocError> {
     match (row.mode, row.has_job) {
         (Some(_), true) => {
@@ -58,7 +55,6 @@ fn put_needs(text: &mut String, row: &FileRow) -> Result<(), AllocError> {
     }
 }
 
-/// Adds how a row is out of place.
 fn put_misfit(text: &mut String, misfit: &Misfit<'_>) -> Result<(), AllocError> {
     match misfit {
         Misfit::Other(row, word) => {
@@ -88,7 +84,6 @@ fn put_misfit(text: &mut String, misfit: &Misfit<'_>) -> Result<(), AllocError> 
     }
 }
 
-/// What the words of the sections on jobs do not fit.
 fn why_rows(
     alloc: Global,
     words: &[Piece<'_>],
@@ -102,7 +97,6 @@ fn why_rows(
     Ok(Some(text))
 }
 
-/// Why a section has not as many words as it needs.
 fn why_count(
     alloc: Global,
     sheet: &Sheet<'_>,
@@ -122,7 +116,6 @@ fn why_count(
     }
 }
 
-/// The first row whose number is not the one that is wanted there.
 fn why_numbering(alloc: Global, sheet: &Sheet<'_>) -> Result<Option<String>, AllocError> {
     let sections = [
         (sheet.precedence.as_slice(), sheet.jobs.as_slice()),
@@ -140,7 +133,6 @@ fn why_numbering(alloc: Global, sheet: &Sheet<'_>) -> Result<Option<String>, All
     Ok(None)
 }
 
-/// The word on a line that is no number.
 fn why_number(alloc: Global, sheet: &Sheet<'_>, line: usize) -> Result<Option<String>, AllocError> {
     let sections = [
         sheet.precedence.as_slice(),
@@ -160,7 +152,7 @@ fn why_number(alloc: Global, sheet: &Sheet<'_>, line: usize) -> Result<Option<St
     Ok(None)
 }
 
-/// What is wrong with a successor of a job.
+/// Empty if nothing is wrong with the successor.
 fn blame_of(words: &[Piece<'_>], from: usize, place: usize, job: u64, jobs: u64) -> &'static str {
     let found = number_at(words, place);
     if found <= job {
@@ -177,7 +169,6 @@ fn blame_of(words: &[Piece<'_>], from: usize, place: usize, job: u64, jobs: u64)
     ""
 }
 
-/// The first successor of a job that it cannot have.
 fn why_successor_of(
     alloc: Global,
     words: &[Piece<'_>],
@@ -200,7 +191,6 @@ fn why_successor_of(
     Ok(None)
 }
 
-/// The first successor that its job cannot have.
 fn why_successor(alloc: Global, sheet: &Sheet<'_>) -> Result<Option<String>, AllocError> {
     let jobs = sheet.jobs.len() as u64;
     for row in &sheet.jobs {
@@ -211,7 +201,6 @@ fn why_successor(alloc: Global, sheet: &Sheet<'_>) -> Result<Option<String>, All
     Ok(None)
 }
 
-/// What is wrong with the line of a label.
 fn why_label(
     alloc: Global,
     head: &[Piece<'_>],
@@ -232,7 +221,7 @@ fn why_label(
     }
 }
 
-/// Why the head does not count the jobs, or gives another count no number.
+/// The first count without a number, or else that of jobs, which is missing.
 fn why_head(alloc: Global, text: &[u8], sheet: &Sheet<'_>) -> Result<Option<String>, AllocError> {
     let head = sheet.head.as_slice();
     for label in [PROJECTS, JOBS, RENEWABLE, NONRENEWABLE, DOUBLY] {
@@ -256,7 +245,6 @@ fn why_head(alloc: Global, text: &[u8], sheet: &Sheet<'_>) -> Result<Option<Stri
     Ok(Some(told))
 }
 
-/// The number that is found behind a label, and the one that is wanted.
 fn why_fixed(
     alloc: Global,
     head: &[Piece<'_>],
@@ -275,7 +263,6 @@ fn why_fixed(
     }
 }
 
-/// Below which line a title is missing.
 fn why_section(
     alloc: Global,
     sheet: &Sheet<'_>,
@@ -300,7 +287,6 @@ fn why_section(
     }))
 }
 
-/// Why a text is of no project, or why `None` where there is no memory.
 fn told(alloc: Global, text: &[u8], fault: MmFault) -> Result<Option<String>, AllocError> {
     let sheet = sheet_of(alloc, text)?;
     match fault {
@@ -317,8 +303,8 @@ fn told(alloc: Global, text: &[u8], fault: MmFault) -> Result<Option<String>, Al
     }
 }
 
-/// Why a text is of no project: the line, the job and the words that are wanted and found, if the fault has them.
-/// `fault` is the one that `psplib_mm::read` has given of the text.
+/// Why `text` has no project: the line, the job, and the words that are wanted and found. `fault`
+/// is what `psplib_mm::read` returned of `text`.
 pub fn why_file(alloc: Global, text: &[u8], fault: MmFault) -> Option<String> {
     match fault {
         MmFault::TooLong => { String::from_str(alloc, "the file has more than 1048576 bytes").ok() }

@@ -1,7 +1,6 @@
 //! The labels above the sections of a project's file, and their values.
 use crate::lines::{Piece, first_word, number, spells};
 
-/// A label that is read.
 #[derive(Clone, Copy, Debug)]
 pub(crate) struct Label {
     /// Its bytes without blanks.
@@ -42,20 +41,16 @@ pub(crate) const DOUBLY: Label = Label {
     missing: Some(0),
 };
 
-/// What the head has of a label.
 #[derive(Clone, Copy, Debug)]
 pub(crate) enum Value<'a> {
-    /// No line.
     Missing,
-    /// A line of this number without a word behind its colon.
+    /// The number of a line without a word behind its colon.
     Empty(usize),
-    /// A word that is no number.
     Word(Piece<'a>),
-    /// A number, on this line.
+    /// The number of the line, and its value.
     Number(usize, u64),
 }
 
-/// The bytes behind the first colon, if the bytes before it are the label.
 fn behind<'a>(line: &'a [u8], label: Label) -> Option<&'a [u8]> {
     let colon = line.iter().position(|b| *b == b':')?;
     let (front, rest) = line.split_at_checked(colon)?;
@@ -85,7 +80,7 @@ pub(crate) fn value_of<'a>(head: &[Piece<'a>], label: Label) -> Value<'a> {
     Value::Missing
 }
 
-/// The number that the head gives a label, or 0 if it gives none.
+/// The number of a label; without one its `missing` value, or 0.
 pub(crate) fn count_of(head: &[Piece<'_>], label: Label) -> u64 {
     match value_of(head, label) {
         Value::Number(_, number) => number,
@@ -93,7 +88,7 @@ pub(crate) fn count_of(head: &[Piece<'_>], label: Label) -> u64 {
     }
 }
 
-/// The line of a label, or 0.
+/// The line of a label, or 0 if it has no number.
 pub(crate) fn line_of(head: &[Piece<'_>], label: Label) -> usize {
     match value_of(head, label) {
         Value::Number(line, _) => line,

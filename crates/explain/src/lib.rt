@@ -1,21 +1,17 @@
-//! Why a text or a word is refused, in words: the second line, `farm: why: ..`, that follows a fault on standard error.
+//! Why a text or a word is refused: the second line, `farm: why: ..`, of a fault on standard error.
 //!
-//! The reader of a text says which fault comes first. This crate reads the refused text once more, by plain steps, and says
-//! where the fault lies, what was found there and what is wanted. No contract speaks of its words: `tests/program` has
-//! them, worked by hand. `None` stands for a fault of which nothing more is known, and for want of memory.
+//! The reader of a text returns the first fault. This crate reads the refused text once more: for
+//! the place of the fault, what is there, and what is wanted. Its words are in no contract:
+//! `tests/program` has them, worked by hand. `None` is a fault of which nothing more is known, or
+//! want of memory.
 //!
-//! - `lines`: the lines of a text, their words, and how a word is shown.
-//! - `head`: the labels above the sections of a project's file, and their values.
-//! - `sections`: where the sections of a project's file begin, and their words.
-//! - `rows`: the rows of jobs and modes, and the first one that is out of place.
-//! - `limits`: the first number of a project that is above its limit.
-//! - `sheet`: a file, line by line and row by row.
-//! - `files`: `why_file`.
-//! - `schedules`: why a text tells no schedule.
-//! - `amounts`: by how much a schedule breaks what it breaks.
+//! - `lines`, `head`: the lines and words of a text; the labels above the sections of a file.
+//! - `sections`, `rows`: the sections of a file; rows, and the first one that is out of place.
+//! - `sheet`, `limits`, `files`: a file by its rows; the first number above its limit; `why_file`.
+//! - `schedules`: why a text has no schedule.
+//! - `amounts`: by how much a schedule breaks a condition.
 //! - `causes`: why no schedule of a project is feasible.
-//! - `words`: why a word of a command line is refused, and why a port is.
-//! - `near`: the nearest of several words.
+//! - `words`, `near`: why a word or a port is refused; the nearest of several words.
 #![tactic(auto)]
 
 mod amounts;

@@ -6,14 +6,12 @@ use crate::sheet::Sheet;
 use psplib_mm::LimitName;
 use std::alloc::{AllocError, Global};
 
-/// A number that is not within its limit.
 #[derive(Clone, Copy, Debug)]
 struct Excess {
     line: usize,
     found: u64,
 }
 
-/// The line and the number of the first word among these places that is above the most.
 fn first_above(words: &[Piece<'_>], from: usize, count: usize, most: u64) -> Option<Excess> {
     let rest = words.get(from..).unwrap_or(&[]);
     for word in rest.iter().take(count) {
@@ -28,7 +26,6 @@ fn first_above(words: &[Piece<'_>], from: usize, count: usize, most: u64) -> Opt
     None
 }
 
-/// The place of the duration of a mode's row.
 fn duration_place(row: &FileRow) -> usize {
     let place = row.start.saturating_add(1);
     if row.has_job {
@@ -38,7 +35,6 @@ fn duration_place(row: &FileRow) -> usize {
     }
 }
 
-/// The first duration above 1,000.
 fn long_mode(words: &[Piece<'_>], rows: &[FileRow]) -> Option<(FileRow, Excess)> {
     for row in rows {
         if row.mode.is_some()
@@ -50,7 +46,6 @@ fn long_mode(words: &[Piece<'_>], rows: &[FileRow]) -> Option<(FileRow, Excess)>
     None
 }
 
-/// The first request or consumption above 1,000,000.
 fn great_request(
     words: &[Piece<'_>],
     rows: &[FileRow],
@@ -67,7 +62,6 @@ fn great_request(
     None
 }
 
-/// The first job with no mode, or with more than ten.
 fn odd_job(words: &[Piece<'_>], rows: &[FileRow]) -> Option<(FileRow, Excess)> {
     for row in rows {
         let place = row.start.saturating_add(1);
@@ -80,7 +74,6 @@ fn odd_job(words: &[Piece<'_>], rows: &[FileRow]) -> Option<(FileRow, Excess)> {
     None
 }
 
-/// The sum of all jobs' longest durations.
 fn horizon_of(words: &[Piece<'_>], rows: &[FileRow]) -> u64 {
     let mut total = 0u64;
     let mut longest = 0u64;
@@ -96,7 +89,6 @@ fn horizon_of(words: &[Piece<'_>], rows: &[FileRow]) -> u64 {
     total.saturating_add(longest)
 }
 
-/// What is said of a number of a mode.
 fn tell_mode(
     alloc: Global,
     told: Option<(FileRow, Excess)>,
@@ -113,7 +105,6 @@ fn tell_mode(
     )?))
 }
 
-/// What is said of a count of the head.
 fn tell_count(
     alloc: Global,
     line: usize,
@@ -127,7 +118,6 @@ fn tell_count(
     )?))
 }
 
-/// Where a limit is broken.
 pub(crate) fn why_limit(
     alloc: Global,
     sheet: &Sheet<'_>,
@@ -160,7 +150,6 @@ pub(crate) fn why_limit(
     }
 }
 
-/// Where a limit of an amount or of the horizon is broken.
 fn why_amount(
     alloc: Global,
     sheet: &Sheet<'_>,

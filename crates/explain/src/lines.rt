@@ -2,14 +2,14 @@
 use std::alloc::{AllocError, Global};
 use std::{fmt, str};
 
-/// A line or a word, with the number of its line, from 1.
+/// A `Piece` is a line or a word, with the number of its line, from 1.
 #[derive(Clone, Copy, Debug)]
 pub(crate) struct Piece<'a> {
     pub(crate) line: usize,
     pub(crate) bytes: &'a [u8],
 }
 
-/// The text before its end mark, or the whole text.
+/// The text before its end mark, if it has one.
 fn shown(text: &[u8]) -> &[u8] {
     text.split(|b| *b == 0x1A).next().unwrap_or(text)
 }
@@ -21,7 +21,6 @@ fn without_return(line: &[u8]) -> &[u8] {
     }
 }
 
-/// The lines of a text up to its end mark.
 pub(crate) fn lines_of(alloc: Global, text: &[u8]) -> Result<Vec<Piece<'_>>, AllocError> {
     let mut lines = Vec::new(alloc);
     let mut number = 0usize;
@@ -39,7 +38,7 @@ fn is_blank(b: u8) -> bool {
     b == b' ' || b == b'\t'
 }
 
-/// Whether a line without its blanks is this text.
+/// Whether `line` without its blanks is `text`.
 pub(crate) fn spells(line: &[u8], text: &[u8]) -> bool {
     let mut rest = text;
     for b in line {
@@ -53,7 +52,7 @@ pub(crate) fn spells(line: &[u8], text: &[u8]) -> bool {
     rest.is_empty()
 }
 
-/// Whether a line has no word, or only `*` or only `-` beside its blanks.
+/// Whether a line has no word, or beside its blanks only `*` or only `-`.
 pub(crate) fn is_rule(line: &[u8]) -> bool {
     let mut marks = line.iter().filter(|b| !is_blank(**b));
     match marks.next() {
@@ -62,7 +61,6 @@ pub(crate) fn is_rule(line: &[u8]) -> bool {
     }
 }
 
-/// Adds the words of a line.
 pub(crate) fn push_words<'a>(
     words: &mut Vec<Piece<'a>>,
     line: Piece<'a>,
@@ -78,12 +76,11 @@ pub(crate) fn push_words<'a>(
     Ok(())
 }
 
-/// The first word of these bytes.
 pub(crate) fn first_word(bytes: &[u8]) -> Option<&[u8]> {
     bytes.split(|b| is_blank(*b)).find(|word| !word.is_empty())
 }
 
-/// The number that a word of digits writes, or the greatest `u64` if it is above.
+/// A greater number counts as `u64::MAX`.
 pub(crate) fn number(word: &[u8]) -> Option<u64> {
     if word.is_empty() {
         return None;
@@ -100,7 +97,7 @@ pub(crate) fn number(word: &[u8]) -> Option<u64> {
     Some(value)
 }
 
-/// A number as it is shown: `number` gives the greatest one for all of 20 digits or more.
+/// Only a word of 20 digits or more gives `u64::MAX`.
 #[derive(Clone, Copy, Debug)]
 pub(crate) struct Count(pub(crate) u64);
 
@@ -115,7 +112,7 @@ impl fmt::Display for Count {
     }
 }
 
-/// How many lines there are, without an empty one behind the last line feed.
+/// An empty line behind the last line feed does not count.
 pub(crate) fn count_lines(lines: &[Piece<'_>]) -> usize {
     match lines.last() {
         Some(last) if last.bytes.is_empty() => lines.len().saturating_sub(1),
@@ -123,10 +120,9 @@ pub(crate) fn count_lines(lines: &[Piece<'_>]) -> usize {
     }
 }
 
-/// The most bytes of a word that are shown.
 const MOST_SHOWN: usize = 40;
 
-/// A word as it is shown: a longer one, or one that a terminal might obey, is named instead.
+/// A word that is long, or that a terminal might obey, is named and not shown.
 pub(crate) fn shown_word(word: &[u8]) -> &str {
     if word.len() > MOST_SHOWN {
         return "a long word";

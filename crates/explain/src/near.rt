@@ -1,9 +1,7 @@
-//! The nearest of several words.
 use std::alloc::Global;
 use strsim::levenshtein;
 
-/// The word that takes the fewest edits from the one that was typed, if these are at most a third of its letters and one
-/// more.
+/// The word of the fewest edits from `typed`: at most a third of its bytes and one more.
 pub fn nearest<'a>(alloc: Global, typed: &str, words: &[&'a str]) -> Option<&'a str> {
     let most = (typed.len() / 3).saturating_add(1);
     let mut found = None;

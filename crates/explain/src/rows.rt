@@ -2,14 +2,13 @@
 use crate::lines::{Piece, number};
 use std::alloc::{AllocError, Global};
 
-/// The words of one job, or of one of its modes.
+/// A `FileRow` is the words of a job, or of one of its modes.
 #[derive(Clone, Copy, Debug)]
 pub(crate) struct FileRow {
-    /// The number of the job.
     pub(crate) job: u64,
     /// The number of the mode, in the section of requests.
     pub(crate) mode: Option<u64>,
-    /// Whether the job's own number stands before the words of its first mode.
+    /// Whether the job's own number comes before the words of the mode.
     pub(crate) has_job: bool,
     /// The place of its first word.
     pub(crate) start: usize,
@@ -17,20 +16,17 @@ pub(crate) struct FileRow {
     pub(crate) words: usize,
 }
 
-/// How a row is out of place.
 #[derive(Clone, Copy, Debug)]
 pub(crate) enum Misfit<'a> {
-    /// Another word is where the number of the job, or of the mode, is wanted.
+    /// Another word is at the place of the job's or the mode's number.
     Other(FileRow, Piece<'a>),
-    /// It has so many words from its first one to the end of that line, or of the section.
+    /// The line of its first word, and how many words that line has from there on.
     Length(FileRow, usize, usize),
-    /// The section ends before it.
     Missing(FileRow),
-    /// So many words follow the last row, the first of them on this line.
+    /// The line of the first word behind the last row, and how many words these are.
     Surplus(usize, usize),
 }
 
-/// The number at a place, or 0.
 pub(crate) fn number_at(words: &[Piece<'_>], place: usize) -> u64 {
     match words.get(place) {
         Some(word) => number(word.bytes).unwrap_or(0),
@@ -42,7 +38,7 @@ fn to_count(number: u64) -> usize {
     usize::try_from(number).unwrap_or(usize::MAX)
 }
 
-/// The rows of jobs in the section of precedence, up to the first one that the section has no words for.
+/// Ends with the first row for which the section has no words.
 pub(crate) fn precedence_rows(
     alloc: Global,
     words: &[Piece<'_>],
@@ -68,7 +64,6 @@ pub(crate) fn precedence_rows(
     Ok(rows)
 }
 
-/// Adds the rows of one job's modes from a place on, up to the first one that the section has no words for.
 fn push_modes(
     rows: &mut Vec<FileRow>,
     start: usize,
@@ -106,8 +101,7 @@ fn push_modes(
     Ok(next)
 }
 
-/// The rows of modes in the section of requests, up to the first one that the section has no words for. `modes` has the
-/// number of modes of each job.
+/// `modes` has the number of modes of each job.
 pub(crate) fn request_rows(
     alloc: Global,
     words: &[Piece<'_>],
@@ -127,7 +121,6 @@ pub(crate) fn request_rows(
     Ok(rows)
 }
 
-/// The numbers of modes of all jobs.
 pub(crate) fn modes_of(
     alloc: Global,
     words: &[Piece<'_>],
@@ -140,7 +133,6 @@ pub(crate) fn modes_of(
     Ok(modes)
 }
 
-/// How many words stand on the line of a place, from that place on.
 fn words_on_line(words: &[Piece<'_>], place: usize) -> usize {
     let Some(first) = words.get(place) else {
         return 0;
@@ -151,7 +143,6 @@ fn words_on_line(words: &[Piece<'_>], place: usize) -> usize {
         .count()
 }
 
-/// The word of a row that is not the number of its job or its mode.
 pub(crate) fn misnumbered<'a>(words: &[Piece<'a>], row: &FileRow) -> Option<Piece<'a>> {
     let mut place = row.start;
     if row.has_job {
@@ -169,7 +160,6 @@ pub(crate) fn misnumbered<'a>(words: &[Piece<'a>], row: &FileRow) -> Option<Piec
     None
 }
 
-/// Whether a row ends within a line, or behind the end of the section.
 fn is_uneven(words: &[Piece<'_>], row: &FileRow) -> bool {
     let end = row.start.saturating_add(row.words);
     if end > words.len() {
@@ -181,7 +171,6 @@ fn is_uneven(words: &[Piece<'_>], row: &FileRow) -> bool {
     }
 }
 
-/// How one row is out of place.
 fn misfit_of<'a>(words: &[Piece<'a>], row: &FileRow) -> Option<Misfit<'a>> {
     let Some(first) = words.get(row.start) else {
         return Some(Misfit::Missing(*row));
@@ -196,7 +185,6 @@ fn misfit_of<'a>(words: &[Piece<'a>], row: &FileRow) -> Option<Misfit<'a>> {
     None
 }
 
-/// How the first row is out of place that is, or how many words follow the last row.
 pub(crate) fn first_misfit<'a>(words: &[Piece<'a>], rows: &[FileRow]) -> Option<Misfit<'a>> {
     let mut end = 0usize;
     for row in rows {

@@ -1,14 +1,13 @@
-//! Why a text tells no schedule.
+//! Why a text has no schedule.
 use crate::lines::{Piece, number, shown_word};
 use schedule_files::MOST_BYTES;
 use serde_json::Value;
 use std::alloc::{AllocError, Global};
 
-/// The forms of a schedule's text, as they are said behind a place of it.
 const FORM: &str =
     "wanted is for each activity a word J:MODE:START, in the order of their numbers, or a line J,MODE,START; or JSON as solve --json prints it";
 
-/// Where a text stops to tell a schedule, and what is found there.
+/// The place at which reading a schedule stops.
 #[derive(Clone, Copy, Debug)]
 struct Stop<'a> {
     line: usize,
@@ -16,7 +15,6 @@ struct Stop<'a> {
     word: &'a [u8],
 }
 
-/// The word that begins at this place of a line, as far as its first blank.
 fn word_at(line: Piece<'_>, start: usize) -> Stop<'_> {
     let rest = line.bytes.get(start..).unwrap_or(&[]);
     let word = rest
@@ -30,7 +28,6 @@ fn word_at(line: Piece<'_>, start: usize) -> Stop<'_> {
     }
 }
 
-/// Adds the words of a line, with their columns.
 fn push_stops<'a>(stops: &mut Vec<Stop<'a>>, line: Piece<'a>) -> Result<(), AllocError> {
     let mut is_blank = true;
     for (place, b) in line.bytes.iter().enumerate() {
@@ -43,7 +40,6 @@ fn push_stops<'a>(stops: &mut Vec<Stop<'a>>, line: Piece<'a>) -> Result<(), Allo
     Ok(())
 }
 
-/// The words of a text, with their lines and columns.
 fn stops_of(alloc: Global, text: &[u8]) -> Result<Vec<Stop<'_>>, AllocError> {
     let mut stops = Vec::new(alloc);
     let mut number = 0usize;
@@ -60,7 +56,7 @@ fn stops_of(alloc: Global, text: &[u8]) -> Result<Vec<Stop<'_>>, AllocError> {
     Ok(stops)
 }
 
-/// The number of the activity whose place a word is.
+/// The activity of a word `J:MODE:START`.
 fn activity_of(word: &[u8]) -> Option<usize> {
     let mut parts = word.split(|b| *b == b':');
     let activity = number(parts.next()?)?;
@@ -72,7 +68,6 @@ fn activity_of(word: &[u8]) -> Option<usize> {
     usize::try_from(activity).ok()
 }
 
-/// Adds what is found at a place, and what is wanted there.
 fn tell_stop(alloc: Global, stop: Stop<'_>, wanted: Option<usize>) -> Result<String, AllocError> {
     let (line, column, word) = (stop.line, stop.column, shown_word(stop.word));
     let mut text = String::new(alloc);
@@ -84,7 +79,7 @@ fn tell_stop(alloc: Global, stop: Stop<'_>, wanted: Option<usize>) -> Result<Str
     Ok(text)
 }
 
-/// The last word, counted from the end, that is not the place of the activity whose turn it is there.
+/// The words are read from the end: the number of the last one is the number of activities.
 fn tell_words(alloc: Global, stops: &[Stop<'_>]) -> Result<String, AllocError> {
     let Some(last) = stops.last() else {
         return format!(in alloc; "the text has no word; {FORM}");
@@ -105,7 +100,7 @@ fn tell_words(alloc: Global, stops: &[Stop<'_>]) -> Result<String, AllocError> {
     tell_missing(alloc, *last, count, wanted)
 }
 
-/// What is said of words of which each is the place of its activity: there is an activity 0, or the first ones are missing.
+/// All words are places: of an activity 0, or without the first ones.
 fn tell_missing(
     alloc: Global,
     last: Stop<'_>,
@@ -121,12 +116,10 @@ fn tell_missing(
     )
 }
 
-/// Whether a line has a digit, so that it is a row if it has commas.
 fn has_digit(line: &[u8]) -> bool {
     line.iter().any(|b| b.is_ascii_digit())
 }
 
-/// Whether the first line with a digit has a comma.
 fn has_rows(text: &[u8]) -> bool {
     match text.split(|b| *b == b'\n').find(|line| has_digit(line)) {
         Some(line) => line.contains(&b','),
@@ -134,7 +127,7 @@ fn has_rows(text: &[u8]) -> bool {
     }
 }
 
-/// The number of the activity whose row a line is.
+/// The activity of a row `J,MODE,START`.
 fn row_of(line: &[u8]) -> Option<u64> {
     let mut parts = line.split(|b| *b == b',');
     let activity = number(parts.next()?.trim_ascii())?;
@@ -147,7 +140,7 @@ fn row_of(line: &[u8]) -> Option<u64> {
     }
 }
 
-/// What is said of rows whose activities, in the order of their numbers, are these.
+/// `numbers` is the activities of all rows, in rising order.
 fn tell_numbers(alloc: Global, numbers: &[u64]) -> Result<String, AllocError> {
     let mut wanted = 0u64;
     for found in numbers {
@@ -167,7 +160,6 @@ fn tell_numbers(alloc: Global, numbers: &[u64]) -> Result<String, AllocError> {
     format!(in alloc; "{FORM}")
 }
 
-/// Why rows are of no schedule.
 fn tell_rows(alloc: Global, text: &[u8]) -> Result<String, AllocError> {
     let mut numbers = Vec::new(alloc);
     let mut line = 0usize;
@@ -186,7 +178,6 @@ fn tell_rows(alloc: Global, text: &[u8]) -> Result<String, AllocError> {
     tell_numbers(alloc, numbers.as_slice())
 }
 
-/// Why a text that begins as JSON tells no schedule.
 fn tell_json(alloc: Global, text: &[u8]) -> Result<String, AllocError> {
     match Value::from_slice(alloc, text) {
         Ok(_) => format!(in alloc;
@@ -199,7 +190,6 @@ fn tell_json(alloc: Global, text: &[u8]) -> Result<String, AllocError> {
     }
 }
 
-/// Whether the first byte beside blanks begins an array or an object.
 fn begins_json(text: &[u8]) -> bool {
     match text.iter().find(|b| !b.is_ascii_whitespace()) {
         Some(b) => *b == b'[' || *b == b'{',
@@ -207,7 +197,8 @@ fn begins_json(text: &[u8]) -> bool {
     }
 }
 
-/// Why a text tells no schedule: the place where reading it from its end stops, and the form that is wanted.
+/// Why `text` has no schedule: the place at which reading it from its end stops, and the wanted
+/// form.
 pub fn why_no_schedule(alloc: Global, text: &[u8]) -> Option<String> {
     if text.len() > MOST_BYTES {
         return String::from_str(

@@ -18,7 +18,6 @@ fn is_title(line: &Piece<'_>) -> bool {
         || spells(line.bytes, title(SectionName::ResourceAvailabilities))
 }
 
-/// The lines above the first title.
 pub(crate) fn head_of<'b, 'a>(lines: &'b [Piece<'a>]) -> &'b [Piece<'a>] {
     match lines.iter().position(|line| is_title(line)) {
         Some(end) => lines.get(..end).unwrap_or(lines),
@@ -26,7 +25,6 @@ pub(crate) fn head_of<'b, 'a>(lines: &'b [Piece<'a>]) -> &'b [Piece<'a>] {
     }
 }
 
-/// The lines below the first title of this name.
 fn below<'b, 'a>(lines: &'b [Piece<'a>], name: SectionName) -> Option<&'b [Piece<'a>]> {
     let place = lines
         .iter()
@@ -34,7 +32,6 @@ fn below<'b, 'a>(lines: &'b [Piece<'a>], name: SectionName) -> Option<&'b [Piece
     lines.get(place.saturating_add(1)..)
 }
 
-/// The lines above the first title of this name, or all lines.
 fn above<'b, 'a>(lines: &'b [Piece<'a>], name: SectionName) -> &'b [Piece<'a>] {
     match lines
         .iter()
@@ -45,7 +42,7 @@ fn above<'b, 'a>(lines: &'b [Piece<'a>], name: SectionName) -> &'b [Piece<'a>] {
     }
 }
 
-/// The lines below the title of this section, each title looked for below the one before it.
+/// Each title is looked for below the one before it.
 pub(crate) fn lines_below<'b, 'a>(
     lines: &'b [Piece<'a>],
     name: SectionName,
@@ -61,7 +58,7 @@ pub(crate) fn lines_below<'b, 'a>(
     below(requests, name)
 }
 
-/// The words of these lines below the line of the columns' heads.
+/// The words below the line of the columns' heads.
 fn words_below<'a>(alloc: Global, lines: &[Piece<'a>]) -> Result<Vec<Piece<'a>>, AllocError> {
     let mut words = Vec::new(alloc);
     let mut is_head_passed = false;

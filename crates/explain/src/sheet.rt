@@ -6,34 +6,26 @@ use crate::sections::{head_of, section};
 use psplib_mm::SectionName;
 use std::alloc::{AllocError, Global};
 
-/// The lines of a file, the words of its sections and their rows.
 #[derive(Drop)]
 pub(crate) struct Sheet<'a> {
-    /// All lines.
     pub(crate) lines: Vec<Piece<'a>>,
-    /// Those above the first title.
+    /// The lines above the first title.
     pub(crate) head: Vec<Piece<'a>>,
-    /// The words of the first section.
     pub(crate) precedence: Vec<Piece<'a>>,
-    /// The words of the second section.
     pub(crate) requests: Vec<Piece<'a>>,
-    /// The words of the last section.
     pub(crate) availabilities: Vec<Piece<'a>>,
-    /// The rows of the first section.
+    /// The rows of `precedence`.
     pub(crate) jobs: Vec<FileRow>,
-    /// The rows of the second section.
+    /// The rows of `requests`.
     pub(crate) modes: Vec<FileRow>,
-    /// How many resources there are.
     pub(crate) resources: usize,
 }
 
-/// The number of resources that the head gives.
 fn resources_of(head: &[Piece<'_>]) -> usize {
     let count = count_of(head, RENEWABLE).saturating_add(count_of(head, NONRENEWABLE));
     usize::try_from(count).unwrap_or(usize::MAX)
 }
 
-/// Reads a file's text as far as its titles and labels go.
 pub(crate) fn sheet_of(alloc: Global, text: &[u8]) -> Result<Sheet<'_>, AllocError> {
     let lines = lines_of(alloc, text)?;
     let mut head = Vec::new(alloc);

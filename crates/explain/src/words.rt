@@ -20,7 +20,7 @@ const COMMANDS: [&str; 13] = [
     "help",
 ];
 
-/// The words of searches that have no seed, and the fronts of those that have one.
+/// The words of searches, with seed 1 if they have one.
 const SEARCHES: [&str; 7] = [
     "tree",
     "rule:lft",
@@ -31,7 +31,7 @@ const SEARCHES: [&str; 7] = [
     "all",
 ];
 
-/// What a word that names no search could be, and which words do.
+/// The search that is nearest to `word`, and the words of all searches.
 pub fn why_no_search(alloc: Global, word: &str) -> Option<String> {
     let mut text = String::new(alloc);
     if word.is_empty() {
@@ -45,7 +45,6 @@ pub fn why_no_search(alloc: Global, word: &str) -> Option<String> {
     Some(text)
 }
 
-/// What a word that is no command could be, and which words are.
 fn why_no_command(alloc: Global, word: &str) -> Option<String> {
     let mut text = String::new(alloc);
     if let Some(near) = nearest(alloc, word, &COMMANDS) {
@@ -59,7 +58,6 @@ fn why_no_command(alloc: Global, word: &str) -> Option<String> {
     Some(text)
 }
 
-/// Whether a word asks for a limit of time.
 fn is_time(word: &str) -> bool {
     word.starts_with("--time") || word.starts_with("--seconds")
 }
@@ -83,7 +81,6 @@ fn value_of<'a>(words: &'a [String], name: &str) -> Option<&'a str> {
     None
 }
 
-/// Whether a word is a whole number within these bounds.
 fn is_within(word: &str, least: u64, most: u64) -> bool {
     match word.parse::<u64>() {
         Ok(number) => least <= number && number <= most,
@@ -91,7 +88,7 @@ fn is_within(word: &str, least: u64, most: u64) -> bool {
     }
 }
 
-/// Options with a number: their names, the bounds, and what they take.
+/// Options with a number: name, least, most, and what they take.
 const NUMBERS: [(&str, u64, u64, &str); 3] = [
     (
         "--nodes",
@@ -113,7 +110,7 @@ const NUMBERS: [(&str, u64, u64, &str); 3] = [
     ),
 ];
 
-/// Why the words of a command line, the first of which is the program's name, are refused, as far as it is seen from them.
+/// Why `words` are refused, as far as they show it. The first one is the program's name.
 pub fn why_words(alloc: Global, words: &[String]) -> Option<String> {
     let command = words.get(1)?.as_str();
     if !command.starts_with("-") && !COMMANDS.contains(&command) {

@@ -1,4 +1,4 @@
-//! The program `farm`. Its subcommands are those of `solve_cli`, for one project, and those of `farm_cli`, for several tenants.
+//! The program `farm`: the commands of `solve_cli` for one project, and of `farm_cli` for tenants.
 #![tactic(auto)]
 
 ghost use Rattle.std.specs.Prelude.{◌≤◌};
@@ -9,15 +9,13 @@ use std::process::ExitCode;
 use std::rt::Runtime;
 use std::{env, io};
 
-/// The version of the program, and the logic in which it was proved, which kits of several revisions have.
+/// The version, and the logic in which the program was proved, which several kits share.
 const VERSION: &str = "farm 0.2.0 (logic dac8208d650f15bf)";
 
-/// What the program is, for its help.
 const ABOUT: &str = "\
 Schedules multi-mode projects, one by one or for several tenants.
 docs/USE.md has the commands, and --version tells the version.";
 
-/// Whether the words ask for the version, and for nothing else.
 fn asks_for_version(words: &[String]) -> bool {
     match words.get(1) {
         Some(word) => words.len() == 2 && matches!(word.as_str(), "--version" | "-V"),
@@ -25,7 +23,6 @@ fn asks_for_version(words: &[String]) -> bool {
     }
 }
 
-/// Prints the version.
 fn print_version<R: Runtime>(rt: &R) -> ExitCode
     ensures { exit_status result ≤ 1 }
 {
@@ -35,12 +32,11 @@ fn print_version<R: Runtime>(rt: &R) -> ExitCode
     }
 }
 
-/// The words of the process, or an error where one is not UTF-8 or there is no memory for them.
+/// Fails if a word is not UTF-8, or for want of memory.
 fn words_of<R: Runtime + AllocGlobal>(rt: &R) -> io::Result<Vec<String>> {
     Ok(env::args(rt)?.collect::<Vec<String>>(rt.alloc())?)
 }
 
-/// Prints the help that the words ask for, on all commands or on one of several tenants.
 fn print_help<R: Runtime + AllocGlobal>(rt: &R, words: &[String]) -> ExitCode
     ensures { exit_status result ≤ 2 }
 {
@@ -66,7 +62,6 @@ fn print_help<R: Runtime + AllocGlobal>(rt: &R, words: &[String]) -> ExitCode
     }
 }
 
-/// The status if the words of the process cannot be read: that of wrong words, or of want of memory.
 fn unread_words<R: Runtime>(rt: &R, kind: ErrorKind) -> ExitCode
     ensures { exit_status result ≤ 2 }
 {

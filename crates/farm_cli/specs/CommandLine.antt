@@ -15,10 +15,11 @@ needed id = record (new_rule id) { required = true }
 abbrev pub check_app : App
 check_app = with_rule (new_app (codes "check")) (needed (codes "FILE"))
 
--- an option of this name with a value, which has to be there; and one whose value is a number within these bounds
+-- a required option of this name with a value
 abbrev pub option_rule : Text → Rule
 option_rule id = record (needed id) { long = Some id; value_names = 1 }
 
+-- a required option of this name whose value is a number from `least` to `most`
 abbrev pub number_rule : Text → ℕ → ℕ → Rule
 number_rule id least most = record (option_rule id) { parser = Some (value_parser.Unsigned least most) }
 
@@ -26,7 +27,7 @@ number_rule id least most = record (option_rule id) { parser = Some (value_parse
 abbrev pub config_rule : Rule
 config_rule = option_rule (codes "config")
 
--- an option of this name that takes no value
+-- an option of this name without a value
 abbrev pub flag_rule : Text → Rule
 flag_rule id = record (new_rule id) { long = Some id; action = Some SetTrue }
 
@@ -43,39 +44,42 @@ serve_app =
 abbrev pub asking : App → App
 asking a = record a { top = record a.top { subcommand_required = true } }
 
--- farm, with one of the three
+-- farm, with one of the three subcommands
 abbrev pub farm_app : App
 farm_app = with_subcommand (with_subcommand (with_subcommand (asking (new_app (codes "farm"))) check_app.top) replay_app.top) serve_app.top
 
--- the task is a check of this file, a replay of this script under this configuration, or a service of it at this port for so many connections
+-- the task is a check of this file
 abbrev pub Checks : Text → Task → Type 0
 Checks file (task.Check path) = path.now ≡ file
 Checks file (task.Replay config script is_strict) = ⊥
 Checks file (task.Serve config port sessions) = ⊥
 
--- a flag is set as its text says
+-- the text of a flag
 abbrev pub flag_text : Bool → Text
 flag_text true = codes "true"
 flag_text false = codes "false"
 
+-- the flag is the one of its text
 abbrev pub IsSetBy : Option Text → Bool → Type 0
 IsSetBy found is_set = (wanted : Bool) → found ≡ Some (flag_text wanted) → is_set ≡ wanted
 
+-- the task is a replay of this script under this configuration
 abbrev pub Replays : Text → Text → Option Text → Task → Type 0
 Replays config script strict (task.Check path) = ⊥
 Replays config script strict (task.Replay f path is_strict) = (f.now ≡ config) × (path.now ≡ script) × IsSetBy strict is_strict
 Replays config script strict (task.Serve f p k) = ⊥
 
+-- the task is a service under this configuration, at this port and for this number of connections
 abbrev pub Serves : Text → Text → Text → Task → Type 0
 Serves config port sessions (task.Check path) = ⊥
 Serves config port sessions (task.Replay f path is_strict) = ⊥
 Serves config port sessions (task.Serve f p k) = (f.now ≡ config) × (p.now ≡ port) × (k.now ≡ sessions)
 
--- the text at an argument: a path, and also a port or a number of connections; `-` where there is none
+-- the text at an argument: a path, a port or a number of connections; `-` if there is none
 abbrev pub path_at : Text → List Row → Text
 path_at id rows = unwrap_or (first_of id rows) (codes "-")
 
--- what a subcommand with its arguments asks for
+-- the task of a subcommand with its arguments
 pub record Asks (found : Option (Text × List Row)) (t : Task) : Type 0 where
   pub check : (rows : List Row) → found ≡ Some (codes "check", rows) → Checks (path_at (codes "FILE") rows) t
   pub replay : (rows : List Row) → found ≡ Some (codes "replay", rows) → Replays (path_at (codes "config") rows) (path_at (codes "SCRIPT") rows) (one_of (codes "strict") rows) t

@@ -1,4 +1,5 @@
--- The limits of a project and of a farm, in figures. Elsewhere definitions and clauses name each by the constant of the code.
+-- The limits of a project and of a farm, in figures. Elsewhere each limit is named by the constant
+-- of the code.
 use Rattle.std.specs.Prelude.{◌≡◌, ◌≤◌, ℕ, Bool, List, length, Option, Some, None, nat_le, nat_lt, ◌&&◌, if◌then◌else◌}
 use Rattle.mrcpsp.specs.declared.limits.TheConstants.{MOST_ACTIVITIES, MOST_MODES, MOST_RESOURCES, MOST_DURATION, MOST_AMOUNT, MOST_HORIZON}
 use Rattle.mrcpsp.specs.declared.feasibility.TheConstants.{MOST_START}
@@ -19,7 +20,7 @@ use Rattle.farm_replay.specs.Counts.{Counts}
 use Rattle.farm_cli.specs.declared.arguments.TheConstants.{MOST_SESSIONS}
 use Rattle.farm_cli.specs.declared.input.TheConstants.{MOST_READ}
 
--- what a project, its schedules and its file may have
+-- the limits of a project, its schedules and its file
 pub record ProblemLimits : Type 0 where
   -- there are at most 202 activities
   pub activities : MOST_ACTIVITIES ≡ 202
@@ -38,7 +39,7 @@ pub record ProblemLimits : Type 0 where
   -- a file has at most 1,048,576 bytes
   pub bytes : file.MOST_BYTES ≡ 1048576
 
--- what a farm may have
+-- the limits of a farm
 pub record FarmLimits : Type 0 where
   -- there are at most 64 tenants
   pub tenants : farm.MOST_TENANTS ≡ 64
@@ -53,18 +54,19 @@ pub record FarmLimits : Type 0 where
   -- a turn has at most 1,000,000 nodes
   pub slice : farm.MOST_SLICE ≡ 1000000
 
--- what purses and leases may have
+-- the limits of purses and leases
 pub record PurseLimits : Type 0 where
   -- a purse is granted at most 10^12 quanta
   pub granted : book.MOST_QUANTA ≡ 1000000000000
-  -- so is a purse of a configuration
+  -- a purse of a configuration is granted at most 10^12 quanta too
   pub configured : farm.MOST_QUANTA ≡ 1000000000000
   -- a lease holds at most 10^12 quanta
   pub leased : LEASE_LIMIT ≡ 1000000000000
 
--- what requests may have (where a constant is private to its crate, this is what the definition that names it says)
+-- the limits of requests; for a constant that is private to its crate, by the definition that names
+-- it
 pub record LineLimits : Type 0 where
-  -- a line is too long where it has more than 4,096 bytes
+  -- a line is too long if it has more than 4,096 bytes
   pub longest : (line : List ℕ) → is_long line ≡ nat_lt 4096 (length (shown line))
   -- a number has at most 18 digits
   pub digits : (word : List ℕ) → number_in word ≡ (if nat_le (length word) 18 then number_of word else None)
@@ -74,17 +76,17 @@ pub record LineLimits : Type 0 where
   -- a request has at most 100,000,000 bytes
   pub request : MOST_REQUEST_BYTES ≡ 100000000
 
--- how many requests a script may have
+-- the most requests of a script
 pub record ScriptLimits : Type 0 where
-  -- a script that is answered whole has at most 1,000,000 of them
+  -- a script that is answered whole has at most 1,000,000 requests
   pub whole : (config : ConfigData) (script : List ℕ) (refuses : Bool) (old new : Option (List ℕ)) (is : IsWritten config script refuses old new) → length is.requests ≤ 1000000
-  -- one that has too many is answered to the 1,000,000th
+  -- a script with more requests is answered to the 1,000,000th
   pub cut : (from seen : Counts) (config : ConfigData) (script : List ℕ) (requests : List Marked) (rest : List Item) (part : List ℕ)
       → IsCutBy fault.Requests from seen config script requests rest part → length requests ≡ 1000000
 
--- what a command reads or answers
+-- the most that a command reads or answers
 pub record CommandLimits : Type 0 where
-  -- of an input 1,048,577 bytes are read, one more than a file may have
+  -- 1,048,577 bytes of an input are read, one more than a file may have
   pub bytes : MOST_READ ≡ 1048577
   -- at most 64 connections are answered
   pub sessions : MOST_SESSIONS ≡ 64

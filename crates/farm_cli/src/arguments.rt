@@ -8,18 +8,15 @@ use clap::builder::ValueParser;
 use clap::{Arg, ArgAction, ArgMatches, Command, Error};
 use std::alloc::{AllocError, Global};
 
-/// The most connections that are answered.
 const MOST_SESSIONS: u64 = 64;
 
-/// What the words of a command line ask for.
+/// A `Task` is what the words of a command line ask for.
 #[derive(Clone, Copy, Debug, PartialEq, Eq)]
 pub enum Task<'a> {
-    /// Read a project and tell what it holds.
     Check {
         /// A path, or `-` for standard input.
         file: &'a str,
     },
-    /// Replay a script of requests through a farm.
     Replay {
         /// The path of the configuration; `-` is a file of that name.
         config: &'a str,
@@ -28,9 +25,7 @@ pub enum Task<'a> {
         /// Whether a refused request ends with status 1.
         is_strict: bool,
     },
-    /// Serve a farm over connections.
     Serve {
-        /// The path of the configuration; `-` is a file of that name.
         config: &'a str,
         /// The digits of a port, 0 to 65,535.
         port: &'a str,
@@ -39,7 +34,6 @@ pub enum Task<'a> {
     },
 }
 
-/// An option of this name with one value, which has to be there.
 fn needed_option<'a>(alloc: Global, name: &'a str, value: &'a str, help: &'a str) -> Arg<'a>
     ensures rule { rule_of result ≡ option_rule name.entry.now }
     ensures own { result.global ≡ false }
@@ -51,7 +45,6 @@ fn needed_option<'a>(alloc: Global, name: &'a str, value: &'a str, help: &'a str
         .required(true)
 }
 
-/// An option of this name whose value, a number within these bounds, has to be there.
 fn needed_number<'a>(
     alloc: Global,
     name: &'a str,
@@ -67,7 +60,6 @@ fn needed_number<'a>(
     needed_option(alloc, name, value, help).value_parser(within)
 }
 
-/// An option of this name that takes no value.
 fn flag<'a>(alloc: Global, name: &'a str, help: &'a str) -> Arg<'a>
     ensures rule { rule_of result ≡ flag_rule name.entry.now }
     ensures own { result.global ≡ false }
@@ -78,7 +70,6 @@ fn flag<'a>(alloc: Global, name: &'a str, help: &'a str) -> Arg<'a>
         .action(ArgAction::SetTrue)
 }
 
-/// The command with the subcommand that serves, or an error where there is no memory for it.
 fn with_serve<'a>(alloc: Global, command: Command<'a>) -> Result<Command<'a>, AllocError>
     ensures { IfOk result (λ whole. app_of whole ≡ with_subcommand (app_of command.entry) serve_app.top) }
 {
@@ -108,7 +99,7 @@ fn with_serve<'a>(alloc: Global, command: Command<'a>) -> Result<Command<'a>, Al
     command.subcommand(serve)
 }
 
-/// The command `farm` with its subcommands, or an error where there is no memory for it.
+/// The command `farm` with its subcommands, or an error if there is no memory for it.
 pub fn farm_command<'a>(alloc: Global) -> Result<Command<'a>, AllocError>
     ensures { IfOk result (λ command. app_of command ≡ farm_app) }
 {
@@ -138,8 +129,8 @@ pub fn farm_command<'a>(alloc: Global) -> Result<Command<'a>, AllocError>
     with_serve(alloc, farm)
 }
 
-/// What the words ask for; the first one is the program's name. With no other word that is `check -`. An error is what
-/// the command line refuses, or the help that was asked for.
+/// Returns the task of `words`, the first of which is the program's name; alone it is `check -`.
+/// Fails with what is refused, or with the help that was asked for.
 pub fn parse_words<'a>(alloc: Global, words: &'a [String]) -> Result<Task<'a>, Error>
     ensures bare { length words.now < 2 → IsOkAnd result (Checks (codes "-")) }
     ensures asked { 2 ≤ length words.now → IfOk result (Asks (subcommand_of farm_app (map string_bytes words.now))) }
@@ -155,7 +146,6 @@ pub fn parse_words<'a>(alloc: Global, words: &'a [String]) -> Result<Task<'a>, E
     }
 }
 
-/// What a subcommand and its arguments ask for.
 fn task_of<'a>(matches: &ArgMatches<'a>) -> Task<'a>
     ensures { Asks (subcommand_rows_of matches.now) result }
 {

@@ -1,4 +1,4 @@
-//! What is told of the project of a file, over any reader and writer.
+//! The line of a file's project, over any reader and writer.
 ghost use Rattle.std.specs.Prelude.{◌≡◌};
 ghost use Rattle.std.specs.Process.{exit_status};
 ghost use Rattle.farm_cli.specs.Checked.{IsCheckOf, IsChecked, check_status};
@@ -14,26 +14,22 @@ use std::marker::Model;
 use std::process::ExitCode;
 use watched_io::{Watch, reason, tell_unread, tell_why};
 
-/// Why nothing is told of a project.
+/// A `CheckFault` is why a check wrote no line.
 #[derive(Clone, Copy, Debug, PartialEq, Eq)]
 pub enum CheckFault {
     /// The reader failed, or there was no memory for its bytes.
     Read(ErrorKind),
-    /// The bytes are of no project.
     File(MmFault),
-    /// A write failed.
     Write,
 }
 
-/// The watches of a check: one of its file's reader, of type `S`, and one of its line's writer, of
-/// type `W`. A contract sees what each has counted.
+/// A `CheckWatches` is a watch of the file's reader `S`, and one of the line's writer `W`.
+/// Contracts see what each has counted.
 #[derive(Drop)]
 pub struct CheckWatches<S, W> {
-    /// Of the file.
     pub(crate) reads: Watch<S>,
-    /// Of the line.
     pub(crate) writes: Watch<W>,
-    /// What a second line on standard error says of a fault of the file.
+    /// The second line on standard error about a fault of the file.
     pub(crate) why: Option<String>,
 }
 
@@ -46,7 +42,7 @@ impl<S, W> Model for CheckWatches<S, W> {
 }
 
 impl<S, W> CheckWatches<S, W> {
-    /// Watches through which nothing has failed.
+    /// Returns watches through which nothing has failed.
     pub fn new() -> CheckWatches<S, W>
         ensures reads { result.reads ≡ 0 }
         ensures writes { result.writes ≡ 0 }
@@ -59,9 +55,8 @@ impl<S, W> CheckWatches<S, W> {
     }
 }
 
-/// Writes the line of the project whose file a reader gives. At most `MOST_READ` bytes are read; a longer input is a fault of the
-/// file. `Read` comes only where the file could not be read, `Write` only where the line could not be written. But for a fault of
-/// the writer nothing was written at an error.
+/// Writes the line of the project that `reader` gives. It reads at most `MOST_READ` bytes; a longer
+/// input is a fault of the file. On any error except `Write`, nothing was written.
 pub fn check<S: Read + Drop, W: Write>(
     alloc: Global,
     reader: S,
@@ -92,7 +87,6 @@ pub fn check<S: Read + Drop, W: Write>(
     }
 }
 
-/// The status of a check, with its fault on standard error, and on a second line why there is one, if that is known.
 fn end_check<R: Env + Eprint>(
     rt: &R,
     path: &str,
@@ -113,8 +107,8 @@ fn end_check<R: Env + Eprint>(
     ExitCode::FAILURE
 }
 
-/// The same with a status: 0 where the line was written, and 1 where its fault was told on standard error. The reader is of the
-/// file at the path.
+/// Is `check` with a status, 0 or 1. Standard error has each fault but `Write`, and names `path` if
+/// that is not read.
 pub fn check_to<R: AllocGlobal + Env + Eprint, S: Read + Drop, W: Write>(
     rt: &R,
     path: &str,

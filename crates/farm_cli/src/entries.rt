@@ -1,16 +1,14 @@
-//! Which tenants have too few entries of the journal for their quanta.
 use farm_core::{Config, TenantLine};
 use std::env::Env;
 use std::io::Eprint;
 use std::str;
 use watched_io::explains;
 
-/// How many entries all turns of a tenant's quanta use, two for each.
+/// All turns of `quanta`, with two entries each.
 fn entries_of_turns(quanta: u64, slice: u64) -> u64 {
     quanta.div_ceil(slice.max(1)).saturating_mul(2)
 }
 
-/// Tells that a tenant's entries do not last for the quanta that its purse was granted.
 fn tell_scarce<R: Eprint>(rt: &R, line: &TenantLine, quanta: u64, slice: u64) {
     let (needed, entries) = (entries_of_turns(quanta, slice), line.entries);
     if needed <= entries {
@@ -28,7 +26,6 @@ fn tell_scarce<R: Eprint>(rt: &R, line: &TenantLine, quanta: u64, slice: u64) {
     }
 }
 
-/// Tells of each tenant whose entries do not last for its purse's quanta, if a second line is asked for.
 pub(crate) fn tell_scarce_entries<R: Env + Eprint>(rt: &R, config: &Config) {
     if !explains(rt) {
         return;

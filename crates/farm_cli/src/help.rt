@@ -1,12 +1,9 @@
-//! What the help of each command says at its end: examples, and where the pages are.
+//! The ends of the commands' help texts: examples and pages.
 
-/// The help of `--config`.
 pub(crate) const CONFIG_HELP: &str = "The farm's configuration, a JSON file";
 
-/// The help of `--strict`.
 pub(crate) const STRICT_HELP: &str = "End with status 1 where a request was refused";
 
-/// The end of `check --help`.
 pub(crate) const CHECK_HELP: &str = "\
 Example:
 
@@ -15,7 +12,6 @@ Example:
 
 docs/FORMAT.md has the format and the faults.";
 
-/// The end of `replay --help`.
 pub(crate) const REPLAY_HELP: &str = "\
 Example:
 
@@ -23,7 +19,6 @@ Example:
 
 docs/PROTOCOL.md has the requests and the replies, docs/CONFIGURATION.md the configuration.";
 
-/// The end of `serve --help`.
 pub(crate) const SERVE_HELP: &str = "\
 Example:
 

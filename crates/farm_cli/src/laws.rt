@@ -1,8 +1,8 @@
 //! The limits in figures, as the proved contract of a function that does nothing.
 ghost use Rattle.farm_cli.specs.Limits.{ProblemLimits, FarmLimits, PurseLimits, LineLimits, ScriptLimits, CommandLimits};
 
-/// Each limit of a project and of a farm is this number. The definitions name the limits by the code's constants, so that another number
-/// in the code would change with it what the other contracts say, and none of them would refuse it; here it is refused.
+/// Each limit of a project and of a farm is this number. All other contracts cite the constants,
+/// and would hold of any other number.
 pub fn limits_are()
     ensures problem { ProblemLimits }
     ensures farm { FarmLimits }

@@ -1,16 +1,13 @@
 //! The command line of `farm`: what its words ask for, and the programs that answer.
 //!
-//! [`check_to`] and [`replay_to`] are the commands over any reader and writer: what they write is what the definitions say of the bytes that are
-//! read, and the status goes with it (`specs/Checked`, `specs/Replayed`). [`run_words`] is the program on the words of a command line, with its files
-//! and exit status: it is proved to be safe and to return a status of at most 2, and tested; that it hands these the files that are named, and
-//! standard output, is its code's shape.
+//! [`check_to`] and [`replay_to`] are the commands over any reader and writer: `specs/Checked` and
+//! `specs/Replayed` define what they write, and their status. [`run_words`] is the program with its
+//! files: it is proved to be safe, with a status of at most 2. Which files it opens is in no
+//! contract.
 //!
-//! - `arguments`: the words of a command line.
-//! - `help`: what the help of each command says at its end.
-//! - `input`: reading at most so many bytes of a file or of standard input.
-//! - `summary`: what a project holds, in one line.
-//! - `checking`: `check` and `check_to`, what is told of a file's project, over any reader and writer.
-//! - `replaying`: `replay_text` and `replay_to`, a replay under the text of a configuration, over any reader and writer.
+//! - `arguments`, `help`: the words of a command line, and the ends of help texts.
+//! - `input`, `summary`: a bounded front of an input; what a project holds, in one line.
+//! - `checking`, `replaying`: the commands over any reader and writer.
 //! - `entries`: which tenants have too few entries of the journal for their quanta.
 //! - `program`: what each task does with files and standard output.
 //! - `laws`: the limits of a project and of a farm, in figures.

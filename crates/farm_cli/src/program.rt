@@ -1,4 +1,3 @@
-//! The programs: what each task does, and the status that it ends with.
 ghost use Rattle.std.specs.Prelude.{◌≡◌, ◌≤◌, OnOk, OnErr};
 ghost use Rattle.std.specs.Process.{exit_status};
 
@@ -23,8 +22,8 @@ use std::thread::Threads;
 use std::{fs, io};
 use watched_io::{Watch, explains, reason, tell_unread, tell_why};
 
-/// Runs the program on these words, the first of which is its name. The status is 0, 1 for a fault, and 2 for a command line that is refused
-/// and for a request for help; where the text that tells so cannot be printed, it is 1.
+/// Runs the program on `words`, the first of which is its name. The status is 0, or 2 for help and
+/// for a refused command line, or 1 for any fault.
 pub fn run_words<
     R: Runtime
         + AllocGlobal
@@ -63,7 +62,7 @@ pub fn run_words<
     }
 }
 
-/// The words of a command line, without the first `help` if a command is named behind it.
+/// If a command follows `help`, then `help` takes the place of the program's name.
 fn without_help(words: &[String]) -> &[String] {
     match words.get(1) {
         Some(word) if word.as_str() == "help" && 2 < words.len() => &words[1..],
@@ -71,12 +70,12 @@ fn without_help(words: &[String]) -> &[String] {
     }
 }
 
-/// Tells on a second line of standard error why a command line is refused, if that is asked for and known.
+/// Writes on standard error why `words` are refused, if that is asked for and known.
 pub fn tell_refused<R: AllocGlobal + Env + Eprint>(rt: &R, words: &[String]) {
     tell_why(rt, &why_words(rt.alloc(), without_help(words)));
 }
 
-/// The bytes of the file at the path. `None` is told on standard error.
+/// On `None` the reason is on standard error.
 fn bytes_at<R: Files + AllocGlobal + Env + Eprint>(rt: &R, path: &str) -> Option<Vec<u8>> {
     let read = match fs::open(rt, path) {
         Ok(file) => read_whole(rt.alloc(), file),
@@ -95,7 +94,6 @@ fn bytes_at<R: Files + AllocGlobal + Env + Eprint>(rt: &R, path: &str) -> Option
     }
 }
 
-/// Prints what the project of a file holds, or the fault of the file.
 fn run_check<R: Runtime + AllocGlobal>(rt: &R, path: &str) -> ExitCode
     ensures { exit_status result ≤ 1 }
 {
@@ -112,7 +110,6 @@ fn run_check<R: Runtime + AllocGlobal>(rt: &R, path: &str) -> ExitCode
     }
 }
 
-/// Replays a script on a farm of the configuration in the file at the path, and prints the replies.
 fn run_replay<R: Runtime + AllocGlobal>(
     rt: &R,
     config: &str,
@@ -124,7 +121,7 @@ fn run_replay<R: Runtime + AllocGlobal>(
     let Some(text) = bytes_at(rt, config) else {
         return ExitCode::FAILURE;
     };
-    // (before the script is opened, which may wait)
+    // Before the script is opened, since that may wait.
     match read_config(rt.alloc(), &text) {
         Ok(config) => tell_scarce_entries(rt, &config),
         Err(fault) => {
@@ -144,7 +141,6 @@ fn run_replay<R: Runtime + AllocGlobal>(
     }
 }
 
-/// Replays a script to standard output.
 fn print_replay<R: Runtime + AllocGlobal, S: Read + Drop>(
     rt: &R,
     text: &[u8],
@@ -172,7 +168,6 @@ fn print_replay<R: Runtime + AllocGlobal, S: Read + Drop>(
     )
 }
 
-/// The configuration in the file at the path. `None` is told on standard error.
 fn config_at<R: Files + AllocGlobal + Env + Eprint>(rt: &R, path: &str) -> Option<Config> {
     let bytes = bytes_at(rt, path)?;
     match read_config(rt.alloc(), &bytes) {
@@ -184,7 +179,6 @@ fn config_at<R: Files + AllocGlobal + Env + Eprint>(rt: &R, path: &str) -> Optio
     }
 }
 
-/// Serves a farm of the configuration at a port of this machine, which is printed first, until so many connections have ended.
 fn run_serve<
     R: Runtime
         + AllocGlobal
@@ -219,7 +213,6 @@ fn run_serve<
     end_serve(rt, serve(rt, rt.alloc(), &config, listener, sessions))
 }
 
-/// The status of a service that cannot listen at its port, with its fault on standard error, and on a second line why.
 fn end_unbound<R: Print + Env + Eprint>(rt: &R, port: u16, kind: ErrorKind) -> ExitCode
     ensures { exit_status result ≡ 1 }
 {
@@ -231,7 +224,6 @@ fn end_unbound<R: Print + Env + Eprint>(rt: &R, port: u16, kind: ErrorKind) -> E
     status
 }
 
-/// The status of a service, with how it ended on standard output or its fault on standard error.
 fn end_serve<R: Print + Eprint>(rt: &R, ended: Result<Settled, ServeFault>) -> ExitCode
     ensures ok { exit_status result ≤ 1 }
     ensures fault { OnErr ended (exit_status result ≡ 1) }

@@ -12,19 +12,17 @@ use std::io::{BufWriter, Eprint, Read, Write};
 use std::process::ExitCode;
 use watched_io::{Watch, explains};
 
-/// Why a replay ended before its script.
+/// A `ReplayStop` is why a replay ended before its script.
 #[derive(Clone, Copy, Debug, PartialEq, Eq)]
 pub enum ReplayStop {
-    /// The text is of no configuration.
     Config(ConfigFault),
-    /// The replay has this fault.
     Fault(ReplayFault),
-    /// What was gathered of the replies could not be written at the end.
+    /// The gathered replies could not be written at the end.
     Unsent,
 }
 
-/// Replays a script on a farm of the configuration that the text spells. The replies go through a buffer that is written out at
-/// the end and after a fault, so that the writer behind it holds them. `Unsent` comes only where that failed.
+/// Replays `script` on a farm of the configuration that `text` spells. The gathered replies are
+/// written out at the end and after a fault; `Unsent` comes only if that fails.
 pub fn replay_text<S: Read + Drop, W: Write + Drop>(
     alloc: Global,
     text: &[u8],
@@ -54,7 +52,6 @@ pub fn replay_text<S: Read + Drop, W: Write + Drop>(
     }
 }
 
-/// Tells the fault of a configuration, and on a second line where it lies and what is wanted there, if that is asked for.
 pub(crate) fn tell_config_fault<R: AllocGlobal + Env + Eprint>(
     rt: &R,
     bytes: &[u8],
@@ -69,7 +66,6 @@ pub(crate) fn tell_config_fault<R: AllocGlobal + Env + Eprint>(
     }
 }
 
-/// Tells why a replay ended before its script.
 fn tell_stop<R: AllocGlobal + Env + Eprint>(rt: &R, text: &[u8], stop: ReplayStop) {
     match stop {
         ReplayStop::Config(fault) => tell_config_fault(rt, text, fault),
@@ -82,7 +78,6 @@ fn tell_stop<R: AllocGlobal + Env + Eprint>(rt: &R, text: &[u8], stop: ReplaySto
     }
 }
 
-/// The status of a replay, with its fault on standard error, and what was noted of its script.
 fn end_replay<R: AllocGlobal + Env + Eprint>(
     rt: &R,
     text: &[u8],
@@ -113,7 +108,7 @@ fn end_replay<R: AllocGlobal + Env + Eprint>(
     status
 }
 
-/// The same with a status: 1 where its fault was told on standard error, and by the rule of `specs/Strict` where it has none.
+/// Is `replay_text` with a status: 1 after a fault, otherwise by the rule of `specs/Strict`.
 pub fn replay_to<R: AllocGlobal + Env + Eprint, S: Read + Drop, W: Write + Drop>(
     rt: &R,
     text: &[u8],

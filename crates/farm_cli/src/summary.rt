@@ -1,20 +1,16 @@
-//! What a project holds, in one line.
 ghost use Rattle.std.specs.Prelude.{◌≡◌, Some};
 ghost use Rattle.farm_cli.specs.Summary.{summary_of, summary_text};
 
 use mrcpsp::Project;
 use std::fmt;
 
-/// The numbers of a project that `farm check` prints.
+/// A `Summary` is what `farm check` prints of a project.
 #[derive(Clone, Copy, Debug, PartialEq, Eq)]
 pub struct Summary {
-    /// How many activities there are.
     pub activities: usize,
-    /// How many modes all activities have together.
+    /// The modes of all activities together.
     pub modes: usize,
-    /// How many renewable resources there are.
     pub renewable: usize,
-    /// How many nonrenewable resources there are.
     pub nonrenewable: usize,
     /// The sum of the longest durations, in periods.
     pub horizon: u32,
@@ -33,7 +29,7 @@ impl fmt::Display for Summary {
     }
 }
 
-/// What a project holds. Takes no memory.
+/// The summary of `project`. Takes no memory.
 pub fn summarize(project: &Project) -> Summary
     ensures { result ≡ summary_of project.now }
 {

@@ -1,4 +1,3 @@
-//! The shape of a configuration: which keys have to be there, and what kinds of values they have.
 ghost use Rattle.std.specs.Prelude.{◌≡◌, map, option_map};
 ghost use Rattle.serde_json.specs.View.{view, items_of};
 ghost use Rattle.serde_json.specs.Find.{get};
@@ -9,18 +8,13 @@ use serde_json::Value;
 use std::alloc::Global;
 use std::marker::Model;
 
-/// A tenant's line as it is written: its name and its purse may be ill formed, and its numbers out of range.
+/// A `LineDraft` is a tenant's line as written: names may be ill formed, numbers out of range.
 #[derive(Debug, Drop)]
 pub struct LineDraft<'a> {
-    /// The bytes of its name.
     pub name: &'a [u8],
-    /// Its quanta.
     pub quanta: u64,
-    /// Its jobs.
     pub jobs: u64,
-    /// Its entries.
     pub entries: u64,
-    /// The bytes of its purse's name, where it names one.
     pub purse: Option<&'a [u8]>,
 }
 
@@ -39,14 +33,11 @@ impl<'a> Model for LineDraft<'a> {
     } };
 }
 
-/// A configuration as it is written.
+/// A `Draft` is a configuration as it is written.
 #[derive(Debug, Drop)]
 pub struct Draft<'a> {
-    /// The tenants' lines, in the order of their numbers.
     pub tenants: Vec<LineDraft<'a>>,
-    /// How many workers.
     pub workers: u64,
-    /// How many nodes a turn has.
     pub slice: u64,
 }
 
@@ -58,14 +49,12 @@ impl<'a> Model for Draft<'a> {
     ghost view = { λ d. record { tenants = d.tenants.items; workers = d.workers; slice = d.slice } };
 }
 
-/// The natural number at a key that has to be there.
 fn natural_at(value: &Value, key: &str) -> Option<u64>
     ensures { result ≡ natural_at key.now (view value.now) }
 {
     value.get(key).and_then(Value::as_u64)
 }
 
-/// The natural number at a key, or this one where the key is missing.
 fn natural_or(value: &Value, key: &str, missing: u64) -> Option<u64>
     ensures { result ≡ natural_or missing (get key.now (view value.now)) }
 {
@@ -75,7 +64,7 @@ fn natural_or(value: &Value, key: &str, missing: u64) -> Option<u64>
     }
 }
 
-/// The text at a key that may be missing, or `None` where its value is no string.
+/// The outer `None` is a value that is no string.
 fn text_if_any<'a>(value: &'a Value, key: &str) -> Option<Option<&'a [u8]>>
     ensures { option_map (λ text. option_map (λ bytes. bytes.now) text) result
         ≡ text_if_any (get key.now (view value.now)) }
@@ -86,7 +75,6 @@ fn text_if_any<'a>(value: &'a Value, key: &str) -> Option<Option<&'a [u8]>>
     }
 }
 
-/// The line of a tenant, or `None` where a key is missing or a value is not of its kind.
 fn tenant_line(value: &Value) -> Option<LineDraft<'_>>
     ensures { result ≡ tenant_line (view value.now) }
 {
@@ -104,7 +92,6 @@ fn tenant_line(value: &Value) -> Option<LineDraft<'_>>
     })
 }
 
-/// The lines of all tenants.
 fn tenant_lines(alloc: Global, values: &[Value]) -> Result<Vec<LineDraft<'_>>, ConfigFault>
     ensures { Gives (λ lines. lines.items) result (shaped (tenant_lines (items_of (map view values.now)))) }
 {
@@ -120,7 +107,7 @@ fn tenant_lines(alloc: Global, values: &[Value]) -> Result<Vec<LineDraft<'_>>, C
     Ok(lines)
 }
 
-/// The configuration that a value has the shape of.
+/// The draft of `value`, or `Shape` if a key is missing or a value is not of its kind.
 pub fn draft_of(alloc: Global, value: &Value) -> Result<Draft<'_>, ConfigFault>
     ensures { Gives (λ draft. draft) result (shaped (written (view value.now))) }
 {

@@ -1,4 +1,3 @@
-//! Why bytes are no configuration.
 ghost use Rattle.std.specs.Prelude.{◌≡◌, Some};
 ghost use Rattle.farm_config.specs.Config.{allows};
 ghost use Rattle.farm_config.specs.ConfigText.{key_text};
@@ -7,25 +6,18 @@ use farm_core::{MOST_ENTRIES, MOST_JOBS, MOST_QUANTA, MOST_SLICE, MOST_WORKERS};
 use std::fmt;
 use thiserror::Error;
 
-/// A number of the configuration, named by its key. That of a purse is the sum of its tenants' quanta.
+/// A `Key` is a number of the configuration. `Purse` is the sum of a purse's tenants' quanta.
 #[derive(Clone, Copy, Debug, PartialEq, Eq)]
 pub enum Key {
-    /// A tenant's quanta: at most 10^12.
     Quanta,
-    /// How many jobs are kept for a tenant at most: 1 to 1,000.
     Jobs,
-    /// How many entries of the journal a tenant may use: 1 to 1,000,000.
     Entries,
-    /// How many workers there are: 1 to 16.
     Workers,
-    /// How many nodes a worker's turn has at most: 1 to 1,000,000.
     Slice,
-    /// How many quanta the tenants of one purse have together: at most 10^12.
     Purse,
 }
 
 impl Key {
-    /// Whether the key may have this number.
     pub(crate) fn allows(self, number: u64) -> bool
         ensures { result ≡ allows self number }
     {
@@ -43,7 +35,6 @@ impl Key {
 impl fmt::Display for Key {
     ghost output = { λ key. Some (key_text key) };
 
-    /// Writes the key as it stands in a configuration.
     fn fmt<W: fmt::Write>(&self, f: &mut fmt::Formatter<W>) -> fmt::Result {
         match self {
             Key::Quanta => write!(f, "quanta"),
@@ -56,30 +47,28 @@ impl fmt::Display for Key {
     }
 }
 
-/// Why bytes are no configuration: the first of these whose cause holds, in this order. `NoMemory` alone can come in place
-/// of any other. Each is printed by its name with its argument in brackets, as `Range(jobs)`.
+/// A `ConfigFault` is why bytes are no configuration: the first variant whose cause holds. Only
+/// `NoMemory` may take the place of another.
 #[derive(Clone, Copy, Debug, PartialEq, Eq, Error)]
 pub enum ConfigFault {
     /// The bytes are no JSON text.
     #[error("Json")]
     Json,
-    /// The value is no object, a key that must be there is missing, or a value is not of its kind: `tenants` a list of
-    /// objects, `name` a string, `purse` one too where it is there, and each number a natural one below 2^64 in digits
-    /// alone.
+    /// A value is not of its kind, or a key that must be there is missing. Numbers are natural,
+    /// below 2^64 and in digits alone.
     #[error("Shape")]
     Shape,
     /// There are not 1 to 64 tenants.
     #[error("Tenants")]
     Tenants,
-    /// The name of the tenant at this place, counted from 0, is ill formed or is that of one before it, or the name of its
-    /// purse is ill formed. It is the first such tenant.
+    /// The first tenant, counted from 0, whose name is ill formed or taken, or whose purse's name
+    /// is ill formed.
     #[error("Name({0})")]
     Name(usize),
-    /// The number at this key is out of range. It is the first such number: tenant by tenant the quanta, the jobs and the
-    /// entries, then the workers, then the slice, then the quanta of a purse's tenants together.
+    /// The first number out of range: quanta, jobs and entries of each tenant, workers, slice, and
+    /// then the quanta of a purse.
     #[error("Range({0})")]
     Range(Key),
-    /// There was no memory for what was read.
     #[error("NoMemory")]
     NoMemory,
 }

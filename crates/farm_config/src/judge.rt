@@ -1,4 +1,3 @@
-//! The faults of a configuration as it is written.
 ghost use Rattle.std.specs.Prelude.{◌≡◌, ◌&&◌, not, option_map, if◌then◌else◌, Some, None};
 ghost use Rattle.farm_core.specs.Config.{has_name};
 ghost use Rattle.farm_config.specs.declared.fault.ConfigFault.TheVariants.{Name as misnamed};
@@ -10,7 +9,6 @@ use farm_core::{Config, MOST_TENANTS, Name, TenantLine};
 use mrcpsp::Sequence;
 use std::alloc::Global;
 
-/// Whether one of these lines has the name.
 fn has_name(name: &Name, lines: &[TenantLine]) -> bool
     ensures { result ≡ has_name name.now lines.now }
 {
@@ -22,7 +20,6 @@ fn has_name(name: &Name, lines: &[TenantLine]) -> bool
     false
 }
 
-/// The purse that a tenant's line names, where it names one, or `None` where that name is ill formed.
 fn purse_of(draft: &LineDraft<'_>) -> Option<Option<Name>>
     ensures { result ≡ (if is_name_if_any draft.now.purse then Some draft.now.purse else None) }
 {
@@ -32,7 +29,6 @@ fn purse_of(draft: &LineDraft<'_>) -> Option<Option<Name>>
     }
 }
 
-/// The line of a tenant after these, or `None` where its name or its purse is ill formed, or one of these has its name.
 fn named_line(draft: &LineDraft<'_>, earlier: &[TenantLine]) -> Option<TenantLine>
     ensures { result
         ≡ (if is_well_named draft.now && not (has_name draft.now.name earlier.now) then Some draft.now else None) }
@@ -51,7 +47,6 @@ fn named_line(draft: &LineDraft<'_>, earlier: &[TenantLine]) -> Option<TenantLin
     })
 }
 
-/// The lines of the tenants, or the first whose name or purse is ill formed, or whose name is that of one before it.
 fn named(alloc: Global, drafts: &[LineDraft<'_>]) -> Result<Vec<TenantLine>, ConfigFault>
     ensures { Gives (λ lines. lines.items) result
         (unless (option_map misnamed (first_misnamed drafts.now)) drafts.now) }
@@ -68,7 +63,6 @@ fn named(alloc: Global, drafts: &[LineDraft<'_>]) -> Result<Vec<TenantLine>, Con
     Ok(lines)
 }
 
-/// The first number of a tenant's line that is out of range.
 pub(crate) fn first_out_of_line(line: &LineDraft<'_>) -> Option<Key>
     ensures { result ≡ first_out (keyed_terms line.now) }
 {
@@ -83,7 +77,6 @@ pub(crate) fn first_out_of_line(line: &LineDraft<'_>) -> Option<Key>
     }
 }
 
-/// The first number of a configuration that is out of range.
 fn first_out(draft: &Draft<'_>) -> Option<Key>
     ensures { result ≡ first_out (all_terms draft.now) }
 {
@@ -101,7 +94,6 @@ fn first_out(draft: &Draft<'_>) -> Option<Key>
     }
 }
 
-/// The tenants' lines of a configuration, or its first fault but for the purses.
 fn judged_lines(alloc: Global, draft: &Draft<'_>) -> Result<Vec<TenantLine>, ConfigFault>
     ensures { Gives (λ lines. lines.items) result (unless (fault_before_purses draft.now) draft.now.tenants) }
 {

@@ -1,14 +1,13 @@
 //! Configurations of a farm, as JSON texts.
 //!
-//! [`read_config`] answers exactly what its definition says of the bytes (`specs/Config`): the configuration, or the first fault in
-//! the order of [`ConfigFault`].
+//! [`read_config`] returns the configuration that `specs/Config` defines of the bytes, or the first
+//! fault in the order of [`ConfigFault`].
 //!
 //! - `read`: `read_config`, from bytes to a configuration.
-//! - `draft`: the values of a text in the shape of a configuration.
-//! - `judge`: its limits, in their order.
+//! - `draft`, `judge`: the values of a text in the shape of a configuration, and their limits.
 //! - `fault`: the faults and their texts.
-//! - `place`: where a fault lies, and what is wanted there.
-//! - `laws`: a fault is told exactly where there is no configuration.
+//! - `place`: where a fault is, and what is wanted there.
+//! - `laws`: a draft has a fault exactly if it is no configuration.
 #![tactic(auto)]
 
 mod draft;

@@ -1,4 +1,3 @@
-//! Where the fault of a configuration lies, and what is wanted there, for a person who mends it.
 ghost use Rattle.std.specs.Prelude.{◌≡◌, ℕ, Some, IfSome};
 ghost use Rattle.farm_config.specs.declared.fault.ConfigFault.TheVariants.{Name as misnamed};
 ghost use Rattle.farm_config.specs.Place.{part_to_blame, to_blame};
@@ -12,34 +11,28 @@ use serde_json::Value;
 use std::alloc::Global;
 use std::fmt;
 
-/// A part of a configuration, or of a tenant in it.
+/// A `ConfigPart` is a part of a configuration, or of a tenant in it.
 #[derive(Clone, Copy, Debug, PartialEq, Eq)]
 pub enum ConfigPart {
     /// The object itself.
     Whole,
-    /// The list of tenants.
     Tenants,
-    /// A tenant's name.
     Name,
-    /// The name of a tenant's purse.
     Purse,
-    /// A number.
     Number(Key),
 }
 
-/// Where a fault lies.
+/// A `ConfigPlace` is the place of a fault, for a person who mends it.
 #[derive(Clone, Copy, Debug, PartialEq, Eq)]
 pub enum ConfigPlace {
-    /// A line of the text and a column of it, counted from 1.
+    /// A line and a column of the text, counted from 1.
     Text(usize, usize),
-    /// A part of the configuration.
     Whole(ConfigPart),
-    /// A part of the tenant at that place of the list, counted from 0.
+    /// A part of the tenant at this place of the list, counted from 0.
     Tenant(usize, ConfigPart),
 }
 
 impl fmt::Display for ConfigPart {
-    /// Writes the part as a key.
     fn fmt<W: fmt::Write>(&self, f: &mut fmt::Formatter<W>) -> fmt::Result {
         match self {
             ConfigPart::Whole => write!(f, "the whole"),
@@ -52,7 +45,7 @@ impl fmt::Display for ConfigPart {
 }
 
 impl fmt::Display for ConfigPlace {
-    /// Writes the place as a path, as `tenants[1].name`.
+    /// Writes a path, as `tenants[1].name`.
     fn fmt<W: fmt::Write>(&self, f: &mut fmt::Formatter<W>) -> fmt::Result {
         match self {
             ConfigPlace::Text(line, column) => write!(f, "line {line} column {column}"),
@@ -63,7 +56,6 @@ impl fmt::Display for ConfigPlace {
     }
 }
 
-/// What may stand at a part where its value is of the wrong kind.
 fn kind_of(part: ConfigPart) -> &'static str {
     match part {
         ConfigPart::Whole => "an object is wanted",
@@ -73,7 +65,6 @@ fn kind_of(part: ConfigPart) -> &'static str {
     }
 }
 
-/// The numbers that a key may have.
 fn range_of(key: Key) -> &'static str {
     match key {
         Key::Quanta => "0 to 1000000000000 are allowed",
@@ -86,7 +77,7 @@ fn range_of(key: Key) -> &'static str {
 }
 
 impl ConfigPlace {
-    /// What is wanted at the place of this fault.
+    /// What is wanted at the place of `fault`.
     pub fn wanted(self, fault: ConfigFault) -> &'static str {
         match (fault, self) {
             (ConfigFault::Shape, ConfigPlace::Whole(part) | ConfigPlace::Tenant(_, part)) =>
@@ -104,7 +95,6 @@ impl ConfigPlace {
     }
 }
 
-/// The first part of a tenant's object that is missing or of the wrong kind.
 fn misfit_of(tenant: &Value) -> Option<ConfigPart> {
     if !tenant.is_object() {
         return Some(ConfigPart::Whole);
@@ -128,7 +118,6 @@ fn misfit_of(tenant: &Value) -> Option<ConfigPart> {
     }
 }
 
-/// Where a value has not the shape of a configuration.
 fn misfit(value: &Value) -> ConfigPlace {
     if !value.is_object() {
         return ConfigPlace::Whole(ConfigPart::Whole);
@@ -149,7 +138,6 @@ fn misfit(value: &Value) -> ConfigPlace {
     }
 }
 
-/// How many quanta the tenants of this purse have together, or `u64::MAX` where that is more.
 fn granted_to(purse: &[u8], lines: &[LineDraft<'_>]) -> u64 {
     let mut granted = 0u64;
     for line in lines {
@@ -162,7 +150,6 @@ fn granted_to(purse: &[u8], lines: &[LineDraft<'_>]) -> u64 {
     granted
 }
 
-/// The first tenant whose purse has too many quanta.
 fn overfull(lines: &[LineDraft<'_>]) -> Option<usize> {
     for (index, line) in lines.iter().enumerate() {
         if let Some(purse) = line.purse {
@@ -174,7 +161,6 @@ fn overfull(lines: &[LineDraft<'_>]) -> Option<usize> {
     None
 }
 
-/// The first tenant with a number at this key that is out of range.
 fn first_over(lines: &[LineDraft<'_>], key: Key) -> Option<usize> {
     for (index, line) in lines.iter().enumerate() {
         if first_out_of_line(line) == Some(key) {
@@ -184,7 +170,7 @@ fn first_over(lines: &[LineDraft<'_>], key: Key) -> Option<usize> {
     None
 }
 
-/// Where the first number at this key stands that is out of range: of a purse, where its first tenant names it.
+/// Of a purse, the place is its first tenant's.
 fn out_of_range(alloc: Global, value: &Value, key: Key) -> ConfigPlace {
     let part = match key {
         Key::Purse => ConfigPart::Purse,
@@ -203,7 +189,6 @@ fn out_of_range(alloc: Global, value: &Value, key: Key) -> ConfigPlace {
     }
 }
 
-/// What is to blame where this tenant is misnamed: its purse where that is ill formed, and otherwise its name.
 fn part_to_blame(line: &LineDraft<'_>) -> ConfigPart
     ensures { result ≡ part_to_blame line.now }
 {
@@ -213,7 +198,6 @@ fn part_to_blame(line: &LineDraft<'_>) -> ConfigPart
     }
 }
 
-/// Where the tenant at this place of the list is misnamed. It is not known where memory ran out.
 fn misnamed_place(alloc: Global, bytes: &[u8], index: usize) -> Option<ConfigPlace>
     ensures { IfSome result (λ place.
         (part : ConfigPart) × (to_blame bytes.now index ≡ Some part) × (place ≡ ConfigPlace.Tenant index part)) }
@@ -230,7 +214,7 @@ fn misnamed_place(alloc: Global, bytes: &[u8], index: usize) -> Option<ConfigPla
     }
 }
 
-/// Where the fault of these bytes lies. It is not known where memory ran out.
+/// Where the `fault` of `bytes` lies, or `None` if memory ran out.
 pub fn place_of(alloc: Global, bytes: &[u8], fault: ConfigFault) -> Option<ConfigPlace>
     ensures { (index : ℕ) → fault ≡ misnamed index →
         IfSome result (λ place.

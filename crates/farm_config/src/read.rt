@@ -1,4 +1,3 @@
-//! Reading a configuration.
 ghost use Rattle.std.specs.Prelude.{◌≡◌, ◌⊎◌, IfOk, IfErr, IsUtf8};
 ghost use Rattle.serde_json.specs.View.{view};
 ghost use Rattle.serde_json.specs.Read.{read};
@@ -11,7 +10,6 @@ use farm_core::Config;
 use serde_json::{Category, Value};
 use std::alloc::Global;
 
-/// The value that the bytes are the JSON text of.
 pub(crate) fn value_of(alloc: Global, bytes: &[u8]) -> Result<Value, ConfigFault>
     ensures ok { IfOk result (λ value. IsUtf8 bytes.now × (read bytes.now ≡ Some (view value))) }
     ensures err { IfErr result (λ fault. (fault ≡ ConfigFault.NoMemory)
@@ -29,12 +27,12 @@ pub(crate) fn value_of(alloc: Global, bytes: &[u8]) -> Result<Value, ConfigFault
     }
 }
 
-/// The configuration that the bytes are the JSON text of, or the first fault whose cause holds, in the order of
-/// `ConfigFault`'s variants. Only want of memory, `NoMemory`, can come in place of another answer.
+/// Returns the configuration that `bytes` spell in JSON, or the first fault in the order of
+/// `ConfigFault`. Only `NoMemory` may take the place of another answer.
 ///
-/// The text is an object. `tenants` is a list of objects with `name`, a string, and `quanta`, `jobs` and `entries`, natural
-/// numbers, and `purse`, a string, where the tenant shares one; `workers` may be missing and is then 2, `slice` may be missing
-/// and is then 1,000. Other keys are ignored. Where a key stands twice in an object, the last value counts.
+/// `tenants` is a list of objects with `name`, `quanta`, `jobs`, `entries` and perhaps `purse`. A
+/// missing `workers` is 2, a missing `slice` 1,000. Other keys are ignored. If an object has a key
+/// twice, the last value counts.
 pub fn read_config(alloc: Global, bytes: &[u8]) -> Result<Config, ConfigFault>
     ensures ok { IfOk result (λ config. Means bytes.now (Ok config)) }
     ensures err { IfErr result (λ fault. HasFault bytes.now fault) }

@@ -1,4 +1,5 @@
--- What two closed pools told a purse, and what their farms hold of it.
+-- What two closed pools answered a purse, and what their farms hold of it: non-interference (Goguen
+-- and Meseguer 1982).
 use Rattle.std.specs.Prelude.{◌≡◌, ℕ, true, false, List, ◌∷◌, ◌++◌, length, map, Some, slice_get}
 use mathlib.Core.List.{IsPrefix}
 use Rattle.job_table.specs.declared.phase.Phase.TheVariants.{Out}
@@ -24,8 +25,7 @@ use Rattle.farm_pool.specs.Worked.{PoolView, IsClosed}
 abbrev pub entry_in : Call → Entry
 entry_in c = record { tenant = c.tenant; event = c.event }
 
--- an answer of the pool's farm: the reply to a command or to a turn that is given back; of a turn that
--- is taken, the line of its job
+-- an answer of the pool's farm: the reply to a command or to a give; of a take, the line of the job
 abbrev pub answer_in : AnswerImage → Answer
 answer_in (told.Replied reply) = Replied reply
 answer_in (told.Gave reply) = Replied reply
@@ -34,23 +34,22 @@ answer_in told.Idle = NoTurn
 answer_in told.NoMemory = Replied reply.NoMemory
 answer_in told.Stray = NoTurn
 
--- after these entries a pool's farm was asked, left the call's entry, and gave the call's answer
+-- after these entries the farm was called, left the call's entry, and gave its answer
 pub record WasAnswered (config : ConfigData) (before : List Entry) (c : Call) : Type 0 where
   pub asked : CallImage
   pub told : AnswerImage
   pub served : Served config before asked (Some (entry_in c)) told
   pub answer : c.answer ≡ answer_in told
 
--- the calls of a history with their answers: they left its entries, and each was answered after the
--- entries of those before it
+-- the calls of a history with their answers: they left its entries, each after the entries of the
+-- calls before
 pub record AreCallsOf (config : ConfigData) (log : List (ℕ × Entry)) (calls : List Call) : Type 0 where
   pub entries : map entry_in calls ≡ history.events_of log
   pub each : (before behind : List Call) (c : Call) → calls ≡ before ++ c ∷ behind → WasAnswered config (map entry_in before) c
 
--- two pools are closed, in which a purse began alike and its members asked for equal calls in equal
--- order. Then the members were given equal answers, and the farms hold equal parts of the purse: its
--- ledger, and each member's jobs, numbers and entries used. It makes no difference who else used the
--- pools, which workers ran the turns, and what numbers the purse and its members have in each
+-- two closed pools are isolated. If a purse began alike and its members made equal calls in equal
+-- order, they had equal answers. The farms then hold equal parts of the purse: the ledger, and each
+-- member's jobs, numbers and entries used. Other tenants, workers and numbers make no difference
 abbrev pub ClosedPoolsAreIsolated : Type 0
 ClosedPoolsAreIsolated = (v x : PoolView) (w y : World) (one : IsClosed v w) (two : IsClosed x y) (p q : ℕ) →
     opened_purse w.config p ≡ opened_purse y.config q → own_in w.config p one.log ≡ own_in y.config q two.log →
@@ -58,8 +57,8 @@ ClosedPoolsAreIsolated = (v x : PoolView) (w y : World) (one : IsClosed v w) (tw
     own_answers w.config p calls ≡ own_answers y.config q others)
     × (purse p w ≡ purse q y)
 
--- each closed pool has such calls; and if a tenant's call left an entry, they have it at its place in
--- the history, with the reply that the tenant was given
+-- each closed pool has such calls. A tenant's call that left an entry is at its place in the
+-- history, with its reply
 pub record RepliesAreInTheHistory : Type 0 where
   pub some : (v : PoolView) (w : World) (closed : IsClosed v w) → (calls : List Call) × AreCallsOf w.config closed.log calls
   pub replied : (v w : PoolView) (t : ℕ) (event : Event) (reply : Reply) (called : Called Served v (said.Asked t event) (told.Replied reply) w) →

@@ -1,4 +1,4 @@
--- Why each purse of a running pool is alone in it, and why what the pool replies about a job is true.
+-- Why each purse of a running pool is isolated, and why what the pool replies about a job is true.
 use Rattle.std.specs.Prelude.{◌≡◌, ◌≢◌, ℕ, ◌+◌, ◌-◌, ◌<◌, true, false, List, [], ◌∷◌, ◌++◌, cond, take, length, Some, slice_get}
 use Rattle.strategy.specs.declared.plan.Plan.{Plan}
 use Rattle.job_table.specs.Table.{JobData, is_waiting}
@@ -30,12 +30,12 @@ use Rattle.farm_pool.specs.Worked.{PoolView, Worked}
 abbrev pub own_in : ConfigData → ℕ → List (ℕ × Entry) → List Asked
 own_in config p log = events_of config p (history.events_of log)
 
--- the entries of a legal history are those of a run of the farm, from the farm in which nothing has happened
+-- the entries of a legal history make a run of the farm, from the new farm on
 abbrev pub LegalHistoriesAreRuns : Type 0
 LegalHistoriesAreRuns = (config : ConfigData) (log : List (ℕ × Entry)) → IsLegal Served config log → AreOfRun config (history.events_of log)
 
--- the reply is the last of those that the members of the tenant's purse get alone, for their own calls in the history before and this one. A call
--- that leaves an entry is the last of the purse's own in what is seen then, and one that leaves none is not among them
+-- the reply is the last one that the purse's members get alone, for their calls before and this
+-- one. A call that leaves an entry is the last of the purse's own, any other call is none of them
 pub record IsAlone (config : ConfigData) (t : ℕ) (event : Event) (reply : Reply) (before seen : List (ℕ × Entry)) : Type 0 where
   pub last :
       let p = purse_in config t in
@@ -45,13 +45,14 @@ pub record IsAlone (config : ConfigData) (t : ℕ) (event : Event) (reply : Repl
       let asked : Asked = record { place = place_in config t; event = event } in
       own_in config (purse_in config t) seen ≡ own_in config (purse_in config t) before ++ cond (is_noted (Replied reply)) (asked ∷ []) []
 
--- in a running pool the replies to each purse's members are those of their own calls alone, over their entries of the history
+-- the replies of a running pool to a purse's members are the replies to their own calls alone
 abbrev pub EachReplyIsAlone : Type 0
 EachReplyIsAlone = (v w : PoolView) (t : ℕ) (event : Event) (reply : Reply) →
     (called : Called Served v (said.Asked t event) (told.Replied reply) w) → reply ≢ NoMemory → IsAlone called.opening t event reply called.before w.seen
 
--- two pools in which a purse begins alike give the member at a place of it the same reply to the same call after the same calls of its members and turns of
--- their jobs, whatever the other tenants and the turns of their jobs do in each, and whatever numbers the purse and its members have
+-- replies are isolated. Two pools give equal replies to equal calls, if the purses began alike and
+-- had equal calls and turns before. What other tenants do, and all numbers of purses and members,
+-- make no difference
 abbrev pub EachReplyIsIsolated : Type 0
 EachReplyIsIsolated = (v w x y : PoolView) (t u : ℕ) (event : Event) (reply other : Reply) →
     (one : Called Served v (said.Asked t event) (told.Replied reply) w) → (two : Called Served x (said.Asked u event) (told.Replied other) y) →
@@ -59,15 +60,15 @@ EachReplyIsIsolated = (v w x y : PoolView) (t u : ℕ) (event : Event) (reply ot
     opened_purse one.opening (purse_in one.opening t) ≡ opened_purse two.opening (purse_in two.opening u) → place_in one.opening t ≡ place_in two.opening u →
     own_in one.opening (purse_in one.opening t) one.before ≡ own_in two.opening (purse_in two.opening u) two.before → reply ≡ other
 
--- one of these entries is tenant t's submit of the plan, which after the entries before it is answered that the job has number s
+-- the entries hold tenant t's submit of the plan, which was answered with job number s
 pub record WasSubmitted (config : ConfigData) (entries : List Entry) (t s : ℕ) (plan : Plan) : Type 0 where
   pub at : ℕ
   pub quanta : ℕ
   pub entry : slice_get entries at ≡ Some (record { tenant = t; event = Submit plan quanta })
   pub answered : IsAnswered config (take at entries) t (Submit plan quanta) (slice_get entries at) (Job s)
 
--- in a running pool what is replied about a job is true of a plan that its tenant has submitted under its number, in the history before the call:
--- to a tenant's call, and where a worker gives a turn back. And no tenant has submitted two plans under one number
+-- what is replied about a job is true of a plan that the tenant submitted under its number before:
+-- to a command, and to a give. No tenant has submitted two plans under one number
 pub record EachReplyIsTrue : Type 0 where
   pub asked : (v w : PoolView) (t : ℕ) (event : Event) (reply : Reply) →
       (called : Called Served v (said.Asked t event) (told.Replied reply) w) →
@@ -79,7 +80,7 @@ pub record EachReplyIsTrue : Type 0 where
       WasSubmitted called.opening (history.events_of called.before) t s plan →
       WasSubmitted called.opening (history.events_of called.before) t s other → plan ≡ other
 
--- a pass that has seen this history is given this reply to its next call
+-- a pass that has seen this history has this reply to its next call
 pub record IsReplied (config : ConfigData) (log : List (ℕ × Entry)) (number splits t : ℕ) (event : Event) (reply : Reply) : Type 0 where
   pub after : PoolView
   pub called :
@@ -88,18 +89,19 @@ pub record IsReplied (config : ConfigData) (log : List (ℕ × Entry)) (number s
       Called Served seen (said.Asked t event) (told.Replied reply) after
   pub before : called.before ≡ log
 
--- after each legal history each call of a tenant can be given the reply of the tenant's step there: so what is said of replies is never said of nothing
+-- after each legal history each call of a tenant can have the reply of the tenant's step. So no law
+-- about replies is empty
 abbrev pub EachReplyCanBeMade : Type 0
 EachReplyCanBeMade = (config : ConfigData) (log : List (ℕ × Entry)) (number splits : ℕ) → IsLegal Served config log →
     (t : ℕ) → t < length config.tenants → (event : Event) → IsPlanned event → (reply : Reply) →
     (step (tenant_at config (history.events_of log) t) event).answer ≡ Replied reply → reply ≢ NoMemory → IsReplied config log number splits t event reply
 
--- the turn of tenant t's job s for at most `slice` nodes, of which `ran` were run
+-- the turn of tenant t's job s for at most `slice` nodes, of which `ran` have run
 abbrev pub turn_of : ℕ → ℕ → ℕ → ℕ → JobData → TurnImage
 turn_of t s slice ran job =
     record { tenant = t; seq = s; slice = slice; ran = ran; owner = t; plan = job.plan; nodes = job.nodes + ran; left = job.left - ran; taken = false }
 
--- a pass that has seen this history is given this answer to its next call
+-- a pass that has seen this history has this answer to its next call
 pub record IsTold (config : ConfigData) (log : List (ℕ × Entry)) (number splits : ℕ) (call : CallImage) (answer : AnswerImage) : Type 0 where
   pub after : PoolView
   pub called :
@@ -108,8 +110,8 @@ pub record IsTold (config : ConfigData) (log : List (ℕ × Entry)) (number spli
       Called Served seen call answer after
   pub before : called.before ≡ log
 
--- after each legal history a turn can be taken of each job that waits, if its tenant has entries for it; and the turn of
--- each job that is out can be given, with none or all of its nodes run. So what is said of takes and gives is never said of nothing
+-- after each legal history each waiting job can be taken, if its tenant has entries. Each turn that
+-- is out can be given, with none or all of its nodes run. So no law about turns is empty
 pub record EachTurnCanBeMade : Type 0 where
   pub taken : (config : ConfigData) (log : List (ℕ × Entry)) (number splits : ℕ) → IsLegal Served config log → (t s slice : ℕ) (job : JobData) →
       let tenant : Tenant = tenant_at config (history.events_of log) t in
@@ -120,14 +122,13 @@ pub record EachTurnCanBeMade : Type 0 where
       may_have_run ran job job.phase ≡ true →
       IsTold config log number splits (said.Back (turn_of t s slice ran job)) (told.Gave (Ran ran (line_of (back ran job))))
 
--- whatever memory there is, a cancel that its tenant's step accepts is answered so
+-- a cancel that its tenant's step accepts is answered so, whatever memory there is
 abbrev pub AcceptedCancelsAreMade : Type 0
 AcceptedCancelsAreMade = (v w : PoolView) (t s : ℕ) (reply : Reply) →
     (called : Called Served v (said.Asked t (Cancel s)) (told.Replied reply) w) → (line : JobLine) →
     (step (tenant_at called.opening (history.events_of called.before) t) (Cancel s)).answer ≡ Replied (Line line) → reply ≡ Line line
 
--- a pass has as many splits after a call, and after a worker, as it had before: neither made a pass of its own,
--- by which it could make a call beside
+-- a call and a worker leave the number of a pass's splits: neither made a pass of its own
 pub record NoPassIsSplitOff : Type 0 where
   pub called : (v w : PoolView) (call : CallImage) (answer : AnswerImage) → Called Served v call answer w → w.splits ≡ v.splits
   pub worked : (slice turns strangers : ℕ) (v w : PoolView) → Worked slice v turns strangers w → w.splits ≡ v.splits

@@ -23,18 +23,16 @@ use Rattle.farm_pool.specs.Worked.{PoolView, IsClosed}
 abbrev pub noted : List Call → List Call
 noted calls = filter (λ (c : Call). is_noted c.answer) calls
 
--- `log` is the history of a pool that was closed with the farm `w`, and `calls` are its calls with
--- their answers
+-- a pool was closed with the farm `w`; `log` is its history, and `calls` are its calls with answers
 pub record IsClosedWith (w : World) (log : List (ℕ × Entry)) (calls : List Call) : Type 0 where
   pub pass : PoolView
   pub closed : IsClosed pass w
   pub log_is : closed.log ≡ log
   pub answered : AreCallsOf w.config log calls
 
--- each run of the farm that submits projects alone is that of a closed pool, whichever passes made
--- its entries. The pool was closed with the run's farm. The calls of its history are the run's,
--- each at its place with its answer. A call that left no entry is in no history: a command without
--- room, and a take or give without a turn
+-- each run of the farm that submits only projects is that of a closed pool, whichever passes made
+-- its entries. The history has the run's calls with their answers, but for calls that left no
+-- entry: commands without room, takes and gives without a turn
 abbrev pub EachRunIsAClosedPools : Type 0
 EachRunIsAClosedPools = (config : ConfigData) (calls : List Call) (w : World) → Run config calls w → ArePlanned calls →
     (log : List (ℕ × Entry)) → history.events_of log ≡ w.journal → IsClosedWith w log (noted calls)
@@ -46,15 +44,15 @@ pub record IsInside (config : ConfigData) (log : List (ℕ × Entry)) (v : PoolV
   pub begins : IsPrefix v.seen log
   pub own : history.entries_of v.number log ≡ v.mine
 
--- the pool's call for an event of tenant t. For a take a worker asks for a turn of any job, and for
--- a give it brings the turn of this job
+-- the pool's call for an event of tenant t. For a take a worker asks for a turn of any job; for a
+-- give it brings this job's turn
 abbrev pub AsksFor : ℕ → Event → CallImage → Type 0
 AsksFor t (Take s slice) asked = asked ≡ said.Next slice
 AsksFor t (Give s ran) asked = (i : TurnImage) × (asked ≡ said.Back i) × (i.tenant ≡ t) × (i.seq ≡ s) × (i.ran ≡ ran)
 AsksFor t event asked = asked ≡ said.Asked t event
 
--- the pass asks for the call's event after the history `log`, leaves the call's entry if there is
--- one, and is given the call's answer
+-- the pass makes the call after the history `log`, leaves its entry, if there is one, and has its
+-- answer
 pub record WasTold (config : ConfigData) (log : List (ℕ × Entry)) (v : PoolView) (c : Call) : Type 0 where
   pub asked : CallImage
   pub told : AnswerImage
@@ -65,9 +63,8 @@ pub record WasTold (config : ConfigData) (log : List (ℕ × Entry)) (v : PoolVi
   pub event : called.event ≡ entry_if c.tenant c.event c.answer
   pub answer : c.answer ≡ answer_in told
 
--- each call of such a run can be made in a pool: by any pass that may call then, and whichever
--- passes made the entries before. The pass is given the run's answer. A take or give without a turn
--- alone is no call of a pool
+-- any pass that may call then can make each call of such a run, with the run's answer. Only a take
+-- or give without a turn is no call of a pool
 abbrev pub EachCallOfARunCanBeMade : Type 0
 EachCallOfARunCanBeMade = (config : ConfigData) (before behind : List Call) (c : Call) (w : World) →
     Run config (before ++ c ∷ behind) w → ArePlanned (before ++ c ∷ behind) → c.answer ≢ NoTurn →
@@ -78,23 +75,23 @@ EachCallOfARunCanBeMade = (config : ConfigData) (before behind : List Call) (c :
 abbrev pub with_pass : ℕ → PoolView → (ℕ → PoolView) → ℕ → PoolView
 with_pass by v passes number = cond (number == by) v (passes number)
 
--- passes make the calls one after another, each call by the pass of the number beside it, and each
--- pass is given the call's answer
+-- passes make the calls one after another, each by the pass of its number, and have the calls'
+-- answers
 abbrev pub AreMade : ConfigData → List (ℕ × Entry) → (ℕ → PoolView) → List (ℕ × Call) → List (ℕ × Entry) → (ℕ → PoolView) → Type 0
 AreMade config log passes [] end after = (end ≡ log) × (after ≡ passes)
 AreMade config log passes (x ∷ calls) end after =
     (told : WasTold config log (passes x.0) x.1) × AreMade config told.after.seen (with_pass x.0 told.after passes) calls end after
 
--- passes of a pool make the calls from its opening on, and then each pass can close it with the
--- farm `w`
+-- passes of a pool make the calls from its opening on. Then each pass can close it with the farm
+-- `w`
 pub record AreMadeInAPool (config : ConfigData) (calls : List (ℕ × Call)) (w : World) : Type 0 where
   pub log : List (ℕ × Entry)
   pub passes : ℕ → PoolView
   pub made : AreMade config [] (newcomer (rule.opened config)) calls log passes
   pub closed : (number : ℕ) → (closed : IsClosed (passes number) w) × (closed.log ≡ log)
 
--- each such run can be made by passes of a pool, whichever pass makes each call. Left out are takes
--- and gives without a turn, which are no calls of a pool
+-- each such run can be made by passes of a pool, whichever pass makes each call; takes and gives
+-- without a turn are left out
 abbrev pub PassesCanMakeEachRun : Type 0
 PassesCanMakeEachRun = (config : ConfigData) (calls : List (ℕ × Call)) (w : World) →
     let made : List Call = map (λ (x : ℕ × Call). x.1) calls in

@@ -21,24 +21,25 @@ use Rattle.farm_pool.specs.declared.image.CallImage.TheVariants as said
 use Rattle.farm_pool.specs.declared.image.AnswerImage.{AnswerImage}
 use Rattle.farm_pool.specs.declared.image.AnswerImage.TheVariants as told
 
--- where a tenant stands at its purse after these entries
+-- a tenant's part of its purse after these entries
 abbrev pub tenant_at : ConfigData → List Entry → ℕ → Tenant
 tenant_at config before t = seat (after_alone (opened_purse config (purse_in config t)) (events_of config (purse_in config t) before)) (place_in config t)
 
--- the entry of a call, where it leaves one
+-- the entry of a call, if it leaves one
 abbrev pub entry_if : ℕ → Event → Answer → Option Entry
 entry_if t event answer = cond (is_noted answer) (Some (record { tenant = t; event = event })) None
 
--- a call makes its tenant's step there
+-- a call makes its tenant's step after these entries
 pub record IsStep (config : ConfigData) (before : List Entry) (t : ℕ) (event : Event) (entry : Option Entry) (answer : Answer) : Type 0 where
   pub answer_is : answer ≡ (step (tenant_at config before t) event).answer
   pub entry_is : entry ≡ entry_if t event answer
 
--- or it may need memory, and there was none
+-- a call that may need memory had none, and left no entry
 pub record IsUnanswered (config : ConfigData) (before : List Entry) (t : ℕ) (event : Event) (entry : Option Entry) : Type 0 where
   pub entry_is : entry ≡ None
   pub needs : may_need (tenant_at config before t) event ≡ true
 
+-- the answer of a tenant's call: its step's, or *no memory*
 abbrev pub IsAnswered : ConfigData → List Entry → ℕ → Event → Option Entry → Reply → Type 0
 IsAnswered config before t event entry reply.NoMemory = IsUnanswered config before t event entry
 IsAnswered config before t event entry answer = IsStep config before t event entry (Replied answer)
@@ -47,7 +48,7 @@ IsAnswered config before t event entry answer = IsStep config before t event ent
 abbrev pub meaning_in : TurnImage → Meaning
 meaning_in i = record { tenant = i.owner; plan = i.plan; nodes = i.nodes; left = i.left; taken = i.taken }
 
--- a turn was taken of a job that waits there
+-- a turn was taken of a job that waits
 pub record IsSentOut (config : ConfigData) (before : List Entry) (slice : ℕ) (entry : Option Entry) (i : TurnImage) : Type 0 where
   pub job : JobData
   pub known : i.tenant < length config.tenants
@@ -57,13 +58,14 @@ pub record IsSentOut (config : ConfigData) (before : List Entry) (slice : ℕ) (
   pub ran : i.ran ≡ 0
   pub steps : IsStep config before i.tenant (Take i.seq slice) entry (Sent (line_of (gone_out slice job)))
 
--- there is none to take there
+-- no turn can be taken: the slice is outside its limits, or no tenant of a waiting job has entries
+-- for a turn
 pub record IsIdleAt (config : ConfigData) (before : List Entry) (slice : ℕ) (entry : Option Entry) : Type 0 where
   pub entry_is : entry ≡ None
   pub none : (is_slice slice ≡ false)
       ⊎ ((t s : ℕ) (job : JobData) → t < length config.tenants → find_job s (tenant_at config before t).jobs ≡ Some job → is_waiting job.phase ≡ true → has_room 2 (tenant_at config before t) ≡ false)
 
--- there was no memory for a turn, and there is a job there that waits, of a tenant that has entries for it
+-- there was no memory for a turn, though a job waits whose tenant has entries for it
 pub record IsUnsent (config : ConfigData) (before : List Entry) (slice : ℕ) (entry : Option Entry) : Type 0 where
   pub entry_is : entry ≡ None
   pub slice_is : is_slice slice ≡ true
@@ -75,19 +77,19 @@ pub record IsUnsent (config : ConfigData) (before : List Entry) (slice : ℕ) (e
   pub waits : is_waiting job.phase ≡ true
   pub room : has_room 2 (tenant_at config before tenant) ≡ true
 
--- a turn came back to the job whose it is there
+-- a turn came back to its job
 pub record IsTakenBack (config : ConfigData) (before : List Entry) (i : TurnImage) (entry : Option Entry) (answer : Reply) : Type 0 where
   pub job : JobData
   pub found : find_job i.seq (tenant_at config before i.tenant).jobs ≡ Some job
   pub own : IsOwn i.tenant i.slice i.ran (meaning_in i) job
   pub steps : IsStep config before i.tenant (Give i.seq i.ran) entry (Replied answer)
 
--- a turn is of no job there
+-- a turn belongs to no job
 pub record IsStray (config : ConfigData) (before : List Entry) (i : TurnImage) (entry : Option Entry) : Type 0 where
   pub entry_is : entry ≡ None
   pub none : (job : JobData) → find_job i.seq (tenant_at config before i.tenant).jobs ≡ Some job → IsOwn i.tenant i.slice i.ran (meaning_in i) job → ⊥
 
--- these are the entries of a run of the farm, in which what was submitted were projects
+-- the entries make a run of the farm, in which all submits are projects
 pub record AreOfRun (config : ConfigData) (entries : List Entry) : Type 0 where
   pub calls : List Call
   pub world : World
@@ -95,7 +97,7 @@ pub record AreOfRun (config : ConfigData) (entries : List Entry) : Type 0 where
   pub planned : ArePlanned calls
   pub journal : world.journal ≡ entries
 
--- what a call is answered after these entries, and the entry that it leaves
+-- the answer of a call after these entries, and the entry that it leaves
 abbrev pub Answers : ConfigData → List Entry → CallImage → Option Entry → AnswerImage → Type 0
 Answers config before (said.Asked t event) entry (told.Replied answer) = IsAnswered config before t event entry answer
 Answers config before (said.Next slice) entry (told.Sent i) = IsSentOut config before slice entry i
@@ -105,7 +107,7 @@ Answers config before (said.Back i) entry (told.Gave answer) = IsTakenBack confi
 Answers config before (said.Back i) entry told.Stray = IsStray config before i entry
 Answers config before call entry answer = ⊥
 
--- the same, and the entries then are those of a run
+-- `Answers` holds, and the entries then make a run
 pub record Served (config : ConfigData) (before : List Entry) (call : CallImage) (entry : Option Entry) (answer : AnswerImage) : Type 0 where
   pub answers : Answers config before call entry answer
   pub run : AreOfRun config (before ++ listed entry)

@@ -21,11 +21,11 @@ use Rattle.farm_pool.specs.Served.{Served, meaning_in}
 abbrev pub PoolView : Type 0
 PoolView = View ConfigData Entry
 
--- a turn that has run all that it could
+-- a turn that has run all nodes that it could
 abbrev pub run_out : TurnImage → TurnImage
 run_out i = let n : ℕ = nodes_within i.slice (meaning_in i) in record i { ran = n; nodes = i.nodes + n; left = i.left - n }
 
--- it is given back
+-- a turn was given back
 pub record HasGiven (v : PoolView) (turn : TurnImage) (w : PoolView) : Type 0 where
   pub reply : Reply
   pub gave : Called Served v (said.Back turn) (told.Gave reply) w
@@ -37,7 +37,7 @@ pub record IsTurned (slice : ℕ) (v w : PoolView) : Type 0 where
   pub took : Called Served v (said.Next slice) (told.Sent turn) out
   pub gave : HasGiven out (run_out turn) w
 
--- it was taken and ran, and was no more the farm's
+-- a turn was taken and ran, and belonged to no job when it came back
 pub record IsStrayed (slice : ℕ) (v w : PoolView) : Type 0 where
   pub turn : TurnImage
   pub out : PoolView
@@ -50,43 +50,46 @@ IsNone told.Idle = ⊤
 IsNone told.NoMemory = ⊤
 IsNone answer = ⊥
 
+-- a worker asked for a turn, and had none
 pub record HasWaited (slice : ℕ) (v w : PoolView) : Type 0 where
   pub answer : AnswerImage
   pub asked : Called Served v (said.Next slice) answer w
   pub none : IsNone answer
 
+-- what each deed of a worker is
 abbrev pub Does : ℕ → Deed → PoolView → PoolView → Type 0
 Does slice Turned v w = IsTurned slice v w
 Does slice Strayed v w = IsStrayed slice v w
 Does slice Waited v w = HasWaited slice v w
 
--- one after another, the last first
+-- deeds one after another, the last one first
 abbrev pub HasDone : ℕ → List Deed → PoolView → PoolView → Type 0
 HasDone slice [] v w = w ≡ v
 HasDone slice (d ∷ deeds) v w = (mid : PoolView) × HasDone slice deeds v mid × Does slice d mid w
 
--- how many, at most the greatest u64
+-- the turns among deeds, at most the greatest u64
 abbrev pub turns_in : List Deed → ℕ
 turns_in [] = 0
 turns_in (Turned ∷ deeds) = min (turns_in deeds + 1) 18446744073709551615
 turns_in (Strayed ∷ deeds) = turns_in deeds
 turns_in (Waited ∷ deeds) = turns_in deeds
 
+-- the strangers among deeds, at most the greatest u64
 abbrev pub strangers_in : List Deed → ℕ
 strangers_in [] = 0
 strangers_in (Turned ∷ deeds) = strangers_in deeds
 strangers_in (Strayed ∷ deeds) = min (strangers_in deeds + 1) 18446744073709551615
 strangers_in (Waited ∷ deeds) = strangers_in deeds
 
--- what a worker did from v to w: these deeds, and last it found none to take, or no memory for it
+-- what a worker did from v to w: these deeds, and at last it had no turn
 pub record Worked (slice : ℕ) (v : PoolView) (turns strangers : ℕ) (w : PoolView) : Type 0 where
   pub deeds : List Deed
   pub done : HasDone slice (Waited ∷ deeds) v w
   pub turns_are : turns ≡ turns_in deeds
   pub strangers_are : strangers ≡ strangers_in deeds
 
--- the farm's journal is the events of a legal history, which begins with what the pass has seen, and
--- in which the pass's entries are its own. Each purse is where its entries of the journal lead
+-- the pool is closed with the farm w. Its journal is a legal history that begins with what the pass
+-- has seen, with the pass's own entries. The farm is what its journal leads to
 pub record IsClosed (v : PoolView) (w : World) : Type 0 where
   pub log : List (ℕ × Entry)
   pub begins : IsPrefix v.seen log

@@ -1,4 +1,3 @@
-//! The farm under the lock, and its calls.
 ghost use Rattle.std.specs.Prelude.{◌≡◌, ◌<◌, [], length, IfOk};
 ghost use Rattle.farm_core.specs.Turn.{IsTurn};
 ghost use Rattle.farm_pool.specs.Calls.{MayAsk, AnswersOn, DoesOn};
@@ -10,34 +9,24 @@ use std::marker::Model;
 use strategy::Strategy;
 use turn_lock::{Kept, Runs};
 
-/// What is asked of the farm in one turn of the lock.
+/// A `FarmCall` is a call under the lock: a tenant's command, a take with its slice, or a give.
 pub enum FarmCall<J> {
-    /// A call of a tenant.
     Asked(u32, Command<J>),
-    /// A turn of some waiting job, for at most so many nodes.
     Next(u64),
-    /// That a turn be taken back.
     Back(Turn<J>),
 }
 
-/// What the farm answers.
+/// A `FarmAnswer` is the answer to a `FarmCall`. `Stray` hands back a turn of no job of the farm.
 pub enum FarmAnswer<J> {
-    /// To a tenant.
     Replied(Reply),
-    /// A turn.
     Sent(Turn<J>),
-    /// There is none to take.
     Idle,
-    /// There was no memory for one.
     NoMemory,
-    /// A turn came back.
     Gave(Reply),
-    /// The turn is of no job of the farm.
     Stray(Turn<J>),
 }
 
-/// A farm under the lock, in memory of its own, so that the lock hands on a pointer. The trait and the farm are other crates', so it
-/// stands in a type of this one.
+/// A `Held` is a boxed farm, so that the lock moves a pointer, in a type that may implement `Kept`.
 #[derive(Drop)]
 pub struct Held<J> {
     pub(crate) farm: Box<Farm<J>>,
@@ -52,7 +41,6 @@ impl<J> Model for Held<J> {
 }
 
 impl<J: Drop> Held<J> {
-    /// A farm in which nothing has happened.
     #[tactic(auto, unfolding(farm_core::specs::World::opened))]
     pub(crate) fn new(alloc: Global, config: &Config) -> Result<Held<J>, AllocError>
         ensures opening { IfOk result (λ held. held.config ≡ config.now) }
@@ -65,7 +53,7 @@ impl<J: Drop> Held<J> {
     }
 }
 
-// What is kept asks nothing of the searches, so that a lock of a farm of boxed searches is a type like any other.
+// No bound on `J`: a lock of a farm of boxed searches is then a type like any other.
 impl<J> Kept for Held<J> {
     type Said = CallImage;
 
@@ -88,7 +76,6 @@ impl<J> Kept for Held<J> {
     }
 }
 
-/// Takes a turn of some waiting job.
 fn next_of<J: Strategy>(farm: &mut Farm<J>, slice: u64) -> FarmAnswer<J>
     ensures { AnswersOn J.meaning farm.old (FarmCall.Next slice) result farm.new }
 {
@@ -100,7 +87,6 @@ fn next_of<J: Strategy>(farm: &mut Farm<J>, slice: u64) -> FarmAnswer<J>
     }
 }
 
-/// Takes a turn back.
 fn back_to<J: Strategy>(farm: &mut Farm<J>, turn: Turn<J>) -> FarmAnswer<J>
     requires known { turn.tenant < length farm.old.config.tenants }
     requires turn { IsTurn turn.slice turn.ran (J.meaning turn.search) }
@@ -113,7 +99,6 @@ fn back_to<J: Strategy>(farm: &mut Farm<J>, turn: Turn<J>) -> FarmAnswer<J>
     }
 }
 
-/// Makes one call of a farm.
 fn answer_on<J: Strategy>(farm: &mut Farm<J>, call: FarmCall<J>) -> FarmAnswer<J>
     requires { MayAsk J.meaning farm.old.config call }
     ensures { AnswersOn J.meaning farm.old call result farm.new }
@@ -126,7 +111,7 @@ fn answer_on<J: Strategy>(farm: &mut Farm<J>, call: FarmCall<J>) -> FarmAnswer<J
     }
 }
 
-/// Makes one call of a farm, to which a run leads then.
+/// Makes `call`. The farm is reachable before and after it: `journal` shows that to the prover.
 pub(crate) fn serve_on<J: Strategy>(farm: &mut Farm<J>, call: FarmCall<J>) -> FarmAnswer<J>
     requires { MayAsk J.meaning farm.old.config call }
     ensures { DoesOn J.meaning farm.old call result farm.new }

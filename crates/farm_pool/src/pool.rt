@@ -1,4 +1,3 @@
-//! The pool.
 ghost use Rattle.std.specs.Prelude.{◌≡◌, ◌≢◌, ◌<◌, length, IfOk, IfSome};
 ghost use Rattle.turn_lock.specs.Plays.{having_split, newcomer, BothSeen, Called};
 ghost use Rattle.turn_lock.specs.Rule.{opened};
@@ -20,19 +19,16 @@ use std::thread::Promise;
 use strategy::Strategy;
 use turn_lock::{Pass, TurnLock};
 
-/// The lock round a farm. Its calls are those of a farm of boxed searches: a generic call would rest on a bound on the searches, and what a
-/// lock sends to threads may not.
+/// Not generic in the search: what a lock sends to threads may not rest on a bound on searches.
 pub(crate) type FarmLock = TurnLock<Held<Box<dyn Strategy>>>;
 
-/// A pass of a pool.
+/// A `PoolPass` is a thread's token for calls of a pool. It knows a prefix of the history.
 pub type PoolPass = Pass<Held<Box<dyn Strategy>>>;
 
-/// A farm that threads share, one call at a time, and the history of their calls. Each thread has a pass, which knows a beginning of the
-/// history and which entries are its own. Nodes run while no thread has the farm.
+/// A `Pool` is a farm that threads call one at a time. Nodes run while no thread has the farm.
 #[derive(Drop)]
 pub struct Pool {
     pub(crate) lock: FarmLock,
-    /// How many nodes a turn runs at most.
     pub(crate) slice: u64,
 }
 
@@ -44,7 +40,7 @@ impl Model for Pool {
     ghost view = { λ p. record { lock = p.lock; slice = p.slice } };
 }
 
-/// That a thread brings back a pass of this lock.
+/// An `OfLock` is a thread's promise to bring back a pass of this lock.
 #[derive(Drop)]
 pub struct OfLock<J>(Snapshot<TurnLock<Held<J>>>);
 
@@ -63,7 +59,6 @@ impl<J> Promise<Pass<Held<J>>> for OfLock<J> {
     ghost kept_by = { λ lock pass. IsPassOf lock pass };
 }
 
-/// Waits for the turn, and makes one call of the farm.
 pub(crate) fn ask<R: Wait>(
     rt: &R,
     lock: &FarmLock,
@@ -80,8 +75,7 @@ pub(crate) fn ask<R: Wait>(
 }
 
 impl Pool {
-    /// The pool of a configuration, in whose farm nothing has happened, and its first pass; or an error where there is no memory for it. Its
-    /// workers' turns are of the configuration's slice.
+    /// Opens a pool on an empty farm, with its first pass. Turns have the slice of `config`.
     pub fn new(alloc: Global, config: &Config) -> Result<(Pool, PoolPass), AllocError>
         ensures own { IfOk result (λ made. IsPassOf made.0.lock made.1) }
         ensures opening { IfOk result (λ made. made.0.lock.opening ≡ config.now) }
@@ -104,8 +98,7 @@ impl Pool {
         }
     }
 
-    /// Waits for the farm, and makes one call of a tenant. The reply is what the farm answers after the entries that the pass has seen then: the
-    /// last of them is the call's, where it leaves one.
+    /// Waits for the farm, and calls it. `pass` then knows all entries up to the call's own.
     pub fn call<R: Wait>(
         &self,
         rt: &R,
@@ -126,7 +119,7 @@ impl Pool {
         }
     }
 
-    /// A pass for another thread, which has seen as much as this one and has made no call. This one counts one split more, and stays as it was else.
+    /// Returns a pass for another thread, with this pass's knowledge and no calls of its own.
     pub fn split_pass(&self, pass: &mut PoolPass) -> PoolPass
         requires own { IsPassOf self.now.lock pass.old }
         ensures split { pass.new ≡ record pass.old { view = having_split pass.old.view } }
@@ -137,7 +130,7 @@ impl Pool {
         self.lock.split_pass(pass)
     }
 
-    /// Takes in another pass, which ends. What both had seen are beginnings of what this one has seen then, and the splits of both are its own.
+    /// Ends `other`. `pass` then knows what either had seen, and counts the splits of both.
     pub fn join_pass(&self, pass: &mut PoolPass, other: PoolPass)
         requires own { IsPassOf self.now.lock pass.old }
         requires other { IsPassOf self.now.lock other }
@@ -147,16 +140,15 @@ impl Pool {
         self.lock.join_pass(pass, other);
     }
 
-    /// What a thread promises that is to bring back a pass of this pool.
+    /// The promise of a thread to bring back a pass of this pool.
     pub fn promise(&self) -> OfLock<Box<dyn Strategy>>
         ensures { result ≡ self.now.lock }
     {
         OfLock(Snapshot::of(&self.lock))
     }
 
-    /// Returns the farm. Its journal is a legal history that begins with what the pass has seen, and
-    /// the farm is where the journal leads. Returns `None` if a turn of the lock is still held: then
-    /// a pass was lost in the midst of a call.
+    /// Returns the farm, with a legal history that begins with what `pass` has seen. Returns `None`
+    /// if a turn of the lock is still held: a pass was then lost during a call.
     pub fn close(self, pass: PoolPass) -> Option<Farm<Box<dyn Strategy>>>
         requires { IsPassOf self.lock pass }
         ensures closed { IfSome result (λ farm. IsClosed pass.view farm) }

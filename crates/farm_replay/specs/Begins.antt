@@ -1,4 +1,4 @@
--- Whose a line of the output is can be read from its bytes.
+-- The bytes of an output line show whose it is.
 use Rattle.std.specs.Prelude.{◌≡◌, ℕ, Bool, true, false, ◌&&◌, ◌==◌, List, [], ◌∷◌, ◌++◌, Some}
 use Rattle.farm_core.specs.Config.{ConfigData}
 use Rattle.farm_core.specs.Name.{is_name}
@@ -7,13 +7,14 @@ use Rattle.session_lines.specs.Script.{requests_of}
 use Rattle.farm_replay.specs.Output.{Saying, Marked, items_of, opening, lines_for, line_text}
 use Rattle.farm_replay.specs.Isolation.{is_of}
 
--- these bytes begin with those
+-- whether the first list is a prefix of the second one
 abbrev pub begins_with : List ℕ → List ℕ → Bool
 begins_with [] bytes = true
 begins_with (x ∷ front) [] = false
 begins_with (x ∷ front) (y ∷ bytes) = (x == y) && begins_with front bytes
 
--- in the output of a script, whatever memory was refused, a line begins with `@`, a name and a space exactly where it is that tenant's
+-- exactly the lines of a tenant begin with `@`, its name and a space: in the output of a script,
+-- whatever memory was refused
 abbrev pub LinesTellWhose : Type 0
 LinesTellWhose = (config : ConfigData) (script : List ℕ) (requests : List Marked) → items_of requests ≡ requests_of script → (name : List ℕ) → is_name name ≡ true →
     (before behind : List Saying) (line : Saying) → lines_for config (opening config) requests ≡ before ++ line ∷ behind →

@@ -1,4 +1,4 @@
--- The output of a script as bytes: its lines, and those of one purse.
+-- The output of a script as bytes: its lines, and the lines of one purse.
 use Rattle.std.specs.Prelude.{◌≡◌, ℕ, Bool, true, List, filter, map, Some}
 use Rattle.std.specs.List.{list_all, list_any}
 use Rattle.farm_core.specs.Config.{ConfigData}
@@ -10,31 +10,32 @@ use Rattle.farm_replay.specs.Output.{Marked, items_of, opening, lines_for, line_
 use Rattle.farm_replay.specs.Isolation.{seat_of, is_members, own_requests}
 use Rattle.farm_replay.specs.Begins.{begins_with}
 
--- in the output of a script, whatever memory was refused, the lines of the bytes are those that answer its requests, one for each
+-- in the output of a script, whatever memory was refused, there is one line for each request
 abbrev pub LinesAreReplies : Type 0
 LinesAreReplies = (config : ConfigData) (script : List ℕ) (requests : List Marked) → items_of requests ≡ requests_of script →
     lines_of (output_of config requests) ≡ map line_text (lines_for config (opening config) requests)
 
--- these are the names of a purse's members
+-- the names of a purse's members
 pub record AreNamesOf (config : ConfigData) (p : ℕ) (names : List (List ℕ)) : Type 0 where
   pub named : list_all is_name names ≡ true
   pub exact : (who : List ℕ) → list_any (λ name. same_bytes who name) names ≡ is_members config p (Some who)
 
--- the lines of these bytes that begin with `@`, one of the names and a space
+-- whether a line begins with `@`, one of the names and a space
 abbrev pub begins_with_any : List (List ℕ) → List ℕ → Bool
 begins_with_any names line = list_any (λ name. begins_with (who_text (Some name)) line) names
 
+-- the lines that begin with `@`, one of the names and a space
 abbrev pub lines_beginning : List (List ℕ) → List ℕ → List (List ℕ)
 lines_beginning names bytes = filter (begins_with_any names) (lines_of bytes)
 
--- those of the output of a script are the lines of the output of the purse's requests alone
+-- a purse's lines in the output of a script are the output of the purse's requests alone
 abbrev pub EachOutputIsAlone : Type 0
 EachOutputIsAlone = (config : ConfigData) (script : List ℕ) (requests : List Marked) → items_of requests ≡ requests_of script →
     (p : ℕ) (names : List (List ℕ)) → AreNamesOf config p names →
     lines_beginning names (output_of config requests) ≡ lines_of (output_of config (own_requests config p requests))
 
--- and so they are the same in the outputs of two scripts in which the purse begins alike, has members of the same names at the same places,
--- and these ask for the same and are refused memory for the same
+-- a purse's lines are equal in the outputs of two scripts that are alike for it. It begins alike,
+-- and its members have equal names, places, requests and refusals of memory
 abbrev pub OutputsAreIsolated : Type 0
 OutputsAreIsolated = (config elsewhere : ConfigData) (script other : List ℕ) (requests others : List Marked) →
     items_of requests ≡ requests_of script → items_of others ≡ requests_of other →

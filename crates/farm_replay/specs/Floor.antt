@@ -14,10 +14,11 @@ use Rattle.session_lines.specs.declared.said.Said.{Said}
 use Rattle.session_lines.specs.declared.said.Said.TheVariants as said
 use Rattle.farm_replay.specs.Output.{told_under}
 
--- a turn of a tenant's job of that number
+-- whether a turn is of tenant t's job s
 abbrev pub is_turn_of : {J : Type 0} → ℕ → ℕ → TurnData J → Bool
 is_turn_of t s turn = (turn.tenant == t) && (turn.seq == s)
 
+-- whether a list has a turn of tenant t's job s
 abbrev pub has_turn : {J : Type 0} → ℕ → ℕ → List (TurnData J) → Bool
 has_turn t s turns = list_any (is_turn_of t s) turns
 
@@ -26,14 +27,16 @@ abbrev pub AreApart : {J : Type 0} → List (TurnData J) → Type 0
 AreApart [] = ⊤
 AreApart (turn ∷ turns) = (has_turn turn.tenant turn.seq turns ≡ false) × AreApart turns
 
--- each turn is of a job that is out, and has not run; each job that is out has its turn here, and one alone; and the farm is where its journal leads
+-- the turns are exactly one of each job that is out, and have not run; and the farm is what its
+-- journal leads to
 pub record IsFloor {J : Type 0} (meaning : J → Meaning) (w : World) (turns : List (TurnData J)) : Type 0 where
   pub held : AreHeld meaning w turns
   pub apart : AreApart turns
   pub all : (t s : ℕ) → is_out_of (find_job s (view t w).jobs) ≡ true → has_turn t s turns ≡ true
   pub replayed : IsOfJournal w
 
--- a tenant's request was answered, whether or not memory was refused: its purse stands as after that, and nothing changed for the other purses
+-- a tenant's request was answered, whether or not memory was refused: its purse is as after that,
+-- and no other purse changed
 pub record IsTold (old : World) (t : ℕ) (what : What) (answer : Said) (new : World) : Type 0 where
   pub refused : Bool
   pub said : answer ≡ (told_under refused (view t old) what).said
@@ -41,7 +44,7 @@ pub record IsTold (old : World) (t : ℕ) (what : What) (answer : Said) (new : W
   pub others : (p : ℕ) → p ≢ purse_in old.config t → purse p new ≡ purse p old
   pub config : new.config ≡ old.config
 
--- what is said where no turn was taken
+-- the reply if no turn was taken
 abbrev pub untaken : NoTurn → Said
 untaken no_turn.None = said.NoTurn
 untaken no_turn.NoMemory = said.Reply reply.NoMemory

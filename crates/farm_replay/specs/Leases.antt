@@ -1,4 +1,4 @@
--- Which leases are made in a replay.
+-- The leases that a replay makes.
 use Rattle.std.specs.Prelude.{◌≡◌, ℕ, List, [], ◌∷◌, Option, None, Result}
 use Rattle.farm_core.specs.Config.{ConfigData}
 use Rattle.session_lines.specs.declared.request.Request.{Request}
@@ -9,7 +9,7 @@ use Rattle.farm_session.specs.Branch.{BranchValue, HasLeasedBy}
 use Rattle.farm_session.specs.Heard.{heard_of}
 use Rattle.farm_session.specs.Ready.{ReadyData}
 
--- the bytes that are left of a script, where these are known, and its branches
+-- the bytes that are left of a script, if they are known, and its branches
 pub record ScriptPoint : Type 0 where
   pub left : Option (List ℕ)
   pub branches : List BranchValue
@@ -20,12 +20,12 @@ module _ {J : Type 0} (config : ConfigData) (made : ReadyData → Option J → T
     pub takes : Takes MOST_REQUEST_BYTES None old.left new.left read
     pub leased : HasLeasedBy made config (heard_of config read) old.branches new.branches
 
-  -- requests one after another, the last first
+  -- requests one after another, the last one first
   abbrev pub HaveLeased : ScriptPoint → List (Result Request LineFault) → ScriptPoint → Type 0
   HaveLeased old [] new = new ≡ old
   HaveLeased old (r ∷ reads) new = (mid : ScriptPoint) × HaveLeased old reads mid × HasHeard mid r new
 
-  -- these branches have the leases of some of the script's first requests, and no others
+  -- the branches have the leases of some first requests of the script, and no others
   abbrev pub AreLeasesOf : Option (List ℕ) → List BranchValue → List BranchValue → Type 0
   AreLeasesOf script old new =
       (reads : List (Result Request LineFault)) × (rest : Option (List ℕ))

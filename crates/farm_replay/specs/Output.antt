@@ -1,4 +1,4 @@
--- What a replay writes: one line for each request of its script, which the farm's steps give.
+-- What a replay writes: one line for each request of its script, given by the farm's steps.
 use Rattle.std.specs.Prelude.{◌≡◌, ◌≢◌, ◌⊎◌, ℕ, zero, suc, Bool, true, false, not, cond, ◌&&◌, ◌==◌, ◌≤◌, List, [], ◌∷◌, ◌++◌, if◌then◌else◌, Option, Some, None, is_some, Result, Ok, Err, length, map}
 use Rattle.std.specs.Io.KnownBytes.{Appends}
 use Rattle.std.specs.List.{flat_map, list_any}
@@ -34,30 +34,31 @@ use Rattle.farm_replay.specs.Counts.{Counts}
 
 -- ---- one tenant
 
--- what is said to a tenant, and its part of the farm then
+-- the reply to a tenant, and its part of the farm then
 pub record Answered : Type 0 where
   pub said : Said
   pub after : Tenant
 
--- what is said for an answer of the farm: a turn that goes out is told by the line of its job
+-- the reply for an answer of the farm: for a turn that is taken, the line of its job
 abbrev pub said_for : Answer → Said
 said_for (Replied answer) = said.Reply answer
 said_for (Sent line) = said.Reply (reply.Line line)
 said_for step.NoTurn = said.NoTurn
 
+-- the reply for a step, and the tenant's part after it
 abbrev pub told_by : Step → Answered
 told_by s = record { said = said_for s.answer; after = s.after }
 
--- the turn of job s that is out runs all that it can, and comes back
+-- the turn of job s runs all that it can, and is given back
 abbrev pub given_back : Tenant → ℕ → Answered
 given_back t s = told_by (step t (event.Give s (nodes_out (find_job s t.jobs))))
 
--- once a turn of job s was asked for: where there is one it runs and comes back
+-- after a turn of job s was asked for: if one was taken, it runs and is given back
 abbrev pub turned : Answer → Tenant → ℕ → Answered
 turned (Sent line) t s = given_back t s
 turned answer t s = record { said = said_for answer; after = t }
 
--- a tenant's request is a call of the farm, and a whole turn is two
+-- a tenant's request is a call of the farm; a whole turn is two calls
 abbrev pub told_to : Tenant → What → Answered
 told_to t (Submit kind quanta project) = told_by (step t (event.Submit (record { project = project; kind = kind }) quanta))
 told_to t (Fund s quanta) = told_by (step t (event.Fund s quanta))
@@ -70,8 +71,8 @@ told_to t (Take s slice) = told_by (step t (event.Take s slice))
 told_to t (Give s) = given_back t s
 told_to t (Turn s slice) = turned (step t (event.Take s slice)).answer (step t (event.Take s slice)).after s
 
--- whether a request may need memory: a submit and a request for a turn do, also where there is none to take; a give does not; and a command does only where the journal has room
--- for its entry, but for a cancel that is accepted
+-- whether a request may need memory: a submit and a request for a turn do, a give does not; another
+-- request does if the journal has room for its entry, but for an accepted cancel
 abbrev pub request_may_need : Tenant → What → Bool
 request_may_need t (Submit kind quanta project) = true
 request_may_need t (Take s slice) = true
@@ -80,7 +81,8 @@ request_may_need t (Give s) = false
 request_may_need t (Cancel s) = has_room 1 t && not (is_line (step t (event.Cancel s)).answer)
 request_may_need t what = has_room 1 t
 
--- what is said to a request where memory that it needs is refused, or where it is not: a refusal changes nothing
+-- a request for which memory is refused that it may need changes nothing, and its reply is *no
+-- memory*
 abbrev pub told_under : Bool → Tenant → What → Answered
 told_under refused t what = cond (refused && request_may_need t what) (record { said = said.Reply reply.NoMemory; after = t }) (told_to t what)
 
@@ -90,34 +92,38 @@ told_under refused t what = cond (refused && request_may_need t what) (record { 
 abbrev pub Parts : Type 0
 Parts = ℕ → Purse
 
+-- the parts of a new farm
 abbrev pub opening : ConfigData → Parts
 opening config p = opened_purse config p
 
+-- the parts with `new` for purse p
 abbrev pub with_part : Parts → ℕ → Purse → Parts
 with_part parts p new q = cond (q == p) new (parts q)
 
--- where a tenant stands at its purse
+-- a tenant's part of its purse
 abbrev pub part_of : ConfigData → Parts → ℕ → Tenant
 part_of config parts t = seat (parts (purse_in config t)) (place_in config t)
 
--- the parts once it stands otherwise
+-- the parts with `new` for tenant t
 abbrev pub with_tenant : ConfigData → Parts → ℕ → Tenant → Parts
 with_tenant config parts t new = with_part parts (purse_in config t) (with_seat (parts (purse_in config t)) (place_in config t) new)
 
--- a reply line: whose it is, where that is known, and what is said
+-- a reply line: the tenant's name, if it is known, and the reply
 pub record Saying : Type 0 where
   pub who : Option (List ℕ)
   pub said : Said
 
--- the line that answers a request, and the purses' parts then
+-- the line that answers a request, and the parts then
 pub record Next : Type 0 where
   pub line : Saying
   pub parts : Parts
 
+-- a line is written, and these are the parts then
 abbrev pub says : Option (List ℕ) → Said → Parts → Next
 says who words parts = record { line = record { who = who; said = words }; parts = parts }
 
--- what a request comes to: its reply is settled, or one tenant's part of the farm is asked; the end of the script and a failed read are no request's
+-- a request that is routed: its reply is settled, or one tenant's part is asked. The end of the
+-- script and a failed read are no requests
 abbrev pub answered : ConfigData → Bool → Parts → Heard → Next
 answered config refused parts (heard.Told who words) = says who words parts
 answered config refused parts (heard.Asked t who what) =
@@ -125,7 +131,7 @@ answered config refused parts (heard.Asked t who what) =
     says (Some who) it.said (with_tenant config parts t it.after)
 answered config refused parts no_request = says None said.Syntax parts
 
--- whose a request is, where that is known
+-- the tenant's name in a request, if it is known
 abbrev pub who_in : Result Request LineFault → Option (List ℕ)
 who_in (Ok request) = Some request.who
 who_in (Err (TooLong who)) = who
@@ -139,25 +145,27 @@ pub record Marked : Type 0 where
   pub item : Item
   pub refused : Bool
 
--- it is a submit, whose text takes memory, and memory was refused
+-- whether memory was refused for the text of a submit
 abbrev pub is_unread : Marked → Bool
 is_unread m = m.refused && is_some m.item.submits
 
--- then it is answered before its text is judged
+-- the line for a request: an unread submit is answered *no memory* before its text is judged
 abbrev pub next : ConfigData → Parts → Marked → Next
 next config parts m =
     if is_unread m then says (who_in m.item.answer) (said.Reply reply.NoMemory) parts
     else answered config m.refused parts (heard_of config m.item.answer)
 
--- the lines that answer these requests, one after another, and the purses' parts at their end
+-- the lines that answer requests, one after another
 abbrev pub lines_for : ConfigData → Parts → List Marked → List Saying
 lines_for config parts [] = []
 lines_for config parts (m ∷ ms) = (next config parts m).line ∷ lines_for config (next config parts m).parts ms
 
+-- the parts after these requests
 abbrev pub parts_after : ConfigData → Parts → List Marked → Parts
 parts_after config parts [] = parts
 parts_after config parts (m ∷ ms) = parts_after config (next config parts m).parts ms
 
+-- the bytes of a line
 abbrev pub line_text : Saying → List ℕ
 line_text line = reply_line line.who line.said
 
@@ -165,14 +173,16 @@ line_text line = reply_line line.who line.said
 abbrev pub output_of : ConfigData → List Marked → List ℕ
 output_of config ms = flat_map line_text (lines_for config (opening config) ms)
 
+-- the requests, without their refusals of memory
 abbrev pub items_of : List Marked → List Item
 items_of ms = map (λ (m : Marked). m.item) ms
 
--- one of these replies refuses its request
+-- whether one of the replies refuses its request
 abbrev pub has_refusal : List Saying → Bool
 has_refusal lines = list_any (λ (line : Saying). is_refusal line.said) lines
 
--- the whole output of a script of at most 1,000,000 requests was written, whatever memory was refused, and whether one of its replies is a refusal is known
+-- the output of a script of at most 1,000,000 requests was written, whatever memory was refused;
+-- `refuses` is whether one of its replies is a refusal
 pub record IsWritten (config : ConfigData) (script : List ℕ) (refuses : Bool) (old new : Option (List ℕ)) : Type 0 where
   pub requests : List Marked
   pub all : items_of requests ≡ requests_of script
@@ -180,7 +190,7 @@ pub record IsWritten (config : ConfigData) (script : List ℕ) (refuses : Bool) 
   pub written : Appends old new (output_of config requests)
   pub refusal : refuses ≡ has_refusal (lines_for config (opening config) requests)
 
--- a part of the line of the first of these requests, from its front
+-- a prefix of the line that answers the first of the requests left
 pub record IsPartOfNext (config : ConfigData) (before : List Marked) (rest : List Item) (part : List ℕ) : Type 0 where
   pub refused : Bool
   pub item : Item
@@ -189,7 +199,7 @@ pub record IsPartOfNext (config : ConfigData) (before : List Marked) (rest : Lis
   pub first : rest ≡ item ∷ more
   pub line : line_text (next config (parts_after config (opening config) before) (record { item = item; refused = refused })).line ≡ part ++ behind
 
--- the lines that are left of a script after so many requests
+-- the lines that are left of a script after n requests
 abbrev pub lines_past : ℕ → List (List ℕ) → List (List ℕ)
 lines_past zero lines = lines
 lines_past (suc n) lines = lines_after (first None (lines_past n lines))
@@ -198,15 +208,16 @@ lines_past (suc n) lines = lines_after (first None (lines_past n lines))
 abbrev pub IsLongNext : List ℕ → List Marked → Type 0
 IsLongNext script requests = IsPast MOST_REQUEST_BYTES None (lines_past (length requests) (lines_of script))
 
--- why a replay ends after these requests, by its fault and by what its watches had counted before it and count then, and what was written
--- after their lines: a fault of the reader or the writer is one of this replay, whatever failed before it
+-- the cause of a fault that ends a replay after these requests, and what was written after their
+-- lines. A fault of the reader or the writer is one of this replay, whatever failed before it
 abbrev pub IsCutBy : ReplayFault → Counts → Counts → ConfigData → List ℕ → List Marked → List Item → List ℕ → Type 0
 IsCutBy fault.Read before seen config script requests rest part = (part ≡ []) × (HasFailed before.reads seen.reads ⊎ IsLongNext script requests)
 IsCutBy fault.Write before seen config script requests rest part = HasFailed before.writes seen.writes × IsPartOfNext config requests rest part
 IsCutBy fault.Requests before seen config script requests rest part = (part ≡ []) × (length requests ≡ MOST_REQUESTS) × (rest ≢ [])
 IsCutBy fault.NoMemory before seen config script requests rest part = (part ≡ []) × (requests ≡ [])
 
--- the output of a script's first requests was written, and after a failed write a part of the next line
+-- the output of a script's first requests was written, and after a failed write a prefix of the
+-- next line
 pub record IsCutOff (config : ConfigData) (fault : ReplayFault) (before seen : Counts) (script : List ℕ) (old new : Option (List ℕ)) : Type 0 where
   pub requests : List Marked
   pub rest : List Item

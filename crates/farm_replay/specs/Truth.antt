@@ -12,7 +12,7 @@ use Rattle.session_lines.specs.Script.{requests_of}
 use Rattle.farm_session.specs.Heard.{tenant_number}
 use Rattle.farm_replay.specs.Output.{Marked, items_of, opening, next, parts_after}
 
--- what is said of a job is true of a plan that was made under its number
+-- a reply about a job is true of a plan that was made under its number
 abbrev pub IsTrueSaid : (ℕ → Plan → Type 0) → Said → Type 0
 IsTrueSaid made (said.Reply answer) = IsTrueReply made answer
 IsTrueSaid made said.NoTurn = ⊤
@@ -21,7 +21,7 @@ IsTrueSaid made said.Syntax = ⊤
 IsTrueSaid made said.LongLine = ⊤
 IsTrueSaid made (said.File fault) = ⊤
 
--- one of these requests is tenant t's, and this is said to it
+-- one of the requests is tenant t's, and this is its reply
 pub record WasTold (config : ConfigData) (requests : List Marked) (t : ℕ) (what : What) (words : Said) : Type 0 where
   pub before : List Marked
   pub request : Marked
@@ -32,14 +32,14 @@ pub record WasTold (config : ConfigData) (requests : List Marked) (t : ℕ) (wha
   pub number : tenant_number who config ≡ Some t
   pub says : words ≡ (next config (parts_after config (opening config) before) request).line.said
 
--- one of them is tenant t's submit of the plan, to which this number is said
+-- one of the requests is tenant t's submit of the plan, and its reply is job number s
 abbrev pub WasSubmitted : ConfigData → List Marked → ℕ → ℕ → Plan → Type 0
 WasSubmitted config requests t s plan = (quanta : ℕ) × WasTold config requests t (Submit plan.kind quanta plan.project) (said.Reply (reply.Job s))
 
--- in the output of a script, whatever memory was refused, each line about a job is true of a plan that its tenant has
--- submitted under that number before it: a schedule is feasible and has the makespan that is named, with 'optimal' no
--- feasible schedule is shorter, and with 'infeasible' there is none. And only one request of a tenant is told that it made
--- the job of a number, so no two plans of a tenant were submitted under one
+-- each line about a job is true of a plan that its tenant submitted under its number before. A
+-- schedule is feasible and has its makespan. With 'optimal' no feasible one is shorter, and with
+-- 'infeasible' there is none. A job number of a tenant is the reply to one request only. All this
+-- holds whatever memory was refused
 pub record EachLineIsTrue : Type 0 where
   pub told : (config : ConfigData) (script : List ℕ) (requests : List Marked) → items_of requests ≡ requests_of script →
       (t : ℕ) (what : What) (words : Said) → (it : WasTold config requests t what words) →

@@ -18,13 +18,11 @@ use session_lines::{Said, What};
 use std::alloc::{AllocError, Global};
 use strategy::{Plan, Strategy};
 
-/// The farm that a script asks, and the turns that it has taken and not yet given back.
 pub(crate) struct Floor<J> {
     pub(crate) farm: Farm<J>,
     pub(crate) held: Vec<Turn<J>>,
 }
 
-/// Where the turn of a tenant's job of that number lies.
 fn place_of<J: Strategy>(turns: &[Turn<J>], tenant: u32, seq: u64) -> Option<usize>
     ensures { result ≡ position (is_turn_of tenant seq) turns.now }
 {
@@ -33,7 +31,6 @@ fn place_of<J: Strategy>(turns: &[Turn<J>], tenant: u32, seq: u64) -> Option<usi
         .position(|turn| turn.tenant() == tenant && turn.seq() == seq)
 }
 
-/// What is said where no turn was taken.
 fn untaken(why: NoTurn) -> Said
     ensures { result ≡ untaken why }
 {
@@ -44,7 +41,6 @@ fn untaken(why: NoTurn) -> Said
 }
 
 impl<J: Strategy> Floor<J> {
-    /// A new farm of the configuration, of which no turn is held.
     pub(crate) fn new(alloc: Global, config: &Config) -> Result<Floor<J>, AllocError>
         ensures farm { IfOk result (λ floor. floor.farm ≡ opened config.now) }
         ensures floor { IfOk result (λ floor. IsFloor J.meaning floor.farm floor.held.items) }
@@ -56,7 +52,6 @@ impl<J: Strategy> Floor<J> {
         })
     }
 
-    /// Submits a job for a plan, with the search that is made for it.
     fn submit<M: Fn(Ready) -> Option<J>>(
         &mut self,
         alloc: Global,
@@ -83,7 +78,7 @@ impl<J: Strategy> Floor<J> {
         Said::Reply(self.farm.submit(tenant, plan, quanta, search))
     }
 
-    /// Takes a turn of a job, and holds it. Tells what is known of the job then.
+    /// Reserves memory first, so that no turn is taken that cannot be held.
     fn hold(&mut self, tenant: u32, seq: u64, slice: u64) -> Result<Line, NoTurn>
         requires known { tenant < length self.old.farm.config.tenants }
         requires floor { IsFloor J.meaning self.old.farm self.old.held.items }
@@ -103,7 +98,6 @@ impl<J: Strategy> Floor<J> {
         Ok(line)
     }
 
-    /// Takes a turn of a job, and holds it.
     fn take(&mut self, tenant: u32, seq: u64, slice: u64) -> Said
         requires known { tenant < length self.old.farm.config.tenants }
         requires floor { IsFloor J.meaning self.old.farm self.old.held.items }
@@ -116,7 +110,6 @@ impl<J: Strategy> Floor<J> {
         }
     }
 
-    /// Runs the turn of a job that is held, and gives it back.
     fn give(&mut self, tenant: u32, seq: u64) -> Said
         requires known { tenant < length self.old.farm.config.tenants }
         requires floor { IsFloor J.meaning self.old.farm self.old.held.items }
@@ -137,7 +130,6 @@ impl<J: Strategy> Floor<J> {
         }
     }
 
-    /// Takes a turn of a job, runs it, and gives it back.
     fn turn(&mut self, tenant: u32, seq: u64, slice: u64) -> Said
         requires known { tenant < length self.old.farm.config.tenants }
         requires floor { IsFloor J.meaning self.old.farm self.old.held.items }
@@ -150,8 +142,6 @@ impl<J: Strategy> Floor<J> {
         }
     }
 
-    /// Answers a tenant's request. A submit has a lease made, at the branch of the tenant's purse, and
-    /// nothing else has one made.
     pub(crate) fn answer<M: Fn(Ready) -> Option<J>>(
         &mut self,
         alloc: Global,
@@ -191,7 +181,6 @@ impl<J: Strategy> Floor<J> {
         }
     }
 
-    /// Gives back the last of the turns that are held, unrun.
     fn give_last(&mut self)
         requires { IsFloor J.meaning self.old.farm self.old.held.items }
         ensures floor { IsFloor J.meaning self.new.farm self.new.held.items }
@@ -207,7 +196,6 @@ impl<J: Strategy> Floor<J> {
         }
     }
 
-    /// Gives back all turns that are held, unrun.
     fn give_all(&mut self)
         requires { IsFloor J.meaning self.old.farm self.old.held.items }
         ensures none { self.new.held.items ≡ [] }
@@ -219,7 +207,6 @@ impl<J: Strategy> Floor<J> {
         }
     }
 
-    /// The farm, after all turns that are held were given back unrun.
     pub(crate) fn close(self) -> Farm<J>
         requires { IsFloor J.meaning self.farm self.held.items }
         ensures unrun { (t : ℕ) → (view t result).spent ≡ (view t self.farm).spent }

@@ -1,8 +1,8 @@
 //! Scripts of requests, replayed on a farm of one thread.
 //!
-//! [`replay`] is the main job: what it writes is the output that the definitions make of the script's bytes (`specs/Output`), whole
-//! or cut off by a named fault, and the `laws` say what a user may rest on: the lines of each purse (the tenants that share one, or a
-//! tenant alone) are those of its members' requests, and each line about a job is true.
+//! [`replay`] writes the output that `specs/Output` defines of the script's bytes, whole or cut off
+//! by a named fault. By the `laws` a purse's lines are those of its requests alone, and each line
+//! about a job is true.
 //!
 //! - `script`: `replay`, one request after another.
 //! - `reader`: the script's bytes, with the numbers of their lines.

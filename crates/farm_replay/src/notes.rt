@@ -1,20 +1,19 @@
-//! What is noted of a script beside its replies.
 ghost use Rattle.std.specs.Prelude.{◌≡◌, ◌||◌, is_some};
 ghost use Rattle.farm_replay.specs.Refusal.{is_refusal};
 
 use farm_core::Reply;
 use session_lines::Said;
 
-/// Lines of a script that its writer may want to look at. They are numbered from 1.
+/// A `Notes` is what a script's writer may want to look at: lines, counted from 1.
 #[derive(Clone, Copy, Debug, Default, PartialEq, Eq)]
 pub struct Notes {
-    /// The line of the first request that was refused.
+    /// The line of the first refused request.
     pub refused: Option<u64>,
-    /// The line of the first submit whose text ends with a line that begins with `@`, as a request does.
+    /// The line of the first submit whose text ends in a line that begins with `@`.
     pub doubtful: Option<u64>,
 }
 
-/// Whether the reply refuses its request: its text begins with the word `no`.
+/// Whether `said` refuses its request: its text begins with the word `no`.
 pub fn is_refused(said: &Said) -> bool
     ensures { result ≡ is_refusal said.now }
 {
@@ -33,7 +32,6 @@ pub fn is_refused(said: &Said) -> bool
 }
 
 impl Notes {
-    /// Notes the request at this line, by what is said to it.
     pub(crate) fn add(&mut self, line: u64, is_doubtful: bool, said: &Said)
         ensures { is_some self.new.refused ≡ (is_some self.old.refused || is_refusal said.now) }
     {

@@ -10,21 +10,18 @@ use std::io::{BufRead, BufReader, Read};
 /// The bytes of the shortest line that opens a text, `@a submit tree 1 1`.
 const LEAST_SUBMIT: usize = 18;
 
-/// The lines of the bytes that were taken, and the first of them that is not blank since a request began.
 #[derive(Clone, Copy, Debug)]
 struct Lines {
-    /// How many have ended.
     ended: u64,
-    /// The number of the first line with a byte of a word, counted from 1.
+    /// The first line with a byte of a word since the request began, counted from 1.
     first: Option<u64>,
-    /// Whether the last line that began behind the first one begins with `@`.
+    /// Whether the last line that began after `first` begins with `@`.
     is_marked: bool,
     /// The last byte, or a line feed before the first one.
     last: u8,
 }
 
 impl Lines {
-    /// No line yet.
     fn new() -> Lines {
         Lines {
             ended: 0,
@@ -34,8 +31,7 @@ impl Lines {
         }
     }
 
-    /// Whether the byte belongs to a word, or tells that the one before it does: a carriage return ends a line right before its line
-    /// feed, and belongs to a word elsewhere.
+    /// A carriage return is of a word unless a line feed follows it, so the next byte decides.
     fn is_of_word(&self, byte: u8) -> bool {
         match byte {
             b'\n' => false,
@@ -44,7 +40,6 @@ impl Lines {
         }
     }
 
-    /// One more byte, before a request begins or at its begin.
     fn add(&mut self, byte: u8) {
         if self.is_of_word(byte) {
             self.first = Some(self.ended.saturating_add(1));
@@ -55,7 +50,7 @@ impl Lines {
         self.last = byte;
     }
 
-    /// More bytes of a request that has begun.
+    /// The request has begun: only the ends of lines and their first bytes matter.
     fn go_on(&mut self, bytes: &[u8]) {
         let Some((last, front)) = bytes.split_last() else {
             return;
@@ -73,7 +68,6 @@ impl Lines {
         self.last = *last;
     }
 
-    /// So many bytes more.
     fn add_all(&mut self, bytes: &[u8]) {
         for (i, byte) in bytes.iter().enumerate() {
             if self.first.is_some() {
@@ -85,7 +79,7 @@ impl Lines {
     }
 }
 
-/// The reader of a script, which knows the lines of the request that was read last.
+/// A `Script` is a reader that knows the lines of the request that was read last.
 #[derive(Drop)]
 pub(crate) struct Script<R> {
     input: BufReader<R>,
@@ -93,7 +87,6 @@ pub(crate) struct Script<R> {
 }
 
 impl<R: Read> Script<R> {
-    /// A script of all bytes of the reader.
     pub(crate) fn new(alloc: Global, reader: R) -> io::Result<Script<R>>
     where
         R: Drop,
@@ -106,7 +99,6 @@ impl<R: Read> Script<R> {
         })
     }
 
-    /// Counts the lines of the next request from here on.
     pub(crate) fn begin(&mut self)
         ensures { script_rest R.remaining self.new ≡ script_rest R.remaining self.old }
     {
@@ -114,7 +106,7 @@ impl<R: Read> Script<R> {
         self.lines.is_marked = false;
     }
 
-    /// The number of the line at which the request begins, counted from 1.
+    /// The line at which the request begins, counted from 1.
     pub(crate) fn line(&self) -> u64 {
         match self.lines.first {
             Some(line) => line,
@@ -127,7 +119,7 @@ impl<R: Read> Script<R> {
         self.lines.is_marked
     }
 
-    /// Whether the next request can be read without a wait: a whole line that asks something and opens no text was read ahead.
+    /// Whether the next request was read ahead: a whole line with a word, which opens no text.
     pub(crate) fn is_at_hand(&self) -> bool {
         let ahead = self.input.buffer();
         let Some(end) = ahead.iter().position(|byte| *byte == b'\n') else {

@@ -33,10 +33,9 @@ use std::io::{BufRead, Read, Write};
 use strategy::{Kind, Strategy};
 use watched_io::Watch;
 
-/// The most requests of a script.
 const MOST_REQUESTS: u64 = 1_000_000;
 
-/// Why a replay ended before its script.
+/// A `ReplayFault` is why a replay ended before its script.
 #[derive(Clone, Copy, Debug, PartialEq, Eq, thiserror::Error)]
 pub enum ReplayFault {
     /// The reader failed, or one request passed 100,000,000 bytes.
@@ -48,12 +47,11 @@ pub enum ReplayFault {
     /// The script has more than 1,000,000 requests.
     #[error("Requests")]
     Requests,
-    /// There was no memory to begin with.
+    /// There was no memory to begin.
     #[error("NoMemory")]
     NoMemory,
 }
 
-/// Writes a reply line.
 fn tell<W: Write>(
     writer: &mut W,
     watch: &mut Watch<W>,
@@ -70,7 +68,7 @@ fn tell<W: Write>(
     }
 }
 
-/// How a replay ends that has answered all requests that it may, by what is read then.
+/// The result of a replay that has reached `MOST_REQUESTS`: `Ok` only if the input ends here.
 fn ended(read: Result<Request, LineFault>) -> Result<(), ReplayFault>
     ensures { result ≡ end_of read }
 {
@@ -81,7 +79,6 @@ fn ended(read: Result<Request, LineFault>) -> Result<(), ReplayFault>
     }
 }
 
-/// Whether a script ends here, or goes on past its last request that may be.
 fn end<R: BufRead>(alloc: Global, script: &mut R, watch: &mut Watch<R>) -> Result<(), ReplayFault>
     ensures over { OnOk result (IfSome (R.remaining script.old) (λ bytes. requests_of bytes ≡ [])) }
     ensures fault { IfErr result (λ fault. IfSome (R.remaining script.old) (λ bytes.
@@ -94,7 +91,6 @@ fn end<R: BufRead>(alloc: Global, script: &mut R, watch: &mut Watch<R>) -> Resul
     ended(read_request(alloc, script, watch))
 }
 
-/// Answers the requests of a script, one line each. Replies go out before a request is waited for, and before one runs nodes.
 fn play<J: Strategy, R: Read, W: Write, M: Fn(Ready) -> Option<J>>(
     alloc: Global,
     config: &Config,
@@ -150,13 +146,9 @@ fn play<J: Strategy, R: Read, W: Write, M: Fn(Ready) -> Option<J>>(
     end(alloc, script, &mut watches.reads)
 }
 
-/// Runs a script of requests on a new farm of the configuration, and writes one reply line for each. Turns that the script still
-/// holds at its end are given back unrun. After a fault the lines of the requests before it stand whole; after `Write` a front part
-/// of the next line stands behind them. `Read` comes only if a read of this call fails or a request has more than 100,000,000 bytes,
-/// `Write` only if a write of this call fails or takes nothing. At `Ok` neither watch has noted a
-/// failure. A failed send before the script is waited for is not noted, and leaves the replies
-/// gathered. Replies go out before the script is waited for, and before a turn is run. What a
-/// writer of scripts may want to look at is noted, and what was noted before is forgotten.
+/// Runs the requests of `reader` on a new farm of `config`, and writes one reply line for each.
+/// After a fault all lines of earlier requests are whole; after `Write` a prefix of the next line
+/// may follow. It sets `notes` anew. Turns that the script holds at its end are given back unrun.
 pub fn replay<R: Read + Drop, W: Write>(
     alloc: Global,
     config: &Config,

@@ -9,8 +9,8 @@ use session_lines::What;
 use std::io::{Read, Write};
 use watched_io::Watch;
 
-/// Sends the gathered replies if the next request may have to be waited for. A failure is not noted:
-/// the replies stay gathered, and a later write or the end of the replay reports it.
+/// A failure is not noted: the replies stay gathered, and a later write or the replay's end reports
+/// it.
 pub(crate) fn send_before_wait<R: Read, W: Write>(script: &Script<R>, writer: &mut W)
     ensures { Keeps (W.contents writer.old) (W.contents writer.new) }
 {
@@ -19,7 +19,6 @@ pub(crate) fn send_before_wait<R: Read, W: Write>(script: &Script<R>, writer: &m
     }
 }
 
-/// Sends the replies that were gathered, where the request may run nodes.
 pub(crate) fn send_before_nodes<W: Write>(
     asked: &What,
     writer: &mut W,

@@ -1,17 +1,14 @@
-//! Whether the reader or the writer of a replay has failed.
 ghost use Rattle.std.specs.Prelude.{◌≡◌};
 
 use crate::reader::Script;
 use std::marker::Model;
 use watched_io::Watch;
 
-/// The watches of a replay: one of its script's reader, of type `R`, and one of its replies' writer,
-/// of type `W`. A contract sees what each has counted.
+/// A `ReplayWatches` is a watch of the script's reader `R`, and one of the replies' writer `W`.
+/// Contracts see what each has counted.
 #[derive(Drop)]
 pub struct ReplayWatches<R, W> {
-    /// Of the script's reader.
     pub(crate) reads: Watch<Script<R>>,
-    /// Of the replies' writer.
     pub(crate) writes: Watch<W>,
 }
 
@@ -24,7 +21,7 @@ impl<R, W> Model for ReplayWatches<R, W> {
 }
 
 impl<R, W> ReplayWatches<R, W> {
-    /// Watches through which nothing has failed.
+    /// Returns watches through which nothing has failed.
     pub fn new() -> ReplayWatches<R, W>
         ensures reads { result.reads ≡ 0 }
         ensures writes { result.writes ≡ 0 }

@@ -1,4 +1,4 @@
--- What is said to a request.
+-- The answer to a request.
 use Rattle.std.specs.Prelude.{◌≡◌, ◌⊎◌, Option, Some, None}
 use Rattle.farm_core.specs.declared.entry.Event.{Event}
 use Rattle.farm_core.specs.declared.entry.Event.TheVariants as event
@@ -10,18 +10,19 @@ use Rattle.session_lines.specs.declared.said.Said.{Said}
 use Rattle.session_lines.specs.declared.said.Said.TheVariants as said
 use Rattle.farm_session.specs.Command.{event_in, IsNoSubmit}
 
--- what a request other than a submit comes to: the reply to the call of its event; or it asks for
--- no call, and none was made
+-- the reply to the call of an event
 abbrev pub IsAnswerTo : {T : Type 0} → (Event → Reply → T → Type 0) → Option Event → Reply → T → Type 0
 IsAnswerTo tells (Some e) reply new = tells e reply new
 IsAnswerTo tells None reply new = ⊥
 
+-- a request other than a submit has the reply to its call. A submit, and a request without a call,
+-- have none here, and nothing changed
 abbrev pub IsAsked : {T : Type 0} → (Event → Reply → T → Type 0) → T → What → Option Reply → T → Type 0
 IsAsked tells old what (Some reply) new = IsNoSubmit what × IsAnswerTo tells (event_in what) reply new
 IsAsked tells old (Submit kind quanta project) None new = new ≡ old
 IsAsked tells old what None new = (event_in what ≡ None) × (new ≡ old)
 
--- a job's call was answered so; or there was no memory for its search, and none was made
+-- a submit was answered; or there was no memory for its search, and no call was made
 abbrev pub IsSubmitted : {T : Type 0} → (Event → Reply → T → Type 0) → T → Event → Reply → T → Type 0
 IsSubmitted tells old e answer new = tells e answer new ⊎ ((answer ≡ reply.NoMemory) × (new ≡ old))
 
@@ -31,8 +32,8 @@ IsCallAnswered tells old (event.Submit plan quanta) (said.Reply answer) new = Is
 IsCallAnswered tells old e (said.Reply answer) new = tells e answer new
 IsCallAnswered tells old e words new = ⊥
 
--- what is said to a tenant's request: the reply to the call of that event; or that it is no
--- request, and no call was made
+-- the answer to a tenant's request: the reply to its call, or that it is no request, and no call
+-- was made
 abbrev pub IsSaidTo : {T : Type 0} → (Event → Reply → T → Type 0) → T → Option Event → Said → T → Type 0
 IsSaidTo tells old (Some e) words new = IsCallAnswered tells old e words new
 IsSaidTo tells old None words new = (words ≡ said.Syntax) × (new ≡ old)

@@ -4,7 +4,7 @@ use Rattle.farm_core.specs.Config.{ConfigData}
 use Rattle.farm_session.specs.declared.heard.Heard.{Heard}
 use Rattle.farm_session.specs.declared.heard.Heard.TheVariants.{Over, Broken, Told, Asked}
 
--- a request that is to be asked of the farm is a tenant's of the configuration
+-- a request for the farm is that of a tenant of the configuration
 abbrev pub IsKnown : ConfigData → Heard → Type 0
 IsKnown config Over = ⊤
 IsKnown config Broken = ⊤

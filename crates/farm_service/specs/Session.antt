@@ -1,5 +1,5 @@
--- What a session does for the requests that it hears: which calls it makes, which leases it has
--- made, and which lines it writes.
+-- What a session does for its requests: the calls that it makes, the leases that it has made, and
+-- the lines that it writes.
 use Rattle.std.specs.Prelude.{◌≡◌, ℕ, ⊤, List, [], ◌∷◌, Option, None, Result}
 use Rattle.farm_core.specs.declared.entry.Event.{Event}
 use Rattle.farm_core.specs.declared.reply.Reply.{Reply}
@@ -16,20 +16,21 @@ use Rattle.farm_service.specs.declared.service.Role.{Role}
 use Rattle.farm_service.specs.declared.service.Role.TheVariants.{Worker, Client}
 use Rattle.farm_service.specs.Told.{heard_in, IsToldOf}
 
--- where a session stands: its token of the pool, its branches, the bytes that its reader has left,
--- and those that its writer holds, where these are known
+-- the state of a session: its token of the pool, its branches, and, if known, the bytes left to
+-- read and the written bytes
 pub record Stand (T : Type 0) : Type 0 where
   pub token : T
   pub branches : List BranchValue
   pub left : Option (List ℕ)
   pub written : Option (List ℕ)
 
+-- the state of these parts
 abbrev pub stand : {T : Type 0} → T → List BranchValue → Option (List ℕ) → Option (List ℕ) → Stand T
 stand token branches left written = record { token = token; branches = branches; left = left; written = written }
 
 module _ {T J : Type 0} (config : ConfigData) (tells : T → ℕ → Event → Reply → T → Type 0) (made : ReadyData → Option J → Type 0) where
-  -- one request was read and answered: the call that it asks for was made, the lease that it needs,
-  -- and its line was written; and nothing else
+  -- one request was read and answered: its call was made, the lease that it needs, and its line was
+  -- written; nothing else was done
   pub record HasAnswered (old : Stand T) (heard : Heard) (new : Stand T) : Type 0 where
     pub read : Result Request LineFault
     pub result : Result ⊤ WriteFault
@@ -38,17 +39,16 @@ module _ {T J : Type 0} (config : ConfigData) (tells : T → ℕ → Event → R
     pub told : IsToldOf tells old.token heard result old.written new.written new.token
     pub leased : HasLeasedBy made config heard old.branches new.branches
 
-  -- requests one after another, the last first
+  -- requests one after another, the last one first
   abbrev pub HasServed : Stand T → List Heard → Stand T → Type 0
   HasServed old [] new = new ≡ old
   HasServed old (h ∷ heard) new = (mid : Stand T) × HasServed old heard mid × HasAnswered mid h new
 
-  -- a session: some requests were answered, and nothing was done beside
+  -- a session: some requests were answered, and nothing else was done
   abbrev pub IsSession : Stand T → Stand T → Type 0
   IsSession old new = (heard : List Heard) × HasServed old heard new
 
-  -- a client was served from its first request to its last, whatever its connection tells: no lease
-  -- was made before or after
+  -- a client was served, whatever its connection sends, and no lease was made before or after
   abbrev pub IsClientServed : T → List BranchValue → T → List BranchValue → Type 0
   IsClientServed old branches new then =
       (left : Option (List ℕ)) × (written : Option (List ℕ)) × (rest : Option (List ℕ)) × (told : Option (List ℕ))

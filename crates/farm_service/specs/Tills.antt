@@ -8,7 +8,8 @@ use Rattle.farm_core.specs.Tills.{AreTillsOf, AreSeated}
 use Rattle.farm_pool.specs.Settle.{books_of, words_at, AreLoaded, first_unsettled}
 use Rattle.farm_pool.specs.Worked.{PoolView, IsClosed}
 
--- a farm of the configuration, whose journal is that of a legal history, is settled with its purses' tills, whose words were loaded once
+-- a farm of the configuration is settled with its purses' tills. Its journal is that of a legal
+-- history, and the tills' words were loaded once
 pub record IsSettled (config : ConfigData) : Type 0 where
   pub farm : World
   pub seen : PoolView

@@ -1,4 +1,4 @@
--- What is heard of a connection, and the line that it is told for that.
+-- How a connection's request is routed, and the line that answers it.
 use Rattle.std.specs.Prelude.{◌≡◌, ℕ, ⊤, List, Option, Some, None, Result, Ok, Err}
 use Rattle.farm_core.specs.Config.{ConfigData}
 use Rattle.farm_core.specs.declared.entry.Event.{Event}
@@ -24,11 +24,13 @@ unless_scripted (Give seq) heard = Told None said.Syntax
 unless_scripted (Turn seq slice) heard = Told None said.Syntax
 unless_scripted what heard = heard
 
+-- a request of a connection, as it is routed
 abbrev pub heard_in : ConfigData → Result Request LineFault → Heard
 heard_in config (Ok request) = unless_scripted request.what (heard_of config (Ok request))
 heard_in config (Err fault) = heard_of config (Err fault)
 
--- what is said of what was heard, and to whom: of a tenant's request the reply to its call, else what it comes to at once, and no call was made
+-- the reply to a routed request, and its tenant: the reply to its call, or one that was settled
+-- before, and no call was made
 abbrev pub IsReplyTo : {T : Type 0} → (T → ℕ → Event → Reply → T → Type 0) → T → Heard → Option (List ℕ) → Said → T → Type 0
 IsReplyTo tells old Over who words new = ⊥
 IsReplyTo tells old Broken who words new = ⊥
@@ -42,7 +44,7 @@ pub record IsLineTo {T E : Type 0} (tells : T → ℕ → Event → Reply → T 
   pub is : IsReplyTo tells old heard who words new
   pub wrote : Writes result before after (reply_line who words)
 
--- at the input's end, and where it cannot be read, nothing is said
+-- at the input's end, and if it cannot be read, nothing is written
 abbrev pub IsToldOf : {T E : Type 0} → (T → ℕ → Event → Reply → T → Type 0) → T → Heard → Result ⊤ E → Option (List ℕ) → Option (List ℕ) → T → Type 0
 IsToldOf tells old Over result before after new = (after ≡ before) × (new ≡ old)
 IsToldOf tells old Broken result before after new = (after ≡ before) × (new ≡ old)

@@ -1,4 +1,4 @@
-//! One connection.
+//! One connection: its requests are read, called and answered in their order.
 ghost use Rattle.std.specs.Prelude.{◌≡◌, ◌<◌, length, Some};
 ghost use Rattle.watched_io.specs.Failure.{IsNoted};
 ghost use Rattle.quanta_till.specs.Lease.{empty_lease};
@@ -24,7 +24,7 @@ use std::sync::Wait;
 use strategy::Plan;
 use watched_io::Watch;
 
-/// What a request of a connection comes to: a line that only a script may have is no request.
+/// A request that only a script may make is a `Syntax` fault here.
 #[tactic(auto, using(crate::proofs::KnownLemmas::heard_known))]
 fn heard(config: &Config, read: Result<Request, LineFault>) -> Heard
     ensures exact { result ≡ heard_in config.now read }
@@ -41,7 +41,6 @@ fn heard(config: &Config, read: Result<Request, LineFault>) -> Heard
     }
 }
 
-/// The watches of a connection: one of its reader, of type `I`, and one of its writer, of type `O`.
 #[derive(Drop)]
 struct ConnectionWatches<I, O> {
     reads: Watch<I>,
@@ -49,7 +48,6 @@ struct ConnectionWatches<I, O> {
 }
 
 impl<I, O> ConnectionWatches<I, O> {
-    /// Watches through which nothing has failed.
     fn new() -> ConnectionWatches<I, O> {
         ConnectionWatches {
             reads: Watch::new(),
@@ -58,8 +56,7 @@ impl<I, O> ConnectionWatches<I, O> {
     }
 }
 
-/// What answers the requests of connections: the pool, the lobby where its workers rest, and what
-/// makes searches.
+/// An `Office` is what each connection needs: the pool, the lobby of its workers, and `make`.
 #[derive(Drop)]
 pub(crate) struct Office<'a, R, D, M> {
     pub(crate) rt: &'a R,
@@ -70,8 +67,7 @@ pub(crate) struct Office<'a, R, D, M> {
     pub(crate) make: &'a M,
 }
 
-/// Submits a tenant's job, whose lease is of the till of the tenant's purse, and rings the lobby's
-/// bell, since the job may wait. There is no memory for it where its search is not made.
+/// Rings the lobby's bell, since the job may wait. Replies `NoMemory` if no search is made.
 fn submit<D: Shared, R: Wait, M: Fn(Ready) -> Option<D::Search>>(
     office: &Office<'_, R, D, M>,
     token: &mut D::Token,
@@ -104,8 +100,7 @@ fn submit<D: Shared, R: Wait, M: Fn(Ready) -> Option<D::Search>>(
     }
 }
 
-/// Makes the call that a tenant's request asks for, and says the reply to it. Where a job may wait
-/// then, the lobby's bell is rung. A request that only a script may have is none.
+/// Rings the lobby's bell if a job may wait after the call.
 fn answer<D: Shared, R: Wait, M: Fn(Ready) -> Option<D::Search>>(
     office: &Office<'_, R, D, M>,
     token: &mut D::Token,
@@ -146,9 +141,7 @@ fn answer<D: Shared, R: Wait, M: Fn(Ready) -> Option<D::Search>>(
     }
 }
 
-/// Tells what was heard of a connection in one line: of a tenant's request the reply to its call.
-/// At the input's end, and where it cannot be read, nothing is written. An error comes only if a
-/// write of this call fails or takes nothing.
+/// Writes nothing if the input is over or cannot be read.
 fn reply<D: Shared, R: Wait, W: Write, M: Fn(Ready) -> Option<D::Search>>(
     office: &Office<'_, R, D, M>,
     token: &mut D::Token,
@@ -182,8 +175,7 @@ fn reply<D: Shared, R: Wait, W: Write, M: Fn(Ready) -> Option<D::Search>>(
     }
 }
 
-/// Reads the next request of a connection, and tells it its line. Returns whether the session goes
-/// on: it ends if the input does, if it cannot be read, or if a line cannot be written.
+/// Whether the session goes on: it ends with the input, or if a read or a write fails.
 fn serve_next<D: Shared, R: Wait, I: BufRead, O: Write, M: Fn(Ready) -> Option<D::Search>>(
     office: &Office<'_, R, D, M>,
     token: &mut D::Token,
@@ -215,9 +207,7 @@ fn serve_next<D: Shared, R: Wait, I: BufRead, O: Write, M: Fn(Ready) -> Option<D
     !is_over && told.is_ok()
 }
 
-/// Answers the requests of a connection, one line each, until it ends, cannot be read, or a reply
-/// cannot be written. The session makes the calls for which its requests ask, in their order, and
-/// no others.
+/// Answers requests until the input ends, or until a read or a write fails.
 pub(crate) fn session<D: Shared, R: Wait, I: BufRead, O: Write, M: Fn(Ready) -> Option<D::Search>>(
     office: &Office<'_, R, D, M>,
     token: &mut D::Token,

@@ -1,7 +1,7 @@
 //! A farm that answers requests over connections.
 //!
-//! [`serve`] answers so many connections, each in a thread of its own, while workers advance the jobs; what is said to a request is
-//! the pool's answer (`farm_pool`).
+//! [`serve`] answers a number of connections, each in a thread of its own, while workers run the
+//! jobs. Each reply is the pool's answer (`farm_pool`).
 //!
 //! - `service`: `serve`, its threads and its end.
 //! - `connection`: the requests of one connection.

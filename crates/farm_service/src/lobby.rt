@@ -1,23 +1,21 @@
-//! When workers rest, and when they go home.
+//! When workers rest, and when they end.
 use farm_pool::Gate;
 use std::cell::Cell;
 use std::sync::{Condvar, Mutex, Wait};
 use std::time::{Clock, Duration};
 
-/// The longest rest of a worker, in milliseconds. A job that could not be taken for want of memory is tried again then.
+/// In milliseconds. A take that failed for want of memory is tried again after this rest.
 const LONGEST_REST: u64 = 1000;
 
-/// What sessions tell workers.
 #[derive(Drop)]
 struct Bell {
-    /// How often it was rung.
     rings: u64,
-    /// How many connections are still to come or to end.
+    /// Connections that are still to come or to end.
     left: u64,
 }
 
-/// A bell that sessions ring where a job may wait. Workers that find nothing to take rest until it rings, and go home once no
-/// connection is left.
+/// A `Lobby` is a bell that sessions ring when a job may wait. Workers that find no turn rest until
+/// it rings, and end once no connection is left.
 #[derive(Drop)]
 pub(crate) struct Lobby {
     bell: Mutex<Bell>,
@@ -25,7 +23,6 @@ pub(crate) struct Lobby {
 }
 
 impl Lobby {
-    /// The lobby of so many connections.
     pub(crate) fn new(connections: u64) -> Lobby {
         Lobby {
             bell: Mutex::new(Bell {
@@ -36,7 +33,6 @@ impl Lobby {
         }
     }
 
-    /// A job may wait: one worker that rests looks for it.
     pub(crate) fn ring<R: Wait>(&self, rt: &R) {
         let mut bell = self.bell.lock(rt);
         bell.rings = bell.rings.wrapping_add(1);
@@ -44,7 +40,7 @@ impl Lobby {
         self.rung.notify_one();
     }
 
-    /// So many connections have ended, or will not come.
+    /// `connections` have ended, or will not come.
     pub(crate) fn leave<R: Wait>(&self, rt: &R, connections: u64) {
         let mut bell = self.bell.lock(rt);
         bell.left = bell.left.saturating_sub(connections);
@@ -53,17 +49,16 @@ impl Lobby {
     }
 }
 
-/// One worker's place in the lobby.
+/// A `Seat` is one worker's gate: the worker rests in the lobby.
 #[derive(Drop)]
 pub(crate) struct Seat<'a, R> {
     rt: &'a R,
     lobby: &'a Lobby,
-    /// How often the bell was rung when the worker last looked.
+    /// The count of rings when the worker last looked.
     seen: Cell<u64>,
 }
 
 impl<'a, R> Seat<'a, R> {
-    /// A worker's place, before it has looked for a job.
     pub(crate) fn new(rt: &'a R, lobby: &'a Lobby) -> Seat<'a, R> {
         Seat {
             rt,
@@ -92,7 +87,7 @@ impl<'a, R: Wait + Clock> Gate for Seat<'a, R> {
     }
 }
 
-/// A gate that lets no worker rest: it ends where it finds nothing to take.
+/// A `Nobody` is a gate that lets no worker rest: work ends once there is no turn to take.
 pub(crate) struct Nobody;
 
 impl Gate for Nobody {

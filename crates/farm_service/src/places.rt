@@ -7,7 +7,6 @@ use farm_session::{Branch, branches};
 use quanta_till::{Desk, Till};
 use std::alloc::{AllocError, Global};
 
-/// The desks of so many connections, at which no lease was made yet.
 pub(crate) fn places<'a>(
     alloc: Global,
     tills: &'a [Till],

@@ -1,4 +1,4 @@
-//! A farm that answers requests over connections.
+//! The threads of a service, and its end.
 ghost use Rattle.std.specs.Prelude.{◌≡◌, All, map, None, IfOk, IfSome, OnOk};
 ghost use Rattle.job_table.specs.Job.{fresh_search};
 ghost use Rattle.farm_core.specs.Config.{ConfigData};
@@ -29,30 +29,27 @@ use std::thread::Threads;
 use std::time::Clock;
 use strategy::{Kind, Strategy};
 
-/// Why a farm's service failed.
+/// A `ServeFault` is why a farm's service failed.
 #[derive(Clone, Copy, Debug, PartialEq, Eq, thiserror::Error)]
 pub enum ServeFault {
     /// The ledgers and the tills do not agree at the end.
     #[error("Unsettled")]
     Unsettled,
-    /// A connection was not accepted, or no thread could be made.
+    /// A connection was not accepted, or no thread was made.
     #[error("Listen")]
     Listen,
-    /// There was no memory to begin with, or for a connection.
+    /// There was no memory to begin, or for one more thread.
     #[error("NoMemory")]
     NoMemory,
 }
 
-/// What a thread of a service does.
 #[derive(Drop)]
 enum Role<'a> {
-    /// It takes turns of the jobs.
     Worker,
-    /// It answers a client, at these desks.
     Client(Vec<Branch<'a>>, TcpStream),
 }
 
-/// Answers the requests of a client. No lease is made beside those of its requests.
+/// Without memory for its buffers a client is not answered.
 fn welcome<D: Shared, R: Wait, M: Fn(Ready) -> Option<D::Search>>(
     office: &Office<'_, R, D, M>,
     token: &mut D::Token,
@@ -84,8 +81,6 @@ fn welcome<D: Shared, R: Wait, M: Fn(Ready) -> Option<D::Search>>(
     let _ = writer.flush();
 }
 
-/// Plays a thread's role, and brings back its token and the role. The leases that were made at the
-/// desks of a client are those of its requests.
 fn play_role<'a, D: Shared, R: Wait + Clock, M: Fn(Ready) -> Option<D::Search>>(
     office: &Office<'_, R, D, M>,
     token: D::Token,
@@ -118,8 +113,6 @@ fn play_role<'a, D: Shared, R: Wait + Clock, M: Fn(Ready) -> Option<D::Search>>(
     }
 }
 
-/// The next role: the workers come first, and then each client once it is accepted. A client gets
-/// one of the places, which stay tills of the configuration of which they were.
 fn next_role<'a>(
     listener: &TcpListener,
     is_worker: bool,
@@ -139,9 +132,8 @@ fn next_role<'a>(
     }
 }
 
-/// Answers the requests of as many connections as there are places, in a thread each, while workers
-/// take turns of the jobs, and takes in the tokens of all threads. Tells what went wrong: then no
-/// more connections are accepted.
+/// Answers a connection for each of `places` in a thread of its own, while workers take turns.
+/// After a fault it accepts no more connections.
 fn attend<
     D: Shared<Token: Send + Drop + 'static> + Sync,
     R: Threads + Wait + Clock + Sync,
@@ -228,9 +220,8 @@ fn attend<
     fault
 }
 
-/// Answers the requests of so many connections on a new farm of the configuration, each in a thread
-/// of its own, while the configured workers advance the jobs. Once all connections and the workers
-/// have ended, what still waits is worked off, and the farm is settled with the tills. The port is
+/// Answers `sessions` connections on a new farm, each in a thread of its own, while workers run
+/// turns. Then it works off the jobs that wait, and settles the farm with its tills. The port is
 /// closed once the last connection is accepted.
 pub fn serve<R: Threads + Wait + Clock + Sync>(
     rt: &R,
@@ -280,7 +271,6 @@ pub fn serve<R: Threads + Wait + Clock + Sync>(
     }
 }
 
-/// Settles a farm with its purses' own tills, whose words are loaded now.
 fn settle<J: Strategy>(
     farm: Farm<J>,
     tills: &[Till],

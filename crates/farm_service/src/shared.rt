@@ -1,7 +1,7 @@
 //! What the threads of a service share: a pool, as they see it.
 //!
-//! A pool's calls are those of a farm of boxed searches. What runs in threads is generic in what
-//! makes searches and in what it shares, and only `serve` names the boxes.
+//! A pool is a farm of boxed searches. What runs in threads is generic in the search, and only
+//! `serve` names the boxes.
 ghost use Rattle.std.specs.Prelude.{◌≡◌, ℕ, ◌<◌, All, length};
 ghost use Rattle.std.specs.Vec.{vec_len, vec_capacity};
 ghost use Rattle.strategy.specs.Search.{Meaning};
@@ -21,11 +21,10 @@ use std::sync::Wait;
 use std::thread::{Promise, PromisedHandle, Threads};
 use strategy::{Plan, Strategy};
 
-/// A pool, as its threads see it: each has a token of it, and makes its calls with that.
+/// A `Shared` is a pool as its threads see it. Each thread makes calls with a token of its own.
 pub(crate) trait Shared {
-    /// A job's search.
     type Search;
-    /// What a thread has of the pool.
+
     type Token;
 
     ghost config: { Self → ConfigData };
@@ -38,8 +37,6 @@ pub(crate) trait Shared {
 
     ghost works: { Self → Self.Token → Self.Token → Type 0 };
 
-    /// Submits a tenant's job, with its search, which has run nothing and holds nothing: the reply is
-    /// to that call of the tenant.
     fn submit<R: Wait>(
         &self,
         rt: &R,
@@ -55,8 +52,7 @@ pub(crate) trait Shared {
         ensures own { owns self.now token.new }
         ensures told { tells self.now token.old tenant (event.Submit plan quanta) result token.new };
 
-    /// Makes the call for which another request of a tenant asks: the reply is to that call. A
-    /// request that asks for none has no reply.
+    /// `None` if the request asks for a submit, or for no call at all.
     fn ask<R: Wait>(
         &self,
         rt: &R,
@@ -69,19 +65,16 @@ pub(crate) trait Shared {
         ensures own { owns self.now token.new }
         ensures told { IsAsked (tells self.now token.old tenant) token.old asked.now result token.new };
 
-    /// Takes turns of the jobs, as long as the gate lets it, and makes no other call.
     fn work<R: Wait, G: Gate>(&self, rt: &R, token: &mut Self::Token, gate: &G)
         requires { owns self.now token.old }
         ensures own { owns self.now token.new }
         ensures worked { works self.now token.old token.new };
 
-    /// A token for another thread.
     fn split(&self, token: &mut Self::Token) -> Self::Token
         requires { owns self.now token.old }
         ensures kept { owns self.now token.new }
         ensures new { owns self.now result };
 
-    /// Takes in another thread's token.
     fn join(&self, token: &mut Self::Token, other: Self::Token)
         requires own { owns self.now token.old }
         requires other { owns self.now other }
@@ -155,7 +148,7 @@ impl Shared for Pool {
     }
 }
 
-/// That a thread brings back a token of this.
+/// An `OfShared` is a thread's promise to bring back a token of `D`.
 #[derive(Drop)]
 pub(crate) struct OfShared<D>(Snapshot<D>);
 
@@ -163,14 +156,12 @@ impl<D: Shared> Promise<D::Token> for OfShared<D> {
     ghost kept_by = { λ p token. D.owns p.0.value token };
 }
 
-/// What a thread promises that is to bring back a token of this.
 pub(crate) fn promise_of<D>(shared: &D) -> OfShared<D>
     ensures { result.0.value ≡ shared.now }
 {
     OfShared(Snapshot::of(shared))
 }
 
-/// Keeps one thread's handle more, where there is room.
 pub(crate) fn keep<D: Shared<Token: Send + Drop + 'static>>(
     shared: &D,
     handles: &mut Vec<PromisedHandle<D::Token, OfShared<D>>>,
@@ -184,7 +175,7 @@ pub(crate) fn keep<D: Shared<Token: Send + Drop + 'static>>(
     handles.push_reserved(handle);
 }
 
-/// Waits for threads to end, and takes in their tokens.
+/// Waits until all threads have ended, and joins their tokens to `mine`.
 pub(crate) fn take_in<D: Shared<Token: Send + Drop + 'static>, R: Threads>(
     rt: &R,
     shared: &D,

@@ -3,20 +3,17 @@ use std::cell::RefCell;
 use std::io;
 use std::io::{BufRead, BufReader, BufWriter, Error, ErrorKind, Read, Write};
 
-/// The bytes that a client sends, read ahead. Before it waits for the client, it sends what the
-/// client is told; while bytes that were read ahead are left, it sends nothing.
+/// An `Incoming` is the bytes of a client, read ahead. Before it waits for the client, it sends the
+/// gathered replies; while read bytes are left, it sends nothing.
 #[derive(Drop)]
 pub(crate) struct Incoming<'a, R, W: Write + Drop> {
-    /// What the client sends.
     pub(crate) input: BufReader<R>,
-    /// What the client is told.
     pub(crate) told: &'a RefCell<BufWriter<W>>,
 }
 
-/// The bytes that a client is told, gathered until it is waited for.
+/// An `Outgoing` is the replies to a client, gathered until the reader waits for the client.
 #[derive(Drop)]
 pub(crate) struct Outgoing<'a, W: Write + Drop> {
-    /// What the client is told.
     pub(crate) told: &'a RefCell<BufWriter<W>>,
 }
 
@@ -55,8 +52,7 @@ impl<'a, W: Write + Drop> Write for Outgoing<'a, W> {
     }
 }
 
-/// Sends what was gathered. One thread has both directions, and neither uses the cell while the
-/// other does.
+/// The borrow never fails: one thread has both directions, and uses one at a time.
 fn send<W: Write + Drop>(told: &RefCell<BufWriter<W>>) -> io::Result<()> {
     match told.try_borrow_mut() {
         Ok(mut told) => told.flush(),

@@ -7,7 +7,7 @@ use Rattle.farm_core.specs.Command.{event_of}
 use Rattle.session_lines.specs.declared.request.What.{What}
 use Rattle.session_lines.specs.declared.request.What.TheVariants.{Submit, Fund, Status, Fetch, Cancel, Forget, Ledger, Take, Give, Turn}
 
--- the event for which a tenant's request asks; a turn is no request of a tenant
+-- the event of a tenant's request; a turn is no request of a tenant
 abbrev pub event_in : What → Option Event
 event_in (Submit kind quanta project) = Some (event.Submit (record { project = project; kind = kind }) quanta)
 event_in (Fund seq quanta) = Some (event.Fund seq quanta)
@@ -25,8 +25,8 @@ abbrev pub IsNoSubmit : What → Type 0
 IsNoSubmit (Submit kind quanta project) = ⊥
 IsNoSubmit request = ⊤
 
--- the command for which a request asks is of that event; a submit has none here, since its search
--- is made first
+-- the command of a request is that of its event; a submit has none here, since its search is made
+-- first
 abbrev pub IsCommandOf : {J : Type 0} → What → Option (Command J) → Type 0
 IsCommandOf request (Some command) = (event_in request ≡ Some (event_of command)) × IsNoSubmit request
 IsCommandOf (Submit kind quanta project) None = ⊤

@@ -5,11 +5,11 @@ use Rattle.strategy.specs.declared.plan.Plan.{Plan}
 use Rattle.quanta_till.specs.Lease.{LeaseValue}
 use Rattle.job_table.specs.Job.{fresh_search}
 
--- its plan, and the lease that it draws on
+-- a search's plan, and the lease that it draws on
 pub record ReadyData : Type 0 where
   pub plan : Plan
   pub lease : LeaseValue
 
--- each search that is made so is for that plan, of the lease's tenant, and has run nothing and holds nothing
+-- each search made so is for the plan, of the lease's tenant, and has run and holds nothing
 abbrev pub MakesFresh : {J : Type 0} → (J → Meaning) → (ReadyData → Option J → Type 0) → Type 0
 MakesFresh meaning made = (ready : ReadyData) → (search : _) → made ready (Some search) → meaning search ≡ fresh_search ready.lease.tenant ready.plan

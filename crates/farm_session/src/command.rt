@@ -1,10 +1,9 @@
-//! What a request asks of the farm.
 ghost use Rattle.farm_session.specs.Command.{IsCommandOf};
 
 use farm_core::Command;
 use session_lines::What;
 
-/// The command for which a tenant's request asks, other than that a job be submitted. A request that only a script may have is none.
+/// The command of a request, but `None` for a submit and for what only a script may ask.
 pub fn command_of<J>(asked: &What) -> Option<Command<J>>
     ensures { IsCommandOf asked.now result }
 {

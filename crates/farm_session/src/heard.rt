@@ -1,38 +1,33 @@
-//! What a request comes to before the farm is asked.
 ghost use Rattle.std.specs.Prelude.{◌≡◌, ◌<◌, length, position, IfSome};
 ghost use Rattle.farm_session.specs.Heard.{is_line_of, tenant_number, heard_of};
 
 use farm_core::{Config, Name, Reply, TenantLine};
 use session_lines::{LineFault, Request, Said, What};
 
-/// What was read.
+/// A `Heard` is what was read, before the farm is asked.
 #[derive(Drop)]
 pub enum Heard {
-    /// The input has no more requests.
     Over,
     /// The reader failed, or a request was too long.
     Broken,
-    /// A request whose reply is settled, and whose it is.
+    /// The farm is not asked: the reply, and whose it is.
     Told(Option<Name>, Said),
-    /// What the tenant of that number asks for.
+    /// A tenant's number and name, and its request.
     Asked(u32, Name, What),
 }
 
-/// Whether a line of the configuration is the tenant's of that name.
 fn is_line_of(line: &TenantLine, name: &Name) -> bool
     ensures { result ≡ is_line_of name.now line.now }
 {
     line.name.is_same(name)
 }
 
-/// Where the line of the tenant of that name stands.
 fn place_of(lines: &[TenantLine], name: &Name) -> Option<usize>
     ensures { result ≡ position (is_line_of name.now) lines.now }
 {
     lines.iter().position(|line| is_line_of(line, name))
 }
 
-/// The number of the tenant of that name.
 fn tenant_number(config: &Config, name: &Name) -> Option<u32>
     ensures exact { result ≡ tenant_number name.now config.now }
     ensures known { IfSome result (λ tenant. tenant < length config.now.tenants) }
@@ -43,7 +38,7 @@ fn tenant_number(config: &Config, name: &Name) -> Option<u32>
     }
 }
 
-/// What a request comes to, or why there is none.
+/// The request that was read with its tenant's number, or the reply to a fault.
 pub fn hear(config: &Config, read: Result<Request, LineFault>) -> Heard
     ensures { result ≡ heard_of config.now read }
 {

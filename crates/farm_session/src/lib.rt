@@ -1,8 +1,6 @@
-//! What scripts and connections share: what a request comes to before the farm is asked, its command, the search of a submitted job, and the
-//! tills that pay for it.
+//! What scripts and connections share on the way of a request to the farm.
 //!
-//! - `heard`: whose a request is, or what is said where it is nobody's or cannot be read.
-//! - `command`: the command for which a request asks.
+//! - `heard`, `command`: whose a request is, and its command.
 //! - `ready`: a plan with an empty lease, and the searches that are made of it.
 //! - `tills`: a till for each purse, and the desks at which leases are made.
 #![tactic(auto)]

@@ -1,4 +1,3 @@
-//! The searches of submitted jobs.
 ghost use Rattle.std.specs.Prelude.{◌≡◌, IfSome};
 ghost use Rattle.strategy.specs.declared.kind.Kind.TheVariants as kind;
 ghost use Rattle.quanta_till.specs.Lease.{IsEmpty, empty_lease};
@@ -19,7 +18,7 @@ use std::marker::Model;
 use strategy::{Kind, Plan};
 use tree_search::TreeSearch;
 
-/// What a search is made of. Contracts see the plan and the lease.
+/// A `Ready` is what a search is made of: a plan, and a lease of which nothing was drawn.
 #[derive(Drop)]
 pub struct Ready {
     plan: Plan,
@@ -38,7 +37,6 @@ impl Model for Ready {
 }
 
 impl Ready {
-    /// A plan, with a lease of which nothing was drawn.
     pub fn new(plan: Plan, lease: Lease) -> Ready
         requires { IsEmpty lease }
         ensures { result ≡ record { plan = plan; lease = lease } }
@@ -46,7 +44,7 @@ impl Ready {
         Ready { plan, lease }
     }
 
-    /// A copy of the plan, with a lease of which nothing was drawn. There is nothing where there is no memory for it.
+    /// A `Ready` with a copy of `plan`, or `None` if there is no memory for it.
     pub fn of(alloc: Global, lease: Lease, plan: &Plan) -> Option<Ready>
         requires { IsEmpty lease }
         ensures { IfSome result (λ ready. ready ≡ record { plan = plan.now; lease = lease }) }
@@ -55,14 +53,13 @@ impl Ready {
         Some(Ready::new(plan, lease))
     }
 
-    /// How it is searched.
     pub fn kind(&self) -> Kind
         ensures { result ≡ self.now.plan.kind }
     {
         self.plan.kind
     }
 
-    /// The search of the precedence tree.
+    /// The search of the precedence tree, or `None` if there is no memory for it.
     pub fn tree(self, alloc: Global) -> Option<Box<TreeSearch>>
         requires { self.plan.kind ≡ kind.Tree }
         ensures made { IfSome result (λ search. search.value ≡ tree_search.fresh self.plan self.lease) }
@@ -73,7 +70,7 @@ impl Ready {
         Box::new(alloc, search).ok()
     }
 
-    /// The search of passes drawn from a seed.
+    /// The search of passes drawn from a seed, or `None` if there is no memory for it.
     pub fn sample(self, alloc: Global) -> Option<Box<SampleSearch>>
         requires { IsSample self.plan.kind }
         ensures made { IfSome result (λ search. search.value ≡ sample_search.fresh self.plan self.lease) }
@@ -84,7 +81,7 @@ impl Ready {
         Box::new(alloc, search).ok()
     }
 
-    /// The search of one pass by a rule.
+    /// The search of one pass by a rule, or `None` if there is no memory for it.
     pub fn rule(self, alloc: Global) -> Option<Box<RuleSearch>>
         requires { IsRule self.plan.kind }
         ensures made { IfSome result (λ search. search.value ≡ rule_search.fresh self.plan self.lease) }
@@ -96,8 +93,7 @@ impl Ready {
     }
 }
 
-/// Makes the search of a job, from a copy of its plan and a lease for its tenant. Returns `None` if
-/// there is no memory for it.
+/// Makes a search of a copy of `plan` with a new lease. `None` if there is no memory for it.
 pub fn search_of<J, M: Fn(Ready) -> Option<J>>(
     alloc: Global,
     branch: &mut Branch<'_>,

@@ -1,4 +1,3 @@
-//! The tills of a farm's purses, and the desks at which a script's or a connection's searches get their leases.
 ghost use Rattle.std.specs.Prelude.{◌≡◌, map, IfOk, OnOk, OnErr};
 ghost use Rattle.quanta_till.specs.Lease.{empty_lease};
 ghost use Rattle.farm_core.specs.Tills.{AreSeated, AreTillsOf};
@@ -9,8 +8,7 @@ use quanta_till::{Desk, Lease, Till};
 use std::alloc::{AllocError, Global};
 use std::marker::Model;
 
-/// A branch is a purse's till, and a desk at which leases of it are made. Contracts see the till,
-/// and how many leases were made.
+/// A `Branch` is a purse's till with a desk, which counts the leases that are made there.
 #[derive(Drop)]
 pub struct Branch<'a> {
     till: &'a Till,
@@ -29,8 +27,7 @@ impl<'a> Model for Branch<'a> {
 }
 
 impl<'a> Branch<'a> {
-    /// Makes a lease of this till for a tenant, of which nothing was drawn, and no other. An error
-    /// is want of memory; then no lease was made.
+    /// Makes an empty lease of this till for `tenant`. If there is no memory, no lease was made.
     pub fn lease(&mut self, tenant: u32) -> Result<Lease, AllocError>
         ensures made { IfOk result (λ lease. lease ≡ empty_lease self.old.till tenant) }
         ensures one { OnOk result (self.new ≡ having_leased self.old) }
@@ -40,8 +37,7 @@ impl<'a> Branch<'a> {
     }
 }
 
-/// A till of each purse, in the order of their numbers, opened with the quanta that it was granted, and its first desk. An error
-/// is want of memory.
+/// A till of each purse with all its quanta, in the order of purses, and the first desk of each.
 pub fn open_tills(alloc: Global, config: &Config) -> Result<(Vec<Till>, Vec<Desk>), AllocError>
     ensures tills { IfOk result (λ made. AreTillsOf config.now made.0.items) }
     ensures seated { IfOk result (λ made. AreSeated made.0.items made.1.items) }
@@ -57,7 +53,7 @@ pub fn open_tills(alloc: Global, config: &Config) -> Result<(Vec<Till>, Vec<Desk
     Ok((tills, desks))
 }
 
-/// One more desk at each till, at which no lease was made yet. An error is want of memory.
+/// One more desk at each till, at which no lease was made yet.
 pub fn branches<'a>(
     alloc: Global,
     tills: &'a [Till],

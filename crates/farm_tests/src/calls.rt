@@ -1,4 +1,4 @@
-//! Calls, what is told of each, and how the farm is asked.
+//! Calls of a farm, and their answers.
 ghost use Rattle.std.specs.Prelude.{◌≡◌, ◌<◌, IfSome, IfOk, IfErr};
 ghost use Rattle.farm_core.specs.Turn.{IsTurn};
 
@@ -9,32 +9,27 @@ use mrcpsp::Schedule;
 use strategy::{Kind, Plan, Strategy, Verdict};
 use tenant_book::Book;
 
-/// What a tenant, or a worker for it, asks for. Jobs are told by their numbers.
+/// A `Call` is what a tenant, or a worker for it, asks for. A single number is a job's.
 #[derive(Clone, Copy)]
 pub(crate) enum Call {
-    /// A job of this kind for this project, with so many quanta.
+    /// The kind, the quanta and the project.
     Submit(Kind, u64, Text),
-    /// So many quanta more for a job.
+    /// The job, and the quanta that it draws.
     Fund(u64, u64),
-    /// What is known of a job.
     Status(u64),
-    /// A job's best schedule.
     Fetch(u64),
-    /// That a job be searched no more.
     Cancel(u64),
-    /// That a job be kept no longer.
     Forget(u64),
-    /// The ledger.
     Ledger,
-    /// A turn of a job, of at most so many nodes, which is held from then on.
+    /// Takes a turn of a job, with a slice of nodes, and holds it.
     Take(u64, u64),
-    /// The turn that is held is run and given back.
+    /// The held turn is run and given back.
     Give,
-    /// The turn that is held is given back as it is.
+    /// The held turn is given back as it is.
     GiveUnrun,
-    /// The turn that is held is run and dropped.
+    /// The held turn is run and dropped.
     Abandon,
-    /// A turn of a job, of at most so many nodes, taken, run and given back.
+    /// Takes a turn of a job, with a slice of nodes, runs it and gives it back.
     Turn(u64, u64),
 }
 
@@ -49,26 +44,23 @@ pub(crate) struct Shown(
     pub(crate) Verdict,
 );
 
-/// The mode and start of each of so many activities, and zeros after them.
+/// The mode and start of each activity, and zeros after them.
 #[derive(Clone, Copy, PartialEq)]
 pub(crate) struct Placed(pub(crate) usize, pub(crate) [(u32, u32); 4]);
 
-/// What is answered to a call.
+/// A `CallAnswer` is the answer to a call.
 #[derive(Clone, Copy, PartialEq)]
 pub(crate) enum CallAnswer {
-    /// A job of this number was made.
     Job(u64),
-    /// What is known of a job.
     Told(Shown),
-    /// A turn ran so many nodes, and what is known of its job then.
+    /// The nodes that a turn ran, and its job then.
     Ran(u64, Shown),
-    /// A job's number, its best schedule and that schedule's makespan, and its verdict.
+    /// A job's number, its best schedule and makespan, and its verdict.
     Best(u64, Option<Placed>, Option<u32>, Verdict),
-    /// The job of this number is kept no longer.
     Forgotten(u64),
     /// Granted, free, held and spent.
     Books([u64; 4]),
-    /// No entry is free.
+    /// No entry of the journal is free.
     NoRoom,
     /// There is no such job.
     NoUnknown,
@@ -76,17 +68,17 @@ pub(crate) enum CallAnswer {
     NoBusy,
     /// The job is at its end.
     NoOver,
-    /// No such amount can be given.
+    /// The amount cannot be given.
     NoAmount,
-    /// As many jobs are kept as may be.
+    /// No further job may be kept.
     NoJobs,
-    /// So many quanta are free.
+    /// The quanta that are free.
     NoShort(u64),
     /// A growth was refused.
     NoMemory,
     /// There is no such turn, or none is held.
     NoTurn,
-    /// The turn is of no job of the farm.
+    /// The turn belongs to no job of the farm.
     Stranger,
     /// The turn that was held is gone.
     Gone,
@@ -94,7 +86,6 @@ pub(crate) enum CallAnswer {
     Unmade,
 }
 
-/// What is told of a job.
 pub(crate) fn shown_of(line: &Line) -> Shown {
     Shown(
         line.seq,
@@ -106,12 +97,10 @@ pub(crate) fn shown_of(line: &Line) -> Shown {
     )
 }
 
-/// Granted, free, held and spent.
 pub(crate) fn numbers_of(book: &Book) -> [u64; 4] {
     [book.granted(), book.free(), book.held(), book.spent()]
 }
 
-/// The modes and starts of a schedule of at most four activities.
 fn placed_by(schedule: &Schedule) -> Placed {
     let mut placed = [(0, 0); 4];
     let modes = schedule.modes.as_slice();
@@ -122,7 +111,6 @@ fn placed_by(schedule: &Schedule) -> Placed {
     Placed(modes.len(), placed)
 }
 
-/// What a reply says.
 fn answer_of(reply: Reply) -> CallAnswer {
     match reply {
         Reply::Job(seq) => CallAnswer::Job(seq),
@@ -144,7 +132,6 @@ fn answer_of(reply: Reply) -> CallAnswer {
     }
 }
 
-/// Takes a turn of a tenant's job.
 pub(crate) fn take<J: Strategy>(
     farm: &mut Farm<J>,
     tenant: u32,
@@ -159,7 +146,7 @@ pub(crate) fn take<J: Strategy>(
     farm.take(tenant, seq, slice)
 }
 
-/// Gives a turn back as it is. A turn that is of no job of the farm is handed back.
+/// A stranger is handed back.
 pub(crate) fn give<J: Strategy>(farm: &mut Farm<J>, turn: Turn<J>) -> Result<CallAnswer, Turn<J>>
     requires { IsTurn turn.slice turn.ran (J.meaning turn.search) }
     ensures { IfErr result (λ turn. IsTurn turn.slice turn.ran (J.meaning turn.search)) }
@@ -173,7 +160,7 @@ pub(crate) fn give<J: Strategy>(farm: &mut Farm<J>, turn: Turn<J>) -> Result<Cal
     }
 }
 
-/// The same, and such a turn is dropped.
+/// A stranger is dropped.
 pub(crate) fn put_back<J: Strategy>(farm: &mut Farm<J>, turn: Turn<J>) -> CallAnswer
     requires { IsTurn turn.slice turn.ran (J.meaning turn.search) }
 {
@@ -186,7 +173,6 @@ pub(crate) fn put_back<J: Strategy>(farm: &mut Farm<J>, turn: Turn<J>) -> CallAn
     }
 }
 
-/// Submits a job.
 pub(crate) fn submit<J: Strategy>(
     farm: &mut Farm<J>,
     tenant: u32,
@@ -218,7 +204,6 @@ fn command<J: Strategy>(farm: &mut Farm<J>, tenant: u32, call: Call) -> CallAnsw
     }
 }
 
-/// Why no turn was taken.
 fn refused_by(why: NoTurn) -> CallAnswer {
     match why {
         NoTurn::None => CallAnswer::NoTurn,
@@ -226,7 +211,6 @@ fn refused_by(why: NoTurn) -> CallAnswer {
     }
 }
 
-/// A turn is taken, run and given back.
 fn run_turn<J: Strategy>(farm: &mut Farm<J>, tenant: u32, seq: u64, slice: u64) -> CallAnswer {
     match take(farm, tenant, seq, slice) {
         Ok(mut turn) => {
@@ -237,7 +221,6 @@ fn run_turn<J: Strategy>(farm: &mut Farm<J>, tenant: u32, seq: u64, slice: u64) 
     }
 }
 
-/// A turn is taken and held. Tells what is then known of its job.
 fn hold<J: Strategy>(
     farm: &mut Farm<J>,
     hand: &mut Option<Turn<J>>,
@@ -259,7 +242,7 @@ fn hold<J: Strategy>(
     }
 }
 
-/// What is known of a tenant's job, which leaves no entry.
+/// Leaves no entry.
 fn out_of<J>(farm: &Farm<J>, tenant: u32, seq: u64) -> CallAnswer {
     match snapshot(farm, tenant, seq) {
         Some(shown) => CallAnswer::Told(shown),
@@ -267,7 +250,7 @@ fn out_of<J>(farm: &Farm<J>, tenant: u32, seq: u64) -> CallAnswer {
     }
 }
 
-/// What is known of a tenant's job, which leaves no entry.
+/// Leaves no entry.
 pub(crate) fn snapshot<J>(farm: &Farm<J>, tenant: u32, seq: u64) -> Option<Shown> {
     if farm.tenants() <= tenant {
         return None;
@@ -276,7 +259,6 @@ pub(crate) fn snapshot<J>(farm: &Farm<J>, tenant: u32, seq: u64) -> Option<Shown
     Some(shown_of(&line))
 }
 
-/// The turn that is held, run or not, is given back.
 fn give_held<J: Strategy>(farm: &mut Farm<J>, hand: &mut Option<Turn<J>>, runs: bool) -> CallAnswer
     requires { IfSome hand.old (λ turn. IsTurn turn.slice turn.ran (J.meaning turn.search)) }
     ensures { IfSome hand.new (λ turn. IsTurn turn.slice turn.ran (J.meaning turn.search)) }
@@ -292,7 +274,6 @@ fn give_held<J: Strategy>(farm: &mut Farm<J>, hand: &mut Option<Turn<J>>, runs: 
     }
 }
 
-/// The turn that is held is run and dropped.
 fn abandon_held<J: Strategy>(hand: &mut Option<Turn<J>>) -> CallAnswer
     requires { IfSome hand.old (λ turn. IsTurn turn.slice turn.ran (J.meaning turn.search)) }
     ensures { IfSome hand.new (λ turn. IsTurn turn.slice turn.ran (J.meaning turn.search)) }
@@ -307,8 +288,7 @@ fn abandon_held<J: Strategy>(hand: &mut Option<Turn<J>>) -> CallAnswer
     }
 }
 
-/// Makes a call for a tenant, with the turn that is held, and the searches that are ready, the next
-/// one last.
+/// Makes a call with the turn that is held. The next of the `ready` searches is the last one.
 pub(crate) fn ask<J: Strategy>(
     farm: &mut Farm<J>,
     hand: &mut Option<Turn<J>>,

@@ -20,7 +20,7 @@ const OVER: Step = Step(0, Cancel(1), NoOver);
 
 const BACK: Step = Step(0, Give, Ran(2, Shown(1, Cancelled, 2, 0, None, Going)));
 
-/// A waiting job of which nothing has run.
+/// A waiting job that has run no node.
 pub(crate) const FRESH: [Step; 2] = [MADE, CANCELLED];
 
 /// A waiting job after a turn.
@@ -30,10 +30,10 @@ pub(crate) const BEGUN: [Step; 3] = [
     Step(0, Cancel(1), Told(Shown(1, Cancelled, 2, 0, None, Going))),
 ];
 
-/// A job that is out, whose turn then runs.
+/// A job that is out; its turn then runs.
 pub(crate) const OUT: [Step; 4] = [MADE, TAKEN, LEFT, BACK];
 
-/// A job that is out, whose turn is given back as it is.
+/// A job that is out; its turn is given back as it is.
 pub(crate) const OUT_UNRUN: [Step; 4] = [
     MADE,
     TAKEN,
@@ -52,7 +52,6 @@ pub(crate) const DRY: [Step; 3] = [
     ),
 ];
 
-/// A job that is closed.
 pub(crate) const CLOSED: [Step; 3] = [
     Step(0, Submit(Tree, 10, Diamond), Job(1)),
     Step(
@@ -63,8 +62,6 @@ pub(crate) const CLOSED: [Step; 3] = [
     OVER,
 ];
 
-/// A job that is leaving.
 pub(crate) const LEAVING: [Step; 5] = [MADE, TAKEN, LEFT, OVER, BACK];
 
-/// A job that is cancelled.
 pub(crate) const GIVEN_UP: [Step; 3] = [MADE, CANCELLED, OVER];

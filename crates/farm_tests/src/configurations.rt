@@ -1,4 +1,4 @@
-//! What texts are read as where that is a configuration, and the texts of faults.
+//! Configurations that texts are read as, and the texts of faults.
 use farm_config::{ConfigFault, read_config};
 use farm_core::{Config, Name};
 use farm_replay::ReplayFault;
@@ -11,7 +11,6 @@ fn name_text(name: &Name) -> &str {
     str::from_utf8(name.as_bytes()).unwrap_or("no text")
 }
 
-// What a configuration holds, in one line.
 fn shown(alloc: Global, config: &Config) -> Result<String, Fail> {
     let (workers, slice) = (config.workers(), config.slice());
     let mut line = format!(in alloc; "workers {workers} slice {slice}")?;
@@ -24,7 +23,6 @@ fn shown(alloc: Global, config: &Config) -> Result<String, Fail> {
     Ok(line)
 }
 
-// The text is read as this configuration.
 fn reads(rt: &impl Abort, alloc: Global, text: &str, expected: &str) -> Result<(), Fail> {
     let config = read_config(alloc, text.as_bytes())?;
     assert_eq!(rt; shown(alloc, &config)?.as_str(), expected);
@@ -65,7 +63,7 @@ fn texts(rt: HostRuntime) -> Result<(), Fail> {
     Ok(())
 }
 
-// Of all faults these alone come of no file.
+// Only these faults come of no file.
 #[test]
 fn texts_of_want_of_memory(rt: HostRuntime) -> Result<(), Fail> {
     assert_eq!(rt;

@@ -23,17 +23,17 @@ fn ample(name: &'static str) -> Stage {
     }
 }
 
-/// The words of both tills if a has spent so much of its 100 quanta, and b nothing.
+/// The words of both tills if a has spent `spent` of its 100 quanta, and b nothing.
 fn after(spent: u64) -> [[u64; 3]; 2] {
     [[100u64.saturating_sub(spent), spent, 100], [10, 0, 10]]
 }
 
-/// Plays a script of a's, which spends so many quanta.
+/// `spent` is what a's script spends.
 fn ends(rt: &impl Abort, alloc: Global, name: &'static str, steps: &[Step], spent: u64) {
     play(rt, alloc, ample(name), steps, [None, None], after(spent));
 }
 
-/// The same, if a has three entries of the journal.
+/// Is `ends` for a journal of three entries.
 fn fills(rt: &impl Abort, alloc: Global, name: &'static str, steps: &[Step], spent: u64) {
     let stage = Stage {
         entries: 3,
@@ -117,7 +117,7 @@ const NOTED_OF_CANCEL: [Noted; 7] = [
     Noted::Cancel(1),
 ];
 
-/// The refused commands too, but for those answered 'no room', and no refused turns.
+/// With the refused commands but the ones answered 'no room', and without refused turns.
 const NOTED_OF_REFUSALS: [Noted; 16] = [
     Noted::Submit(Kind::Tree, 101),
     Noted::Submit(Kind::Tree, 0),
@@ -137,8 +137,7 @@ const NOTED_OF_REFUSALS: [Noted; 16] = [
     Noted::Ledger,
 ];
 
-/// Plays a script of a's with 100 entries, which spends so many quanta, and compares the journals.
-/// That of b is empty.
+/// a has 100 entries, and `spent` is what its script spends. b's journal is empty.
 fn leaves(
     rt: &impl Abort,
     alloc: Global,
@@ -155,7 +154,6 @@ fn leaves(
     play(rt, alloc, stage, steps, journals, after(spent));
 }
 
-/// Plays the scripts of the journals.
 fn note_down(rt: &impl Abort, alloc: Global, manner: Manner) {
     leaves(rt, alloc, ("a tree", manner), &TREE, &NOTED_OF_TREE, 9);
     let cancel = ("a cancel while out", manner);
@@ -186,8 +184,7 @@ const NOTED_OF_OTHER: [Noted; 8] = [
     Noted::Give(2, 0),
 ];
 
-/// Plays the scripts of two tenants, mixed in twenty ways, and compares the journal of each and the
-/// words of both tills.
+/// Mixes two tenants' scripts in twenty ways, and compares both journals and both tills.
 fn play_mixed(
     rt: &impl Abort,
     alloc: Global,
@@ -267,7 +264,6 @@ fn two_tenants_in_turn(rt: HostRuntime) {
     );
 }
 
-/// A tree of a tenant, with a till of its own.
 fn tree_of(rt: &impl Abort, alloc: Global, tenant: u32, text: Text) -> Planned<Box<dyn Strategy>> {
     let mut purse = Purse::new(alloc, tenant, 100).expect(rt, "no memory for a till");
     let lease = purse.lease(tenant).expect(rt, "no memory for a lease");
@@ -275,8 +271,7 @@ fn tree_of(rt: &impl Abort, alloc: Global, tenant: u32, text: Text) -> Planned<B
     planned_for(rt, alloc, lease, Wanted { tenant, kind, text })
 }
 
-/// A turn of one farm at another one, whose tree is of that project and whose turn of at most so
-/// many nodes.
+/// A turn of one farm at another one, with a tree of `text` and a turn of at most `slice`.
 fn stray_at(rt: &impl Abort, alloc: Global, text: Text, slice: u64) {
     let own = tree_of(rt, alloc, 0, Text::Diamond);
     let other = tree_of(rt, alloc, 0, text);

@@ -9,7 +9,7 @@ use std::io::{Error, ErrorKind, Read, Write};
 use std::process::Abort;
 use std::test::Fail;
 
-// Gives at most three bytes at a time, and fails for ever where they end.
+// Gives at most three bytes at a time, and fails after the last one.
 #[derive(Drop)]
 struct Cut<'a> {
     rest: &'a [u8],
@@ -27,7 +27,7 @@ impl<'a> Read for Cut<'a> {
     }
 }
 
-// Takes so many bytes, and from then on takes none, or fails.
+// Takes bytes up to its room, and from then on takes none, or fails.
 #[derive(Drop)]
 struct Full {
     taken: Vec<u8>,
@@ -74,7 +74,7 @@ impl Write for Narrow {
     }
 }
 
-// A vector with memory for all lines.
+// Has memory for all lines.
 fn room_for_lines(alloc: Global) -> Result<Vec<u8>, AllocError> {
     let mut room = Vec::new(alloc);
     room.reserve(4096)?;
@@ -85,7 +85,6 @@ fn line_ends(bytes: &[u8]) -> usize {
     bytes.iter().filter(|byte| **byte == b'\n').count()
 }
 
-// The first lines of a text.
 fn first_lines(text: &[u8], count: usize) -> &[u8] {
     let mut left = count;
     for (at, byte) in text.iter().enumerate() {
@@ -99,8 +98,8 @@ fn first_lines(text: &[u8], count: usize) -> &[u8] {
     text
 }
 
-// Where the reader fails after these bytes of the script, the requests that were read whole are answered: the first of them has
-// 20 lines, and each other one.
+// If the reader fails after `bytes`, the requests that were read whole are answered. The first has
+// 20 lines, and each other one has one.
 fn is_cut_off(rt: &impl Abort, alloc: Global, config: &Config, bytes: &[u8]) -> Result<(), Fail> {
     let mut written = room_for_lines(alloc)?;
     let reader = Cut { rest: bytes };
@@ -136,7 +135,7 @@ fn readers_that_fail(rt: HostRuntime) -> Result<(), Fail> {
     Ok(())
 }
 
-// What a writer with so much room has taken in the end, and how the replay ends.
+// What a writer with limited room has taken, and the result of the replay.
 fn written_into(
     alloc: Global,
     config: &Config,
@@ -157,7 +156,7 @@ fn written_into(
     Ok((writer.taken, ended))
 }
 
-// Where the writer has too little room, whole lines stand, and a front part of the next one.
+// A writer with too little room holds whole lines, and a prefix of the next one.
 #[test]
 fn writers_that_fail(rt: HostRuntime) -> Result<(), Fail> {
     let config = read_config(rt.alloc(), TWO.as_bytes())?;
@@ -186,7 +185,7 @@ fn a_writer_with_just_enough_room(rt: HostRuntime) -> Result<(), Fail> {
     Ok(())
 }
 
-// Where each write takes one byte and the one after so many fails, as many bytes stand.
+// If each write takes one byte and a later one fails, each byte before it is kept.
 #[test]
 fn writers_of_one_byte(rt: HostRuntime) -> Result<(), Fail> {
     let config = read_config(rt.alloc(), TWO.as_bytes())?;

@@ -1,4 +1,4 @@
-//! The projects' texts, plans with their searches in boxes, tills and configurations.
+//! Projects, plans with boxed searches, tills and configurations.
 ghost use Rattle.std.specs.Prelude.{◌≡◌, IfOk};
 ghost use Rattle.quanta_till.specs.Lease.{IsEmpty};
 
@@ -11,23 +11,22 @@ use std::alloc::{AllocError, Global};
 use std::process::Abort;
 use strategy::{Kind, Plan, Strategy};
 
-/// Six projects.
+/// A `Text` is one of six projects.
 #[derive(Clone, Copy)]
 pub(crate) enum Text {
     /// A source, an activity of one mode, one of two modes, and a sink, with a resource of each
     /// sort.
     Diamond,
-    /// The same, where the second activity has one mode, and not enough of the nonrenewable
+    /// The diamond, but the second activity has one mode, and not enough of the nonrenewable
     /// resource.
     Starved,
     /// Three activities in a chain.
     Chain,
-    /// One activity.
     Lone,
-    /// A source, and three activities that share a renewable resource of 1; the first of them comes
-    /// before the last.
+    /// A source, and three activities that share a renewable resource of 1. The first of them
+    /// precedes the last.
     Shared,
-    /// The same with 2 of the resource.
+    /// `Shared` with 2 of the resource.
     Roomy,
 }
 
@@ -134,7 +133,6 @@ h
 2
 ";
 
-/// How a project is searched: a plan, none if there is no memory for it.
 fn plan_of(alloc: Global, text: Text, kind: Kind) -> Option<Plan> {
     let lines = match text {
         Text::Diamond => DIAMOND,
@@ -150,7 +148,7 @@ fn plan_of(alloc: Global, text: Text, kind: Kind) -> Option<Plan> {
     }
 }
 
-/// The search of a plan in a box, which has run nothing; none if there is no memory for it.
+/// The search has run no node. `None`: out of memory.
 fn search_of(alloc: Global, plan: &Plan, lease: Lease) -> Option<Box<dyn Strategy>>
     requires { IsEmpty lease }
 {
@@ -179,14 +177,12 @@ pub(crate) struct Wanted {
     pub(crate) text: Text,
 }
 
-/// A plan and its search.
 #[derive(Drop)]
 pub(crate) struct Planned<J> {
     pub(crate) plan: Plan,
     pub(crate) search: J,
 }
 
-/// The plan and the search of a submit, with an empty lease.
 pub(crate) fn planned_for(
     rt: &impl Abort,
     alloc: Global,
@@ -200,7 +196,7 @@ pub(crate) fn planned_for(
     Planned { plan, search }
 }
 
-/// The plans and the searches of a list of submits, each on its tenant's till.
+/// Each on its tenant's till.
 pub(crate) fn all_planned(
     rt: &impl Abort,
     alloc: Global,
@@ -216,7 +212,6 @@ pub(crate) fn all_planned(
     all
 }
 
-/// A purse's till and its desk.
 #[derive(Drop)]
 pub(crate) struct Purse {
     till: Till,
@@ -225,13 +220,11 @@ pub(crate) struct Purse {
 }
 
 impl Purse {
-    /// The till of the purse of that number with so many quanta, and its first desk.
     pub(crate) fn new(alloc: Global, number: u32, granted: u64) -> Result<Purse, AllocError> {
         let (till, desk) = Till::new(alloc, number, granted)?;
         Ok(Purse { till, desk })
     }
 
-    /// An empty lease for a tenant.
     pub(crate) fn lease(&mut self, tenant: u32) -> Result<Lease, AllocError>
         ensures { IfOk result IsEmpty }
     {
@@ -250,12 +243,12 @@ impl Purse {
 pub(crate) struct Purses {
     first: Purse,
     second: Purse,
-    /// How many tenants the first one has: those of the least numbers.
+    /// The members of the first purse: the tenants of the least numbers.
     members: u32,
 }
 
 impl Purses {
-    /// The tills of a, with 100 quanta, and of b, with 10.
+    /// a has 100 quanta, b has 10.
     pub(crate) fn new(rt: &impl Abort, alloc: Global) -> Purses {
         Purses {
             first: Purse::new(alloc, 0, 100).expect(rt, "no memory for a till"),
@@ -264,7 +257,7 @@ impl Purses {
         }
     }
 
-    /// The tills of the purse that a and b share, with 10 quanta, and of c, with 10.
+    /// a and b share 10 quanta, c has 10.
     pub(crate) fn shared(rt: &impl Abort, alloc: Global) -> Purses {
         Purses {
             first: Purse::new(alloc, 0, 10).expect(rt, "no memory for a till"),
@@ -273,7 +266,6 @@ impl Purses {
         }
     }
 
-    /// An empty lease of a tenant.
     pub(crate) fn lease_of(&mut self, rt: &impl Abort, tenant: u32) -> Lease
         ensures { IsEmpty result }
     {
@@ -285,24 +277,22 @@ impl Purses {
         purse.lease(tenant).expect(rt, "no memory for a lease")
     }
 
-    /// The words of the first till and of the second.
     pub(crate) fn words(&mut self) -> [[u64; 3]; 2] {
         [self.first.words(), self.second.words()]
     }
 }
 
-/// A tenant of a configuration: its name, that of its purse, empty where that is its own, and its
-/// quanta, jobs and entries of the journal.
+/// A tenant's name, its purse's name, empty for a purse of its own, and its quanta, jobs and
+/// entries.
 pub(crate) type Terms = (&'static str, &'static str, [u64; 3]);
 
-/// Tenants a with 6 quanta and b with 4 in the purse p, and c with 10 in its own.
+/// a with 6 quanta and b with 4 share the purse p; c has 10 in its own.
 pub(crate) const THREE: [Terms; 3] = [
     ("a", "p", [6, 2, 100]),
     ("b", "p", [4, 2, 100]),
     ("c", "", [10, 2, 100]),
 ];
 
-/// The line of a tenant.
 fn line_of((name, purse, [quanta, jobs, entries]): Terms) -> Option<TenantLine> {
     Some(TenantLine {
         name: Name::new(name.as_bytes())?,
@@ -313,7 +303,6 @@ fn line_of((name, purse, [quanta, jobs, entries]): Terms) -> Option<TenantLine> 
     })
 }
 
-/// The configuration of these tenants, with so many workers and turns of so many nodes.
 pub(crate) fn config_of(
     rt: &impl Abort,
     alloc: Global,
@@ -328,7 +317,7 @@ pub(crate) fn config_of(
     Config::new(Sequence::from(lines), workers, slice)
 }
 
-/// A farm of these tenants, with two workers and turns of 2 nodes.
+/// Two workers, and turns of 2 nodes.
 pub(crate) fn farm_with<J>(rt: &impl Abort, alloc: Global, tenants: &[Terms]) -> Farm<J> {
     let config = config_of(rt, alloc, tenants, [2, 2]).expect(rt, "a configuration");
     match Farm::new(alloc, &config) {
@@ -337,8 +326,7 @@ pub(crate) fn farm_with<J>(rt: &impl Abort, alloc: Global, tenants: &[Terms]) ->
     }
 }
 
-/// A farm of a with 100 quanta and so many entries of the journal, and b with 10 quanta and 100
-/// entries.
+/// a has 100 quanta and `entries` entries of the journal, b has 10 quanta and 100 entries.
 pub(crate) fn farm_of<J>(rt: &impl Abort, alloc: Global, entries: u64) -> Farm<J> {
     let tenants = [("a", "", [100, 2, entries]), ("b", "", [10, 2, 100])];
     farm_with(rt, alloc, &tenants)

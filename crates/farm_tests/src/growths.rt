@@ -1,11 +1,10 @@
-//! Scripts of which a growth may be refused. Where none is, these tests hold too.
+//! Scripts of which a growth may be refused. The tests hold too if none is.
 use crate::replays::{TREE_TOLD, replayed, spelled};
 use farm_replay::ReplayFault;
 use std::alloc::{AllocError, Global};
 use std::process::Abort;
 use std::test::Fail;
 
-// The requests without the one at that place.
 fn others(alloc: Global, requests: &[&str], place: usize) -> Result<String, AllocError> {
     let mut script = String::new(alloc);
     for (at, request) in requests.iter().enumerate() {
@@ -16,18 +15,15 @@ fn others(alloc: Global, requests: &[&str], place: usize) -> Result<String, Allo
     Ok(script)
 }
 
-// The place of the line that tells of no memory.
 fn refused_at(told: &str) -> Option<usize> {
     let refused = |line: &str| line == "@a no memory" || line == "@b no memory";
     told.lines().position(refused)
 }
 
-// Whether the line at that place is tenant a's.
 fn is_of_a(told: &str, place: usize) -> bool {
     told.lines().nth(place).unwrap_or("").starts_with("@a ")
 }
 
-// The lines without the one at that place.
 fn without(alloc: Global, told: &str, place: usize) -> Result<String, AllocError> {
     let mut lines = String::new(alloc);
     for (at, line) in told.lines().enumerate() {
@@ -39,14 +35,13 @@ fn without(alloc: Global, told: &str, place: usize) -> Result<String, AllocError
     Ok(lines)
 }
 
-// What is written for a script, which is answered to its end.
 fn told(alloc: Global, script: &str) -> Result<String, Fail> {
     let (written, ended) = replayed(alloc, script)?;
     ended?;
     Ok(String::from_utf8_lossy(alloc, &written)?)
 }
 
-// One request is told that there was no memory, and the other lines are those of the other requests.
+// One request is answered *no memory*. The other lines are as without that request.
 fn misses_one(
     rt: &impl Abort,
     alloc: Global,
@@ -68,8 +63,8 @@ fn misses_one(
     Ok(())
 }
 
-// Either nothing is refused, or nothing is written, or one request is told that there was no memory, and the other lines are
-// those of the other requests.
+// Either nothing is refused, or nothing is written, or one request is answered *no memory*. In the
+// last case the other lines are as without that request.
 fn survives(rt: &impl Abort, alloc: Global, requests: &[&str], expected: &str) -> Result<(), Fail> {
     let script = spelled(alloc, &others(alloc, requests, requests.len())?)?;
     let (written, ended) = replayed(alloc, &script)?;

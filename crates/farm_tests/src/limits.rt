@@ -22,7 +22,6 @@ fn limits(rt: HostRuntime) {
     }
 }
 
-/// The terms of each tenant below.
 const FEW: [u64; 3] = [5, 1, 1];
 
 /// Tenants, and whether a configuration may have them.

@@ -1,5 +1,5 @@
-//! Request lines and reply lines where no file shows what is meant: readers that fail or are interrupted, writers that are full or
-//! interrupted, and lines that come only of want of memory.
+//! Requests and replies that no file shows: failing or interrupted readers, full or interrupted
+//! writers, and lines that come only of want of memory.
 use farm_core::{Name, Reply};
 use psplib_mm::MmFault;
 use session_lines::{LineFault, Said, What, WriteFault, read_request, write_reply};
@@ -9,7 +9,7 @@ use std::io::{BufRead, BufReader, Error, ErrorKind, Read, Write};
 use std::test::Fail;
 use watched_io::Watch;
 
-// Gives the bytes three at a time, with an interrupted read before each, and fails where they end.
+// Gives the bytes three at a time, with an interrupted read before each, and fails after them.
 #[derive(Drop)]
 struct Cut<'a> {
     rest: &'a [u8],
@@ -32,7 +32,6 @@ impl<'a> Read for Cut<'a> {
     }
 }
 
-// Whether the next request is tenant a's for its ledger.
 fn reads_ledger<R: BufRead>(alloc: Global, reader: &mut R) -> bool {
     match read_request(alloc, reader, &mut Watch::new()) {
         Ok(request) => request.who.as_bytes() == b"a".as_slice()
@@ -41,7 +40,6 @@ fn reads_ledger<R: BufRead>(alloc: Global, reader: &mut R) -> bool {
     }
 }
 
-// Whether the next answer is that the reader failed.
 fn fails<R: BufRead>(alloc: Global, reader: &mut R) -> bool {
     match read_request(alloc, reader, &mut Watch::new()) {
         Err(LineFault::Read) => true,
@@ -86,7 +84,8 @@ fn lines_that_no_buffer_holds(rt: HostRuntime) -> Result<(), Fail> {
     Ok(())
 }
 
-// Takes so many bytes, each time at most three, with an interrupted write before each where it interrupts, and then none.
+// Takes at most three bytes a write up to its room, and then none. If it interrupts, an interrupted
+// write comes before each.
 #[derive(Drop)]
 struct Slow {
     taken: Vec<u8>,
@@ -141,7 +140,6 @@ fn a_writer_that_is_interrupted(rt: HostRuntime) {
     assert!(rt; writer.taken.as_slice() == b"@a job 1\n".as_slice());
 }
 
-// Whether this is the line that is written for tenant a.
 fn is_line(alloc: Global, said: &Said, line: &str) -> bool {
     let mut written = Vec::new(alloc);
     write_reply(&mut written, &mut Watch::new(), Name::new(b"a"), said).is_ok()

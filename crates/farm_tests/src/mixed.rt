@@ -3,19 +3,17 @@ use crate::play::Step;
 use std::alloc::{AllocError, Global};
 use std::slice::Iter;
 
-/// Which of two comes next: x becomes x * 1103515245 + 12345 modulo 2^31, and its bit 16 tells.
+/// x becomes x * 1103515245 + 12345 modulo 2^31, and its bit 16 is the toss.
 #[derive(Drop)]
 pub(crate) struct Coin {
     x: u32,
 }
 
 impl Coin {
-    /// The tosses of a seed.
     pub(crate) fn new(seed: u32) -> Coin {
         Coin { x: seed }
     }
 
-    /// The next toss.
     fn toss(&mut self) -> bool {
         let next = self.x.wrapping_mul(1_103_515_245).wrapping_add(12_345);
         self.x = next & 0x7fff_ffff;
@@ -23,7 +21,6 @@ impl Coin {
     }
 }
 
-/// The next step of the first script that has one left.
 fn next_of<'a>(first: &mut Iter<'a, Step>, second: &mut Iter<'a, Step>) -> Option<&'a Step> {
     match first.next() {
         Some(step) => Some(step),
@@ -31,7 +28,7 @@ fn next_of<'a>(first: &mut Iter<'a, Step>, second: &mut Iter<'a, Step>) -> Optio
     }
 }
 
-/// All steps of two scripts, those of each in their order.
+/// The steps of each script stay in their order.
 pub(crate) fn mixed(
     alloc: Global,
     coin: &mut Coin,
@@ -53,7 +50,7 @@ pub(crate) fn mixed(
     Ok(steps)
 }
 
-/// The steps of two scripts in turn, until one of them ends.
+/// The steps of both in turn, until one script ends.
 pub(crate) fn in_turn(
     alloc: Global,
     one: &[Step],

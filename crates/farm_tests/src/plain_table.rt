@@ -1,8 +1,8 @@
-//! A table of jobs as a plain list: each call walks a `Vec`. A model to compare `JobTable` with.
+//! A table of jobs as a plain list, a model to compare `JobTable` with. Each call walks a `Vec`.
 use job_table::Phase;
 use std::alloc::Global;
 
-/// A job without its search: its key, its phase, and how many quanta it holds.
+/// A job without its search.
 #[derive(Clone, Copy)]
 pub(crate) struct Row {
     pub(crate) tenant: u32,
@@ -11,13 +11,12 @@ pub(crate) struct Row {
     pub(crate) left: u64,
 }
 
-/// A list of rows. Those that wait stand in the order of their turns.
+/// The waiting rows are in the order of their turns.
 #[derive(Drop)]
 pub(crate) struct PlainTable {
     rows: Vec<Row>,
 }
 
-/// Where a key stands in a list.
 fn place_of(rows: &[Row], tenant: u32, seq: u64) -> Option<usize> {
     for (at, row) in rows.iter().enumerate() {
         if row.tenant == tenant && row.seq == seq {
@@ -27,7 +26,6 @@ fn place_of(rows: &[Row], tenant: u32, seq: u64) -> Option<usize> {
     None
 }
 
-/// Moves the row at a place to the end of a list.
 fn move_last(rows: &mut [Row], at: usize) {
     let count = rows.len();
     for behind in 1..count {
@@ -44,7 +42,7 @@ impl PlainTable {
         }
     }
 
-    /// Adds a row behind all others. False if its key is known, or if there is no memory for it.
+    /// Returns `false` if the key is known, or without memory.
     pub(crate) fn insert(&mut self, row: Row) -> bool {
         place_of(&self.rows, row.tenant, row.seq).is_none() && self.rows.push(row).is_ok()
     }
@@ -55,14 +53,13 @@ impl PlainTable {
         Some(*row)
     }
 
-    /// Lends how many quanta a job holds.
     pub(crate) fn find_mut(&mut self, tenant: u32, seq: u64) -> Option<&mut u64> {
         let at = place_of(&self.rows, tenant, seq)?;
         let row = self.rows.get_mut(at)?;
         Some(&mut row.left)
     }
 
-    /// Puts a job in another phase. One that begins to wait goes to the end of the list.
+    /// A job that begins to wait goes to the end of the list.
     pub(crate) fn set_phase(&mut self, tenant: u32, seq: u64, phase: Phase) -> bool {
         let Some(at) = place_of(&self.rows, tenant, seq) else {
             return false;

@@ -1,4 +1,4 @@
-//! Scripts of a table's calls, on a `JobTable` and on a plain list: each answer is the same.
+//! Calls of a `JobTable` and of a plain list: each answer agrees.
 use crate::fixtures::{Planned, Purses, Text, Wanted, planned_for};
 use crate::plain_table::{PlainTable, Row};
 use job_table::Phase::{Cancelled, Closed, Dry, Leaving, Out, Waiting};
@@ -7,16 +7,16 @@ use std::alloc::Global;
 use std::process::Abort;
 use strategy::{Kind, Strategy};
 
-/// A call of a table about the job of a tenant and a number.
+/// A `Call` is a call about the job of a tenant and a number.
 #[derive(Clone, Copy)]
 enum Call {
     /// A new job with one quantum.
     Insert(u32, u64),
     /// `set_phase`.
     Put(u32, u64, Phase),
-    /// `find_mut`: its search and its quanta are given up.
+    /// `find_mut`: the job gives up its search and its quanta.
     Empty(u32, u64),
-    /// `find_mut`: it draws so many quanta more.
+    /// `find_mut`: the job draws further quanta.
     Draw(u32, u64, u64),
     Remove(u32, u64),
 }
@@ -39,7 +39,7 @@ const TREE: [Step; 8] = [
     Step(Put(0, 1, Closed), true, &[]),
 ];
 
-/// Two tenants' jobs of the same numbers: each one comes back behind all others.
+/// Two tenants' jobs of equal numbers: each one comes back behind all others.
 const TWO: [Step; 10] = [
     Step(Insert(0, 1), true, &[(0, 1)]),
     Step(Insert(1, 1), true, &[(0, 1), (1, 1)]),
@@ -53,7 +53,7 @@ const TWO: [Step; 10] = [
     Step(Put(0, 1, Waiting), true, &[(1, 1), (0, 1), (0, 2)]),
 ];
 
-/// Jobs are cancelled while they wait, while they are out, and when they are dry, and are removed.
+/// Jobs are cancelled while they wait or are out, and when they are dry, and are removed.
 const CANCELS: [Step; 12] = [
     Step(Insert(0, 1), true, &[(0, 1)]),
     Step(Insert(0, 2), true, &[(0, 1), (0, 2)]),
@@ -83,7 +83,7 @@ const UNKNOWN: [Step; 10] = [
     Step(Remove(0, 1), false, &[]),
 ];
 
-/// A new job with one quantum. False if its key is known.
+/// Returns `false` if the key is known.
 fn insert<J: Strategy>(
     alloc: Global,
     table: &mut JobTable<J>,
@@ -100,7 +100,6 @@ fn insert<J: Strategy>(
     }
 }
 
-/// Gives a job's search and quanta up.
 fn empty<J: Strategy>(table: &mut JobTable<J>, tenant: u32, seq: u64) -> bool {
     match table.find_mut(tenant, seq) {
         Some(work) => {
@@ -111,7 +110,7 @@ fn empty<J: Strategy>(table: &mut JobTable<J>, tenant: u32, seq: u64) -> bool {
     }
 }
 
-/// Draws up to 9 quanta more for a job that holds its search.
+/// Draws up to 9 quanta for a job that holds its search.
 fn draw<J: Strategy>(table: &mut JobTable<J>, tenant: u32, seq: u64, quanta: u64) -> bool {
     let Some(job) = table.find(tenant, seq) else {
         return false;
@@ -125,7 +124,6 @@ fn draw<J: Strategy>(table: &mut JobTable<J>, tenant: u32, seq: u64, quanta: u64
     }
 }
 
-/// A `JobTable` and a plain list, to which the same calls are made.
 #[derive(Drop)]
 struct Both {
     table: JobTable<Box<dyn Strategy>>,
@@ -133,7 +131,6 @@ struct Both {
     purses: Purses,
 }
 
-/// Makes a call of the `JobTable`.
 fn make_call(rt: &impl Abort, alloc: Global, both: &mut Both, call: Call) -> bool {
     let table = &mut both.table;
     match call {
@@ -150,7 +147,6 @@ fn make_call(rt: &impl Abort, alloc: Global, both: &mut Both, call: Call) -> boo
     }
 }
 
-/// Makes a call of the plain list.
 fn make_plain_call(plain: &mut PlainTable, call: Call) -> bool {
     match call {
         Insert(tenant, seq) => plain.insert(Row {
@@ -178,7 +174,6 @@ fn make_plain_call(plain: &mut PlainTable, call: Call) -> bool {
     }
 }
 
-/// Whether both have the same job of a key, or none.
 fn same_job<J>(table: &JobTable<J>, plain: &PlainTable, tenant: u32, seq: u64) -> bool {
     match (table.find(tenant, seq), plain.find(tenant, seq)) {
         (Some(job), Some(row)) => job.phase() == row.phase && job.left() == row.left,
@@ -187,7 +182,7 @@ fn same_job<J>(table: &JobTable<J>, plain: &PlainTable, tenant: u32, seq: u64) -
     }
 }
 
-/// Both answer each reader alike, about tenants 0 to 2 and numbers 0 to 3.
+/// Compares each reader for tenants 0 to 2 and numbers 0 to 3.
 fn compare(rt: &impl Abort, both: &Both, waiting: &[(u32, u64)], name: &str) {
     let (table, plain) = (&both.table, &both.plain);
     for tenant in 0..3u32 {
@@ -216,7 +211,6 @@ fn compare(rt: &impl Abort, both: &Both, waiting: &[(u32, u64)], name: &str) {
     );
 }
 
-/// Makes the calls of a script on both.
 fn play(rt: &impl Abort, alloc: Global, script: &[Step], name: &str) {
     let mut both = Both {
         table: JobTable::new(alloc),

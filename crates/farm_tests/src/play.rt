@@ -9,20 +9,20 @@ use std::alloc::{AllocError, Global};
 use std::process::Abort;
 use strategy::{Kind, Strategy};
 
-/// A call of the tenant of that number, and what is answered.
+/// A tenant's number, its call, and the answer.
 #[derive(Clone, Copy)]
 pub(crate) struct Step(pub(crate) u32, pub(crate) Call, pub(crate) CallAnswer);
 
-/// What is to become of a call that finds no memory.
+/// A `Manner` is what becomes of a call that finds no memory.
 #[derive(Clone, Copy, PartialEq)]
 pub(crate) enum Manner {
-    /// It is not met.
+    /// There is memory for each call.
     Ample,
-    /// It changes nothing, and is made again.
+    /// The call changes nothing, and is made again.
     Scarce,
 }
 
-/// How many entries the journal has, a tenant's ledger, and what is told of its jobs 1 to 3.
+/// The length of the journal, a tenant's ledger, and its jobs 1 to 3.
 #[derive(Clone, Copy, PartialEq)]
 pub(crate) struct Seen {
     entries: usize,
@@ -30,7 +30,7 @@ pub(crate) struct Seen {
     jobs: [Option<Shown>; 3],
 }
 
-/// What is seen of a farm without an entry, for a tenant.
+/// Leaves no entry.
 pub(crate) fn seen_of<J>(farm: &Farm<J>, tenant: u32) -> Option<Seen> {
     if farm.tenants() <= tenant {
         return None;
@@ -46,7 +46,7 @@ pub(crate) fn seen_of<J>(farm: &Farm<J>, tenant: u32) -> Option<Seen> {
     })
 }
 
-/// Whether a step may find no memory: not the give of a turn, and not a cancel that is accepted.
+/// Neither the give of a turn nor an accepted cancel wants memory.
 fn may_want_memory(step: Step) -> bool {
     match step {
         Step(_, Call::Give | Call::GiveUnrun | Call::Abandon, _) => false,
@@ -55,8 +55,8 @@ fn may_want_memory(step: Step) -> bool {
     }
 }
 
-/// Makes a call. Where it finds no memory, it has changed nothing, and is made again; a submit has
-/// one search more for that.
+/// A call that finds no memory has changed nothing, and is made again. A submit has a second search
+/// for that.
 fn insist<J: Strategy>(
     rt: &impl Abort,
     farm: &mut Farm<J>,
@@ -81,7 +81,6 @@ fn insist<J: Strategy>(
     told
 }
 
-/// Makes a call in a manner.
 fn make<J: Strategy>(
     rt: &impl Abort,
     farm: &mut Farm<J>,
@@ -100,13 +99,12 @@ fn make<J: Strategy>(
     }
 }
 
-/// Compares the answer to a call of a script, which stands at that place, with what is wanted.
+/// `at` is the place of the call in the script.
 fn compare(rt: &impl Abort, told: CallAnswer, wanted: CallAnswer, name: &str, at: usize) {
     assert!(rt; told == wanted, "{name}, call {at}");
 }
 
-/// Makes the calls one after another, and compares each answer. A turn that is held in the end is
-/// given back as it is.
+/// A turn that is held in the end is given back as it is.
 pub(crate) fn play_all<J: Strategy>(
     rt: &impl Abort,
     farm: &mut Farm<J>,
@@ -124,8 +122,7 @@ pub(crate) fn play_all<J: Strategy>(
     }
 }
 
-/// An entry of the journal: what was asked for, a submit by its kind and quanta, a give by the
-/// nodes that ran.
+/// An entry of the journal: a submit by its kind and quanta, a give by the nodes that ran.
 #[derive(Clone, Copy, PartialEq)]
 pub(crate) enum Noted {
     Submit(Kind, u64),
@@ -139,7 +136,6 @@ pub(crate) enum Noted {
     Give(u64, u64),
 }
 
-/// What an entry says.
 fn noted_by(event: &Event) -> Noted {
     match event {
         Event::Submit(noted, quanta) => Noted::Submit(noted.plan().kind, *quanta),
@@ -154,7 +150,6 @@ fn noted_by(event: &Event) -> Noted {
     }
 }
 
-/// Compares a tenant's entries of the journal.
 fn compare_journal<J>(rt: &impl Abort, farm: &Farm<J>, tenant: u32, entries: &[Noted], name: &str) {
     let mut rest = entries.iter();
     for entry in farm.journal() {
@@ -168,7 +163,7 @@ fn compare_journal<J>(rt: &impl Abort, farm: &Farm<J>, tenant: u32, entries: &[N
     assert!(rt; rest.next().is_none(), "{name}, an entry less");
 }
 
-/// The submits of a script, the last one first, and where memory may be scarce each of them twice.
+/// The last submit comes first. If memory may be scarce, each comes twice.
 pub(crate) fn submits_of(
     alloc: Global,
     manner: Manner,
@@ -187,8 +182,7 @@ pub(crate) fn submits_of(
     Ok(submits)
 }
 
-/// What a script is played with: its name for messages, how many entries of the journal a has, and
-/// the manner.
+/// A name for messages, a's entries of the journal, and the manner.
 #[derive(Clone, Copy)]
 pub(crate) struct Stage {
     pub(crate) name: &'static str,
@@ -196,8 +190,7 @@ pub(crate) struct Stage {
     pub(crate) manner: Manner,
 }
 
-/// Plays a script on a farm of its own, with searches for its submits, and compares the entries of
-/// the journal where a's and b's are told.
+/// Compares the journals if a's and b's entries are given.
 fn play_with<J: Strategy>(
     rt: &impl Abort,
     alloc: Global,
@@ -216,8 +209,7 @@ fn play_with<J: Strategy>(
     }
 }
 
-/// Plays a script on a farm of its own. The entries of the journal are compared where a's and b's
-/// are told, and then the words of a's till and of b's, once the farm is gone.
+/// Compares the journals if a's and b's entries are given, and at last the words of both tills.
 pub(crate) fn play(
     rt: &impl Abort,
     alloc: Global,

@@ -5,7 +5,7 @@ use farm_replay::{Notes, ReplayFault, ReplayWatches, replay};
 use std::alloc::{AllocError, Global};
 use std::test::Fail;
 
-/// Tenant a with 100 quanta, two jobs and 100 entries, and b with 10 quanta.
+/// a has 100 quanta, two jobs and 100 entries, b has 10 quanta.
 pub(crate) const TWO: &str =
     "{\"tenants\":[{\"name\":\"a\",\"quanta\":100,\"jobs\":2,\"entries\":100},{\"name\":\"b\",\"quanta\":10,\"jobs\":2,\"entries\":100}]}";
 
@@ -13,7 +13,7 @@ pub(crate) const TWO: &str =
 pub(crate) const TREE: &str =
     "@a submit tree 6 19\n<A>\nturn a 1 10\n@a fund 1 10\nturn a 1 10\n@a result 1\n@a ledger\n";
 
-/// What is written for it.
+/// What a replay of `TREE` writes.
 pub(crate) const TREE_TOLD: &str = "@a job 1
 @a job 1 ran 6 dry nodes 6 left 0 best 4 open
 @a job 1 waiting nodes 6 left 10 best 4 open
@@ -22,12 +22,11 @@ pub(crate) const TREE_TOLD: &str = "@a job 1
 @a ledger granted 100 free 91 held 0 spent 9
 ";
 
-/// A script, with the text for which `<A>` stands, in 19 lines.
+/// Puts the diamond's text, in 19 lines, for `<A>`.
 pub(crate) fn spelled(alloc: Global, script: &str) -> Result<String, AllocError> {
     script.replace(alloc, "<A>\n", DIAMOND)
 }
 
-/// What a replay of the script writes, and how it ends.
 pub(crate) fn replayed(
     alloc: Global,
     script: &str,

@@ -65,24 +65,21 @@ const PASSED: Step = Step(
     Ran(4, Shown(1, Closed, 4, 0, Some(5), Ended)),
 );
 
-/// What it took.
 const FOUR_SPENT: Step = Step(0, Ledger, Books([100, 96, 0, 4]));
 
-/// One pass by a rule.
+/// A pass by a rule, in one turn.
 pub(crate) const RULE_SPT: [Step; 3] = [
     Step(0, Submit(RuleSpt, 10, Diamond), Job(1)),
     PASSED,
     FOUR_SPENT,
 ];
 
-/// One by another.
 pub(crate) const RULE_LFT: [Step; 3] = [
     Step(0, Submit(RuleLft, 10, Diamond), Job(1)),
     PASSED,
     FOUR_SPENT,
 ];
 
-/// One by the third.
 pub(crate) const RULE_MTS: [Step; 3] = [
     Step(0, Submit(RuleMts, 10, Diamond), Job(1)),
     PASSED,
@@ -118,7 +115,6 @@ pub(crate) const SAMPLE: [Step; 3] = [
     ),
 ];
 
-/// The same of another project.
 pub(crate) const SAMPLE_OF_SHARED: [Step; 3] = [
     Step(0, Submit(Sample(42), 4, Shared), Job(1)),
     Step(0, Turn(1, 10), Ran(4, Shown(1, Dry, 4, 0, Some(7), Going))),
@@ -155,7 +151,7 @@ pub(crate) const CANCEL_WHILE_OUT: [Step; 7] = [
     Step(0, Cancel(1), NoOver),
 ];
 
-/// A tree closes at once, for nothing is feasible.
+/// A tree closes at once, since nothing is feasible.
 pub(crate) const STARVED_TREE: [Step; 4] = [
     Step(0, Submit(Tree, 6, Starved), Job(1)),
     Step(
@@ -167,7 +163,7 @@ pub(crate) const STARVED_TREE: [Step; 4] = [
     Step(0, Ledger, Books([100, 99, 0, 1])),
 ];
 
-/// A rule finds nothing there, which shows nothing.
+/// A rule finds no schedule, and shows nothing.
 pub(crate) const STARVED_RULE: [Step; 3] = [
     Step(0, Submit(RuleSpt, 6, Starved), Job(1)),
     Step(0, Turn(1, 10), Ran(4, Shown(1, Closed, 4, 0, None, Ended))),
@@ -244,7 +240,7 @@ pub(crate) const ABANDONED: [Step; 5] = [
     Step(0, Ledger, Books([100, 94, 6, 0])),
 ];
 
-/// A pass by a rule over a chain, which is as short as the bound.
+/// The pass of a chain is as short as the bound.
 pub(crate) const CHAIN_RULE: [Step; 2] = [
     Step(0, Submit(RuleSpt, 5, Chain), Job(1)),
     Step(
@@ -254,7 +250,7 @@ pub(crate) const CHAIN_RULE: [Step; 2] = [
     ),
 ];
 
-/// So is the first pass of sampling, which ends the search.
+/// The first pass of sampling ends the search.
 pub(crate) const CHAIN_SAMPLE: [Step; 3] = [
     Step(0, Submit(Sample(42), 10, Chain), Job(1)),
     Step(
@@ -292,7 +288,7 @@ pub(crate) const WHOLE_TREES: [Step; 4] = [
     ),
 ];
 
-/// Each command that is answered uses one of three entries of the journal.
+/// Each answered command uses one of three entries of the journal.
 pub(crate) const THREE_COMMANDS: [Step; 4] = [
     Step(0, Submit(Tree, 6, Diamond), Job(1)),
     Step(0, Fund(1, 4), Told(Shown(1, Waiting, 0, 10, None, Going))),
@@ -300,7 +296,7 @@ pub(crate) const THREE_COMMANDS: [Step; 4] = [
     Step(0, Forget(1), NoRoom),
 ];
 
-/// So does each that is refused.
+/// Each refused command uses one too.
 pub(crate) const THREE_REFUSALS: [Step; 4] = [
     Step(0, Cancel(9), NoUnknown),
     Step(0, Fund(9, 0), NoUnknown),

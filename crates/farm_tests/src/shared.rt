@@ -1,4 +1,4 @@
-//! Two tenants of one purse, and a third one beside them.
+//! Two tenants of one purse, and a third one.
 use crate::calls::Call::{Cancel, Give, Ledger, Status, Submit, Take};
 use crate::calls::CallAnswer::{Books, Job, NoShort, NoUnknown, Ran, Told};
 use crate::calls::Shown;
@@ -13,9 +13,8 @@ use strategy::Kind::Tree;
 use strategy::Strategy;
 use strategy::Verdict::Going;
 
-/// Of the 10 quanta that a and b share, a, who brings 6, holds 8; b sees it in the ledger, may have
-/// the 2 that are free, and sees no job. Then a's job uses 4 and hands back 4, so that b may hold
-/// 6.
+/// a and b share 10 quanta, of which a brings 6. a holds 8: b sees that in the ledger, may have the
+/// 2 that are free, and sees no job. Then a's job uses 4 and hands back 4, so that b may hold 6.
 const STEPS: [Step; 13] = [
     Step(0, Submit(Tree, 8, Diamond), Job(1)),
     Step(1, Ledger, Books([10, 2, 8, 0])),
@@ -36,12 +35,10 @@ const STEPS: [Step; 13] = [
     Step(2, Ledger, Books([10, 10, 0, 0])),
 ];
 
-/// Whether a tenant is in the purse of that number.
 fn is_in<J>(farm: &Farm<J>, tenant: u32, purse: u32) -> bool {
     tenant < farm.tenants() && farm.purse_of(tenant) == purse
 }
 
-/// Makes the calls on a farm of their own, with searches for the submits.
 fn play_shared<J: Strategy>(rt: &impl Abort, alloc: Global, ready: Vec<Planned<J>>) {
     let mut farm = farm_with(rt, alloc, &THREE);
     assert!(rt; farm.tenants() == 3 && farm.purses() == 2);

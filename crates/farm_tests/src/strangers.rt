@@ -13,10 +13,9 @@ use strategy::{Strategy, Verdict};
 /// A job with 6 quanta that waits.
 const WAITING: Shown = Shown(1, Phase::Waiting, 0, 6, None, Verdict::Going);
 
-/// The same after 2 nodes of the tree.
+/// `WAITING` after 2 nodes of the tree.
 const BEGUN: Shown = Shown(1, Phase::Waiting, 2, 4, None, Verdict::Going);
 
-/// A turn of a tenant's job 1 that waits, of at most so many nodes.
 fn sent<J: Strategy>(rt: &impl Abort, farm: &mut Farm<J>, tenant: u32, slice: u64) -> Turn<J>
     ensures { IsTurn result.slice result.ran (J.meaning result.search) }
 {
@@ -27,7 +26,7 @@ fn sent<J: Strategy>(rt: &impl Abort, farm: &mut Farm<J>, tenant: u32, slice: u6
     }
 }
 
-/// A turn is handed back by a farm whose job it is not, and nothing changes there.
+/// A farm hands a stranger back, and nothing changes.
 fn refuse<J: Strategy>(
     rt: &impl Abort,
     farm: &mut Farm<J>,
@@ -45,9 +44,8 @@ fn refuse<J: Strategy>(
     }
 }
 
-/// A turn of a job is of no job of another farm: not while that has none, and not while a turn of
-/// at most so many nodes is out of its own one of that number. The job's farm takes it back as it
-/// is.
+/// A turn is a stranger at another farm: while that has no job, and while a turn of its own job of
+/// that number is out. The job's farm takes it back as it is.
 pub(crate) fn stray<J: Strategy>(
     rt: &impl Abort,
     home: &mut Farm<J>,
@@ -89,7 +87,7 @@ pub(crate) fn exchange<J: Strategy>(
     assert!(rt; put_back(home, there) == CallAnswer::Ran(0, WAITING));
 }
 
-/// Takes a turn of some waiting job, gives it back as it is, and tells whose it was.
+/// Gives the turn back as it is, and returns whose it was.
 fn next_of<J: Strategy>(farm: &mut Farm<J>, slice: u64) -> Result<(u32, u64), NoTurn> {
     match farm.take_next(slice) {
         Ok(turn) => {
@@ -101,8 +99,8 @@ fn next_of<J: Strategy>(farm: &mut Farm<J>, slice: u64) -> Result<(u32, u64), No
     }
 }
 
-/// A job of a, which has no entry of the journal left, and one of b wait: the next turn is b's.
-/// There is none where nothing waits, where only a's job does, or of no nodes or too many.
+/// a's job has no entry of the journal left, and b's job waits: the next turn is b's. There is none
+/// if nothing waits, if only a's job does, or of no nodes or too many.
 pub(crate) fn take_any<J: Strategy>(
     rt: &impl Abort,
     farm: &mut Farm<J>,
@@ -123,18 +121,17 @@ pub(crate) fn take_any<J: Strategy>(
     assert!(rt; put_back(farm, held) == CallAnswer::Ran(0, WAITING));
 }
 
-/// Each of these is the next, and gives its turn back as it is.
+/// Each job in `order` is the next, and gives its turn back as it is.
 fn follow<J: Strategy>(rt: &impl Abort, farm: &mut Farm<J>, order: &[(u32, u64)]) {
     for whose in order {
         assert!(rt; next_of(farm, 2) == Ok(*whose));
     }
 }
 
-/// Jobs 1 and 2 of a and job 1 of b take turns, and none stands before those that wait when it
-/// comes or comes back. Worked by hand: once they are submitted, a1 a2 b1 wait in this order; after
-/// a turn of a1, a2 b1 a1; of a2, b1 a1 a2; of b1, a1 a2 b1; and of a1 again, a2 b1 a1. While b1 is
-/// out, a2 a1 wait, and after a turn of a2, a1 a2; once b1 is back, a1 a2 b1, and so a1, a2 and b1
-/// are next.
+/// Jobs 1 and 2 of a and job 1 of b take turns. A job comes, or comes back, behind all that wait.
+/// By hand: a1 a2 b1 wait; after a turn of a1, a2 b1 a1; of a2, b1 a1 a2; of b1, a1 a2 b1; of a1,
+/// a2 b1 a1. While b1 is out, a2 a1 wait, and after a turn of a2, a1 a2. Once b1 is back, a1, a2
+/// and b1 are next.
 pub(crate) fn take_turns<J: Strategy>(
     rt: &impl Abort,
     farm: &mut Farm<J>,

@@ -10,21 +10,18 @@ use strategy::Strategy;
 /// What comes before the cancel.
 #[derive(Clone, Copy)]
 pub(crate) enum Before {
-    /// Nothing.
     Nothing,
-    /// A turn of at most so many nodes, taken, run and given back.
+    /// A turn with a slice of nodes is taken, run and given back.
     Turn(u64),
     /// A turn of at most 2 nodes is taken.
     Out,
-    /// The same, and the job is cancelled.
+    /// `Out`, and then the job is cancelled.
     Leaving,
-    /// The job is cancelled.
     Cancelled,
 }
 
-/// A name for messages, a job with some quanta, what comes before the cancel, whether that is
-/// taken, where the job then stands, how many nodes a turn that is out then runs, where the job
-/// stands once that is back, and the words POOL, SPENT and GRANTED of its till in the end.
+/// A `Case` is a cancel of a job: what comes before it, and whether it is accepted. Then a turn
+/// that is out runs and comes back. The words are POOL, SPENT and GRANTED in the end.
 #[derive(Clone, Copy)]
 pub(crate) struct Case {
     pub(crate) name: &'static str,
@@ -121,7 +118,7 @@ pub(crate) const CASES: [Case; 8] = [
     },
 ];
 
-/// What comes before the cancel, and the search of the turn that is then out.
+/// Returns the search of the turn that is then out.
 fn begin<J: Strategy>(table: &mut JobTable<J>, before: Before) -> Option<J>
     ensures { IfSome result (λ search. (J.meaning search).taken ≡ false) }
 {
@@ -143,7 +140,7 @@ fn begin<J: Strategy>(table: &mut JobTable<J>, before: Before) -> Option<J>
     None
 }
 
-/// Runs so many nodes of a turn of at most 2 and gives it back. Tells whether it was taken.
+/// Runs nodes of a turn of at most 2. Returns whether the table took it.
 fn give<J: Strategy>(table: &mut JobTable<J>, mut search: J, runs: u64) -> bool
     requires { (J.meaning search).taken ≡ false }
 {
@@ -151,7 +148,6 @@ fn give<J: Strategy>(table: &mut JobTable<J>, mut search: J, runs: u64) -> bool
     take_back(table, 0, 1, 2, ran, search).is_ok()
 }
 
-/// Cancels the job of a case.
 pub(crate) fn cancel_in<J: Strategy>(rt: &impl Abort, table: &mut JobTable<J>, case: &Case) {
     let name = case.name;
     let out = begin(table, case.before);

@@ -4,7 +4,6 @@ ghost use Rattle.std.specs.Prelude.{◌≡◌, false, IfSome, IfErr};
 use job_table::{JobTable, Phase};
 use strategy::Strategy;
 
-/// The phase of a job.
 pub(crate) fn phase_of<J>(table: &JobTable<J>, tenant: u32, seq: u64) -> Option<Phase> {
     match table.find(tenant, seq) {
         Some(job) => Some(job.phase()),
@@ -12,7 +11,7 @@ pub(crate) fn phase_of<J>(table: &JobTable<J>, tenant: u32, seq: u64) -> Option<
     }
 }
 
-/// Sends the search of a job out that waits.
+/// Sends the search of a job that waits.
 pub(crate) fn send<J: Strategy>(
     table: &mut JobTable<J>,
     tenant: u32,
@@ -34,7 +33,7 @@ pub(crate) fn send<J: Strategy>(
     Some(search)
 }
 
-/// Takes a search back after `ran` nodes, or returns it if it is not that of the job.
+/// Returns the search if it is not that of the job.
 pub(crate) fn take_back<J: Strategy>(
     table: &mut JobTable<J>,
     tenant: u32,
@@ -61,7 +60,7 @@ pub(crate) fn take_back<J: Strategy>(
     Ok(())
 }
 
-/// Draws up to 999 more quanta for a job, and it waits. False if the table does not do so.
+/// Draws up to 999 quanta, and the job waits. Returns `false` if the table does not do so.
 pub(crate) fn fund<J: Strategy>(
     table: &mut JobTable<J>,
     tenant: u32,
@@ -81,7 +80,7 @@ pub(crate) fn fund<J: Strategy>(
     work.fund(tenant, quanta) && table.set_phase(tenant, seq, Phase::Waiting)
 }
 
-/// Gives a job up. False if it is unknown or at its end.
+/// Returns `false` if the job is unknown or at its end.
 pub(crate) fn cancel<J: Strategy>(table: &mut JobTable<J>, tenant: u32, seq: u64) -> bool {
     match phase_of(table, tenant, seq) {
         Some(Phase::Waiting | Phase::Dry) => {

@@ -1,11 +1,11 @@
-//! What is told of a job, and turns of it.
+//! The line of a job, and turns of it.
 ghost use Rattle.std.specs.Prelude.{◌≡◌, false};
 
 use crate::table_moves::{send, take_back};
 use job_table::{Job, JobTable, Phase};
 use strategy::{Strategy, Verdict};
 
-/// Where a job stands, how many nodes it has run, how many quanta it holds, and what it has found.
+/// A job's phase, nodes, quanta and best schedule.
 #[derive(Clone, Copy, PartialEq)]
 pub(crate) struct Line {
     pub(crate) phase: Phase,
@@ -24,7 +24,6 @@ pub(crate) const FRESH: Line = Line {
     verdict: Verdict::Going,
 };
 
-/// The line of a job.
 fn line_of<J>(job: &Job<J>) -> Line {
     Line {
         phase: job.phase(),
@@ -35,7 +34,7 @@ fn line_of<J>(job: &Job<J>) -> Line {
     }
 }
 
-/// Whether this is the line of a tenant's job 1.
+/// Whether `line` is that of the tenant's job 1.
 pub(crate) fn is_told<J>(table: &JobTable<J>, tenant: u32, line: Line) -> bool {
     match table.find(tenant, 1) {
         Some(job) => line_of(job) == line,
@@ -43,8 +42,7 @@ pub(crate) fn is_told<J>(table: &JobTable<J>, tenant: u32, line: Line) -> bool {
     }
 }
 
-/// Runs a search for at most so many nodes, while it holds quanta and is not over. Tells how many
-/// it ran.
+/// Runs at most `most` nodes, while the search holds quanta and is not over. Returns their number.
 pub(crate) fn run<S: Strategy>(search: &mut S, most: u64) -> u64
     requires { (S.meaning search.old).taken ≡ false }
     ensures { (S.meaning search.new).taken ≡ false }
@@ -59,8 +57,7 @@ pub(crate) fn run<S: Strategy>(search: &mut S, most: u64) -> u64
     search.nodes().saturating_sub(before)
 }
 
-/// Takes a turn of a job, runs it and gives it back. Tells how many nodes ran; `None` where the job
-/// was not sent.
+/// Returns the nodes that ran, or `None` if the job was not sent.
 pub(crate) fn turn<J: Strategy>(
     table: &mut JobTable<J>,
     tenant: u32,

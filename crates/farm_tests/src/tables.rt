@@ -10,7 +10,7 @@ use std::alloc::Global;
 use std::process::Abort;
 use strategy::{Kind, Strategy, Verdict};
 
-/// Adds a tenant's job 1 with some quanta. False where there is no memory for it.
+/// Returns `false` without memory.
 fn insert<J: Strategy>(
     alloc: Global,
     table: &mut JobTable<J>,
@@ -28,10 +28,8 @@ fn insert<J: Strategy>(
     }
 }
 
-/// A table of boxed searches.
 type Table = JobTable<Box<dyn Strategy>>;
 
-/// Adds a tenant's job 1 for a project's tree, with some quanta of a purse.
 fn add(
     rt: &impl Abort,
     alloc: Global,
@@ -62,7 +60,7 @@ const BEGUN: Line = Line {
     ..FRESH
 };
 
-/// Two jobs of the same number, of tenants 0 and 1, are apart.
+/// Jobs of equal numbers, of tenants 0 and 1, are apart.
 fn see_both<J>(rt: &impl Abort, table: &JobTable<J>) {
     assert!(rt; is_told(table, 0, FRESH));
     assert!(rt; is_told(table, 1, Line { left: 2, ..FRESH }));
@@ -70,7 +68,6 @@ fn see_both<J>(rt: &impl Abort, table: &JobTable<J>) {
     assert!(rt; table.count_of(0) == 1 && table.count_of(1) == 1 && table.count_of(2) == 0);
 }
 
-/// Whether a place among those that wait is that of the tenant's job 1.
 fn is_of(place: Option<(u32, u64)>, tenant: u32) -> bool {
     match place {
         Some((whose, seq)) => whose == tenant && seq == 1,
@@ -78,14 +75,13 @@ fn is_of(place: Option<(u32, u64)>, tenant: u32) -> bool {
     }
 }
 
-/// They wait in the order in which they came.
+/// The jobs wait in the order in which they came.
 fn see_waiting<J>(rt: &impl Abort, table: &JobTable<J>) {
     assert!(rt; is_of(table.waiting(0), 0));
     assert!(rt; is_of(table.waiting(1), 1));
     assert!(rt; table.waiting(2).is_none());
 }
 
-/// The first one is sent.
 fn send_first<J: Strategy>(rt: &impl Abort, table: &mut JobTable<J>) {
     let Some(search) = send(table, 0, 1, 2) else {
         panic!(rt; "not sent");
@@ -96,7 +92,7 @@ fn send_first<J: Strategy>(rt: &impl Abort, table: &mut JobTable<J>) {
     assert!(rt; table.out_of(0) == 1 && table.out_of(1) == 0);
 }
 
-/// The other one runs dry and is funded.
+/// The other job runs dry and is funded.
 fn fund_other<J: Strategy>(rt: &impl Abort, table: &mut JobTable<J>) {
     let funded = Line {
         nodes: 2,
@@ -110,7 +106,6 @@ fn fund_other<J: Strategy>(rt: &impl Abort, table: &mut JobTable<J>) {
     assert!(rt; is_of(table.first_waiting(), 1));
 }
 
-/// It is removed.
 fn remove_other<J: Strategy>(rt: &impl Abort, table: &mut JobTable<J>) {
     assert!(rt; table.remove(1, 1).is_some());
     assert!(rt; table.remove(1, 1).is_none());
@@ -202,7 +197,7 @@ fn hand_back_elsewhere<J: Strategy>(rt: &impl Abort, elsewhere: &mut JobTable<J>
     search
 }
 
-/// A search that has run more nodes than is told is handed back, and nothing changes.
+/// A search that ran 2 nodes is handed back if it comes back for 1, and is taken for 2.
 fn hand_back<J: Strategy>(rt: &impl Abort, table: &mut JobTable<J>, search: J)
     requires { (J.meaning search).taken ≡ false }
 {
@@ -216,7 +211,7 @@ fn hand_back<J: Strategy>(rt: &impl Abort, table: &mut JobTable<J>, search: J)
     assert!(rt; is_told(table, 0, BEGUN));
 }
 
-/// Both are handed back, and the first one's table takes it in the end.
+/// Both searches are handed back, and the first one's table takes it in the end.
 fn stray<J: Strategy>(rt: &impl Abort, table: &mut JobTable<J>, elsewhere: &mut JobTable<J>) {
     let Some(search) = send(table, 0, 1, 2) else {
         panic!(rt; "not sent");
@@ -248,7 +243,7 @@ fn strangers_are_handed_back(rt: HostRuntime) {
     stray(&rt, &mut table, &mut elsewhere);
 }
 
-/// Cancels the job of a case, and compares the words of its till, also once the table is gone.
+/// Compares the words of the till, also once the table is gone.
 fn cancel(rt: &impl Abort, alloc: Global, case: &Case) {
     let name = case.name;
     let mut table = JobTable::new(alloc);

@@ -3,7 +3,8 @@ use Rattle.std.specs.Prelude.{ℕ, ◌≤◌, Option, Some, None, IsSomeAnd}
 use Rattle.mrcpsp.specs.Project.{ProjectData}
 use Rattle.mrcpsp.specs.Schedule.{ScheduleData, makespan}
 
--- its project, the most schedules that it may generate, how many it has generated, and the best of them
+-- a search: its project, the most schedules that it may generate, how many it has generated, and
+-- the best of them
 pub record ImprovingData : Type 0 where
   pub project : ProjectData
   pub most : ℕ
@@ -14,7 +15,7 @@ pub record ImprovingData : Type 0 where
 abbrev pub fresh : ProjectData → ℕ → ImprovingData
 fresh p most = record { project = p; most = most; spent = 0; best = None }
 
--- where there is one, there is another one that is no longer
+-- if there is one schedule, there is another one that is no longer
 abbrev pub IsNoLonger : ProjectData → Option ScheduleData → Option ScheduleData → Type 0
 IsNoLonger p None other = Unit {0}
 IsNoLonger p (Some one) other = IsSomeAnd other (λ s. makespan p s ≤ makespan p one)

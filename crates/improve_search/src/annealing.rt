@@ -12,13 +12,14 @@ use mrcpsp::Project;
 use std::alloc::{AllocError, Global};
 use std::mem;
 
-/// What a unit above a nonrenewable capacity costs, in periods: three tenths, with 16 binary places.
+/// The price of a unit above a nonrenewable capacity: three tenths of a period, with 16 binary
+/// places.
 const PRICE: u64 = 19_661;
 
 /// More periods than any schedule takes.
 const NO_LIMIT: u32 = 1_000_000_000;
 
-/// How often the first modes are shaken, and how many draws repair them each time, an activity.
+/// How often the first modes are shaken, and the draws per activity that repair them each time.
 const SHAKES: u32 = 100;
 
 const DRAWS: u32 = 20;
@@ -29,13 +30,10 @@ const CANDIDATES: u32 = 64;
 /// What becomes of modes that consume more than the nonrenewable capacities.
 #[derive(Clone, Copy, PartialEq, Eq)]
 pub(crate) enum Stocks {
-    /// They are refused.
     Kept,
-    /// They cost.
     Priced,
 }
 
-/// A walk over points, by small random changes.
 #[derive(Drop)]
 pub(crate) struct Annealing {
     generator: Generator,
@@ -48,7 +46,7 @@ pub(crate) struct Annealing {
     tried: u32,
 }
 
-/// The activities, those with the longest chains behind them first.
+/// The activities with the longest chains behind them come first.
 fn first_order(alloc: Global, tails: &[u32]) -> Result<Vec<u32>, AllocError> {
     let mut keys = Vec::new(alloc);
     let mut activity = 0u64;
@@ -64,7 +62,7 @@ fn first_order(alloc: Global, tails: &[u32]) -> Result<Vec<u32>, AllocError> {
 }
 
 impl Annealing {
-    /// A walk that has not begun, or `None` where an activity has no mode that may run.
+    /// `None` if an activity has no mode that may run.
     pub(crate) fn new(
         alloc: Global,
         project: &Project,
@@ -88,7 +86,6 @@ impl Annealing {
         }))
     }
 
-    /// The current point.
     pub(crate) fn current(&self) -> &Point {
         &self.current
     }
@@ -101,22 +98,18 @@ impl Annealing {
         )
     }
 
-    /// The longest chain of the project, by shortest durations.
     pub(crate) fn longest_chain(&self) -> u32 {
         self.generator.tables.longest_chain
     }
 
-    /// Whether no modes exceed a nonrenewable capacity.
     pub(crate) fn has_ample_stocks(&self) -> bool {
         self.generator.tables.has_ample_stocks()
     }
 
-    /// Whether the current modes keep the nonrenewable capacities.
     pub(crate) fn keeps_stocks(&self) -> bool {
         self.current.excess(&self.generator.tables) == 0
     }
 
-    /// Gives each activity of the candidate its place in the first list, and a random mode.
     fn draw_modes(&mut self) {
         self.candidate.consumed.fill(0);
         for place in 0..self.generator.tables.size {
@@ -130,8 +123,8 @@ impl Annealing {
         }
     }
 
-    /// Gives a random activity of the candidate another mode, and its old one again where the excess is not below this one then.
-    /// Tells the excess.
+    /// Gives a random activity another mode if the excess is then below `excess`. Returns the
+    /// excess.
     fn try_mode(&mut self, excess: u64) -> u64 {
         let Generator { tables, chance, .. } = &mut self.generator;
         let activity = chooser(tables, chance);
@@ -147,7 +140,7 @@ impl Annealing {
         }
     }
 
-    /// Lessens the excess of the candidate by random draws. Tells whether it is 0.
+    /// Lessens the excess by random draws. Returns whether it is 0.
     fn lessen(&mut self) -> bool {
         let mut excess = self.candidate.excess(&self.generator.tables);
         for _ in 0..self.generator.tables.size.wrapping_mul(DRAWS) {
@@ -159,14 +152,12 @@ impl Annealing {
         excess == 0
     }
 
-    /// Gives some activities of the candidate other modes.
     fn shake(&mut self) {
         for _ in 0..3u32 {
             let _ = self.try_mode(u64::MAX);
         }
     }
 
-    /// Looks for modes of the candidate that keep the nonrenewable capacities.
     fn repair(&mut self) {
         if self.generator.tables.choosers.is_empty() {
             return;
@@ -179,13 +170,12 @@ impl Annealing {
         }
     }
 
-    /// What a point costs, in periods, with 16 binary places.
+    /// In periods, with 16 binary places.
     fn cost_of(&self, point: &Point) -> u64 {
         let periods = u64::from(point.makespan).wrapping_mul(ONE);
         periods.wrapping_add(self.price(point))
     }
 
-    /// What a point's excess costs.
     fn price(&self, point: &Point) -> u64 {
         match self.stocks {
             Stocks::Kept => 0,
@@ -193,7 +183,7 @@ impl Annealing {
         }
     }
 
-    /// Begins anew, for a run of so many schedules.
+    /// Begins a run of `schedules` schedules.
     pub(crate) fn begin(&mut self, stocks: Stocks, schedules: u64, budget: &mut Budget)
         requires { budget.old.spent + 1 ≤ budget.old.most }
         ensures spent { budget.new.spent ≡ budget.old.spent + 1 }
@@ -212,7 +202,6 @@ impl Annealing {
         self.accept();
     }
 
-    /// Makes the candidate the current point.
     fn accept(&mut self) {
         mem::swap(&mut self.current, &mut self.candidate);
         self.generator.save(&self.current, 0);
@@ -233,8 +222,8 @@ impl Annealing {
         self.cost.wrapping_add(more >> 16)
     }
 
-    /// The most that the candidate's makespan may be before it is justified, so that it costs no more than this. None where no
-    /// schedule of its modes can.
+    /// The most periods of the candidate's schedule before it is justified. `None` if each schedule
+    /// of its modes costs more than `bar`.
     fn limit(&self, bar: u64) -> Option<u32> {
         let tables = &self.generator.tables;
         if self.stocks == Stocks::Kept
@@ -251,7 +240,8 @@ impl Annealing {
         Some(most.min(u64::from(NO_LIMIT)) as u32 + 1)
     }
 
-    /// Justifies the candidate, and makes it the current point where it costs no more than this. Tells whether it is.
+    /// Makes the justified candidate the current point if it costs at most `bar`. Returns whether
+    /// it is.
     fn judge(&mut self, bar: u64, budget: &mut Budget) -> bool
         requires { budget.old.spent + 2 ≤ budget.old.most }
         ensures spent { budget.new.spent ≡ budget.old.spent + 2 }
@@ -265,7 +255,7 @@ impl Annealing {
         is_good
     }
 
-    /// Tries one candidate: at most three schedules. Tells whether it is the current point now.
+    /// Tries one candidate: at most three schedules. Returns whether it is then the current point.
     pub(crate) fn step(&mut self, budget: &mut Budget) -> bool
         requires { budget.old.spent + 3 ≤ budget.old.most }
         ensures spent { budget.old.spent < budget.new.spent }

@@ -1,9 +1,8 @@
-//! The arcs of the precedence relation, from either end.
+//! The arcs of the precedence relation, from either end, by the places of activities.
 use crate::rows::{at, part};
 use mrcpsp::Activity;
 use std::alloc::{AllocError, Global};
 
-/// The activities at the other ends of the arcs of each activity.
 #[derive(Drop)]
 pub(crate) struct Arcs {
     first: Vec<u32>,
@@ -11,7 +10,6 @@ pub(crate) struct Arcs {
 }
 
 impl Arcs {
-    /// No activity.
     fn none(alloc: Global) -> Result<Arcs, AllocError> {
         Ok(Arcs {
             first: vec![in alloc; 0u32]?,
@@ -19,7 +17,6 @@ impl Arcs {
         })
     }
 
-    /// Ends the arcs of an activity.
     fn end(&mut self) -> Result<(), AllocError> {
         let count = self.ends.len();
         if count <= u32::MAX as usize {
@@ -28,7 +25,6 @@ impl Arcs {
         Ok(())
     }
 
-    /// The activities at the other ends of the arcs of an activity.
     #[inline]
     pub(crate) fn of(&self, activity: u32) -> &[u32] {
         let from = at(&self.first, activity);
@@ -37,7 +33,6 @@ impl Arcs {
     }
 }
 
-/// Writes the successors of an activity, by their places.
 fn push_successors(arcs: &mut Arcs, activity: &Activity) -> Result<(), AllocError> {
     for successor in activity.successors.as_slice() {
         arcs.ends.push(successor.saturating_sub(1))?;
@@ -45,7 +40,6 @@ fn push_successors(arcs: &mut Arcs, activity: &Activity) -> Result<(), AllocErro
     arcs.end()
 }
 
-/// The successors of each activity.
 pub(crate) fn successors(alloc: Global, activities: &[Activity]) -> Result<Arcs, AllocError> {
     let mut arcs = Arcs::none(alloc)?;
     for activity in activities {
@@ -54,7 +48,6 @@ pub(crate) fn successors(alloc: Global, activities: &[Activity]) -> Result<Arcs,
     Ok(arcs)
 }
 
-/// Writes the predecessors of the activity with this number, by their places.
 fn push_predecessors(
     arcs: &mut Arcs,
     activities: &[Activity],
@@ -70,7 +63,6 @@ fn push_predecessors(
     arcs.end()
 }
 
-/// The predecessors of each activity.
 pub(crate) fn predecessors(alloc: Global, activities: &[Activity]) -> Result<Arcs, AllocError> {
     let mut arcs = Arcs::none(alloc)?;
     let mut number = 0u32;

@@ -18,7 +18,6 @@ pub(crate) enum BestChecked {
     Known(Schedule, u32, Schedule),
 }
 
-/// A schedule of so many activities that is only memory.
 fn blank(alloc: Global, size: usize) -> Result<Schedule, AllocError> {
     let modes = vec![in alloc; 0u32; size]?;
     let starts = vec![in alloc; 0u32; size]?;
@@ -28,7 +27,6 @@ fn blank(alloc: Global, size: usize) -> Result<Schedule, AllocError> {
     })
 }
 
-/// The current schedule of a walk, in the memory of another one.
 fn written(room: Schedule, annealing: &Annealing) -> Schedule {
     let Schedule { modes, starts } = room;
     let mut modes = modes.into_vec();
@@ -46,14 +44,12 @@ fn written(room: Schedule, annealing: &Annealing) -> Schedule {
 }
 
 impl BestChecked {
-    /// None yet, with memory for schedules of so many activities.
     pub(crate) fn none(alloc: Global, size: usize) -> Result<BestChecked, AllocError>
         ensures { IfOk result (λ best. best_in best ≡ None × length_in best ≡ None) }
     {
         Ok(BestChecked::Unknown(blank(alloc, size)?, blank(alloc, size)?))
     }
 
-    /// None yet, and no memory.
     pub(crate) fn empty(alloc: Global) -> BestChecked
         ensures best { best_in result ≡ None }
         ensures length { length_in result ≡ None }
@@ -69,7 +65,6 @@ impl BestChecked {
         BestChecked::Unknown(room, other)
     }
 
-    /// The schedule.
     pub(crate) fn schedule(&self) -> Option<&Schedule>
         ensures { option_copied result ≡ best_in self.now }
     {
@@ -79,7 +74,6 @@ impl BestChecked {
         }
     }
 
-    /// The makespan of the schedule.
     pub(crate) fn makespan(&self) -> Option<u32>
         ensures { result ≡ length_in self.now }
     {
@@ -89,7 +83,6 @@ impl BestChecked {
         }
     }
 
-    /// The schedule, without the memory.
     pub(crate) fn into_schedule(self) -> Option<Schedule>
         ensures { result ≡ best_in self }
     {
@@ -100,8 +93,7 @@ impl BestChecked {
     }
 }
 
-/// The best schedule after the current one of a walk is offered: that one where it is feasible and shorter than the best so far,
-/// or there is none.
+/// The walk's current schedule if it is feasible and shorter than `best`, and else `best`.
 pub(crate) fn better(best: BestChecked, project: &Project, annealing: &Annealing) -> BestChecked
     requires { IsKept project.now best }
     ensures kept { IsKept project.now result }

@@ -1,4 +1,4 @@
-//! What the words of a seed draw.
+//! Random numbers, drawn from the words of a seed.
 use rand_core::utils::NextWord;
 use rand_pcg::Pcg32;
 
@@ -11,13 +11,12 @@ pub(crate) const ONE: u64 = 1 << 16;
 /// The natural logarithm of 2, with 16 binary places.
 const LN_2: u64 = 45_426;
 
-/// The words of a seed, one after another.
 #[derive(Drop)]
 pub(crate) struct Chance {
     generator: Pcg32,
 }
 
-/// The logarithm of a number to the base 2, with 16 binary places.
+/// The logarithm to the base 2, with 16 binary places.
 fn log2(value: u64) -> u64 {
     let zeros = value.leading_zeros();
     let mut scaled = value.wrapping_shl(zeros) >> 32;
@@ -34,21 +33,20 @@ fn log2(value: u64) -> u64 {
 }
 
 impl Chance {
-    /// The words of a seed, none of them drawn.
     pub(crate) fn new(seed: u64) -> Chance {
         Chance {
             generator: Pcg32::new(seed, STREAM),
         }
     }
 
-    /// A number below this one, 0 at 0.
+    /// A number below `count`, or 0 if that is 0.
     #[inline]
     pub(crate) fn below(&mut self, count: u32) -> u32 {
         let word = u64::from(self.generator.next_word());
         ((word.wrapping_mul(u64::from(count)) >> 32) & 0xffff_ffff) as u32
     }
 
-    /// Whether that happens which is to happen this often among 2^32 times.
+    /// True `often` times among 2^32.
     #[inline]
     pub(crate) fn happens(&mut self, often: u32) -> bool {
         self.generator.next_word() < often

@@ -4,34 +4,29 @@ use crate::point::Point;
 use crate::rows::at;
 use crate::tables::Tables;
 
-/// The most changes of one candidate.
 const MOST_CHANGES: u32 = 64;
 
-/// How many draws look for a second activity.
+/// The draws for a second activity that pays.
 const MOST_DRAWS: u32 = 10;
 
-/// One half, of 2^32.
+/// A share of 2^32, as the two below.
 const HALF: u32 = 1 << 31;
 
-/// Three tenths, of 2^32.
 const THREE_TENTHS: u32 = 1_288_490_189;
 
-/// One tenth, of 2^32.
 const TENTH: u32 = 429_496_730;
 
-/// Which places of a list a change has touched.
+/// The places of a list that a change has touched.
 #[derive(Clone, Copy)]
 pub(crate) struct Change {
-    /// The first place that differs.
+    /// The first place at which the list or a mode differs.
     pub(crate) first: u32,
-    /// The last place of the list that differs.
+    /// The last place at which the list differs.
     pub(crate) last: u32,
-    /// Whether all modes stayed.
     pub(crate) keeps_modes: bool,
 }
 
 impl Change {
-    /// No change of a list of this length.
     fn none(size: u32) -> Change {
         Change {
             first: size,
@@ -40,7 +35,6 @@ impl Change {
         }
     }
 
-    /// The whole of any list.
     pub(crate) fn whole() -> Change {
         Change {
             first: 0,
@@ -49,14 +43,13 @@ impl Change {
         }
     }
 
-    /// Counts a mode that has changed.
     fn touch_mode(&mut self, place: u32) {
         self.first = self.first.min(place);
         self.keeps_modes = false;
     }
 }
 
-/// The first place behind an activity's predecessors.
+/// The first place behind the activity's predecessors.
 fn first_place(tables: &Tables, point: &Point, activity: u32) -> u32 {
     let mut first = 0;
     for before in tables.before.of(activity) {
@@ -65,7 +58,7 @@ fn first_place(tables: &Tables, point: &Point, activity: u32) -> u32 {
     first
 }
 
-/// The last place before an activity's successors.
+/// The last place before the activity's successors.
 fn last_place(tables: &Tables, point: &Point, activity: u32) -> u32 {
     let mut last = tables.size.saturating_sub(1);
     for after in tables.after.of(activity) {
@@ -74,7 +67,6 @@ fn last_place(tables: &Tables, point: &Point, activity: u32) -> u32 {
     last
 }
 
-/// Moves an activity to a later place of the list.
 fn move_back(point: &mut Point, from: u32, to: u32) {
     let activity = at(&point.order, from);
     for place in from..to {
@@ -84,7 +76,6 @@ fn move_back(point: &mut Point, from: u32, to: u32) {
     point.place(to, activity);
 }
 
-/// Moves an activity to an earlier place of the list.
 fn move_forward(point: &mut Point, from: u32, to: u32) {
     let activity = at(&point.order, from);
     for place in (to..from).rev() {
@@ -115,13 +106,11 @@ fn shift(tables: &Tables, chance: &mut Chance, point: &mut Point, change: &mut C
     change.last = change.last.max(from).max(to);
 }
 
-/// A random activity that has a choice of modes.
 pub(crate) fn chooser(tables: &Tables, chance: &mut Chance) -> u32 {
     let count = tables.choosers.len().min(u32::MAX as usize) as u32;
     at(&tables.choosers, chance.below(count))
 }
 
-/// A random other mode of an activity.
 pub(crate) fn other_mode(
     tables: &Tables,
     chance: &mut Chance,
@@ -138,7 +127,7 @@ pub(crate) fn other_mode(
     }
 }
 
-/// Changes the mode of a second activity, so that the excess is at most this one, where a few draws find such a mode.
+/// Changes the mode of a second activity for an excess of at most `most`, if a few draws find one.
 fn pay(
     tables: &Tables,
     chance: &mut Chance,
@@ -161,7 +150,7 @@ fn pay(
     }
 }
 
-/// Changes the mode of a random activity, and sometimes that of a second one, which pays for the first.
+/// Changes the mode of a random activity; sometimes a second one pays for the first.
 fn switch(tables: &Tables, chance: &mut Chance, point: &mut Point, change: &mut Change) {
     let is_pair = chance.happens(THREE_TENTHS);
     let activity = chooser(tables, chance);
@@ -174,7 +163,7 @@ fn switch(tables: &Tables, chance: &mut Chance, point: &mut Point, change: &mut 
     }
 }
 
-/// Changes a point a little, and tells where.
+/// Changes a point a little, and returns where it differs.
 pub(crate) fn vary(tables: &Tables, chance: &mut Chance, point: &mut Point) -> Change {
     let mut change = Change::none(tables.size);
     for _ in 0..MOST_CHANGES {

@@ -1,15 +1,13 @@
 //! How the temperature falls.
 
-/// In how many steps the temperature falls.
 const STEPS: u64 = 1_024;
 
 /// The first temperature, one period, with 32 binary places.
 const HOTTEST: u64 = 1 << 32;
 
-/// What is left of the temperature after a step, with 32 binary places: after all steps it is a twentieth.
+/// What a step leaves of the temperature, with 32 binary places: all steps leave a twentieth.
 const RATE: u64 = 4_282_420_646;
 
-/// The temperature of a run, which falls by equal rates while schedules are generated.
 #[derive(Clone, Copy)]
 pub(crate) struct Cooling {
     heat: u64,
@@ -19,7 +17,7 @@ pub(crate) struct Cooling {
 }
 
 impl Cooling {
-    /// The first temperature, when so many schedules were generated, of a run that generates so many.
+    /// The temperature of a run that begins after `begin` schedules and generates `schedules`.
     pub(crate) fn new(begin: u64, schedules: u64) -> Cooling {
         Cooling {
             heat: HOTTEST,
@@ -29,7 +27,7 @@ impl Cooling {
         }
     }
 
-    /// Lets the temperature fall to what it is when so many schedules were generated.
+    /// Lets the temperature fall to what it is after `spent` schedules.
     pub(crate) fn cool(&mut self, spent: u64) {
         let steps = spent.saturating_sub(self.begin) / self.length.max(1);
         for _ in self.steps..steps.min(STEPS) {

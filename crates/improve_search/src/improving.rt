@@ -12,20 +12,20 @@ use std::alloc::{AllocError, Global};
 use std::marker::Model;
 use std::mem;
 
-/// The most schedules that a candidate takes.
+/// The most schedules of a candidate.
 const MOST_OF_STEP: u64 = 3;
 
-/// Which share of the schedules those runs get that keep the nonrenewable capacities.
+/// Runs that keep the nonrenewable capacities get one schedule among this number.
 const STRICT_SHARE: u64 = 4;
 
-/// How many schedules such a run gets, for each activity.
+/// The schedules of such a run for each activity.
 const STRICT_LENGTH: u64 = 1_000;
 
-/// The number of the run that may exceed these capacities, the last one.
+/// The last run, which may exceed the nonrenewable capacities.
 const LAST_RUN: u64 = u64::MAX;
 
-/// A search of a project that looks for better schedules by simulated annealing, within a number of schedules that it may
-/// generate. Contracts see the project, that number, how many were generated, and the best schedule.
+/// An `Improving` is a search for better schedules of a project by simulated annealing. It has a
+/// number of schedules that it may generate.
 #[derive(Drop)]
 pub struct Improving {
     alloc: Global,
@@ -50,8 +50,8 @@ impl Model for Improving {
 }
 
 impl Improving {
-    /// A search that may generate so many schedules, or `None` where an activity has no mode that may run. The same seed gives
-    /// the same schedules. It takes no memory later on.
+    /// A search that may generate `most` schedules, or `None` if an activity has no mode that may
+    /// run. A seed gives equal schedules anywhere. The search takes no memory later on.
     pub fn new(
         alloc: Global,
         project: &Project,
@@ -89,7 +89,7 @@ impl Improving {
         self.budget.spent
     }
 
-    /// The best schedule.
+    /// The best schedule, which was checked.
     pub fn best(&self) -> Option<&Schedule>
         ensures best { option_copied result ≡ self.now.best }
         ensures feasible { IfSome self.now.best (IsFeasible self.now.project) }
@@ -97,15 +97,15 @@ impl Improving {
         self.best.schedule()
     }
 
-    /// The makespan of the best schedule.
+    /// The makespan of the best schedule, in periods.
     pub fn makespan(&self) -> Option<u32>
         ensures { result ≡ option_map (makespan self.now.project) self.now.best }
     {
         self.best.makespan()
     }
 
-    /// Whether it generates nothing more: the best schedule takes no longer than the longest chain, or a candidate may not be
-    /// tried, since it takes up to three schedules.
+    /// Whether it generates nothing more: the best schedule is as short as the longest chain, or
+    /// the schedules of a candidate are not left.
     pub fn is_over(&self) -> bool
         ensures { IsFalse result → self.now.spent + MOST_OF_STEP ≤ self.now.most }
     {
@@ -116,7 +116,7 @@ impl Improving {
         is_shortest || self.budget.left() < MOST_OF_STEP
     }
 
-    /// Which run is due: first those that keep the nonrenewable capacities, one after another, and then the last one.
+    /// The runs that keep the nonrenewable capacities come first, and then the last one.
     fn due(&self) -> u64 {
         if self.budget.spent < self.strict {
             self.budget.spent / self.length.max(1)
@@ -125,7 +125,6 @@ impl Improving {
         }
     }
 
-    /// Whether the current schedule of the walk is worth a check.
     fn is_promising(&self) -> bool {
         let makespan = self.annealing.current().makespan;
         let is_shorter = match self.best.makespan() {
@@ -135,7 +134,6 @@ impl Improving {
         is_shorter && self.annealing.keeps_stocks()
     }
 
-    /// Keeps the current schedule of the walk where it is feasible and the shortest so far.
     fn keep(&mut self)
         ensures project { self.new.project ≡ self.old.project }
         ensures spent { self.new.spent ≡ self.old.spent }
@@ -146,7 +144,6 @@ impl Improving {
         self.best = better(best, &self.project, &self.annealing);
     }
 
-    /// Tries one candidate, or the first one of a run.
     fn walk(&mut self) -> bool
         requires { self.old.spent + MOST_OF_STEP ≤ self.old.most }
         ensures project { self.new.project ≡ self.old.project }
@@ -168,7 +165,6 @@ impl Improving {
         true
     }
 
-    /// Tries one candidate, and keeps its schedule where that is the best so far.
     fn step(&mut self)
         requires { self.old.spent + MOST_OF_STEP ≤ self.old.most }
         ensures project { self.new.project ≡ self.old.project }
@@ -181,7 +177,8 @@ impl Improving {
         }
     }
 
-    /// Generates so many schedules more, and at most two besides; none once it is over. Tells whether it is not over then.
+    /// Generates `schedules` more, and at most two besides, but none once it is over. Returns
+    /// whether it has generated any and is not over.
     #[tactic(auto, using(crate::proofs::LongerLemmas::longer_self, crate::proofs::LongerLemmas::longer_then))]
     pub fn run(&mut self, schedules: u64) -> bool
         ensures project { self.new.project ≡ self.old.project }

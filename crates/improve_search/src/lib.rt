@@ -1,16 +1,15 @@
-//! Better schedules by local search: simulated annealing on a list of the activities and a mode for each, with double
-//! justification.
+//! Better schedules by local search: simulated annealing with double justification.
 //!
-//! `Improving::new` makes a search of a project, with all the memory that it will need, and `Improving::run` lets it generate
-//! so many schedules more. Each schedule that it shows was checked: it is feasible, and its makespan is the one that is named.
-//! That it is short is not proved, nor that there is one. All numbers are whole: a seed gives the same schedules anywhere.
+//! `Improving::new` takes all memory of a search, and `Improving::run` generates more schedules.
+//! Each schedule that it shows was checked: it is feasible, with the makespan that is named. That
+//! it is short is not proved, nor that there is one. All numbers are whole: a seed gives equal
+//! schedules anywhere.
 //!
-//! The walk itself is proved to be safe and to end, and its count only grows; what it finds rests on the check
-//! alone.
+//! The walk is proved to be safe and to end. What it finds rests on the check alone.
 //!
 //! - `rows`: rows of numbers, read and written at any place.
-//! - `modes`, `arcs`, `tables`: the numbers of a project, without modes that can't run or are dominated.
-//! - `profile`: what is left of the renewable resources in each period, several resources in a word.
+//! - `modes`, `arcs`, `tables`: the numbers of a project, without useless modes.
+//! - `profile`: what is left of the renewable resources in each period, packed into words.
 //! - `chance`, `cooling`: what a seed draws, and the temperature.
 //! - `point`, `change`: a list with its modes and its schedule, and random changes of it.
 //! - `budget`, `generation`: serial schedule generation and justification, each schedule counted.

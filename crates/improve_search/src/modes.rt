@@ -1,24 +1,22 @@
 //! Which modes of a project are worth trying.
 use mrcpsp::{Activity, Mode};
 
-/// Whether no number of a row is above that of the other one.
 fn is_within(row: &[u32], other: &[u32]) -> bool {
     row.iter().zip(other).all(|(one, most)| *one <= *most)
 }
 
-/// Whether a mode may run at all: one of duration 0 uses no renewable resource.
+/// A mode of duration 0 uses no renewable resource.
 fn is_executable(mode: &Mode, capacities: &[u32]) -> bool {
     mode.duration == 0 || is_within(mode.renewable.as_slice(), capacities)
 }
 
-/// Whether a mode is nowhere worse than another one.
 fn is_no_worse(mode: &Mode, other: &Mode) -> bool {
     mode.duration <= other.duration
         && is_within(mode.renewable.as_slice(), other.renewable.as_slice())
         && is_within(mode.nonrenewable.as_slice(), other.nonrenewable.as_slice())
 }
 
-/// Whether a mode is dominated: another one that may run is nowhere worse, and is better somewhere or comes earlier.
+/// Another mode that may run is nowhere worse, and is better somewhere or comes earlier.
 fn is_dominated(place: usize, mode: &Mode, modes: &[Mode], capacities: &[u32]) -> bool {
     for (i, other) in modes.iter().enumerate() {
         let comes_first = i < place || !is_no_worse(mode, other);
@@ -33,7 +31,6 @@ fn is_dominated(place: usize, mode: &Mode, modes: &[Mode], capacities: &[u32]) -
     false
 }
 
-/// Whether a mode of an activity may run and is not dominated.
 pub(crate) fn is_useful(
     place: usize,
     mode: &Mode,

@@ -3,13 +3,13 @@ use crate::rows::{at, word_at};
 use crate::tables::Tables;
 use std::alloc::{AllocError, Global};
 
-/// How many places of a list lie between two saved profiles.
+/// The places of a list between two saved profiles.
 pub(crate) const STRIDE: u32 = 8;
 
-/// How the capacities of several resources are packed into a word: fields of equal width, the highest bit of each its guard.
+/// How capacities are packed into a word: in fields of equal width, the highest bit of each its
+/// guard.
 #[derive(Clone, Copy)]
 struct Layout {
-    /// How many fields a word has.
     fields: u32,
     /// Two to the power of a field's width.
     base: u64,
@@ -28,7 +28,6 @@ const WIDE: Layout = Layout {
 };
 
 impl Layout {
-    /// The layout that holds these capacities.
     fn of(capacities: &[u32]) -> Layout {
         if capacities.iter().all(|capacity| *capacity < 1 << 15) {
             NARROW
@@ -37,7 +36,7 @@ impl Layout {
         }
     }
 
-    /// The word of the amounts from a place on, as many as there are fields. An amount that is too large is cut.
+    /// As many amounts from `from` on as there are fields. An amount that is too large is cut.
     fn packed(self, amounts: &[u32], from: u32) -> u64 {
         let most = self.base / 2;
         let mut word = 0u64;
@@ -49,7 +48,6 @@ impl Layout {
         word
     }
 
-    /// The word of the guards.
     fn guards(self) -> u64 {
         let mut word = 0u64;
         for _ in 0..self.fields {
@@ -59,7 +57,7 @@ impl Layout {
     }
 }
 
-/// What is left of some renewable resources in each period, now and at saved places of the current list.
+/// What is left of the resources of one word in each period, now and at saved places of the list.
 #[derive(Drop)]
 struct Lane {
     free: Vec<u64>,
@@ -69,7 +67,6 @@ struct Lane {
     guards: u64,
 }
 
-/// The requests of each mode, of the resources from a place on.
 fn packed_requests(
     alloc: Global,
     tables: &Tables,
@@ -86,7 +83,6 @@ fn packed_requests(
 }
 
 impl Lane {
-    /// The whole capacities of the resources from a place on, in each period.
     fn new(
         alloc: Global,
         tables: &Tables,
@@ -107,7 +103,7 @@ impl Lane {
         })
     }
 
-    /// The earliest start from a period on at which a mode fits for so long.
+    /// The earliest start from `from` on at which a mode fits for `duration` periods.
     #[inline]
     fn earliest(&self, mode: u32, duration: u32, from: u32) -> u32 {
         let begin = from as usize;
@@ -128,7 +124,6 @@ impl Lane {
         next.wrapping_sub(run)
     }
 
-    /// Takes what a mode uses, from its start to its finish.
     #[inline]
     fn take(&mut self, mode: u32, start: u32, finish: u32) {
         let request = word_at(&self.requests, mode);
@@ -141,7 +136,6 @@ impl Lane {
         }
     }
 
-    /// Gives everything back in the first periods.
     fn clear(&mut self, periods: u32) {
         let to = periods as usize;
         if to <= self.free.len() {
@@ -149,7 +143,6 @@ impl Lane {
         }
     }
 
-    /// Reads the first periods of a saved row.
     #[inline]
     fn restore(&mut self, row: u32, periods: u32) {
         let from = self.free.len().wrapping_mul(row as usize);
@@ -160,7 +153,6 @@ impl Lane {
         }
     }
 
-    /// Writes the first periods of a saved row.
     #[inline]
     fn save(&mut self, row: u32, periods: u32) {
         let from = self.free.len().wrapping_mul(row as usize);
@@ -172,7 +164,6 @@ impl Lane {
     }
 }
 
-/// Makes a row equal to another one of the same length.
 #[inline]
 fn copy_words(row: &mut [u64], from: &[u64]) {
     if row.len() == from.len() {
@@ -180,7 +171,6 @@ fn copy_words(row: &mut [u64], from: &[u64]) {
     }
 }
 
-/// What is left of the renewable resources in each period, now and at saved places of the current list.
 #[derive(Drop)]
 pub(crate) struct Profile {
     lanes: Vec<Lane>,
@@ -188,7 +178,6 @@ pub(crate) struct Profile {
 }
 
 impl Profile {
-    /// The whole capacities in each period.
     pub(crate) fn new(
         alloc: Global,
         tables: &Tables,
@@ -208,7 +197,7 @@ impl Profile {
         })
     }
 
-    /// The start from a period on to which each lane in turn puts a mode off.
+    /// Each lane in turn puts the mode off.
     #[inline]
     fn put_off(&self, mode: u32, duration: u32, from: u32) -> u32 {
         let mut start = from;
@@ -218,7 +207,6 @@ impl Profile {
         start
     }
 
-    /// The earliest start from a period on at which a mode fits for so long.
     #[inline]
     pub(crate) fn earliest(&self, mode: u32, duration: u32, from: u32) -> u32 {
         let mut start = from;
@@ -232,7 +220,6 @@ impl Profile {
         start
     }
 
-    /// Takes what a mode uses, from its start to its finish.
     #[inline]
     pub(crate) fn take(&mut self, mode: u32, start: u32, finish: u32) {
         for lane in &mut self.lanes {
@@ -240,21 +227,18 @@ impl Profile {
         }
     }
 
-    /// Gives everything back in the first periods.
     pub(crate) fn clear(&mut self, periods: u32) {
         for lane in &mut self.lanes {
             lane.clear(periods);
         }
     }
 
-    /// Reads the first periods of a saved row.
     pub(crate) fn restore(&mut self, row: u32, periods: u32) {
         for lane in &mut self.lanes {
             lane.restore(row, periods);
         }
     }
 
-    /// Writes the first periods of a saved row.
     pub(crate) fn save(&mut self, row: u32, periods: u32) {
         for lane in &mut self.lanes {
             lane.save(row, periods);

@@ -7,7 +7,7 @@ pub(crate) fn at(row: &[u32], place: u32) -> u32 {
     if place < row.len() { row[place] } else { 0 }
 }
 
-/// Writes the number at a place, nothing behind the end.
+/// Writes nothing behind the end.
 #[inline(always)]
 pub(crate) fn put(row: &mut [u32], place: u32, value: u32) {
     let place = place as usize;
@@ -23,7 +23,7 @@ pub(crate) fn word_at(row: &[u64], place: u32) -> u64 {
     if place < row.len() { row[place] } else { 0 }
 }
 
-/// Makes a row equal to another one of the same length.
+/// Writes nothing if the lengths differ.
 #[inline(always)]
 pub(crate) fn copy(row: &mut [u32], from: &[u32]) {
     if row.len() == from.len() {
@@ -31,7 +31,7 @@ pub(crate) fn copy(row: &mut [u32], from: &[u32]) {
     }
 }
 
-/// Writes 0 up to a place, and there.
+/// Writes 0 up to `last` and there, but nothing if that is behind the end.
 pub(crate) fn clear(row: &mut [u32], last: u32) {
     let last = last as usize;
     if last < row.len() {
@@ -39,7 +39,7 @@ pub(crate) fn clear(row: &mut [u32], last: u32) {
     }
 }
 
-/// The numbers from one place to another one, none where there are no such places.
+/// Empty if there are no such places.
 #[inline(always)]
 pub(crate) fn part(row: &[u32], from: u32, to: u32) -> &[u32] {
     let from = from as usize;

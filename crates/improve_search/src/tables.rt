@@ -5,42 +5,32 @@ use crate::rows::{at, part, put};
 use mrcpsp::{Activity, Mode, Project};
 use std::alloc::{AllocError, Global};
 
-/// The numbers of a project. Useful modes are numbered through all activities, from 0.
+/// Useful modes are numbered through all activities, from 0.
 #[derive(Drop)]
 pub(crate) struct Tables {
-    /// How many activities there are.
     pub(crate) size: u32,
     /// How many nonrenewable resources there are.
     pub(crate) kinds: u32,
-    /// How many renewable resources there are.
     pub(crate) renewables: u32,
-    /// The first useful mode of each activity, and behind the last activity how many there are.
+    /// The first useful mode of each activity, and behind the last one how many there are.
     pub(crate) first_mode: Vec<u32>,
     /// The number of each mode in its activity, from 1.
     pub(crate) numbers: Vec<u32>,
-    /// The duration of each mode.
     pub(crate) durations: Vec<u32>,
-    /// What each mode uses of each renewable resource, a mode after another.
+    /// What each mode uses of each renewable resource, mode after mode.
     pub(crate) requests: Vec<u32>,
-    /// What each mode consumes of each nonrenewable resource, a mode after another.
     pub(crate) consumptions: Vec<u32>,
-    /// The capacity of each nonrenewable resource.
     pub(crate) stocks: Vec<u32>,
     /// The activities that have a choice of modes.
     pub(crate) choosers: Vec<u32>,
-    /// The predecessors of each activity.
     pub(crate) before: Arcs,
-    /// The successors of each activity.
     pub(crate) after: Arcs,
-    /// The longest chain from each activity on, by shortest durations, itself included.
+    /// The longest chain from each activity on, itself included, by shortest durations.
     pub(crate) tails: Vec<u32>,
-    /// The longest of these chains.
     pub(crate) longest_chain: u32,
-    /// The sum of the longest durations.
     pub(crate) horizon: u32,
 }
 
-/// Tables of an empty project, with the arcs of this one.
 fn blank(alloc: Global, project: &Project) -> Result<Tables, AllocError> {
     let activities = project.activities();
     Ok(Tables {
@@ -62,7 +52,6 @@ fn blank(alloc: Global, project: &Project) -> Result<Tables, AllocError> {
     })
 }
 
-/// Adds the numbers of a row to the end of another one.
 fn push_all(row: &mut Vec<u32>, numbers: &[u32]) -> Result<(), AllocError> {
     for number in numbers {
         row.push(*number)?;
@@ -71,7 +60,6 @@ fn push_all(row: &mut Vec<u32>, numbers: &[u32]) -> Result<(), AllocError> {
 }
 
 impl Tables {
-    /// Adds a mode, whose number in its activity is given.
     fn push_mode(&mut self, number: u32, mode: &Mode) -> Result<(), AllocError> {
         self.numbers.push(number)?;
         self.durations.push(mode.duration)?;
@@ -79,7 +67,7 @@ impl Tables {
         push_all(&mut self.consumptions, mode.nonrenewable.as_slice())
     }
 
-    /// Adds the useful modes of an activity, and tells how many.
+    /// Adds the useful modes of an activity, and returns how many they are.
     fn push_modes(&mut self, activity: &Activity, capacities: &[u32]) -> Result<u32, AllocError> {
         let mut number = 0u32;
         let mut count = 0u32;
@@ -93,7 +81,7 @@ impl Tables {
         Ok(count)
     }
 
-    /// Adds an activity, and tells whether it has a useful mode.
+    /// Returns whether the activity has a useful mode.
     fn push_activity(
         &mut self,
         activity: &Activity,
@@ -117,27 +105,23 @@ impl Tables {
         (first, end)
     }
 
-    /// How many modes an activity has.
     #[inline]
     pub(crate) fn mode_count(&self, activity: u32) -> u32 {
         let (first, end) = self.modes_of(activity);
         end.saturating_sub(first)
     }
 
-    /// What a mode consumes of each nonrenewable resource.
     #[inline]
     pub(crate) fn consumption(&self, mode: u32) -> &[u32] {
         let from = mode.wrapping_mul(self.kinds);
         part(&self.consumptions, from, from.wrapping_add(self.kinds))
     }
 
-    /// What a mode uses of each renewable resource.
     pub(crate) fn request(&self, mode: u32) -> &[u32] {
         let from = mode.wrapping_mul(self.renewables);
         part(&self.requests, from, from.wrapping_add(self.renewables))
     }
 
-    /// The most that a mode of an activity consumes of a nonrenewable resource.
     fn most_consumed(&self, activity: u32, kind: u32) -> u32 {
         let (first, end) = self.modes_of(activity);
         let mut most = 0;
@@ -147,7 +131,6 @@ impl Tables {
         most
     }
 
-    /// Whether no modes consume more of a nonrenewable resource than its capacity.
     fn is_ample(&self, kind: u32) -> bool {
         let mut most = 0u64;
         for activity in 0..self.size {
@@ -156,12 +139,10 @@ impl Tables {
         most <= u64::from(at(&self.stocks, kind))
     }
 
-    /// Whether no modes exceed a nonrenewable capacity.
     pub(crate) fn has_ample_stocks(&self) -> bool {
         (0..self.kinds).all(|kind| self.is_ample(kind))
     }
 
-    /// The shortest duration of an activity.
     fn shortest(&self, activity: u32) -> u32 {
         let (first, end) = self.modes_of(activity);
         part(&self.durations, first, end)
@@ -171,7 +152,7 @@ impl Tables {
             .unwrap_or(0)
     }
 
-    /// The longest chain behind an activity, where those of its successors are known.
+    /// The chains of the successors are known.
     fn chain_behind(&self, activity: u32) -> u32 {
         let mut longest = 0;
         for successor in self.after.of(activity) {
@@ -180,7 +161,6 @@ impl Tables {
         longest
     }
 
-    /// Computes the longest chains, from the last activity to the first.
     fn find_tails(&mut self) {
         for activity in (0..self.size).rev() {
             let tail = self
@@ -192,7 +172,7 @@ impl Tables {
     }
 }
 
-/// The numbers of a project, or `None` where an activity has no mode that may run.
+/// `None` if an activity has no mode that may run.
 pub(crate) fn tables_of(alloc: Global, project: &Project) -> Result<Option<Tables>, AllocError> {
     let mut tables = blank(alloc, project)?;
     for activity in project.activities() {

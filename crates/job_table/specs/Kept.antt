@@ -1,4 +1,4 @@
--- What a table keeps of itself beside what contracts see.
+-- What a table keeps of itself that contracts do not see.
 use Rattle.std.specs.Prelude.{◌≡◌, ℕ, ◌+◌, ◌-◌, ◌^◌, ◌≤◌, Bool, cond, List, [], ◌∷◌, Option, Some, None, nat_eq, filter, length}
 use Rattle.std.specs.Map.{lookup}
 use Rattle.job_table.specs.Table.{JobData, Row, TableData, is_key, is_waiting, is_out, add_row, drop_row, jobs_of, AreWaiting}
@@ -12,16 +12,16 @@ use Rattle.job_table.specs.declared.queue.Queue.{Queue}
 abbrev pub row_of : (ℕ × ℕ) × JobData → Row
 row_of entry = record { tenant = entry.0.0; job = record entry.1 { seq = entry.0.1 } }
 
--- the entries as rows, each put in its place among those behind it: so their order in the map says nothing
+-- the entries as rows, in the order of tenants and numbers, whatever their order in the map
 abbrev pub rows_of : List ((ℕ × ℕ) × JobData) → List Row
 rows_of [] = []
 rows_of (entry ∷ entries) = add_row (row_of entry) (drop_row entry.0.0 entry.0.1 (rows_of entries))
 
--- each job lies under its own number
+-- each job has its own number as its key
 abbrev pub AreNamed : List ((ℕ × ℕ) × JobData) → Type 0
 AreNamed entries = (t s : ℕ) (job : JobData) → lookup (is_key t s) entries ≡ Some job → job.seq ≡ s
 
--- how many jobs a tenant has, and of how many the turn is out
+-- how many jobs a tenant has, and how many of their turns are out
 abbrev pub counts_of : ℕ → List Row → Counts
 counts_of t rows = record { kept = length (jobs_of t rows); out = length (filter (λ job. is_out job.phase) (jobs_of t rows)) }
 
@@ -30,14 +30,15 @@ abbrev pub counted : Option Counts → Counts
 counted None = record { kept = 0; out = 0 }
 counted (Some counts) = counts
 
--- the counts once a job's turn has gone out or come back
+-- the counts after a job's turn has gone out or come back
 abbrev pub moved : Bool → Bool → Counts → Counts
 moved was is counts = cond is (cond was counts (record counts { out = counts.out + 1 })) (cond was (record counts { out = counts.out - 1 }) counts)
 
--- the counts with a job more, and with one less, whose turn is out or not
+-- the counts with one job more, whose turn is out or not
 abbrev pub one_more : Bool → Counts → Counts
 one_more out counts = record { kept = counts.kept + 1; out = cond out (counts.out + 1) counts.out }
 
+-- the counts with one job less, whose turn was out or not
 abbrev pub one_less : Bool → Counts → Counts
 one_less out counts = record { kept = counts.kept - 1; out = cond out (counts.out - 1) counts.out }
 
@@ -45,19 +46,19 @@ one_less out counts = record { kept = counts.kept - 1; out = cond out (counts.ou
 abbrev pub AreCounted : List (ℕ × Counts) → List Row → Type 0
 AreCounted entries rows = (t : ℕ) → counted (lookup (nat_eq t) entries) ≡ counts_of t rows
 
--- those who wait are the jobs that wait, as many as there are, and the jobs can be counted
+-- the queue has exactly the jobs that wait, and the jobs can be counted
 pub record IsKept (table : TableData) : Type 0 where
   pub waiting : AreWaiting table
   pub count : length table.waiting ≡ length (filter (λ (row : Row). is_waiting row.job.phase) table.rows)
   pub few : length table.rows ≤ 2 ^ 63
 
--- the jobs, the counts and those who wait agree
+-- the jobs, the counts and the queue agree
 pub record IsHeld (jobs : List ((ℕ × ℕ) × JobData)) (counts : List (ℕ × Counts)) (waiting : List (ℕ × ℕ)) : Type 0 where
   pub named : AreNamed jobs
   pub counted : AreCounted counts (rows_of jobs)
   pub kept : IsKept (record { rows = rows_of jobs; waiting = waiting })
 
--- the same of a map, with the links that make the queue
+-- the jobs of a map, the counts and the linked queue agree
 pub record IsTable {J : Type 0} (entries : List ((ℕ × ℕ) × Linked J)) (counts : List (ℕ × Counts)) (queue : Queue) : Type 0 where
   pub held : IsHeld (jobs_in entries) counts (line_of entries queue)
   pub linked : IsLinked entries queue (line_of entries queue)
@@ -66,7 +67,8 @@ pub record IsTable {J : Type 0} (entries : List ((ℕ × ℕ) × Linked J)) (cou
 abbrev pub whole : {J : Type 0} → List ((ℕ × ℕ) × Linked J) → Queue → TableData
 whole entries queue = record { rows = rows_of (jobs_in entries); waiting = line_of entries queue }
 
--- in the map a tenant's job has gone from a phase to another, while the counts and the queue are those from before
+-- in the map, job `(t, s)` has moved from phase `was` to `is`; the counts and the queue are still
+-- as before
 pub record IsChanging {J : Type 0} (t s : ℕ) (was is : Phase) (entries : List ((ℕ × ℕ) × Linked J))
     (counts : List (ℕ × Counts)) (queue : Queue) : Type 0 where
   pub before : List ((ℕ × ℕ) × Linked J)

@@ -8,7 +8,6 @@ use mrcpsp::{Schedule, Sequence};
 use std::alloc::{AllocError, Global};
 use std::mem;
 
-/// Memory for a schedule, and whether it holds one.
 #[derive(Drop)]
 pub(crate) struct Best {
     alloc: Global,
@@ -16,7 +15,6 @@ pub(crate) struct Best {
     found: bool,
 }
 
-/// A schedule of no activities. Takes no memory.
 fn no_schedule(alloc: Global) -> Schedule {
     Schedule {
         modes: Sequence::from(Vec::new(alloc)),
@@ -24,7 +22,6 @@ fn no_schedule(alloc: Global) -> Schedule {
     }
 }
 
-/// An equal list, in the memory of another one of the same length.
 fn overwritten(room: Sequence<u32>, with: &[u32]) -> Sequence<u32>
     requires { length room ≡ length with.now }
     ensures { result ≡ with.now }
@@ -34,7 +31,6 @@ fn overwritten(room: Sequence<u32>, with: &[u32]) -> Sequence<u32>
     Sequence::from(numbers)
 }
 
-/// An equal schedule, in the memory of another one of as many activities.
 fn rewritten(room: Schedule, with: &Schedule) -> Schedule
     requires modes { length room.modes ≡ length with.now.modes }
     requires starts { length room.starts ≡ length with.now.starts }
@@ -48,7 +44,6 @@ fn rewritten(room: Schedule, with: &Schedule) -> Schedule
 }
 
 impl Best {
-    /// No schedule yet, with memory for one of so many activities.
     pub(crate) fn new(alloc: Global, size: usize) -> Result<Best, AllocError>
         ensures none { IfOk result (λ best. best.found ≡ false) }
         ensures sized { IfOk result (λ best. HasSize size best.schedule) }
@@ -65,7 +60,6 @@ impl Best {
         })
     }
 
-    /// The schedule, where one was found.
     pub(crate) fn schedule(&self) -> Option<&Schedule>
         ensures { option_copied result ≡ best_in self.now }
     {
@@ -76,7 +70,7 @@ impl Best {
         }
     }
 
-    /// Keeps a copy of what a search shows. Takes no memory.
+    /// Takes no memory: `shown` is copied over the schedule that is there.
     pub(crate) fn copy(&mut self, shown: Option<&Schedule>)
         requires shown { IfSome (option_copied shown) (λ s. HasSize (length self.old.schedule.modes) s) }
         requires starts { length self.old.schedule.starts ≡ length self.old.schedule.modes }

@@ -6,14 +6,12 @@ ghost use Rattle.job_table.specs.Kept.{counted, moved, one_more, one_less};
 use indexmap::IndexMap;
 use std::alloc::AllocError;
 
-/// How many jobs a tenant has, and of how many the turn is out.
 #[derive(Clone, Copy)]
 pub(crate) struct Counts {
     pub(crate) kept: usize,
     pub(crate) out: usize,
 }
 
-/// A tenant's counts.
 pub(crate) fn counts_in(counts: &IndexMap<u32, Counts>, tenant: u32) -> Counts
     ensures { result ≡ counted (get nat_eq counts.now tenant) }
 {
@@ -23,7 +21,7 @@ pub(crate) fn counts_in(counts: &IndexMap<u32, Counts>, tenant: u32) -> Counts
     }
 }
 
-/// Takes the memory for a tenant's counts.
+/// Takes the memory for a tenant's counts, so that no later count takes any.
 pub(crate) fn begin_counts(
     counts: &mut IndexMap<u32, Counts>,
     tenant: u32,
@@ -39,7 +37,6 @@ pub(crate) fn begin_counts(
     Ok(())
 }
 
-/// Tells other counts of a tenant. Takes no memory.
 pub(crate) fn set_counts(counts: &mut IndexMap<u32, Counts>, tenant: u32, to: Counts)
     requires { ContainsKey nat_eq counts.old tenant }
     ensures { (t : ℕ) → counted (get nat_eq counts.new t)
@@ -50,7 +47,7 @@ pub(crate) fn set_counts(counts: &mut IndexMap<u32, Counts>, tenant: u32, to: Co
     }
 }
 
-/// Counts a tenant's job whose turn was out, and is out. Takes no memory.
+/// Updates the count of turns that are out: `was` before the change, `is` after it.
 pub(crate) fn recount(counts: &mut IndexMap<u32, Counts>, tenant: u32, was: bool, is: bool)
     requires there { ContainsKey nat_eq counts.old tenant }
     requires least { was ≡ true → 1 ≤ (counted (get nat_eq counts.old tenant)).out }
@@ -69,7 +66,6 @@ pub(crate) fn recount(counts: &mut IndexMap<u32, Counts>, tenant: u32, was: bool
     set_counts(counts, tenant, Counts { kept, out });
 }
 
-/// Counts a new job of a tenant, whose turn is out or not. Takes no memory.
 pub(crate) fn count_in(counts: &mut IndexMap<u32, Counts>, tenant: u32, is: bool)
     requires there { ContainsKey nat_eq counts.old tenant }
     requires kept { (counted (get nat_eq counts.old tenant)).kept < 2 ^ 63 }
@@ -91,7 +87,6 @@ pub(crate) fn count_in(counts: &mut IndexMap<u32, Counts>, tenant: u32, is: bool
     );
 }
 
-/// Counts a job of a tenant no more, whose turn was out or not. Takes no memory.
 pub(crate) fn count_out(counts: &mut IndexMap<u32, Counts>, tenant: u32, was: bool)
     requires there { ContainsKey nat_eq counts.old tenant }
     requires kept { 1 ≤ (counted (get nat_eq counts.old tenant)).kept }

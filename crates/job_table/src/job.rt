@@ -18,8 +18,8 @@ use std::alloc::{AllocError, Global};
 use std::marker::Model;
 use strategy::{Plan, Strategy, Verdict, same_plan};
 
-/// A job without its number and its phase: its plan, the nodes that were paid, the quanta that it holds, the best schedule
-/// and the verdict of the plan after these nodes, and its search unless that is out or over.
+/// A `Work` is a job without its number and phase: its plan, and what its search has shown. It
+/// holds the search unless that is out or over.
 #[derive(Drop)]
 pub struct Work<J> {
     plan: Plan,
@@ -43,7 +43,7 @@ impl<J> Model for Work<J> {
     ghost invariant = { λ w. IsSound w.plan w.nodes w.best w.makespan w.verdict };
 }
 
-/// A job is a number, a phase and work.
+/// A `Job` is a number, a phase and a [`Work`].
 #[derive(Drop)]
 pub struct Job<J> {
     seq: u64,
@@ -66,7 +66,6 @@ impl<J> Model for Job<J> {
     } };
 }
 
-/// Whether a search is at this point, with its best schedule, and not over.
 fn agrees<S: Strategy>(search: &S, tenant: u32, plan: &Plan, nodes: u64, left: u64) -> bool
     ensures { IsTrue result
         ↔ ((S.meaning search.now
@@ -80,16 +79,16 @@ fn agrees<S: Strategy>(search: &S, tenant: u32, plan: &Plan, nodes: u64, left: u
         && same_plan(search.plan(), plan)
 }
 
-/// Whether a search has run nothing, holds nothing, and is of that tenant and plan: such a one may be submitted.
+/// Whether `search` may be submitted: it has run nothing, holds nothing, and is of `tenant` and
+/// `plan`.
 pub fn is_fresh<S: Strategy>(search: &S, tenant: u32, plan: &Plan) -> bool
     ensures { IsTrue result ↔ (S.meaning search.now ≡ fresh_search tenant plan.now) }
 {
-    // (each of a project's readers tells that it is one)
+    // Shows the prover that `plan.project` is a project, as each of its readers does.
     plan.project.activities();
     agrees(search, tenant, plan, 0, 0)
 }
 
-/// Draws so many quanta for a search that is at this point. False where it is at another; then nothing is drawn.
 fn fund_own<S: Strategy>(
     search: &mut S,
     tenant: u32,
@@ -113,7 +112,6 @@ fn fund_own<S: Strategy>(
     own
 }
 
-/// Whether a turn for at most so many nodes is out.
 fn is_turn(slice: u64, phase: Phase) -> bool
     ensures { result ≡ is_turn slice phase }
 {
@@ -151,7 +149,6 @@ impl<J: Strategy> Work<J> {
     }
 }
 
-/// The makespan of the best schedule of a plan after so many nodes, in periods.
 #[tactic(auto, using(crate::proofs::JobLemmas::best_shaped, crate::proofs::JobLemmas::best_moded))]
 fn makespan_of(plan: &Plan, nodes: u64, best: Option<&Schedule>) -> Option<u32>
     requires planned { IsTrue (is_project plan.now.project) }
@@ -165,21 +162,18 @@ fn makespan_of(plan: &Plan, nodes: u64, best: Option<&Schedule>) -> Option<u32>
 }
 
 impl<J> Work<J> {
-    /// The best schedule of its plan after its nodes.
     fn best(&self) -> Option<&Schedule>
         ensures { option_copied result ≡ best_after self.now.plan self.now.nodes }
     {
         self.best.schedule()
     }
 
-    /// The makespan of that schedule, in periods.
     fn makespan(&self) -> Option<u32>
         ensures { result ≡ option_map (makespan self.now.plan.project) (best_after self.now.plan self.now.nodes) }
     {
         self.makespan
     }
 
-    /// What the search has shown after its nodes.
     fn verdict(&self) -> Verdict
         ensures { result ≡ verdict_after self.now.plan self.now.nodes }
     {
@@ -188,7 +182,8 @@ impl<J> Work<J> {
 }
 
 impl<J: Strategy> Work<J> {
-    /// Hands the search out. `None` if it is not here, if it is over, or if its tenant, plan, nodes or quanta are others.
+    /// Hands the search out. `None` if it is not here, over, or of another tenant, plan, count of
+    /// nodes or of quanta.
     pub fn send(&mut self, tenant: u32) -> Option<J>
         ensures search { IfSome result (λ search. J.meaning search ≡ search_of tenant self.old) }
         ensures going { OnSome result (is_closed self.old.plan self.old.nodes ≡ false) }
@@ -203,8 +198,8 @@ impl<J: Strategy> Work<J> {
         Some(search)
     }
 
-    /// Takes over all that a search of its plan has shown, and returns the phase that follows a turn in `phase`. Keeps the
-    /// search if the job holds it in that phase, or else drops it with its quanta. Takes no memory.
+    /// Takes over what `search` has shown, and returns the phase that follows a turn in `phase`. If
+    /// no search is held in that phase, it drops this one with its quanta. Takes no memory.
     pub fn take_back(&mut self, search: J, phase: Phase) -> Phase
         requires plan { (J.meaning search).plan ≡ self.old.plan }
         requires best { (J.meaning search).taken ≡ false }
@@ -225,7 +220,7 @@ impl<J: Strategy> Work<J> {
         after
     }
 
-    /// Drops the search and the quanta that it holds. Takes no memory.
+    /// Drops the search with its quanta. Takes no memory.
     pub fn give_up(&mut self)
         ensures { self.new ≡ record self.old { left = 0; here = false } }
     {
@@ -233,7 +228,7 @@ impl<J: Strategy> Work<J> {
         self.left = 0;
     }
 
-    /// Draws more quanta for the search. False in the cases in which `send` returns `None`.
+    /// Draws more quanta for the search. Returns false if `send` would return `None`.
     pub fn fund(&mut self, tenant: u32, quanta: u64) -> bool
         requires { self.old.nodes + self.old.left + quanta ≤ LEASE_LIMIT }
         ensures funded { IsTrue result → self.new ≡ record self.old { left = self.old.left + quanta } }
@@ -264,7 +259,7 @@ impl<J> Job<J> {
     ghost use Rattle.job_table.specs.contracts.job.Job.{the_row};
     ghost use Rattle.job_table.specs.Rows.{work_row};
 
-    /// Its number.
+    /// The job's number.
     pub fn seq(&self) -> u64
         ensures { result ≡ self.now.seq }
     {
@@ -278,21 +273,21 @@ impl<J> Job<J> {
         &self.work.plan
     }
 
-    /// Where it stands.
+    /// The phase that it is in.
     pub fn phase(&self) -> Phase
         ensures { result ≡ self.now.phase }
     {
         self.phase
     }
 
-    /// How many nodes were run and paid.
+    /// The nodes that were run and paid.
     pub fn nodes(&self) -> u64
         ensures { result ≡ self.now.nodes }
     {
         self.work.nodes
     }
 
-    /// How many quanta it holds.
+    /// The quanta that it holds.
     pub fn left(&self) -> u64
         ensures { result ≡ self.now.left }
     {
@@ -320,7 +315,6 @@ impl<J> Job<J> {
         self.work.verdict()
     }
 
-    /// Puts it in another phase.
     pub(crate) fn set_phase(&mut self, phase: Phase)
         ensures { self.new ≡ in_phase phase self.old }
     {
@@ -336,7 +330,7 @@ impl<J> Job<J> {
 }
 
 impl<J: Strategy> Job<J> {
-    /// A job that waits, with `quanta` in its search, which has run nothing. An error is want of memory.
+    /// A job that waits, with `quanta` in its search. An error is want of memory.
     pub fn new(
         alloc: Global,
         tenant: u32,
@@ -357,7 +351,7 @@ impl<J: Strategy> Job<J> {
         })
     }
 
-    /// Whether the search is this job's, after so many nodes of a turn for at most `slice`.
+    /// Whether `search` is this job's, after `ran` nodes of a turn for at most `slice`.
     pub fn is_own(&self, tenant: u32, slice: u64, ran: u64, search: &J) -> bool
         ensures { IsTrue result ↔ IsOwn tenant slice ran (J.meaning search.now) self.now }
     {

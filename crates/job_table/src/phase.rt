@@ -1,16 +1,15 @@
-//! The phases of a job.
 ghost use Rattle.std.specs.Prelude.{◌≡◌};
 ghost use Rattle.job_table.specs.Table.{is_waiting, is_out, is_ended};
 ghost use Rattle.job_table.specs.Job.{is_here, phase_after};
 
-/// Where a job stands.
+/// A `Phase` is the state of a job.
 #[derive(Clone, Copy, Debug, PartialEq, Eq)]
 pub enum Phase {
     /// A turn of it may be taken.
     Waiting,
-    /// A worker holds its turn, for at most so many nodes.
+    /// A worker holds its turn, for at most this number of nodes.
     Out(u64),
-    /// The same, but it was cancelled while it was out.
+    /// It was cancelled, and a worker still holds its turn.
     Leaving(u64),
     /// It holds no quanta, and its search is not over.
     Dry,
@@ -38,7 +37,7 @@ impl Phase {
         }
     }
 
-    /// Whether the job has come to its end.
+    /// Whether the job has ended.
     pub fn is_ended(self) -> bool
         ensures { result ≡ is_ended self }
     {
@@ -58,7 +57,7 @@ impl Phase {
         }
     }
 
-    /// The phase of a job after its turn: `closed` if its search is over, which holds `left` quanta.
+    /// The phase after a turn: `closed` if its search is over, which then holds `left` quanta.
     pub fn after(self, closed: bool, left: u64) -> Phase
         ensures { result ≡ phase_after self closed left }
     {

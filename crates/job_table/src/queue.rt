@@ -1,4 +1,5 @@
-//! Who waits: a queue through the jobs, in the order in which turns are taken. Each job names its neighbours by their keys.
+//! The queue of jobs that wait, in the order of their turns. Each job has the keys of its
+//! neighbours.
 ghost use Rattle.std.specs.Prelude.{◌≡◌, ℕ, ◌<◌, ◌^◌, cond, is_some, true, false, length, filter, option_map};
 ghost use Rattle.job_table.specs.Table.{is_key, waiting_then};
 ghost use Rattle.job_table.specs.Queue.{jobs_in, links_at, line_of, IsLinked, AreRelinked, with_first, with_last, joined, one_gone, lengthened, one_come};
@@ -7,27 +8,23 @@ use crate::Job;
 use indexmap::IndexMap;
 use std::mem;
 
-/// The keys of a job's neighbours among those who wait, where there are any.
 #[derive(Clone, Copy)]
 pub(crate) struct Links {
     pub(crate) before: Option<(u32, u64)>,
     pub(crate) behind: Option<(u32, u64)>,
 }
 
-/// The links of a job that does not wait.
 pub(crate) const NO_LINKS: Links = Links {
     before: None,
     behind: None,
 };
 
-/// A job and its links.
 #[derive(Drop)]
 pub(crate) struct Linked<J> {
     pub(crate) job: Job<J>,
     pub(crate) links: Links,
 }
 
-/// Who waits first and last, and how many wait.
 #[derive(Clone, Copy)]
 pub(crate) struct Queue {
     pub(crate) first: Option<(u32, u64)>,
@@ -35,7 +32,6 @@ pub(crate) struct Queue {
     pub(crate) len: usize,
 }
 
-/// Gives a job other links, and hands out those that it had.
 fn relink<J>(jobs: &mut IndexMap<(u32, u64), Linked<J>>, tenant: u32, seq: u64, to: Links) -> Links
     ensures had { (links : Links) → links_at tenant seq jobs.old.entries ≡ Some links → result ≡ links }
     ensures links { AreRelinked (Some (tenant, seq)) (λ links. to) jobs.old.entries jobs.new.entries }
@@ -47,7 +43,7 @@ fn relink<J>(jobs: &mut IndexMap<(u32, u64), Linked<J>>, tenant: u32, seq: u64, 
     }
 }
 
-/// Tells who stands behind a key, or first where none is given.
+/// Sets the successor of `key` to `to`, or the head of the queue if `key` is `None`.
 fn put_behind<J>(
     jobs: &mut IndexMap<(u32, u64), Linked<J>>,
     queue: &mut Queue,
@@ -68,7 +64,7 @@ fn put_behind<J>(
     }
 }
 
-/// Tells who stands before a key, or last where none is given.
+/// Sets the predecessor of `key` to `to`, or the tail of the queue if `key` is `None`.
 fn put_before<J>(
     jobs: &mut IndexMap<(u32, u64), Linked<J>>,
     queue: &mut Queue,
@@ -89,7 +85,6 @@ fn put_before<J>(
     }
 }
 
-/// Joins the neighbours of a job that had these links and stands in the queue no longer.
 pub(crate) fn unlink<J>(jobs: &mut IndexMap<(u32, u64), Linked<J>>, queue: &mut Queue, links: Links)
     requires { 0 < queue.old.len }
     ensures links { (t s : ℕ) → links_at t s jobs.new.entries
@@ -102,7 +97,6 @@ pub(crate) fn unlink<J>(jobs: &mut IndexMap<(u32, u64), Linked<J>>, queue: &mut 
     queue.len -= 1;
 }
 
-/// Puts a job that does not stand in the queue behind the last.
 fn link_last<J>(
     jobs: &mut IndexMap<(u32, u64), Linked<J>>,
     queue: &mut Queue,
@@ -127,8 +121,7 @@ fn link_last<J>(
     queue.len += 1;
 }
 
-/// Puts a job that begins to wait last, and takes one that waits no longer out. Takes no memory, and time that does not
-/// depend on how many wait.
+/// Takes no memory, and time that does not depend on the length of the queue.
 pub(crate) fn requeue<J>(
     jobs: &mut IndexMap<(u32, u64), Linked<J>>,
     queue: &mut Queue,

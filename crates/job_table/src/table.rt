@@ -1,4 +1,3 @@
-//! The table of all tenants' jobs.
 ghost use Rattle.std.specs.Prelude.{◌≡◌, ◌↔◌, ◌≤◌, true, [], is_some, Some, None, IfSome, OnSome, IfNone, IfErr, OnOk, OnErr, false, length, filter, slice_get};
 ghost use Rattle.std.specs.Option.{option_copied};
 ghost use Rattle.job_table.specs.Table.{AreWaiting, behind, is_out, find_row, jobs_of, add_job, change_job, drop_job};
@@ -12,8 +11,8 @@ use indexmap::IndexMap;
 use std::alloc::Global;
 use std::marker::Model;
 
-/// All tenants' jobs, and which of them wait. Contracts see the rows in the order of tenants and numbers, and those who wait in
-/// the order in which they are to have their turns.
+/// A `JobTable` is all tenants' jobs, and the queue of those that wait. Contracts see the jobs in
+/// the order of tenants and numbers.
 #[derive(Drop)]
 pub struct JobTable<J> {
     jobs: IndexMap<(u32, u64), Linked<J>>,
@@ -34,7 +33,7 @@ impl<J> Model for JobTable<J> {
     ghost invariant = { λ t. IsTable t.jobs.entries t.counts.entries t.queue };
 }
 
-/// Tells the counts and the queue that a tenant's job in the map has gone from a phase to another. Takes no memory.
+/// Updates counts and queue after job `(tenant, seq)` moved from phase `was` to `is`.
 fn follow<J>(
     jobs: &mut IndexMap<(u32, u64), Linked<J>>,
     counts: &mut IndexMap<u32, Counts>,
@@ -59,7 +58,7 @@ impl<J> JobTable<J> {
     ghost use Rattle.job_table.specs.contracts.table.JobTable.{the_row};
     ghost use Rattle.job_table.specs.Rows.{work_row};
 
-    /// A table without rows. Takes no memory.
+    /// An empty table. Takes no memory.
     pub fn new(alloc: Global) -> JobTable<J>
         ensures { result ≡ record { rows = []; waiting = [] } }
     {
@@ -74,14 +73,14 @@ impl<J> JobTable<J> {
         }
     }
 
-    /// How many jobs there are, of all tenants.
+    /// The number of jobs of all tenants.
     pub fn len(&self) -> usize
         ensures { result ≡ length self.now.rows }
     {
         self.jobs.len()
     }
 
-    /// Adds a tenant's job, or hands it back where there is no memory for it. From then on no change of it takes memory.
+    /// Adds a job, or hands it back if there is no memory. No later change of it takes memory.
     pub fn insert(&mut self, tenant: u32, job: Job<J>) -> Result<(), Job<J>>
         requires { find_row tenant job.seq self.old.rows ≡ None }
         ensures added { OnOk result (self.new ≡ add_job tenant job self.old) }
@@ -117,7 +116,7 @@ impl<J> JobTable<J> {
         Ok(())
     }
 
-    /// The tenant's job of that number.
+    /// Job `seq` of `tenant`.
     pub fn find(&self, tenant: u32, seq: u64) -> Option<&Job<J>>
         ensures { option_copied result ≡ find_row tenant seq self.now.rows }
     {
@@ -127,7 +126,7 @@ impl<J> JobTable<J> {
         }
     }
 
-    /// Lends the work of job `seq` of `tenant`: all of it but its number and its phase. Takes no memory.
+    /// Lends the work of job `seq` of `tenant`. Takes no memory.
     pub fn find_mut(&mut self, tenant: u32, seq: u64) -> Option<&mut Work<J>>
         ensures* writes_back { sem 𝓛
             (LendsSo (the_row J.row) (work_row J.row) self.entry result
@@ -142,8 +141,8 @@ impl<J> JobTable<J> {
         Some(linked.job.work_mut())
     }
 
-    /// Puts job `seq` of `tenant` in another phase. False if there is no such job. Takes no memory.
-    /// A job that begins to wait stands last in the queue, and one that waits no longer leaves it.
+    /// Puts job `seq` of `tenant` in another phase, at the end of the queue or out of it. Returns
+    /// false if there is no such job. Takes no memory.
     pub fn set_phase(&mut self, tenant: u32, seq: u64, phase: Phase) -> bool
         ensures found { result ≡ is_some (find_row tenant seq self.old.rows) }
         ensures put { self.new ≡ change_found tenant seq (in_phase phase) self.old }
@@ -158,21 +157,21 @@ impl<J> JobTable<J> {
         true
     }
 
-    /// How many jobs the tenant has.
+    /// The number of the tenant's jobs.
     pub fn count_of(&self, tenant: u32) -> usize
         ensures { result ≡ length (jobs_of tenant self.now.rows) }
     {
         counts_in(&self.counts, tenant).kept
     }
 
-    /// How many of the tenant's jobs have their turn out.
+    /// The number of the tenant's jobs whose turn is out.
     pub fn out_of(&self, tenant: u32) -> usize
         ensures { result ≡ length (filter (λ job. is_out job.phase) (jobs_of tenant self.now.rows)) }
     {
         counts_in(&self.counts, tenant).out
     }
 
-    /// How many jobs wait: each job that waits stands once among them, and no other.
+    /// The length of the queue, in which each waiting job is once.
     pub fn waiting_len(&self) -> usize
         ensures len { result ≡ length self.now.waiting }
         ensures most { result ≤ length self.now.rows }
@@ -181,8 +180,8 @@ impl<J> JobTable<J> {
         self.queue.len
     }
 
-    /// The tenant and the number of the i-th waiting job, from 0, in the order in which they are to have their turns; `None`
-    /// from their number on. Goes over those before it. Takes no memory.
+    /// The tenant and number of the job at place `i` of the queue, from 0. Walks over those before
+    /// it.
     pub fn waiting(&self, i: usize) -> Option<(u32, u64)>
         ensures key { result ≡ slice_get self.now.waiting i }
         ensures waiting { AreWaiting self.now }
@@ -197,7 +196,7 @@ impl<J> JobTable<J> {
         at
     }
 
-    /// The first of the waiting jobs.
+    /// The head of the queue.
     pub fn first_waiting(&self) -> Option<(u32, u64)>
         ensures key { result ≡ slice_get self.now.waiting 0 }
         ensures waiting { AreWaiting self.now }
@@ -205,7 +204,7 @@ impl<J> JobTable<J> {
         self.queue.first
     }
 
-    /// The one that stands behind a waiting job; `None` behind the last, and where the job is unknown or does not wait.
+    /// The job behind this one in the queue. `None` if it is the last, or not in the queue.
     pub fn next_waiting(&self, tenant: u32, seq: u64) -> Option<(u32, u64)>
         ensures key { result ≡ behind tenant seq self.now.waiting }
         ensures waiting { AreWaiting self.now }
@@ -216,7 +215,7 @@ impl<J> JobTable<J> {
         }
     }
 
-    /// Takes a tenant's job of that number out of the table. The others keep their order.
+    /// Removes job `seq` of `tenant`. The others keep their order.
     pub fn remove(&mut self, tenant: u32, seq: u64) -> Option<Job<J>>
         ensures found { result ≡ find_row tenant seq self.old.rows }
         ensures rest { self.new ≡ drop_job tenant seq self.old }

@@ -1,5 +1,5 @@
--- What a schedule breaks, and what it breaks first. Activities and resources are numbered from 1 in a breach, periods
--- from 0.
+-- What a schedule breaks, and what it breaks first. In a breach, activities and resources count
+-- from 1, periods from 0.
 use Rattle.std.specs.Prelude.{◌≡◌, ℕ, ◌-◌, ◌<◌, ◌≤◌, ◌⊎◌, true, List, [], ◌∷◌, length, All, Option, Some, None}
 use Rattle.mrcpsp.specs.Project.{ProjectData, size, renewables, nonrenewables, capacity, stock, precedes}
 use Rattle.mrcpsp.specs.Schedule.{ScheduleData, HasMode, start_of, finish, use_of, consumed}
@@ -17,9 +17,11 @@ pub record HasShape (p : ProjectData) (s : ScheduleData) : Type 0 where
 abbrev pub HasModes : ProjectData → ScheduleData → Type 0
 HasModes p s = (j : ℕ) → j < size p → HasMode p s j
 
+-- i is the number of one of n things, counted from 1
 abbrev pub IsNumber : ℕ → ℕ → Type 0
 IsNumber n i = (0 < i) × (i ≤ n)
 
+-- the schedule breaks what the breach names
 abbrev pub IsBroken : ProjectData → ScheduleData → Breach → Type 0
 IsBroken p s Shape = HasShape p s → ⊥
 IsBroken p s (Mode j) = IsNumber (size p) j × (HasMode p s (j - 1) → ⊥)
@@ -27,7 +29,7 @@ IsBroken p s (Precedence i j) = IsNumber (size p) i × IsNumber (size p) j × (p
 IsBroken p s (Renewable r t) = IsNumber (renewables p) r × (capacity p (r - 1) < use_of p s (r - 1) t)
 IsBroken p s (Nonrenewable r) = IsNumber (nonrenewables p) r × (stock p (r - 1) < consumed p s (r - 1))
 
--- the order in which breaches are told: by kind, then by the least arguments, the first one first
+-- the rank of a breach's kind: breaches are reported in this order
 abbrev pub kind_of : Breach → ℕ
 kind_of Shape = 1
 kind_of (Mode j) = 2
@@ -35,6 +37,7 @@ kind_of (Precedence i j) = 3
 kind_of (Renewable r t) = 4
 kind_of (Nonrenewable r) = 5
 
+-- the numbers of a breach: within a kind, breaches are reported in their order
 abbrev pub numbers_of : Breach → List ℕ
 numbers_of Shape = []
 numbers_of (Mode j) = j ∷ []
@@ -42,46 +45,51 @@ numbers_of (Precedence i j) = i ∷ j ∷ []
 numbers_of (Renewable r t) = r ∷ t ∷ []
 numbers_of (Nonrenewable r) = r ∷ []
 
+-- the first list comes before the second one, by the first number that differs
 abbrev pub IsBelow : List ℕ → List ℕ → Type 0
 IsBelow [] ys = ⊥
 IsBelow (x ∷ xs) [] = ⊥
 IsBelow (x ∷ xs) (y ∷ ys) = (x < y) ⊎ ((x ≡ y) × IsBelow xs ys)
 
+-- breach b is reported before breach c: by its kind, then by its numbers
 abbrev pub IsBefore : Breach → Breach → Type 0
 IsBefore b c = IsBelow (kind_of b ∷ numbers_of b) (kind_of c ∷ numbers_of c)
 
--- the schedule breaks this, and nothing that is told before it
+-- the schedule breaks b, and nothing that is reported before b
 pub record IsFirstBreach (p : ProjectData) (s : ScheduleData) (b : Breach) : Type 0 where
   pub broken : IsBroken p s b
   pub least : (c : Breach) → IsBroken p s c → IsBefore c b → ⊥
 
--- a test of one kind tells the first breach of that kind, or none where there is none
+-- b is the first breach of kind k that the schedule breaks
 pub record IsFirstOf (k : ℕ) (p : ProjectData) (s : ScheduleData) (b : Breach) : Type 0 where
   pub kind : kind_of b ≡ k
   pub broken : IsBroken p s b
   pub least : (c : Breach) → kind_of c ≡ k → IsBroken p s c → IsBelow (numbers_of c) (numbers_of b) → ⊥
 
+-- the schedule breaks nothing of kind k
 abbrev pub HasNone : ℕ → ProjectData → ScheduleData → Type 0
 HasNone k p s = (c : Breach) → kind_of c ≡ k → IsBroken p s c → ⊥
 
+-- the answer of a test of kind k: the first breach of that kind, or none if there is none
 abbrev pub TellsFirst : ℕ → ProjectData → ScheduleData → Option Breach → Type 0
 TellsFirst k p s None = HasNone k p s
 TellsFirst k p s (Some b) = IsFirstOf k p s b
 
--- the first activity that is a successor of activity i and starts before it ends, by its place
+-- activity j is a successor of activity i and starts before i ends; both are places from 0
 abbrev pub StartsEarly : ProjectData → ScheduleData → ℕ → ℕ → Type 0
 StartsEarly p s i j = (precedes p i j ≡ true) × (start_of s j < finish p s i)
 
+-- the least place of a successor of activity i that starts too early, if there is one
 abbrev pub IsFirstEarly : ProjectData → ScheduleData → ℕ → Option ℕ → Type 0
 IsFirstEarly p s i None = (j : ℕ) → j < size p → StartsEarly p s i j → ⊥
 IsFirstEarly p s i (Some j) = (j < size p) × StartsEarly p s i j × ((k : ℕ) → k < j → StartsEarly p s i k → ⊥)
 
--- the first period in which a renewable resource is used above its capacity
+-- the first period in which renewable resource r is used above its capacity, if there is one
 abbrev pub IsFirstOveruse : ProjectData → ScheduleData → ℕ → Option ℕ → Type 0
 IsFirstOveruse p s r None = (t : ℕ) → use_of p s r t ≤ capacity p r
 IsFirstOveruse p s r (Some t) = (capacity p r < use_of p s r t) × ((u : ℕ) → u < t → use_of p s r u ≤ capacity p r)
 
--- the same, over the starts of the first n activities alone
+-- the first such period among the starts of the first n activities
 abbrev pub IsFirstStartOverused : ℕ → ProjectData → ScheduleData → ℕ → Option ℕ → Type 0
 IsFirstStartOverused n p s r None = (j : ℕ) → j < n → use_of p s r (start_of s j) ≤ capacity p r
 IsFirstStartOverused n p s r (Some t) = (capacity p r < use_of p s r t) × ((j : ℕ) → j < n → start_of s j < t → use_of p s r (start_of s j) ≤ capacity p r)

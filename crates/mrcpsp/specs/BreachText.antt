@@ -3,6 +3,7 @@ use Rattle.std.specs.Prelude.{ℕ, List, ◌++◌, codes, decimal}
 use Rattle.mrcpsp.specs.declared.breach.Breach.{Breach}
 use Rattle.mrcpsp.specs.declared.breach.Breach.TheVariants.{Shape, Mode, Precedence, Renewable, Nonrenewable}
 
+-- the kind of a breach, with its numbers in brackets
 abbrev pub breach_text : Breach → List ℕ
 breach_text Shape = codes "Shape"
 breach_text (Mode j) = codes "Mode(" ++ decimal j ++ codes ")"

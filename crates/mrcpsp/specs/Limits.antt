@@ -1,5 +1,4 @@
--- The limits that each mode and each project keep, a field for each: what follows from `is_project`, as contracts and
--- proofs use it.
+-- What follows from `is_project`, a field for each limit, as contracts and proofs use it.
 use Rattle.std.specs.Prelude.{◌≡◌, ℕ, ◌+◌, ◌<◌, ◌≤◌, All, length, get_or}
 use Rattle.mrcpsp.specs.declared.limits.TheConstants.{MOST_ACTIVITIES, MOST_MODES, MOST_RESOURCES, MOST_AMOUNT, MOST_DURATION, MOST_HORIZON}
 use Rattle.mrcpsp.specs.Project.{ProjectData, size, renewables, nonrenewables, modes, mode_count, successors, no_mode, horizon}
@@ -12,6 +11,7 @@ pub record IsLimited (p : ProjectData) (j m : ℕ) : Type 0 where
   pub requests : All (λ a. a ≤ MOST_AMOUNT) (get_or (modes p j) m no_mode).renewable
   pub consumptions : All (λ a. a ≤ MOST_AMOUNT) (get_or (modes p j) m no_mode).nonrenewable
 
+-- the limits that a project keeps
 pub record IsProject (p : ProjectData) : Type 0 where
   pub some : 0 < size p
   pub few : size p ≤ MOST_ACTIVITIES

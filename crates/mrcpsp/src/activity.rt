@@ -1,4 +1,3 @@
-//! Activities: what a project consists of.
 ghost use Rattle.std.specs.Prelude.{◌≡◌, ◌↔◌, IsTrue, IfOk};
 
 use crate::mode::{clone_modes, same_modes};
@@ -7,12 +6,12 @@ use crate::{Mode, Sequence};
 use std::alloc::{AllocError, Global};
 use std::marker::Model;
 
-/// An activity, which runs without interruption in exactly one of its modes.
+/// An `Activity` is a piece of work that runs without interruption in exactly one of its modes.
 #[derive(Debug, Drop)]
 pub struct Activity {
-    /// Its modes. A person counts them from 1.
+    /// Mode numbers count from 1.
     pub modes: Sequence<Mode>,
-    /// The numbers of its direct successors, counted from 1.
+    /// The numbers of the direct successors, counted from 1.
     pub successors: Sequence<u32>,
 }
 
@@ -25,7 +24,6 @@ impl Model for Activity {
 }
 
 impl Activity {
-    /// An equal activity, or an error where there is no memory for it.
     pub(crate) fn clone_in(&self, alloc: Global) -> Result<Activity, AllocError>
         ensures { IfOk result (λ copy. copy ≡ self.now) }
     {
@@ -36,7 +34,6 @@ impl Activity {
     }
 }
 
-/// Whether two activities are equal.
 fn same_activity(one: &Activity, other: &Activity) -> bool
     ensures { IsTrue result ↔ (one.now ≡ other.now) }
 {
@@ -44,7 +41,6 @@ fn same_activity(one: &Activity, other: &Activity) -> bool
         && same_numbers(&one.successors, &other.successors)
 }
 
-/// Equal activities in the same order.
 pub(crate) fn clone_activities(
     alloc: Global,
     activities: &[Activity],
@@ -58,7 +54,6 @@ pub(crate) fn clone_activities(
     Ok(copy)
 }
 
-/// Whether two lists have equal activities in the same order.
 pub(crate) fn same_activities(one: &[Activity], other: &[Activity]) -> bool
     ensures { IsTrue result ↔ (one.now ≡ other.now) }
 {

@@ -1,23 +1,22 @@
-//! What a schedule breaks.
 ghost use Rattle.std.specs.Prelude.{Some};
 ghost use Rattle.mrcpsp.specs.BreachText.{breach_text};
 
 use std::error::Error;
 use std::fmt;
 
-/// The first condition that a schedule breaks, in the order of the variants, and among breaches of one kind the one of
-/// the least numbers, the first number first. Activities and resources are numbered from 1, periods from 0.
+/// A `Breach` is a condition that a schedule breaks. The variants are in the order of the test,
+/// then the least numbers come first. Activities and resources count from 1, periods from 0.
 #[derive(Clone, Copy, Debug, PartialEq, Eq)]
 pub enum Breach {
-    /// There is not one mode and one start for each activity, or a start is above 1,000,000,000.
+    /// Not one mode and one start for each activity, or a start above 1,000,000,000.
     Shape,
-    /// The activity of this number has no such mode.
+    /// The activity that has no such mode.
     Mode(u32),
-    /// The second activity is a successor of the first one and starts before the first one ends.
+    /// The second activity is a successor of the first one, and starts before that ends.
     Precedence(u32, u32),
-    /// The renewable resource of this number is used above its capacity in this period.
+    /// The renewable resource that is overused, and the period.
     Renewable(u32, u32),
-    /// The nonrenewable resource of this number is consumed above its capacity.
+    /// The nonrenewable resource whose consumption exceeds its capacity.
     Nonrenewable(u32),
 }
 

@@ -1,9 +1,4 @@
-//! All breaches of a schedule, and not its first one alone.
-//!
-//! [`breaches_of`] lists nothing that is not broken, and has a line of all that is: the shape
-//! alone, or else modes alone, or else precedences and resources. A renewable resource is listed in
-//! each period in which it is overused and an activity starts; in all its other periods of overuse
-//! one before has a line.
+//! All breaches of a schedule, not its first one alone.
 ghost use Rattle.std.specs.Prelude.{◌≡◌, ◌<◌, ◌↔◌, IfOk, IsTrue, length};
 ghost use Rattle.std.specs.List.{Contains};
 ghost use Rattle.mrcpsp.specs.Project.{size, renewables, nonrenewables, capacity, stock};
@@ -15,7 +10,6 @@ use crate::feasibility::{consumption_of, finish_of, has_shape, start_at, use_at}
 use crate::{Breach, MOST_RESOURCES, Project, Schedule};
 use std::alloc::{AllocError, Global};
 
-/// Whether an activity has no such mode.
 #[tactic(auto, unfolding(crate::specs::Schedule::mode_of))]
 fn is_modeless(project: &Project, schedule: &Schedule, activity: usize) -> bool
     requires shape { HasShape project.now schedule.now }
@@ -26,7 +20,6 @@ fn is_modeless(project: &Project, schedule: &Schedule, activity: usize) -> bool
     number == 0 || project.mode_count(activity) < number
 }
 
-/// Whether each activity has the mode that the schedule gives it.
 #[tactic(auto, unfolding(crate::specs::Schedule::mode_of))]
 fn has_modes(project: &Project, schedule: &Schedule) -> bool
     requires shape { HasShape project.now schedule.now }
@@ -41,7 +34,6 @@ fn has_modes(project: &Project, schedule: &Schedule) -> bool
     true
 }
 
-/// Whether an activity is a successor of another one and starts before that ends.
 fn is_early(project: &Project, schedule: &Schedule, before: usize, after: usize) -> bool
     requires shape { HasShape project.now schedule.now }
     requires modes { HasModes project.now schedule.now }
@@ -53,7 +45,6 @@ fn is_early(project: &Project, schedule: &Schedule, before: usize, after: usize)
         && start_at(project, schedule, after) < finish_of(project, schedule, before)
 }
 
-/// Whether a renewable resource is used above its capacity in a period.
 fn is_overused(project: &Project, schedule: &Schedule, resource: usize, period: u32) -> bool
     requires shape { HasShape project.now schedule.now }
     requires modes { HasModes project.now schedule.now }
@@ -63,7 +54,6 @@ fn is_overused(project: &Project, schedule: &Schedule, resource: usize, period: 
     u64::from(project.capacity(resource)) < use_at(project, schedule, resource, period)
 }
 
-/// Whether a nonrenewable resource is consumed above its capacity.
 fn is_short(project: &Project, schedule: &Schedule, resource: usize) -> bool
     requires shape { HasShape project.now schedule.now }
     requires modes { HasModes project.now schedule.now }
@@ -73,7 +63,6 @@ fn is_short(project: &Project, schedule: &Schedule, resource: usize) -> bool
     u64::from(project.stock(resource)) < consumption_of(project, schedule, resource)
 }
 
-/// Adds the activities that have no such mode.
 fn push_modes(
     told: &mut Vec<Breach>,
     project: &Project,
@@ -91,7 +80,6 @@ fn push_modes(
     Ok(())
 }
 
-/// Adds the successors of an activity that start before it ends.
 fn push_early(
     told: &mut Vec<Breach>,
     project: &Project,
@@ -112,7 +100,6 @@ fn push_early(
     Ok(())
 }
 
-/// Adds the periods of these in which a renewable resource is overused.
 fn push_overused(
     told: &mut Vec<Breach>,
     project: &Project,
@@ -135,7 +122,6 @@ fn push_overused(
     Ok(())
 }
 
-/// Adds the nonrenewable resources that are consumed above their capacity.
 fn push_short(
     told: &mut Vec<Breach>,
     project: &Project,
@@ -154,7 +140,6 @@ fn push_short(
     Ok(())
 }
 
-/// The periods in which some activity starts, each once and the earliest first.
 fn starts_of(alloc: Global, schedule: &Schedule) -> Result<Vec<u32>, AllocError>
     ensures { IfOk result (λ starts. (t : _) → Contains schedule.now.starts t → Contains starts.items t) }
 {
@@ -164,7 +149,6 @@ fn starts_of(alloc: Global, schedule: &Schedule) -> Result<Vec<u32>, AllocError>
     Ok(starts)
 }
 
-/// Adds the precedences that are broken.
 fn push_all_early(
     told: &mut Vec<Breach>,
     project: &Project,
@@ -181,7 +165,6 @@ fn push_all_early(
     Ok(())
 }
 
-/// Adds the periods in which renewable resources are overused and some activity starts.
 fn push_all_overused(
     told: &mut Vec<Breach>,
     project: &Project,
@@ -199,9 +182,10 @@ fn push_all_overused(
     Ok(())
 }
 
-/// All that a schedule breaks, in the order of kinds and numbers: its shape alone, or else modes
-/// alone, or else precedences and resources. A renewable one is listed in each period in which it
-/// is overused and an activity starts. An error is want of memory.
+/// Returns all breaches, in the order of kinds and numbers: the shape alone, or else modes alone,
+/// or else precedences and resources. A renewable resource is listed in each period in which it is
+/// overused and an activity starts; each other period of overuse has such a period before it. It
+/// fails only without memory.
 pub fn breaches_of(
     alloc: Global,
     project: &Project,

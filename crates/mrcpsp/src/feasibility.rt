@@ -1,4 +1,3 @@
-//! Whether a schedule is feasible, and what it breaks first.
 ghost use Rattle.std.specs.Prelude.{◌≡◌, ◌+◌, ◌<◌, ◌≤◌, ◌↔◌, IsTrue, IsOk, IfOk, IfErr, IfNone};
 ghost use Rattle.mrcpsp.specs.Project.{size, renewables, nonrenewables, mode_count};
 ghost use Rattle.mrcpsp.specs.Schedule.{IsFeasible, start_of, finish, mode_of, use_of, consumed, makespan as greatest_finish};
@@ -6,13 +5,11 @@ ghost use Rattle.mrcpsp.specs.Breach.{HasShape, HasModes, TellsFirst, IsFirstBre
 
 use crate::{Breach, MOST_DURATION, Project, Schedule};
 
-/// The latest start that a schedule may give an activity, as a period, from 0.
+/// The latest start of an activity in a schedule, as a period from 0.
 pub const MOST_START: u32 = 1_000_000_000;
 
-/// The makespan of a feasible schedule, or the first condition that a schedule breaks: its shape, the activity that has
-/// no such mode, the activities whose precedence is broken, the renewable resource and the period in which its
-/// capacity is broken, the nonrenewable resource whose capacity is broken. It walks over starts, not over periods, and takes no
-/// memory.
+/// Returns the makespan of a feasible schedule in periods, or the first breach of another one. It
+/// walks over starts, not over periods, and takes no memory.
 pub fn check(project: &Project, schedule: &Schedule) -> Result<u32, Breach>
     ensures feasible { IsOk result ↔ (HasShape project.now schedule.now × IsFeasible project.now schedule.now) }
     ensures makespan { IfOk result (λ m. m ≡ greatest_finish project.now schedule.now) }
@@ -36,7 +33,7 @@ pub fn check(project: &Project, schedule: &Schedule) -> Result<u32, Breach>
     Ok(makespan(project, schedule))
 }
 
-/// The latest finish of an activity, in periods. Takes no memory.
+/// The latest finish of an activity, in periods.
 #[tactic(auto, unfolding(crate::specs::Schedule::makespan))]
 pub fn makespan(project: &Project, schedule: &Schedule) -> u32
     requires shape { HasShape project.now schedule.now }
@@ -62,7 +59,6 @@ pub(crate) fn has_shape(project: &Project, schedule: &Schedule) -> bool
             .all(|start| *start <= MOST_START)
 }
 
-/// The place of the mode in which a schedule runs an activity.
 #[tactic(auto, unfolding(crate::specs::Schedule::mode_of))]
 fn place_of_mode(project: &Project, schedule: &Schedule, activity: usize) -> usize
     requires shape { HasShape project.now schedule.now }
@@ -110,7 +106,6 @@ fn missing_mode(project: &Project, schedule: &Schedule) -> Option<Breach>
     None
 }
 
-/// The place of the first activity that is a successor of this one and starts before it ends.
 fn early_successor(project: &Project, schedule: &Schedule, before: usize) -> Option<usize>
     requires shape { HasShape project.now schedule.now }
     requires modes { HasModes project.now schedule.now }
@@ -139,7 +134,6 @@ fn broken_precedence(project: &Project, schedule: &Schedule) -> Option<Breach>
     None
 }
 
-/// What a schedule uses of a renewable resource in a period.
 #[tactic(auto, unfolding(crate::specs::Schedule::use_of, crate::specs::Schedule::load))]
 pub(crate) fn use_at(project: &Project, schedule: &Schedule, resource: usize, period: u32) -> u64
     requires shape { HasShape project.now schedule.now }
@@ -158,7 +152,7 @@ pub(crate) fn use_at(project: &Project, schedule: &Schedule, resource: usize, pe
     total
 }
 
-/// The first period in which a renewable resource is used above its capacity. Its use rises at starts alone.
+/// The use rises only at starts.
 fn first_overuse(project: &Project, schedule: &Schedule, resource: usize) -> Option<u32>
     requires shape { HasShape project.now schedule.now }
     requires modes { HasModes project.now schedule.now }
@@ -190,7 +184,6 @@ fn overused_renewable(project: &Project, schedule: &Schedule) -> Option<Breach>
     None
 }
 
-/// What a schedule consumes of a nonrenewable resource.
 #[tactic(auto, unfolding(crate::specs::Schedule::consumed))]
 pub(crate) fn consumption_of(project: &Project, schedule: &Schedule, resource: usize) -> u64
     requires shape { HasShape project.now schedule.now }

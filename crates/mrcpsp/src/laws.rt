@@ -2,14 +2,14 @@
 ghost use Rattle.mrcpsp.specs.Earliest.{EarliestIsLeast, EarliestIsUnique};
 ghost use Rattle.mrcpsp.specs.Bound.{NoneIsBelowBound};
 
-/// The earliest start that is computed is the least one at which nothing is broken, and it alone is: at every project,
-/// list of placed activities, activity and executable mode of it.
+/// The earliest start that is computed is the least one at which nothing is broken, and it alone
+/// is.
 pub fn earliest_is_the_least_start()
     ensures least { EarliestIsLeast }
     ensures unique { EarliestIsUnique }
 {}
 
-/// No feasible schedule of a project is shorter than its bound, the longest chain of activities by shortest durations.
+/// No feasible schedule is shorter than the longest chain of activities by shortest durations.
 pub fn none_is_below_the_bound()
     ensures { NoneIsBelowBound }
 {}

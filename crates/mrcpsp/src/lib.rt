@@ -1,19 +1,15 @@
-//! Multi-mode resource-constrained projects, MPS|prec|Cmax: the types, and what the words of the problem mean.
+//! Multi-mode resource-constrained projects, MPS|prec|Cmax (Brucker et al. 1999).
 //!
-//! Who holds a [`Project`] may rest on its limits and on its successors being distinct and above their activity: its type
-//! keeps them. [`check`] answers `Ok` exactly where a schedule is feasible, with its makespan, and else what it breaks first;
-//! the definitions behind these words (`specs/Schedule`, `specs/Earliest`, `specs/Values`) are what all crates above cite.
-//! Inside, activities, modes and resources are places from 0; files, schedules and breaches count from 1.
+//! A [`Project`] is within its limits, and its successors are distinct and above their activity.
+//! [`check`] answers `Ok` exactly if a schedule is feasible, and else its first breach. All crates
+//! above cite the definitions `specs/Schedule`, `specs/Earliest` and `specs/Values`. Readers name
+//! activities, modes and resources by places from 0; files, schedules and breaches count from 1.
 //!
 //! - `sequence`: `Sequence`, a vector that contracts see as a list.
-//! - `mode`, `activity`, `schedule`: the types with public fields, their copies and their equality.
-//! - `limits`: the limits and their tests, the rule on successors, and the horizon.
-//! - `parts`: the lists that a project is made of, which it keeps alone or shares with its copies.
-//! - `project`: `Project`, its readers by place, and `same`.
-//! - `breach`: what a schedule breaks, and its text.
-//! - `feasibility`: `check` and `makespan`.
-//! - `breaches`: `breaches_of`, all that a schedule breaks.
-//! - `laws`: that the earliest start is the least one at which nothing is broken.
+//! - `mode`, `activity`, `schedule`: types with public fields, their copies and their equality.
+//! - `limits`, `parts`, `project`: the limits, a project's lists, `Project` and its readers.
+//! - `breach`, `feasibility`, `breaches`: `Breach`, `check`, `makespan`, `breaches_of`.
+//! - `laws`: the earliest start is the least one; no schedule is below the bound.
 #![tactic(auto)]
 
 mod activity;

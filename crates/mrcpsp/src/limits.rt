@@ -1,26 +1,25 @@
-//! The limits of a project, and the rule on successors.
 ghost use Rattle.std.specs.Prelude.{◌≡◌, ◌≤◌, [], length, nat_le};
 ghost use Rattle.std.specs.List.{list_all};
 ghost use Rattle.mrcpsp.specs.Project.{is_mode, are_amounts, are_successors, are_activities, horizon, longest};
 
 use crate::{Activity, Mode};
 
-/// The most activities that a project may have.
+/// The most activities of a project.
 pub const MOST_ACTIVITIES: usize = 202;
 
-/// The most modes that an activity may have.
+/// The most modes of an activity.
 pub const MOST_MODES: usize = 10;
 
-/// The most renewable resources that a project may have, and the most nonrenewable ones.
+/// Of renewable resources, and of nonrenewable ones.
 pub const MOST_RESOURCES: usize = 8;
 
-/// The most that a request, a consumption or a capacity may be, in units of its resource.
+/// The most of a request, a consumption or a capacity, in units of its resource.
 pub const MOST_AMOUNT: u32 = 1_000_000;
 
-/// The longest duration that a mode may have, in periods.
+/// In periods.
 pub const MOST_DURATION: u32 = 1_000;
 
-/// The longest horizon that a project may have, the sum of its activities' longest durations, in periods.
+/// The longest horizon of a project: the sum of its longest durations, in periods.
 pub const MOST_HORIZON: u64 = 20_000;
 
 pub(crate) fn are_small(amounts: &[u32]) -> bool
@@ -49,7 +48,6 @@ fn all_fit(modes: &[Mode], renewable: usize, nonrenewable: usize) -> bool
     modes.iter().all(|mode| fits(mode, renewable, nonrenewable))
 }
 
-/// Whether these may be the successors of the activity with this number, of so many.
 fn may_follow(successors: &[u32], number: usize, activities: usize) -> bool
     ensures { result ≡ are_successors activities number [] successors.now }
 {
@@ -62,7 +60,6 @@ fn may_follow(successors: &[u32], number: usize, activities: usize) -> bool
     true
 }
 
-/// Whether the activities' modes and successors keep the limits, at so many resources of either kind.
 pub(crate) fn all_keep(activities: &[Activity], renewable: usize, nonrenewable: usize) -> bool
     ensures { result ≡ are_activities renewable nonrenewable (length activities.now) 1 activities.now }
 {
@@ -88,7 +85,7 @@ fn longest_of(modes: &[Mode]) -> u32
     most
 }
 
-/// The horizon of these activities: the sum of their longest durations, in periods.
+/// The horizon of `activities`: the sum of their longest durations, in periods.
 pub fn horizon_of(activities: &[Activity]) -> u64
     requires { length activities.now ≤ MOST_ACTIVITIES }
     ensures { result ≡ horizon activities.now }

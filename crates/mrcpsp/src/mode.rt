@@ -1,4 +1,3 @@
-//! Modes: the ways to run an activity.
 ghost use Rattle.std.specs.Prelude.{◌≡◌, ◌↔◌, IsTrue, IfOk};
 
 use crate::Sequence;
@@ -6,14 +5,14 @@ use crate::sequence::same_numbers;
 use std::alloc::{AllocError, Global};
 use std::marker::Model;
 
-/// One way to run an activity.
+/// A `Mode` is one way to run an activity.
 #[derive(Debug, Drop)]
 pub struct Mode {
-    /// How many periods it takes.
+    /// In periods.
     pub duration: u32,
-    /// What it uses of each renewable resource in each of its periods.
+    /// The use of each renewable resource in each period of the activity.
     pub renewable: Sequence<u32>,
-    /// What it consumes of each nonrenewable resource in all.
+    /// The consumption of each nonrenewable resource in all.
     pub nonrenewable: Sequence<u32>,
 }
 
@@ -26,7 +25,6 @@ impl Model for Mode {
 }
 
 impl Mode {
-    /// An equal mode, or an error where there is no memory for it.
     pub(crate) fn clone_in(&self, alloc: Global) -> Result<Mode, AllocError>
         ensures { IfOk result (λ copy. copy ≡ self.now) }
     {
@@ -38,7 +36,6 @@ impl Mode {
     }
 }
 
-/// Whether two modes are equal.
 pub(crate) fn same_mode(one: &Mode, other: &Mode) -> bool
     ensures { IsTrue result ↔ (one.now ≡ other.now) }
 {
@@ -47,7 +44,6 @@ pub(crate) fn same_mode(one: &Mode, other: &Mode) -> bool
         && same_numbers(&one.nonrenewable, &other.nonrenewable)
 }
 
-/// Equal modes in the same order.
 pub(crate) fn clone_modes(alloc: Global, modes: &[Mode]) -> Result<Vec<Mode>, AllocError>
     ensures { IfOk result (λ copy. copy.items ≡ modes.now) }
 {
@@ -58,7 +54,6 @@ pub(crate) fn clone_modes(alloc: Global, modes: &[Mode]) -> Result<Vec<Mode>, Al
     Ok(copy)
 }
 
-/// Whether two lists have equal modes in the same order.
 pub(crate) fn same_modes(one: &[Mode], other: &[Mode]) -> bool
     ensures { IsTrue result ↔ (one.now ≡ other.now) }
 {

@@ -1,4 +1,3 @@
-//! The lists that a project is made of.
 ghost use Rattle.std.specs.Prelude.{◌≡◌, ◌↔◌, IsTrue, IfOk};
 ghost use Rattle.mrcpsp.specs.Project.{is_project};
 
@@ -29,7 +28,6 @@ impl Model for Parts {
 }
 
 impl Parts {
-    /// Equal lists, or an error where there is no memory for them.
     pub(crate) fn clone_in(&self, alloc: Global) -> Result<Parts, AllocError>
         ensures { IfOk result (λ copy. copy ≡ self.now) }
     {
@@ -62,7 +60,6 @@ impl Parts {
     }
 }
 
-/// Whether the lists of two projects are equal in every number.
 pub(crate) fn same_parts(one: &Parts, other: &Parts) -> bool
     ensures { IsTrue result ↔ (one.now ≡ other.now) }
 {

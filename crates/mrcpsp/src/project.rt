@@ -1,4 +1,3 @@
-//! Projects within the limits.
 ghost use Rattle.std.specs.Prelude.{◌≡◌, ◌↔◌, ◌<◌, ◌≤◌, ◌+◌, Some, None, IsTrue, IfOk, All, get_or, if◌then◌else◌};
 ghost use Rattle.mrcpsp.specs.Limits.{IsLimited, IsProject};
 ghost use Rattle.mrcpsp.specs.Project.{ProjectData, is_project, horizon, no_activity, no_mode, modes, size, renewables, nonrenewables, mode_count, successors, precedes, duration, request, consumption, capacity, stock};
@@ -13,20 +12,16 @@ use std::alloc::{AllocError, Global};
 use std::marker::Model;
 use std::sync::Arc;
 
-/// Where the lists of a project are.
 #[derive(Debug, Drop)]
 pub(crate) enum Lists {
-    /// With this project alone.
     Own(Parts),
-    /// With this project and its copies.
     Shared(Arc<Parts, Global>),
 }
 
-/// A project within the limits: 1 to 202 activities of 1 to 10 modes each, 0 to 8 renewable and 0 to
-/// 8 nonrenewable resources, durations of at most 1,000 periods, requests, consumptions and
-/// capacities of at most 1,000,000, and a horizon of at most 20,000 periods. Each mode has one number
-/// for each resource. The successors of an activity are distinct, and their numbers are above its own
-/// and at most the number of activities.
+/// A `Project` is a set of activities and resource capacities within the limits: 1 to 202
+/// activities of 1 to 10 modes, and 0 to 8 resources of either kind. Durations are at most 1,000
+/// periods, amounts 1,000,000 units, the horizon 20,000 periods. A mode has one number for each
+/// resource. Successors are distinct, and their numbers are above their activity's.
 #[derive(Debug, Drop)]
 pub struct Project {
     lists: Lists,
@@ -42,8 +37,8 @@ impl Model for Project {
 }
 
 impl Project {
-    /// The project of these activities and of these capacities, or `None` where a limit, a list's
-    /// length or the rule on successors is broken. The lists are then dropped. Takes no memory.
+    /// Returns `None` if a limit, a list's length or the rule on successors is broken. The lists
+    /// are then dropped. Takes no memory.
     pub fn new(
         activities: Sequence<Activity>,
         renewable: Sequence<u32>,
@@ -74,8 +69,8 @@ impl Project {
         }
     }
 
-    /// The same project, whose copies share its lists from then on: they take no memory of their own. Or an error where
-    /// there is no memory to begin with; the project is then dropped.
+    /// Returns an equal project whose copies share its lists. Without memory it fails, and the
+    /// project is dropped.
     pub fn share(self, alloc: Global) -> Result<Project, AllocError>
         ensures { IfOk result (λ shared. shared ≡ self) }
     {
@@ -89,7 +84,7 @@ impl Project {
         Ok(Project { lists })
     }
 
-    /// An equal project, or an error where there is no memory for it. The copy of a shared project shares its lists.
+    /// The copy of a shared project shares its lists, and takes no memory of its own.
     pub fn clone_in(&self, alloc: Global) -> Result<Project, AllocError>
         ensures { IfOk result (λ copy. copy ≡ self.now) }
     {
@@ -109,7 +104,7 @@ impl Project {
         }
     }
 
-    /// The activities, in the order of their numbers.
+    /// In the order of their numbers.
     pub fn activities(&self) -> &[Activity]
         ensures all { result.now ≡ self.now.activities }
         ensures project { IsTrue (is_project self.now) }
@@ -133,7 +128,7 @@ impl Project {
         self.parts().nonrenewable()
     }
 
-    /// The horizon: the sum of the activities' longest durations, in periods.
+    /// The sum of the activities' longest durations, in periods.
     pub fn horizon(&self) -> u32
         ensures sum { result ≡ horizon self.now.activities }
         ensures project { IsTrue (is_project self.now) }
@@ -161,7 +156,7 @@ impl Project {
         &activity.modes.as_slice()[mode]
     }
 
-    /// How many activities there are: 1 to 202.
+    /// The number of activities: 1 to 202.
     #[tactic(auto, unfolding(crate::specs::Project::size))]
     pub fn size(&self) -> usize
         ensures exact { result ≡ size self.now }
@@ -171,7 +166,7 @@ impl Project {
         self.activities().len()
     }
 
-    /// How many renewable resources there are: 0 to 8.
+    /// The number of renewable resources: 0 to 8.
     #[tactic(auto, unfolding(crate::specs::Project::renewables))]
     pub fn renewables(&self) -> usize
         ensures exact { result ≡ renewables self.now }
@@ -180,7 +175,7 @@ impl Project {
         self.renewable().len()
     }
 
-    /// How many nonrenewable resources there are: 0 to 8.
+    /// The number of nonrenewable resources: 0 to 8.
     #[tactic(auto, unfolding(crate::specs::Project::nonrenewables))]
     pub fn nonrenewables(&self) -> usize
         ensures exact { result ≡ nonrenewables self.now }
@@ -189,7 +184,7 @@ impl Project {
         self.nonrenewable().len()
     }
 
-    /// The capacity of a renewable resource in each period. Resources are named by their places, from 0.
+    /// The capacity in each period.
     #[tactic(auto, unfolding(crate::specs::Project::capacity, crate::specs::Project::renewables))]
     pub fn capacity(&self, resource: usize) -> u32
         requires { resource < renewables self.now }
@@ -199,7 +194,7 @@ impl Project {
         self.renewable()[resource]
     }
 
-    /// The capacity of a nonrenewable resource in all.
+    /// The capacity of nonrenewable `resource` in all.
     #[tactic(auto, unfolding(crate::specs::Project::stock, crate::specs::Project::nonrenewables))]
     pub fn stock(&self, resource: usize) -> u32
         requires { resource < nonrenewables self.now }
@@ -209,7 +204,7 @@ impl Project {
         self.nonrenewable()[resource]
     }
 
-    /// How many modes an activity has: 1 to 10. Activities are named by their places, from 0.
+    /// The number of modes: 1 to 10.
     #[tactic(auto, unfolding(crate::specs::Project::mode_count, crate::specs::Project::modes))]
     pub fn mode_count(&self, activity: usize) -> usize
         requires { activity < size self.now }
@@ -220,7 +215,7 @@ impl Project {
         self.activity(activity).modes.as_slice().len()
     }
 
-    /// The numbers of an activity's direct successors, counted from 1, in the order in which they were given.
+    /// The numbers of the direct successors, counted from 1, as they were given.
     #[tactic(auto, unfolding(crate::specs::Project::successors))]
     pub fn successors(&self, activity: usize) -> &[u32]
         requires { activity < size self.now }
@@ -230,7 +225,7 @@ impl Project {
         self.activity(activity).successors.as_slice()
     }
 
-    /// Whether an activity is a direct successor of another one.
+    /// Whether `after` is a direct successor of `before`.
     #[tactic(auto, unfolding(crate::specs::Project::precedes))]
     pub fn precedes(&self, before: usize, after: usize) -> bool
         requires before { before < size self.now }
@@ -242,7 +237,7 @@ impl Project {
         self.successors(before).contains(&(after as u32 + 1))
     }
 
-    /// How many periods an activity takes in a mode. Modes are named by their places, from 0.
+    /// In periods.
     #[tactic(auto, unfolding(crate::specs::Project::duration))]
     pub fn duration(&self, activity: usize, mode: usize) -> u32
         requires activity { activity < size self.now }
@@ -253,7 +248,7 @@ impl Project {
         self.mode(activity, mode).duration
     }
 
-    /// What an activity in a mode uses of a renewable resource in each of its periods.
+    /// The use of a renewable resource in each period of the activity.
     #[tactic(auto, unfolding(crate::specs::Project::request))]
     pub fn request(&self, activity: usize, mode: usize, resource: usize) -> u32
         requires activity { activity < size self.now }
@@ -265,7 +260,7 @@ impl Project {
         self.mode(activity, mode).renewable.as_slice()[resource]
     }
 
-    /// What an activity in a mode consumes of a nonrenewable resource in all.
+    /// The consumption of a nonrenewable resource in all.
     #[tactic(auto, unfolding(crate::specs::Project::consumption))]
     pub fn consumption(&self, activity: usize, mode: usize, resource: usize) -> u32
         requires activity { activity < size self.now }

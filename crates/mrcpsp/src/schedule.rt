@@ -1,16 +1,16 @@
-//! Schedules: a mode and a start for each activity.
 ghost use Rattle.std.specs.Prelude.{◌≡◌, ◌<◌, length, get_or};
 ghost use Rattle.mrcpsp.specs.Schedule.{start_of};
 
 use crate::Sequence;
 use std::marker::Model;
 
-/// A mode and a start for each activity of a project, in the order of their numbers.
+/// A `Schedule` is a mode and a start for each activity of a project, in the order of their
+/// numbers.
 #[derive(Debug, Drop)]
 pub struct Schedule {
-    /// The number of each activity's mode, counted from 1.
+    /// Mode numbers, counted from 1.
     pub modes: Sequence<u32>,
-    /// The period in which each activity starts, counted from 0.
+    /// Start periods, counted from 0.
     pub starts: Sequence<u32>,
 }
 
@@ -23,7 +23,7 @@ impl Model for Schedule {
 }
 
 impl Schedule {
-    /// The number of an activity's mode, counted from 1. Activities are named by their places, from 0.
+    /// The number of the mode, counted from 1. `activity` is a place from 0.
     pub fn mode(&self, activity: usize) -> u32
         requires { activity < length self.now.modes }
         ensures { result ≡ get_or self.now.modes activity 0 }
@@ -31,7 +31,7 @@ impl Schedule {
         self.modes.as_slice()[activity]
     }
 
-    /// The period in which an activity starts.
+    /// The start period of `activity`, a place from 0.
     #[tactic(auto, unfolding(crate::specs::Schedule::start_of))]
     pub fn start(&self, activity: usize) -> u32
         requires { activity < length self.now.starts }

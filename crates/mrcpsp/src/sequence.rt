@@ -1,10 +1,9 @@
-//! Lists as contracts see them.
 ghost use Rattle.std.specs.Prelude.{◌≡◌, ◌↔◌, IsTrue, IfOk};
 
 use std::alloc::{AllocError, Global};
 use std::marker::Model;
 
-/// A list of values. Contracts see the list alone, never the vector that holds it.
+/// A `Sequence` is a list of values. Contracts see the list, never the vector that holds it.
 #[derive(Debug, Drop)]
 pub struct Sequence<T> {
     items: Vec<T>,
@@ -21,7 +20,6 @@ impl<T> Model for Sequence<T> {
 impl<T> From<Vec<T>> for Sequence<T> {
     ghost from_gives = { λ v s. s ≡ v.items };
 
-    /// The vector's items, in their order. Takes no memory.
     fn from(items: Vec<T>) -> Sequence<T> {
         Sequence { items }
     }
@@ -35,7 +33,7 @@ impl<T> Sequence<T> {
         &self.items
     }
 
-    /// The vector with the items, in their order. Takes no memory.
+    /// The items, in their order. Takes no memory.
     pub fn into_vec(self) -> Vec<T>
         ensures { result.items ≡ self }
     {
@@ -44,7 +42,7 @@ impl<T> Sequence<T> {
 }
 
 impl Sequence<u32> {
-    /// An equal list, or an error where there is no memory for it.
+    /// Fails only without memory.
     pub fn clone_in(&self, alloc: Global) -> Result<Sequence<u32>, AllocError>
         ensures { IfOk result (λ copy. copy ≡ self.now) }
     {
@@ -52,7 +50,6 @@ impl Sequence<u32> {
     }
 }
 
-/// Whether two lists have the same numbers in the same order.
 pub(crate) fn same_numbers(one: &Sequence<u32>, other: &Sequence<u32>) -> bool
     ensures { IsTrue result ↔ (one.now ≡ other.now) }
 {

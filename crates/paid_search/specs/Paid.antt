@@ -13,7 +13,7 @@ use Rattle.strategy.specs.declared.verdict.Verdict.TheVariants.{Going, Optimal, 
 abbrev pub fresh : Plan → LeaseValue → Meaning × LeaseValue
 fresh plan lease = (record { tenant = lease.tenant; plan = plan; nodes = 0; left = lease.left; taken = false }, lease)
 
--- one more node may run: it stands after k nodes of a plan, and not all of its nodes have run then
+-- one more node may run: k nodes of a plan have run, and not all
 pub record GoesOn {N : Type 0} (stands : N → Plan → ℕ → Type 0) (n : N) : Type 0 where
   pub plan : Plan
   pub nodes : ℕ
@@ -21,7 +21,8 @@ pub record GoesOn {N : Type 0} (stands : N → Plan → ℕ → Type 0) (n : N) 
   pub going : all_run plan.project plan.kind nodes ≡ false
   pub few : nodes < LEASE_LIMIT
 
--- each node was paid, the verdict is the one after them, and until the best was taken the nodes stand after them
+-- each node was paid, the verdict is the one after them, and until the best was taken n has run
+-- them
 pub record IsPaid {N : Type 0} (stands : N → Plan → ℕ → Type 0) (plan : Plan) (lease : LeaseValue) (nodes bound_is : ℕ) (taken : Bool) (verdict : Verdict) (n : N) : Type 0 where
   pub paid : nodes ≡ lease.used
   pub limited : nodes + lease.left ≤ LEASE_LIMIT
@@ -29,7 +30,7 @@ pub record IsPaid {N : Type 0} (stands : N → Plan → ℕ → Type 0) (plan : 
   pub shown : verdict ≡ verdict_after plan nodes
   pub here : taken ≡ false → stands n plan nodes
 
--- a search is over where it shows anything but 'going'
+-- whether a verdict ends the search: any but 'going'
 abbrev pub is_over : Verdict → Bool
 is_over Going = false
 is_over Optimal = true

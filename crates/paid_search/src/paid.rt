@@ -1,4 +1,3 @@
-//! A search with the lease that pays for its nodes.
 ghost use Rattle.std.specs.Prelude.{◌≡◌, IfOk, IfErr};
 ghost use Rattle.quanta_till.specs.Lease.{IsEmpty};
 ghost use Rattle.paid_search.specs.Paid.{fresh};
@@ -11,8 +10,8 @@ use std::alloc::Global;
 use std::marker::Model;
 use strategy::{Plan, Strategy, Verdict};
 
-/// A search that pays a quantum of its lease for each node. It has all the memory that it will need from the start on: no
-/// call but `new` takes any. It owns its lease, which ends with it.
+/// A `Paid` is a search that pays a quantum of its lease for each node. It owns the lease, which
+/// ends with it. No call but `new` takes memory.
 pub struct Paid<N: Nodes> {
     plan: Plan,
     lease: Owned,
@@ -38,10 +37,9 @@ impl<N: Nodes> Model for Paid<N> {
     ghost invariant = { λ s. IsPaid N.stands s.plan s.lease s.nodes s.bound s.taken s.shown s.run };
 }
 
-/// Want of memory for a search, with the lease that was handed in.
+/// A `Refused` is want of memory for a search, with its lease.
 #[derive(Drop)]
 pub struct Refused {
-    /// The lease, as it was.
     pub lease: Lease,
 }
 
@@ -61,8 +59,7 @@ impl<N: Nodes> Drop for Paid<N> {
 }
 
 impl<N: Nodes> Paid<N> {
-    /// A search of the plan that has run no node, or the lease back where there is no memory for it; the plan is then
-    /// dropped.
+    /// No node has run yet. Without memory the lease comes back, and the plan is dropped.
     pub fn new(alloc: Global, plan: Plan, lease: Lease) -> Result<Paid<N>, Refused>
         requires kind { N.serves plan.kind }
         requires empty { IsEmpty lease }

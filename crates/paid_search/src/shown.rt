@@ -1,4 +1,3 @@
-//! What a search shows, and when it stops.
 ghost use Rattle.std.specs.Prelude.{◌≡◌, ℕ, Option, is_some, option_map};
 ghost use Rattle.mrcpsp.specs.Project.{ProjectData};
 ghost use Rattle.mrcpsp.specs.Schedule.{ScheduleData, makespan as greatest_finish};
@@ -9,7 +8,6 @@ ghost use Rattle.paid_search.specs.Paid.{is_over};
 
 use strategy::{Kind, Verdict};
 
-/// What a search shows that has run all its nodes, and has found a schedule or none.
 fn final_verdict(kind: Kind, is_found: bool) -> Verdict
     ensures { (best : Option ScheduleData) → is_found ≡ is_some best → result ≡ final_verdict kind best }
 {
@@ -25,7 +23,6 @@ fn final_verdict(kind: Kind, is_found: bool) -> Verdict
     }
 }
 
-/// Whether there is a best schedule, of this makespan, and it is as short as the bound.
 fn is_at_bound(makespan: Option<u32>, bound: u32) -> bool
     ensures { (p : ProjectData) (best : Option ScheduleData)
         → makespan ≡ option_map (greatest_finish p) best → bound ≡ bound_of p → result ≡ is_at_bound p best }
@@ -36,7 +33,6 @@ fn is_at_bound(makespan: Option<u32>, bound: u32) -> bool
     }
 }
 
-/// Whether a search stops: its best schedule is as short as the bound, or all its nodes have run.
 #[tactic(auto, unfolding(strategy::specs::Outcome::is_closed))]
 pub(crate) fn stops(makespan: Option<u32>, bound: u32, all_run: bool) -> bool
     ensures { (plan : Plan) (k : ℕ) → makespan ≡ option_map (greatest_finish plan.project) (best_after plan k)
@@ -46,8 +42,7 @@ pub(crate) fn stops(makespan: Option<u32>, bound: u32, all_run: bool) -> bool
     is_at_bound(makespan, bound) || all_run
 }
 
-/// What a search shows, by the makespan of its best schedule and whether all its nodes have run.
-/// It is `Going` just if `stops` is false.
+/// It is `Going` exactly if `stops` is false.
 pub(crate) fn verdict_by(kind: Kind, makespan: Option<u32>, bound: u32, all_run: bool) -> Verdict
     ensures { (plan : Plan) (k : ℕ) → kind ≡ plan.kind
         → makespan ≡ option_map (greatest_finish plan.project) (best_after plan k) → bound ≡ bound_of plan.project
@@ -62,7 +57,6 @@ pub(crate) fn verdict_by(kind: Kind, makespan: Option<u32>, bound: u32, all_run:
     }
 }
 
-/// Whether a search that shows this is over.
 pub(crate) fn is_over(shown: Verdict) -> bool
     ensures { result ≡ is_over shown }
 {

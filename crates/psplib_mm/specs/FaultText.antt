@@ -1,5 +1,5 @@
--- The bytes that a fault prints as.
--- The names of the sections are those of a multi-mode file of the PSPLIB (Kolisch and Sprecher 1997).
+-- The texts of faults. The sections have their names in the PSPLIB's multi-mode files (Kolisch and
+-- Sprecher 1997).
 use Rattle.std.specs.Prelude.{ℕ, List, ◌++◌, codes, decimal}
 use Rattle.psplib_mm.specs.declared.fault.MmFault.{MmFault}
 use Rattle.psplib_mm.specs.declared.fault.MmFault.TheVariants.{TooLong, Header, Projects, Doubly, Section, Number, Count, Numbering, Successor, Limit, NoMemory}
@@ -8,11 +8,13 @@ use Rattle.psplib_mm.specs.declared.fault.SectionName.TheVariants.{PrecedenceRel
 use Rattle.psplib_mm.specs.declared.fault.LimitName.{LimitName}
 use Rattle.psplib_mm.specs.declared.fault.LimitName.TheVariants.{Jobs, Modes, Renewable, Nonrenewable, Duration, Request, Capacity, Horizon}
 
+-- the name of a section in a file
 abbrev pub section_text : SectionName → List ℕ
 section_text PrecedenceRelations = codes "PRECEDENCE RELATIONS"
 section_text RequestsDurations = codes "REQUESTS/DURATIONS"
 section_text ResourceAvailabilities = codes "RESOURCEAVAILABILITIES"
 
+-- a limit in one word
 abbrev pub limit_text : LimitName → List ℕ
 limit_text Jobs = codes "jobs"
 limit_text Modes = codes "modes"
@@ -23,6 +25,7 @@ limit_text Request = codes "request"
 limit_text Capacity = codes "capacity"
 limit_text Horizon = codes "horizon"
 
+-- the fault, with its argument in brackets
 abbrev pub fault_text : MmFault → List ℕ
 fault_text TooLong = codes "TooLong"
 fault_text Header = codes "Header"

@@ -1,5 +1,4 @@
--- What the reader keeps between two steps over a text, and what it answers at once.
--- Only contracts of private functions name these: what a text means is said without them.
+-- What the reader keeps between two steps over a text, for contracts of private functions.
 use Rattle.std.specs.Prelude.{◌≡◌, ℕ, ◌+◌, ◌-◌, ◌^◌, min, Bool, not, ◌||◌, List, [], ◌∷◌, ◌++◌, length, map, take, drop, Option, Some, None, Result, Ok, Err, nat_lt, ◌==◌, codes, if◌then◌else◌}
 use Rattle.std.specs.Option.{option_or}
 use Rattle.std.specs.List.{find, list_any, position_or_len, before_first}
@@ -15,7 +14,7 @@ use Rattle.psplib_mm.specs.declared.fault.SectionName.TheVariants.{PrecedenceRel
 use Rattle.psplib_mm.specs.Contents.{◌>>=◌, Job, any_mode, any_above, first_broken, contents}
 use Rattle.psplib_mm.specs.Reading.{Sizes, sizes_of, has_label, value_in, begins, is_section_line, lines_after, words_below, cells_of}
 
--- takes the first of those that are left, if any is left
+-- the first item of a cursor is taken, if one is left
 abbrev pub Takes : {X : Type 0} → Option X → List X → List X → Type 0
 Takes None old new = (old ≡ []) × (new ≡ [])
 Takes (Some x) old new = old ≡ x ∷ new
@@ -27,11 +26,12 @@ abbrev pub lines_left : ℕ → Option (List ℕ) → List Piece
 lines_left n None = []
 lines_left n (Some bytes) = lines_from n bytes
 
+-- the number of bytes that are left
 abbrev pub bytes_left : Option (List ℕ) → ℕ
 bytes_left None = 0
 bytes_left (Some bytes) = length bytes
 
--- from the first line that passes on
+-- the lines from the first one that passes on
 abbrev pub from_first : (Piece → Bool) → List Piece → List Piece
 from_first p lines = drop (position_or_len p lines) lines
 
@@ -45,6 +45,7 @@ pub record HeadLines : Type 0 where
   pub nonrenewable : Option Piece
   pub doubly : Option Piece
 
+-- the first line with each label among these lines
 abbrev pub head_lines : List Piece → HeadLines
 head_lines lines = record {
   projects = find (has_label (codes "projects")) lines;
@@ -54,7 +55,7 @@ head_lines lines = record {
   doubly = find (has_label (codes "-doublyconstrained")) lines;
 }
 
--- those of the first lines, else those of the others
+-- the lines of `first`, or else the lines of `others`
 abbrev pub first_lines : HeadLines → HeadLines → HeadLines
 first_lines first others = record {
   projects = option_or first.projects others.projects;
@@ -64,6 +65,7 @@ first_lines first others = record {
   doubly = option_or first.doubly others.doubly;
 }
 
+-- the sizes that the lines of the head give
 abbrev pub sizes_at : HeadLines → Result Sizes MmFault
 sizes_at head = do
   projects ← value_in (Some 1) head.projects
@@ -81,19 +83,23 @@ sizes_at head = do
 abbrev pub capped : Cell → Cell
 capped c = record { line = c.line; number = min (2 ^ 32 - 1) c.number }
 
+-- cells as the code keeps them
 abbrev pub all_capped : Result (List Cell) MmFault → Result (List Cell) MmFault
 all_capped read = read >>= λ cells. Ok (map capped cells)
 
+-- a number as the code keeps it
 abbrev pub cap : ℕ → ℕ
 cap n = min (2 ^ 32 - 1) n
 
+-- a value as the code keeps it
 abbrev pub capped_number : Result ℕ MmFault → Result ℕ MmFault
 capped_number read = read >>= λ n. Ok (cap n)
 
+-- sizes as the code keeps them
 abbrev pub capped_sizes : Result Sizes MmFault → Result Sizes MmFault
 capped_sizes read = read >>= λ s. Ok (record { jobs = cap s.jobs; renewable = cap s.renewable; nonrenewable = cap s.nonrenewable })
 
--- the meaning, as the code computes it: with each number kept at most at the greatest u32
+-- the meaning, with each number as the code keeps it
 abbrev pub capped_meaning : List Piece → Result ProjectData MmFault
 capped_meaning lines = do
   sizes ← capped_sizes (sizes_of (before_first is_section_line lines))
@@ -107,22 +113,23 @@ capped_meaning lines = do
 
 -- ---- the numbers of a section
 
--- the cells of these words, as the code keeps them
+-- the cells of words, as the code keeps them
 abbrev pub kept_cells : List Piece → Result (List Cell) MmFault
 kept_cells words = all_capped (cells_of words)
 
--- the cells, but for a word on this line that is no number
+-- the cells, or the fault of a word on this line that is no number
 abbrev pub cells_or : Option ℕ → List Cell → Result (List Cell) MmFault
 cells_or None cells = Ok cells
 cells_or (Some line) cells = Err (fault.Number line)
 
+-- the cells of both, or the first fault
 abbrev pub joined : Result (List Cell) MmFault → Result (List Cell) MmFault → Result (List Cell) MmFault
 joined first others = do
   cells ← first
   more ← others
   Ok (cells ++ more)
 
--- with the cells of the first of these words, so that there are at most so many
+-- with the cells of further words, up to `most` cells
 abbrev pub joined_up_to : ℕ → Result (List Cell) MmFault → List Piece → Result (List Cell) MmFault
 joined_up_to most first words = do
   cells ← first
@@ -136,7 +143,7 @@ records (Err fault) = []
 
 -- ---- limits
 
--- the first limit on the numbers of jobs, modes and resources that is broken
+-- the first broken limit on the numbers of jobs, modes and resources
 abbrev pub broken_count : List Job → ℕ → ℕ → Option LimitName
 broken_count jobs r v = first_broken (
     (not (is_between 1 MOST_ACTIVITIES (length jobs)), limit.Jobs)
@@ -145,7 +152,7 @@ broken_count jobs r v = first_broken (
     ∷ (nat_lt MOST_RESOURCES v, limit.Nonrenewable)
     ∷ [])
 
--- the first of the other limits that is broken
+-- the first broken limit on durations, requests, capacities and the horizon
 abbrev pub broken_amount : ProjectData → Option LimitName
 broken_amount p = first_broken (
     (any_mode (λ m. nat_lt MOST_DURATION m.duration) p, limit.Duration)

@@ -1,4 +1,4 @@
-//! What must hold of the numbers of jobs, modes and successors.
+//! The tests of the numbers of jobs, modes and successors.
 ghost use Rattle.std.specs.Prelude.{◌≡◌, ◌==◌, [], length};
 ghost use Rattle.std.specs.List.{list_any};
 ghost use Rattle.psplib_mm.specs.Contents.{each, in_place, job_in_place, mode_in_place, group_in_place, follow, job_follows, are_enough};
@@ -9,7 +9,6 @@ use crate::fault::{MmFault, SectionName};
 use crate::groups::{Groups, Modes};
 use crate::jobs::Jobs;
 
-/// Whether there are at least so many numbers.
 pub fn suffice(cells: &[Cell], count: usize) -> Result<(), MmFault>
     ensures { Gives (λ _. tt) result (are_enough count cells.now) }
 {
@@ -28,7 +27,7 @@ fn number_is(cell: Cell, place: u64) -> Result<(), MmFault>
     Ok(())
 }
 
-/// Whether each job's number is its place, from 1.
+/// Job numbers count from 1 without a gap.
 pub fn jobs_are_numbered(jobs: &Jobs<'_>) -> Result<(), MmFault>
     ensures { Gives (λ _. tt) result (each job_in_place 1 jobs.now) }
 {
@@ -53,7 +52,7 @@ fn modes_are_numbered(modes: &Modes<'_>) -> Result<(), MmFault>
     Ok(())
 }
 
-/// Whether each group's number is its place, and each of its modes' numbers too, from 1.
+/// Job numbers and mode numbers count from 1 without a gap.
 pub fn groups_are_numbered(groups: &Groups<'_>) -> Result<(), MmFault>
     ensures { Gives (λ _. tt) result (each group_in_place 1 groups.now) }
 {
@@ -85,7 +84,7 @@ fn successors_follow(successors: &[Cell], job: u64, jobs: u32) -> Result<(), MmF
     Ok(())
 }
 
-/// Whether the successors of each job are above it, at most `count`, and named once.
+/// Successors are above their job, at most `count`, and named once.
 pub fn all_follow(jobs: &Jobs<'_>, count: u32) -> Result<(), MmFault>
     ensures { Gives (λ _. tt) result (each (job_follows count) 1 jobs.now) }
 {

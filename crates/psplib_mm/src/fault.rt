@@ -1,4 +1,3 @@
-//! Why a text is no project.
 ghost use Rattle.std.specs.Prelude.{◌≡◌, Some};
 ghost use Rattle.psplib_mm.specs.declared.fault.MmFault.TheVariants.{NoMemory};
 ghost use Rattle.psplib_mm.specs.FaultText.{section_text, limit_text, fault_text};
@@ -7,21 +6,17 @@ use std::alloc::{AllocError, AllocFailed};
 use std::error::Error;
 use std::fmt;
 
-/// A section of a multi-mode file that the reader needs.
+/// A `SectionName` is a section of a multi-mode file that the reader needs.
 #[derive(Clone, Copy, Debug, PartialEq, Eq)]
 pub enum SectionName {
-    /// `PRECEDENCE RELATIONS`
     PrecedenceRelations,
-    /// `REQUESTS/DURATIONS`
     RequestsDurations,
-    /// `RESOURCEAVAILABILITIES`
     ResourceAvailabilities,
 }
 
 impl fmt::Display for SectionName {
     ghost output = { λ name. Some (section_text name) };
 
-    /// Writes the name as it stands in a file.
     fn fmt<W: fmt::Write>(&self, f: &mut fmt::Formatter<W>) -> fmt::Result {
         match self {
             SectionName::PrecedenceRelations => write!(f, "PRECEDENCE RELATIONS"),
@@ -31,7 +26,7 @@ impl fmt::Display for SectionName {
     }
 }
 
-/// A limit of a project, in the order in which the limits are tested.
+/// A `LimitName` is a limit of a project. The variants are in the order of the tests.
 #[derive(Clone, Copy, Debug, PartialEq, Eq)]
 pub enum LimitName {
     /// 1 to 202 jobs.
@@ -44,9 +39,9 @@ pub enum LimitName {
     Nonrenewable,
     /// Durations of at most 1,000 periods.
     Duration,
-    /// Requests and consumptions of at most 1,000,000.
+    /// Requests and consumptions of at most 1,000,000 units.
     Request,
-    /// Capacities of at most 1,000,000.
+    /// Capacities of at most 1,000,000 units.
     Capacity,
     /// A sum of longest durations of at most 20,000 periods.
     Horizon,
@@ -55,7 +50,6 @@ pub enum LimitName {
 impl fmt::Display for LimitName {
     ghost output = { λ name. Some (limit_text name) };
 
-    /// Writes the limit in one word.
     fn fmt<W: fmt::Write>(&self, f: &mut fmt::Formatter<W>) -> fmt::Result {
         match self {
             LimitName::Jobs => write!(f, "jobs"),
@@ -70,39 +64,38 @@ impl fmt::Display for LimitName {
     }
 }
 
-/// Why a text is no project: the first of these whose cause holds, in this order. Lines are counted
-/// from 1. `NoMemory` alone can come in place of any other but `TooLong`.
+/// An `MmFault` is why a text is no project: the first variant whose cause holds. Lines count from
+/// 1. Only `NoMemory` can come in place of another answer, and never in place of `TooLong`.
 #[derive(Clone, Copy, Debug, PartialEq, Eq)]
 pub enum MmFault {
     /// The text has more than 1,048,576 bytes.
     TooLong,
-    /// The line that counts the jobs is missing, or one of the five counts of the head is there and
-    /// has no number as its first word.
+    /// The line that counts the jobs is missing, or a count of the head does not begin with a
+    /// number.
     Header,
-    /// The number of projects isn't 1.
+    /// The number of projects is not 1.
     Projects,
-    /// The number of doubly constrained resources isn't 0.
+    /// The number of doubly constrained resources is not 0.
     Doubly,
-    /// The line that begins this section is missing below the one before.
+    /// The line that begins this section is missing below the section before.
     Section(SectionName),
-    /// A word on this line is no number where one is needed.
+    /// A word on this line is no number, but one is needed.
     Number(u32),
-    /// The section's words aren't as many as its contents need.
+    /// The number of words in the section differs from what its contents need.
     Count(SectionName),
-    /// A job's or a mode's number on this line isn't its place.
+    /// A job's or a mode's number on this line is not its place.
     Numbering(u32),
-    /// A successor on this line isn't above its job, is above the number of jobs, or was named before.
+    /// A successor on this line is not above its job, exceeds the number of jobs, or repeats
+    /// another.
     Successor(u32),
-    /// This limit of a project is broken.
+    /// The project breaks this limit.
     Limit(LimitName),
-    /// There was no memory for what was read.
     NoMemory,
 }
 
 impl fmt::Display for MmFault {
     ghost output = { λ fault. Some (fault_text fault) };
 
-    /// Writes the fault with its argument, as `Number(14)`.
     fn fmt<W: fmt::Write>(&self, f: &mut fmt::Formatter<W>) -> fmt::Result {
         match self {
             MmFault::TooLong => write!(f, "TooLong"),
@@ -125,7 +118,6 @@ impl Error for MmFault {}
 impl From<AllocError> for MmFault {
     ghost from_gives = { λ _ fault. fault ≡ NoMemory };
 
-    /// `NoMemory`.
     fn from(_error: AllocError) -> MmFault {
         MmFault::NoMemory
     }
@@ -134,7 +126,7 @@ impl From<AllocError> for MmFault {
 impl<T: Drop> From<AllocFailed<T>> for MmFault {
     ghost from_gives = { λ _ fault. fault ≡ NoMemory };
 
-    /// `NoMemory`. The value that found no room is dropped.
+    /// The value that found no room is dropped.
     fn from(_error: AllocFailed<T>) -> MmFault {
         MmFault::NoMemory
     }

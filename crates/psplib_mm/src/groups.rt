@@ -1,4 +1,3 @@
-//! The jobs of the section on requests, each with its modes.
 ghost use Rattle.std.specs.Prelude.{◌≡◌, ◌<◌, ◌^◌, length};
 ghost use Rattle.std.specs.Option.{option_map};
 ghost use Rattle.std.specs.Result.{result_ok};
@@ -11,25 +10,22 @@ use crate::fault::{MmFault, SectionName};
 use crate::jobs::Jobs;
 use std::marker::Model;
 
-/// How many resources there are of each kind.
+/// The number of resources of each kind.
 #[derive(Clone, Copy, Debug)]
 pub struct Resources {
-    /// How many renewable ones.
     pub renewable: u32,
-    /// How many nonrenewable ones.
     pub nonrenewable: u32,
 }
 
-/// A mode of the section on requests.
+/// A `ModeLine` is a mode of the section on requests.
 #[derive(Debug, Drop)]
 pub struct ModeLine<'a> {
-    /// Its number.
     pub mode: Cell,
-    /// Its duration, in periods.
+    /// In periods.
     pub duration: Cell,
-    /// Its request of each renewable resource.
+    /// The request of each renewable resource.
     pub renewable: &'a [Cell],
-    /// Its consumption of each nonrenewable resource.
+    /// The consumption of each nonrenewable resource.
     pub nonrenewable: &'a [Cell],
 }
 
@@ -46,7 +42,7 @@ impl<'a> Model for ModeLine<'a> {
     } };
 }
 
-/// The modes of a job that are still to come, whose words are known to be as many as they need.
+/// A `Modes` is a cursor over the modes of a job. Its words are known to be enough.
 #[derive(Debug, Drop)]
 pub struct Modes<'a> {
     cells: &'a [Cell],
@@ -68,7 +64,6 @@ impl<'a> Model for Modes<'a> {
 }
 
 impl<'a> Modes<'a> {
-    /// The same modes once more.
     pub fn again(&self) -> Modes<'a>
         ensures same { result ≡ self.now }
         ensures few { length result < 2 ^ 32 }
@@ -80,7 +75,6 @@ impl<'a> Modes<'a> {
         }
     }
 
-    /// Takes the next mode.
     pub fn next_mode(&mut self) -> Option<ModeLine<'a>>
         ensures { Takes result self.old self.new }
     {
@@ -94,12 +88,10 @@ impl<'a> Modes<'a> {
     }
 }
 
-/// A job of the section on requests.
+/// A `Group` is a job of the section on requests.
 #[derive(Debug, Drop)]
 pub struct Group<'a> {
-    /// Its number.
     pub job: Cell,
-    /// Its modes.
     pub modes: Modes<'a>,
 }
 
@@ -111,8 +103,8 @@ impl<'a> Model for Group<'a> {
     ghost view = { λ g. record { job = g.job; modes = g.modes } };
 }
 
-/// The jobs of the section on requests that are still to come, whose words are known to be as many as
-/// they need.
+/// A `Groups` is a cursor over the jobs of the section on requests. Its words are known to be
+/// enough.
 #[derive(Debug, Drop)]
 pub struct Groups<'a> {
     jobs: Jobs<'a>,
@@ -134,7 +126,7 @@ impl<'a> Model for Groups<'a> {
 }
 
 impl<'a> Groups<'a> {
-    /// A group for each job, and nothing more.
+    /// There is a group for each job, and nothing more.
     pub fn of(
         jobs: &Jobs<'a>,
         cells: &'a [Cell],
@@ -161,7 +153,6 @@ impl<'a> Groups<'a> {
         })
     }
 
-    /// The same groups once more.
     pub fn again(&self) -> Groups<'a>
         ensures same { result ≡ self.now }
         ensures few { length result < 2 ^ 32 }
@@ -173,7 +164,6 @@ impl<'a> Groups<'a> {
         }
     }
 
-    /// Takes the next group.
     pub fn next_group(&mut self) -> Option<Group<'a>>
         ensures { Takes result self.old self.new }
     {

@@ -1,4 +1,3 @@
-//! The jobs of the section on precedence.
 ghost use Rattle.std.specs.Prelude.{◌≡◌, ◌<◌, ◌^◌, length};
 ghost use Rattle.std.specs.Option.{option_map};
 ghost use Rattle.std.specs.Result.{result_ok};
@@ -10,14 +9,12 @@ use crate::cell::Cell;
 use crate::fault::{MmFault, SectionName};
 use std::marker::Model;
 
-/// A job of the section on precedence.
+/// A `Job` is a job of the section on precedence.
 #[derive(Debug, Drop)]
 pub struct Job<'a> {
-    /// Its number.
     pub job: Cell,
-    /// How many modes it has.
+    /// The number of its modes.
     pub modes: Cell,
-    /// The numbers of its successors.
     pub successors: &'a [Cell],
 }
 
@@ -29,12 +26,12 @@ impl<'a> Model for Job<'a> {
     ghost view = { λ j. record { job = j.job; modes = j.modes; successors = j.successors.now } };
 }
 
-/// The jobs that are still to come, whose words are known to be as many as they need.
+/// A `Jobs` is a cursor over the jobs of the section on precedence. Its words are known to be
+/// enough.
 #[derive(Debug, Drop)]
 pub struct Jobs<'a> {
     /// The words from the next job on.
     cells: &'a [Cell],
-    /// How many jobs are still to come.
     left: u32,
 }
 
@@ -51,7 +48,7 @@ impl<'a> Model for Jobs<'a> {
 }
 
 impl<'a> Jobs<'a> {
-    /// So many jobs, and nothing more.
+    /// There are `count` jobs, and nothing more.
     pub fn of(cells: &'a [Cell], count: u32) -> Result<Jobs<'a>, MmFault>
         ensures { Gives (λ jobs. jobs) result (jobs_of count cells.now) }
     {
@@ -68,7 +65,6 @@ impl<'a> Jobs<'a> {
         Ok(Jobs { cells, left: count })
     }
 
-    /// The same jobs once more.
     pub fn again(&self) -> Jobs<'a>
         ensures same { result ≡ self.now }
         ensures few { length result < 2 ^ 32 }
@@ -79,14 +75,12 @@ impl<'a> Jobs<'a> {
         }
     }
 
-    /// How many jobs there are.
     pub fn len(&self) -> u32
         ensures { result ≡ length self.now }
     {
         self.left
     }
 
-    /// Takes the next job.
     pub fn next_job(&mut self) -> Option<Job<'a>>
         ensures { Takes result self.old self.new }
     {

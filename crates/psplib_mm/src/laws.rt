@@ -1,4 +1,3 @@
-//! A law of the reading, the proved contract of a function that does nothing.
 ghost use Rattle.psplib_mm.specs.Laws.{ReadingGivesProjects};
 
 /// The project that a text means is within all limits, and its successors keep their rule.

@@ -1,4 +1,3 @@
-//! The limits of a project.
 ghost use Rattle.std.specs.Prelude.{◌≡◌, ◌≤◌, ◌||◌, ◌∷◌, [], length, not, nat_lt};
 ghost use Rattle.std.specs.List.{list_any};
 ghost use Rattle.mrcpsp.specs.Project.{ProjectData, is_between};
@@ -25,7 +24,7 @@ fn are_modes_miscounted(jobs: &Jobs<'_>) -> bool
     false
 }
 
-/// The first limit on the numbers of jobs, modes and resources that is broken.
+/// The first broken limit on the numbers of jobs, modes and resources.
 pub fn broken_number(jobs: &Jobs<'_>, resources: Resources) -> Option<LimitName>
     ensures { result ≡ broken_count jobs.now resources.renewable resources.nonrenewable }
 {
@@ -81,7 +80,7 @@ fn is_any_activity_large(activities: &[Activity]) -> bool
         .any(|activity| is_any_large(activity.modes.as_slice()))
 }
 
-/// The first limit on durations, requests, capacities and the horizon that is broken.
+/// The first broken limit on durations, requests, capacities and the horizon.
 pub fn broken_size(
     activities: &[Activity],
     renewable: &[u32],

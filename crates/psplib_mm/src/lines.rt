@@ -1,4 +1,3 @@
-//! The lines of a text, one after the other.
 ghost use Rattle.std.specs.Prelude.{◌≡◌, ◌≤◌, length};
 ghost use Rattle.std.specs.List.{position, before_first};
 ghost use Rattle.std.specs.Str.Lines.{strip_carriage_return};
@@ -8,12 +7,11 @@ ghost use Rattle.psplib_mm.specs.Scan.{Takes};
 use crate::reading::MOST_BYTES;
 use std::marker::Model;
 
-/// A line or a word, with the number of the line, from 1.
+/// A `Piece` is a line or a word, with the number of its line, from 1.
 #[derive(Debug, Drop)]
 pub struct Piece<'a> {
-    /// The number of the line.
     pub line: u32,
-    /// Its bytes, without the end of the line.
+    /// The bytes without the end of the line.
     pub bytes: &'a [u8],
 }
 
@@ -26,7 +24,6 @@ impl<'a> Model for Piece<'a> {
 }
 
 impl<'a> Piece<'a> {
-    /// The same piece once more.
     pub fn again(&self) -> Piece<'a>
         ensures { result ≡ self.now }
     {
@@ -37,10 +34,10 @@ impl<'a> Piece<'a> {
     }
 }
 
-/// The lines of a text that are still to come.
+/// A `Lines` is a cursor over the lines of a text.
 #[derive(Debug, Drop)]
 pub struct Lines<'a> {
-    /// The bytes of these lines, or `None` past the last line.
+    /// `None` past the last line.
     rest: Option<&'a [u8]>,
     /// The number of the next line.
     number: u32,
@@ -60,7 +57,6 @@ impl<'a> Model for Lines<'a> {
 }
 
 impl<'a> Lines<'a> {
-    /// The lines of a text.
     pub fn of(text: &'a [u8]) -> Lines<'a>
         requires { length text.now ≤ MOST_BYTES }
         ensures { result ≡ lines_of text.now }
@@ -71,7 +67,6 @@ impl<'a> Lines<'a> {
         }
     }
 
-    /// The same lines once more.
     pub fn again(&self) -> Lines<'a>
         ensures { result ≡ self.now }
     {
@@ -81,7 +76,6 @@ impl<'a> Lines<'a> {
         }
     }
 
-    /// Takes the next line.
     pub fn next_line(&mut self) -> Option<Piece<'a>>
         ensures { Takes result self.old self.new }
     {

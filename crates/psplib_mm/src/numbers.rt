@@ -1,4 +1,3 @@
-//! The numbers of a section.
 ghost use Rattle.std.specs.Prelude.{◌≡◌, [], IfOk, Ok, Err};
 ghost use Rattle.psplib_mm.specs.Text.{words_in};
 ghost use Rattle.psplib_mm.specs.Gives.{Gives};
@@ -11,12 +10,11 @@ use crate::words::{Words, number};
 use std::alloc::{AllocError, Global};
 use std::marker::Model;
 
-/// The numbers that a section's words write, or the line of the first word that writes none.
+/// A `Numbers` is the numbers that a section's words write, up to the first word that writes none.
 #[derive(Debug, Drop)]
 pub struct Numbers {
-    /// The numbers, up to the first word that is none.
     cells: Vec<Cell>,
-    /// The line of that word.
+    /// The line of the first word that writes no number.
     stray: Option<u32>,
 }
 
@@ -32,7 +30,6 @@ impl Model for Numbers {
 }
 
 impl Numbers {
-    /// No numbers yet.
     pub fn new(alloc: Global) -> Numbers
         ensures { result ≡ Ok [] }
     {
@@ -42,7 +39,6 @@ impl Numbers {
         }
     }
 
-    /// Adds the numbers of a line.
     pub fn push_line(&mut self, line: &Piece<'_>) -> Result<(), AllocError>
         ensures { IfOk result (λ _. self.new ≡ joined self.old (kept_cells (words_in line.now))) }
     {
@@ -52,7 +48,7 @@ impl Numbers {
         Ok(())
     }
 
-    /// Adds the first numbers of a line, as far as there are then no more than `most`.
+    /// Adds numbers of `line` until there are `most`.
     pub fn push_line_up_to(&mut self, line: &Piece<'_>, most: usize) -> Result<(), AllocError>
         ensures { IfOk result (λ _. self.new ≡ joined_up_to most self.old (words_in line.now)) }
     {
@@ -62,7 +58,7 @@ impl Numbers {
         Ok(())
     }
 
-    /// The numbers, or the fault of a word that is none.
+    /// Fails if a word was no number.
     pub fn into_cells(self) -> Result<Vec<Cell>, MmFault>
         ensures { Gives (λ v. v.items) result self }
     {
@@ -73,7 +69,7 @@ impl Numbers {
     }
 }
 
-/// Adds the numbers of a line, up to a word that is none. Then gives its line.
+/// Stops at a word that is no number, and returns its line.
 fn push_words(cells: &mut Vec<Cell>, line: &Piece<'_>) -> Result<Option<u32>, AllocError>
     ensures { IfOk result (λ stray.
         cells_or stray cells.new.items ≡ joined (Ok cells.old.items) (kept_cells (words_in line.now))) }
@@ -91,8 +87,7 @@ fn push_words(cells: &mut Vec<Cell>, line: &Piece<'_>) -> Result<Option<u32>, Al
     Ok(None)
 }
 
-/// Adds the first numbers of a line, up to a word that is none, as far as there are then no more than
-/// `most`. Then gives its line.
+/// Stops at a word that is no number, and returns its line, or at `most` numbers.
 fn push_words_up_to(
     cells: &mut Vec<Cell>,
     line: &Piece<'_>,

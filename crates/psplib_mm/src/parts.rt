@@ -1,4 +1,3 @@
-//! The parts of a project, from the records of the sections.
 ghost use Rattle.std.specs.Prelude.{◌≡◌, map, IfOk};
 ghost use Rattle.psplib_mm.specs.Contents.{numbers_of, mode_of, activities_of};
 
@@ -8,7 +7,6 @@ use crate::jobs::Jobs;
 use mrcpsp::{Activity, Mode, Sequence};
 use std::alloc::{AllocError, Global};
 
-/// The numbers alone.
 pub fn numbers(alloc: Global, cells: &[Cell]) -> Result<Sequence<u32>, AllocError>
     ensures { IfOk result (λ numbers. numbers ≡ numbers_of cells.now) }
 {
@@ -37,7 +35,7 @@ fn modes(alloc: Global, lines: &Modes<'_>) -> Result<Sequence<Mode>, AllocError>
     Ok(Sequence::from(modes))
 }
 
-/// The activities: the modes from the groups, the successors from the jobs.
+/// The modes are from `groups`, the successors from `jobs`.
 pub fn activities(
     alloc: Global,
     jobs: &Jobs<'_>,

@@ -1,4 +1,3 @@
-//! The sections of a text.
 ghost use Rattle.std.specs.Prelude.{◌≡◌, take, IfOk};
 ghost use Rattle.std.specs.List.{before_first};
 ghost use Rattle.psplib_mm.specs.Reading.{title_of, begins, is_section_line, lines_after, words_below};
@@ -37,7 +36,7 @@ pub fn is_section(line: &Piece<'_>) -> bool
         || is_title(line, SectionName::ResourceAvailabilities)
 }
 
-/// Takes the lines up to the one that begins this section, and that one.
+/// Takes the lines up to and with the one that begins section `name`.
 pub fn enter(lines: &mut Lines<'_>, name: SectionName) -> Result<(), MmFault>
     ensures { Gives (λ _. lines.new) result (lines_after name lines.old) }
 {
@@ -49,7 +48,7 @@ pub fn enter(lines: &mut Lines<'_>, name: SectionName) -> Result<(), MmFault>
     Err(MmFault::Section(name))
 }
 
-/// Takes the lines of a section and the line that begins the next one.
+/// Takes the lines of a section and the line that begins `next`.
 pub fn read_section(
     alloc: Global,
     lines: &mut Lines<'_>,
@@ -75,7 +74,7 @@ pub fn read_section(
     Err(MmFault::Section(next))
 }
 
-/// Takes the lines of the last section, whose first numbers count, no more than `most`.
+/// Takes the lines of the last section. No more than `most` numbers are kept.
 pub fn read_last_section(
     alloc: Global,
     lines: &mut Lines<'_>,

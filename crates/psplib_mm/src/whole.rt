@@ -1,4 +1,3 @@
-//! The project that the numbers of the sections spell.
 ghost use Rattle.std.specs.Prelude.{◌≡◌, ◌+◌, ◌≤◌, length, take, drop};
 ghost use Rattle.mrcpsp.specs.Project.{ProjectData};
 ghost use Rattle.psplib_mm.specs.Contents.{contents, activities_of, numbers_of, limited};
@@ -15,7 +14,7 @@ use crate::parts::{activities, numbers};
 use mrcpsp::{Project, Sequence};
 use std::alloc::Global;
 
-/// The project, or the first fault of what the sections count and number.
+/// Returns the project, or the first fault of what the sections count and number.
 pub fn project(
     alloc: Global,
     sizes: Sizes,

@@ -1,4 +1,3 @@
-//! The words of a line, one after the other, and what a line or a word says.
 ghost use Rattle.std.specs.Prelude.{◌≡◌, ◌≤◌, ◌==◌, length, min, IfSome};
 ghost use Rattle.std.specs.Option.{option_map};
 ghost use Rattle.std.specs.List.{list_all, position, position_or_len};
@@ -8,12 +7,10 @@ ghost use Rattle.psplib_mm.specs.Scan.{Takes};
 use crate::lines::Piece;
 use std::marker::Model;
 
-/// The words of a line that are still to come.
+/// A `Words` is a cursor over the words of a line.
 #[derive(Debug, Drop)]
 pub struct Words<'a> {
-    /// The number of the line.
     line: u32,
-    /// What is left of it.
     rest: &'a [u8],
 }
 
@@ -27,7 +24,6 @@ impl<'a> Model for Words<'a> {
 }
 
 impl<'a> Words<'a> {
-    /// The words of a line.
     pub fn of(line: &Piece<'a>) -> Words<'a>
         ensures { result ≡ words_in line.now }
     {
@@ -37,7 +33,6 @@ impl<'a> Words<'a> {
         }
     }
 
-    /// Takes the next word.
     pub fn next_word(&mut self) -> Option<Piece<'a>>
         ensures { Takes result self.old self.new }
     {
@@ -71,7 +66,7 @@ fn word_end(bytes: &[u8]) -> usize
     blank_place(bytes).unwrap_or(bytes.len())
 }
 
-/// The number that a number word writes, or `u32::MAX` where it is above.
+/// A number above `u32::MAX` counts as `u32::MAX`. Returns `None` if `word` is no number.
 pub fn number(word: &[u8]) -> Option<u32>
     ensures { result ≡ option_map (min u32.MAX) (number_of word.now) }
 {
@@ -90,14 +85,14 @@ pub fn number(word: &[u8]) -> Option<u32>
     Some(value)
 }
 
-/// Whether the byte is a space or a tab.
+/// Whether `b` is a space or a tab.
 pub fn is_blank_byte(b: u8) -> bool
     ensures { result ≡ is_blank b }
 {
     b == b' ' || b == b'\t'
 }
 
-/// Whether the line has no word or is a rule line.
+/// Whether `line` has no word or is a rule line.
 pub fn is_rule(line: &[u8]) -> bool
     ensures { result ≡ is_skipped line.now }
 {
@@ -112,7 +107,7 @@ fn all_blank_or(line: &[u8], mark: u8) -> bool
         .all(|b| *b == mark)
 }
 
-/// Whether the line, with its blanks deleted, is this text.
+/// Whether `line` without its blanks is `text`.
 pub fn spells(line: &[u8], text: &[u8]) -> bool
     ensures { result ≡ is_same (without_blanks line.now) text.now }
 {

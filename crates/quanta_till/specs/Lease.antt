@@ -1,9 +1,10 @@
--- What contracts see of a lease, by double entry (L. Pacioli, Summa de arithmetica, 1494): what it drew, used and handed back, and what is left of it, which is drawn - used - back.
+-- What contracts see of a lease, by double entry (Pacioli 1494): what it drew, used and handed
+-- back. What is left is drawn - used - back.
 use Rattle.std.specs.Prelude.{◌≡◌, ℕ, ◌+◌, ◌-◌}
 use Rattle.atomic_table.specs.Seated.{TableId}
 use Rattle.quanta_till.specs.Till.{TillValue}
 
--- the id is that of the till's table
+-- a lease: its till's table, its tenant, and its quanta
 pub record LeaseValue : Type 0 where
   pub id : TableId
   pub tenant : ℕ
@@ -12,25 +13,26 @@ pub record LeaseValue : Type 0 where
   pub back : ℕ
   pub left : ℕ
 
--- nothing was drawn, used or handed back with it
+-- a new lease: nothing was drawn, used or handed back
 abbrev pub empty_lease : TillValue → ℕ → LeaseValue
 empty_lease t tenant = record { id = t.id; tenant = tenant; drawn = 0; used = 0; back = 0; left = 0 }
 
--- nothing was drawn, used or handed back with it yet
+-- nothing was drawn, used or handed back yet
 pub record IsEmpty (l : LeaseValue) : Type 0 where
   pub drawn : l.drawn ≡ 0
   pub used : l.used ≡ 0
   pub back : l.back ≡ 0
   pub left : l.left ≡ 0
 
+-- n quanta were drawn from the till
 abbrev pub after_draw : LeaseValue → ℕ → LeaseValue
 after_draw l n = record l { drawn = l.drawn + n; left = l.left + n }
 
--- of a lease that has n left
+-- n quanta were used, of a lease that has n left
 abbrev pub after_use : LeaseValue → ℕ → LeaseValue
 after_use l n = record l { used = l.used + n; left = l.left - n }
 
--- the rest is handed back
+-- the rest was handed back
 abbrev pub after_settle : LeaseValue → LeaseValue
 after_settle l = record l { back = l.back + l.left; left = 0 }
 

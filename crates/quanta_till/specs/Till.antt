@@ -1,5 +1,6 @@
--- What a till's words keep, by double entry (L. Pacioli, Summa de arithmetica, 1494): what is drawn from the pool is used, is handed back, or is still held by the lease that drew it.
--- So POOL and all that was drawn are GRANTED and all that was handed back, and SPENT is all that was used, modulo 2^64. The sums go over all seats, those that have ended too.
+-- What a till's words keep, by double entry (Pacioli 1494): what is drawn from the pool is used,
+-- handed back, or held by its lease. Modulo 2^64, POOL and all drawn quanta are GRANTED and all
+-- handed back; SPENT is all that was used. The sums go over all seats, also over ended ones.
 use Rattle.std.specs.Prelude.{◌≡◌, ℕ, ◌+◌, ◌≤◌, ◌%◌, ◌^◌, sum_by, length, slice_index}
 use mathlib.Core.Option.{some}
 use lib.ListN.{get_elem?}
@@ -8,10 +9,11 @@ use Rattle.atomic_table.specs.Seated.{TableId}
 use Rattle.quanta_till.specs.declared.rule.SeatView.{SeatView}
 use Rattle.quanta_till.specs.declared.rule.TheConstants.{WORDS, POOL, SPENT, GRANTED}
 
--- what a seat used and handed back is at most what it drew, and the grant that it knows is the till's
+-- a seat used and handed back at most what it drew, and it knows the till's grant
 abbrev pub IsCovered : ℕ → SeatView → Type 0
 IsCovered granted v = (v.used + v.back ≤ v.drawn) × (v.granted ≡ granted)
 
+-- the words and the seats of a till balance
 pub record IsBalanced (granted : ℕ) (s : State (Unit {0}) SeatView) : Type 0 where
   pub words : length s.words ≡ WORDS
   pub pool : (slice_index s.words POOL + sum_by (λ (v : SeatView). v.drawn) s.views) % 2 ^ 64 ≡ (granted + sum_by (λ (v : SeatView). v.back) s.views) % 2 ^ 64
@@ -29,25 +31,27 @@ new_view granted = record { drawn = 0; used = 0; back = 0; granted = granted; se
 abbrev pub view_after_split : SeatView → SeatView
 view_after_split v = record v { seats = v.seats + 1 }
 
--- n are drawn from POOL
+-- n quanta are drawn from POOL
 abbrev pub view_after_draw : SeatView → ℕ → SeatView
 view_after_draw v n = record v { drawn = v.drawn + n }
 
--- n are used: SPENT gains them
+-- n quanta are used: SPENT gains them
 abbrev pub view_after_use : SeatView → ℕ → SeatView
 view_after_use v n = record v { used = v.used + n }
 
--- n go back to POOL
+-- n quanta go back to POOL
 abbrev pub view_after_hand_back : SeatView → ℕ → SeatView
 view_after_hand_back v n = record v { back = v.back + n }
 
--- a word is loaded, and found to be n
+-- POOL is loaded, and is n
 abbrev pub view_after_pool_load : SeatView → ℕ → SeatView
 view_after_pool_load v n = record v { loads = v.loads + 1; pool = n }
 
+-- SPENT is loaded, and is n
 abbrev pub view_after_spent_load : SeatView → ℕ → SeatView
 view_after_spent_load v n = record v { loads = v.loads + 1; spent = n }
 
+-- GRANTED is loaded; it never changes
 abbrev pub view_after_granted_load : SeatView → SeatView
 view_after_granted_load v = record v { loads = v.loads + 1 }
 

@@ -4,7 +4,6 @@ ghost use Rattle.quanta_till.specs.declared.rule.TheConstants.{WORDS};
 
 use crate::rule::TillTable;
 
-/// The words of a till, and of which purse they are.
 #[derive(Drop)]
 pub(crate) struct SharedTill {
     pub(crate) table: TillTable,

@@ -1,4 +1,4 @@
-//! What a lease holds: a seat with what was drawn there. It cannot be let go, so it ends only where it holds nothing.
+//! What a lease holds. It cannot be let go, so it ends only if it holds nothing.
 ghost use Rattle.std.specs.Prelude.{◌≡◌, ◌+◌, ◌-◌, ◌<◌, ◌≤◌};
 ghost use Rattle.quanta_till.specs.declared.rule.TheConstants.{WORDS};
 ghost use Rattle.quanta_till.specs.Till.{new_view};
@@ -10,7 +10,6 @@ use std::marker::Model;
 /// The most quanta that a lease may hold at a time.
 pub const LEASE_LIMIT: u64 = 1_000_000_000_000;
 
-/// Quanta that were drawn from a till, and neither used nor handed back. It is not `Drop`: it ends by `end`.
 pub(crate) struct Holding {
     seat: Seat<(), SeatView>,
     left: u64,
@@ -31,7 +30,7 @@ impl Model for Holding {
       left = h.left;
     } };
 
-    // What was drawn was used, was handed back or is left. No seat is made from that of a holding.
+    // What was drawn was used, was handed back or is left. No seat is made from a holding's seat.
     ghost invariant = { λ h.
         ((h.seat.me.0.used + h.seat.me.0.back) + h.left ≡ h.seat.me.0.drawn)
         × (h.left ≤ LEASE_LIMIT)
@@ -39,7 +38,6 @@ impl Model for Holding {
 }
 
 impl Holding {
-    /// An empty holding, of a seat that has done nothing yet.
     pub(crate) fn new(seat: Seat<(), SeatView>) -> Holding
         requires { seat.me.0 ≡ new_view seat.me.0.granted }
         ensures { result ≡ record { id = seat.table_id; drawn = 0; used = 0; back = 0; left = 0 } }
@@ -47,7 +45,6 @@ impl Holding {
         Holding { seat, left: 0 }
     }
 
-    /// How many quanta are left.
     pub(crate) fn left(&self) -> u64
         ensures left { result ≡ self.now.left }
         ensures counted { (self.now.used + self.now.back) + result ≡ self.now.drawn }
@@ -56,7 +53,6 @@ impl Holding {
         self.left
     }
 
-    /// Draws `n` quanta from POOL.
     pub(crate) fn draw(&mut self, words: &TillTable, n: u64)
         requires till { self.old.id ≡ words.now.shared.table_id }
         requires words { words.now.shared.table_id.words ≡ WORDS }
@@ -67,7 +63,6 @@ impl Holding {
         self.left += n;
     }
 
-    /// Uses `n` of those that are left: SPENT gains them.
     pub(crate) fn use_up(&mut self, words: &TillTable, n: u64)
         requires till { self.old.id ≡ words.now.shared.table_id }
         requires words { words.now.shared.table_id.words ≡ WORDS }
@@ -78,7 +73,6 @@ impl Holding {
         self.left -= n;
     }
 
-    /// Hands back to POOL what is left.
     pub(crate) fn settle(&mut self, words: &TillTable)
         requires till { self.old.id ≡ words.now.shared.table_id }
         requires words { words.now.shared.table_id.words ≡ WORDS }
@@ -91,7 +85,6 @@ impl Holding {
         self.left = 0;
     }
 
-    /// The end of a holding, at its own till: what was drawn was used or handed back. Its seat tells how much.
     pub(crate) fn end(self, words: &TillTable) -> Seat<(), SeatView>
         requires till { self.id ≡ words.now.shared.table_id }
         requires empty { self.left ≡ 0 }

@@ -1,4 +1,3 @@
-//! A lease that its holder has to end: the seat of a till with what was drawn there.
 ghost use Rattle.std.specs.Prelude.{◌≡◌, ◌+◌, ◌<◌, ◌≤◌};
 ghost use Rattle.std.specs.Arc.{arc_value};
 ghost use Rattle.quanta_till.specs.Lease.{after_draw, after_use, after_settle};
@@ -12,17 +11,17 @@ use std::alloc::Global;
 use std::marker::Model;
 use std::sync::Arc;
 
-/// A lease that cannot be let go. It is not `Drop`: it ends by `end`, which hands back what is left of it to its till. A type
-/// that owns one is dropped only by a drop of its own that ends it. It shares the till, so what owns it borrows nothing, and
-/// may move to another thread. Its calls take no memory and no lock, and cannot fail.
+/// An `Owned` is a lease that cannot be let go: it ends by `end`. A type that owns one needs a drop
+/// of its own that ends it. It shares the till: so its owner borrows nothing, and may move to
+/// another thread. Its calls are those of [`Lease`](crate::Lease); they take no memory and no lock.
 pub struct Owned {
     account: Arc<SharedTill, Global>,
     tenant: u32,
     holding: Holding,
 }
 
-/// A lease that has ended: contracts see by it what was drawn, used and handed back in all. Nothing is left, and it makes no
-/// step any more.
+/// An `Ended` is a lease that has ended, by which contracts see what was drawn, used and handed
+/// back.
 #[derive(Drop)]
 pub struct Ended {
     tenant: u32,
@@ -83,21 +82,19 @@ impl Owned {
         }
     }
 
-    /// The lease, which from now on has to be ended.
+    /// The lease, which has to be ended from now on.
     pub fn of(lease: Lease) -> Owned
         ensures { result ≡ lease }
     {
         lease.into_owned()
     }
 
-    /// For which tenant of its purse they are drawn.
     pub fn tenant(&self) -> u32
         ensures { result ≡ self.now.tenant }
     {
         self.tenant
     }
 
-    /// How many quanta were drawn, and neither used nor handed back.
     pub fn left(&self) -> u64
         ensures left { result ≡ self.now.left }
         ensures counted { (self.now.used + self.now.back) + result ≡ self.now.drawn }
@@ -106,7 +103,6 @@ impl Owned {
         self.holding.left()
     }
 
-    /// Draws `n` quanta: POOL loses them, modulo 2^64. A lease holds at most `LEASE_LIMIT`.
     pub fn draw(&mut self, n: u64)
         requires { self.old.left + n ≤ LEASE_LIMIT }
         ensures { self.new ≡ after_draw self.old n }
@@ -114,7 +110,6 @@ impl Owned {
         self.holding.draw(&self.account.table, n);
     }
 
-    /// Uses one quantum of those that are left: SPENT gains it, modulo 2^64.
     pub fn use_one(&mut self)
         requires { 0 < self.old.left }
         ensures { self.new ≡ after_use self.old 1 }
@@ -122,7 +117,6 @@ impl Owned {
         self.holding.use_up(&self.account.table, 1);
     }
 
-    /// Uses `n` quanta of those that are left, in one step: SPENT gains them, modulo 2^64.
     pub fn use_up(&mut self, n: u64)
         requires { n ≤ self.old.left }
         ensures { self.new ≡ after_use self.old n }
@@ -130,14 +124,13 @@ impl Owned {
         self.holding.use_up(&self.account.table, n);
     }
 
-    /// Hands back what is left to POOL, and holds nothing. The lease may draw again.
     pub fn settle(&mut self)
         ensures { self.new ≡ after_settle self.old }
     {
         self.holding.settle(&self.account.table);
     }
 
-    /// Ends the lease: hands back what is left, and uses nothing more.
+    /// Hands back what is left, and ends the lease.
     pub fn end(self) -> Ended
         ensures { result ≡ after_settle self }
     {

@@ -1,4 +1,3 @@
-//! A till, and the desks at which threads read it and make leases.
 ghost use Rattle.std.specs.Prelude.{◌≡◌, IfOk, OnOk, OnErr};
 ghost use Rattle.quanta_till.specs.Desk.{new_desk, after_seat, after_words};
 ghost use Rattle.quanta_till.specs.Lease.{empty_lease};
@@ -15,8 +14,7 @@ use std::alloc::{AllocError, Global};
 use std::marker::Model;
 use std::sync::Arc;
 
-/// The prepaid quanta of one purse, in three atomic words: POOL, what nobody has drawn; SPENT, what was used; and
-/// GRANTED, what it was opened with.
+/// A `Till` is the prepaid quanta of a purse in three words: POOL, not drawn; SPENT; and GRANTED.
 #[derive(Drop)]
 pub struct Till {
     account: Arc<SharedTill, Global>,
@@ -35,8 +33,8 @@ impl Model for Till {
     } };
 }
 
-/// One thread's seat at a till. A seat has no bytes, and slices of such values are not supported, so a desk has its
-/// purse's number too.
+/// A `Desk` is one thread's seat at a till. It has its purse's number too: a seat has no bytes, and
+/// slices of such values are not supported.
 #[derive(Drop)]
 pub struct Desk {
     purse: u32,
@@ -65,20 +63,16 @@ impl Model for Desk {
         (d.seat.me.0.drawn ≡ 0) × (d.seat.me.0.used ≡ 0) × (d.seat.me.0.back ≡ 0) };
 }
 
-/// The words of a till, each as it was when a desk loaded it, in quanta, modulo 2^64.
+/// A `TillWords` is a till's words as a desk loaded them, in quanta, modulo 2^64.
 #[derive(Clone, Copy, Debug, PartialEq, Eq)]
 pub struct TillWords {
-    /// What nobody has drawn.
     pub pool: u64,
-    /// What was used.
     pub spent: u64,
-    /// What the till was opened with.
     pub granted: u64,
 }
 
 impl Till {
-    /// Opens a till with all of `granted` in its pool, nothing spent and no lease, and its first desk. It fails only
-    /// for want of memory.
+    /// Opens a till with `granted` quanta, and its first desk. Fails only for want of memory.
     pub fn new(alloc: Global, purse: u32, granted: u64) -> Result<(Till, Desk), AllocError>
         ensures till { IfOk result (λ made. (made.0.purse ≡ purse) × (made.0.granted ≡ granted)) }
         ensures desk { IfOk result (λ made. made.1 ≡ new_desk made.0.id 0 purse granted) }
@@ -91,7 +85,7 @@ impl Till {
         Ok((Till { account }, Desk { purse, seat }))
     }
 
-    /// Makes one more desk, for another thread. It takes no memory.
+    /// Makes a desk for another thread. Takes no memory.
     pub fn desk(&self, desk: &mut Desk) -> Desk
         requires { desk.old.id ≡ self.now.id }
         ensures desk { desk.new ≡ after_seat desk.old }
@@ -108,8 +102,7 @@ impl Till {
         }
     }
 
-    /// Makes an empty lease for a tenant of the purse. It fails only where so many share the till that their count is full, and
-    /// then changes nothing.
+    /// Makes an empty lease for `tenant`. Fails only if the count of the till's sharers is full.
     pub fn lease(&self, desk: &mut Desk, tenant: u32) -> Result<Lease, AllocError>
         requires { desk.old.id ≡ self.now.id }
         ensures empty { IfOk result (λ lease. lease ≡ empty_lease self.now tenant) }
@@ -121,7 +114,7 @@ impl Till {
         Ok(Lease::new(Owned::new(account, tenant, Holding::new(seat))))
     }
 
-    /// Loads the three words, one after the other: other threads may step in between. It takes no memory.
+    /// Loads the words one after the other: other threads may step in between. Takes no memory.
     pub fn words(&self, desk: &mut Desk) -> TillWords
         requires { desk.old.id ≡ self.now.id }
         ensures loaded { desk.new ≡ after_words desk.old result.pool result.spent }

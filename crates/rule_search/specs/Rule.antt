@@ -13,7 +13,7 @@ IsRule RuleMts = ⊤
 IsRule RuleSpt = ⊤
 IsRule (Sample seed) = ⊥
 
--- the rule puts activity x no later than activity y
+-- whether the rule puts activity x no later than activity y
 abbrev pub is_ahead : ProjectData → Kind → ℕ → ℕ → Bool
 is_ahead p Tree x y = false
 is_ahead p RuleLft x y = nat_le (lft p x) (lft p y)

@@ -12,8 +12,8 @@ use Rattle.rule_search.specs.declared.search.RulePass.{RulePass}
 -- a search that has run no node, with its lease
 pub use Rattle.paid_search.specs.Paid.{fresh}
 
--- the pass stands after the first k nodes of the plan's one pass, one for each activity at most: there is memory for its
--- schedule until it is whole, and the best schedule is the one after them
+-- the pass is after the first k nodes of the plan's one pass. There is memory for its schedule
+-- until it is whole, and the best schedule is the one after k nodes
 pub record StandsAt (r : RulePass) (plan : Plan) (k : ℕ) : Type 0 where
   pub rule : IsRule plan.kind
   pub kind : r.kind ≡ plan.kind

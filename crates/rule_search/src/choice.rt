@@ -1,4 +1,3 @@
-//! Which candidate a rule chooses.
 ghost use Rattle.std.specs.Prelude.{◌≡◌, ℕ, ◌<◌, All, IfSome, length, nat_le};
 ghost use Rattle.mrcpsp.specs.Project.{ProjectData, size, mode_count, duration};
 ghost use Rattle.measures.specs.Measures.{measures_of};
@@ -11,7 +10,6 @@ use mrcpsp::Project;
 use serial_pass::{Candidate, Pass};
 use strategy::Kind;
 
-/// Whether the rule puts an activity no later than another one.
 fn is_ahead(measures: &Measures, kind: Kind, one: usize, other: usize) -> bool
     requires one { one < length measures.now }
     requires other { other < length measures.now }
@@ -25,7 +23,7 @@ fn is_ahead(measures: &Measures, kind: Kind, one: usize, other: usize) -> bool
     }
 }
 
-/// The eligible activity that the rule puts first, the smallest number of several; none where none is eligible.
+/// Ties go to the smaller number.
 fn first_activity(pass: &Pass, measures: &Measures, kind: Kind) -> Option<usize>
     requires rule { IsRule kind }
     requires measured { measures.now ≡ measures_of pass.now.project }
@@ -43,7 +41,6 @@ fn first_activity(pass: &Pass, measures: &Measures, kind: Kind) -> Option<usize>
     Some(first)
 }
 
-/// Whether an activity takes no longer in one mode than in another one.
 fn is_as_short(project: &Project, activity: usize, one: usize, other: usize) -> bool
     requires activity { activity < size project.now }
     requires one { one < mode_count project.now activity }
@@ -53,7 +50,7 @@ fn is_as_short(project: &Project, activity: usize, one: usize, other: usize) -> 
     project.duration(activity, one) <= project.duration(activity, other)
 }
 
-/// The mode of shortest duration, the smallest number of several; none where there is none.
+/// Ties go to the smaller number.
 fn first_mode(project: &Project, activity: usize, modes: &[usize]) -> Option<usize>
     requires activity { activity < size project.now }
     requires modes { All (λ m. m < mode_count project.now activity) modes.now }
@@ -69,7 +66,7 @@ fn first_mode(project: &Project, activity: usize, modes: &[usize]) -> Option<usi
     Some(first)
 }
 
-/// The candidate that a node places, none where the activity that the rule puts first has no allowed mode.
+/// Returns `None` if the activity that the rule puts first has no allowed mode.
 fn choose(pass: &Pass, measures: &Measures, kind: Kind) -> Option<Candidate>
     requires rule { IsRule kind }
     requires measured { measures.now ≡ measures_of pass.now.project }
@@ -81,7 +78,6 @@ fn choose(pass: &Pass, measures: &Measures, kind: Kind) -> Option<Candidate>
     Some(Candidate { activity, mode })
 }
 
-/// Runs one node of the pass.
 pub(crate) fn run_node(pass: &mut Pass, measures: &Measures, kind: Kind)
     requires rule { IsRule kind }
     requires measured { measures.now ≡ measures_of pass.old.project }

@@ -1,11 +1,8 @@
-//! Searches of one pass by a priority rule (Kolisch 1996): the eligible activity of smallest latest finish time, of most
-//! total successors or of smallest shortest duration comes next, in its shortest allowed mode, ties to the smaller
-//! number.
+//! Searches of one pass by a priority rule (Kolisch 1996), as a [`strategy::Strategy`].
 //!
-//! [`RuleSearch`] is a [`strategy::Strategy`]: after so many nodes it shows exactly what the definitions of `strategy` say
-//! of its kind of search. It has as many nodes as there are activities, each paid with a quantum of its lease, and is
-//! then over: with a schedule, or without one where the pass is void. [`RuleSearch::new`] takes all its memory, or hands
-//! the lease back. What is paid and shown is `paid_search`'s part.
+//! The eligible activity that the rule puts first is placed in its shortest allowed mode, ties to
+//! the smaller number. A search has a node for each activity. It ends without a schedule if the
+//! pass is void. Payment is `paid_search`'s part.
 //!
 //! - `choice`: which candidate a rule chooses, and a node that runs it.
 //! - `search`: the search, and the pass as what runs its nodes.

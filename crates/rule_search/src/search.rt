@@ -1,4 +1,3 @@
-//! One pass by a rule, node by node.
 ghost use Rattle.std.specs.Prelude.{◌≡◌, IfOk, IsSomeAnd, nat_le, option_map};
 ghost use Rattle.mrcpsp.specs.Project.{size};
 ghost use Rattle.mrcpsp.specs.Placed.{schedule_of};
@@ -14,11 +13,11 @@ use serial_pass::Pass;
 use std::alloc::{AllocError, Global};
 use strategy::{Kind, Plan};
 
-/// A search of one pass by a priority rule: the smallest latest finish time, the most total successors or the smallest
-/// shortest duration. It is over after as many nodes as there are activities, with or without a schedule.
+/// A `RuleSearch` is a search of one pass by latest finish time, total successors or shortest
+/// duration. It is over after a node for each activity.
 pub type RuleSearch = Paid<RulePass>;
 
-/// The pass of a rule, and its schedule once it is whole.
+/// A `RulePass` is the pass of a rule, and its schedule once it is whole.
 #[derive(Drop)]
 pub struct RulePass {
     kind: Kind,
@@ -59,14 +58,13 @@ impl Workspace {
     }
 }
 
-/// Whether so many nodes are the whole pass of so many activities.
 fn is_whole(size: usize, nodes: usize) -> bool
     ensures { result ≡ nat_le size nodes }
 {
     size <= nodes
 }
 
-/// Makes the schedule of a whole pass the best one, in the memory that was kept for it; none where the pass is void.
+/// Writes into `room`; `None` if the pass is void.
 fn write_best(best: &mut Option<Schedule>, pass: &Pass, room: Option<Schedule>)
     requires { IsSomeAnd room (HasRoom (size pass.now.project)) }
     ensures { best.new ≡ option_map (schedule_of (size pass.now.project)) pass.now.placed }

@@ -9,7 +9,7 @@ use Rattle.strategy.specs.Candidate.{Candidate, eligible_ones, allowed_modes}
 use Rattle.strategy.specs.Pass.{drawn_activity, drawn_mode}
 use Rattle.serial_pass.specs.Pass.{grown}
 
--- these are the measures of the project, which is within the limits
+-- the measures are the project's, which is within the limits
 pub record AreMeasures (p : ProjectData) (values : List ValuesData) : Type 0 where
   pub of : values ≡ measures_of p
   pub kept : IsProject p
@@ -25,6 +25,6 @@ drawn_candidate p first second placed =
     option_and_then (λ j. option_map (λ m. record { activity = j; mode = m }) (drawn_mode second (allowed_modes p placed j)))
     (drawn_activity p first (eligible_ones p placed))
 
--- what is placed after a node with these words, none where they draw none or the pass is void
+-- what is placed after a node with these words; none if they draw none or the pass is void
 abbrev pub after_words : ProjectData → ℕ → ℕ → Option (List Placed) → Option (List Placed)
 after_words p first second placed = option_and_then (λ now. option_map (λ c. grown p c now) (drawn_candidate p first second now)) placed

@@ -12,7 +12,7 @@ use Rattle.sample_search.specs.declared.search.SamplePasses.{SamplePasses}
 -- a search that has run no node, with its lease
 pub use Rattle.paid_search.specs.Paid.{fresh}
 
--- passes are drawn from a seed
+-- the kind whose passes are drawn from a seed
 abbrev pub IsSample : Kind → Type 0
 IsSample Tree = ⊥
 IsSample RuleLft = ⊥
@@ -20,8 +20,8 @@ IsSample RuleMts = ⊥
 IsSample RuleSpt = ⊥
 IsSample (Sample seed) = Unit {0}
 
--- the passes stand after the first k nodes of the plan's search, two words drawn for each: the present pass where these nodes
--- leave it, nothing placed where they are whole passes, and the best is that of all whole passes
+-- the passes are after the first k nodes of the plan's search, with two words drawn for each. The
+-- current pass is what these nodes leave of it, and the best is that of all whole passes
 pub record StandsAt (s : SamplePasses) (plan : Plan) (k : ℕ) : Type 0 where
   pub kind : plan.kind ≡ Sample s.words.seed
   pub count : s.nodes ≡ k

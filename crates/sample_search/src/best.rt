@@ -1,4 +1,3 @@
-//! The best schedule of a search, in memory that is taken once.
 ghost use Rattle.std.specs.Prelude.{◌≡◌, false, length, IfSome, IsSome, IsTrue, Some, option_map};
 ghost use Rattle.std.specs.Option.{option_copied};
 ghost use Rattle.mrcpsp.specs.Project.{ProjectData, size};
@@ -12,19 +11,17 @@ use mrcpsp::Schedule;
 use serial_pass::Pass;
 use std::mem;
 
-/// The best schedule of the passes that have ended.
 #[derive(Drop)]
 pub(crate) enum BestPass {
     /// No pass has been a schedule yet. This one is only memory.
     Unknown(Schedule),
     /// The shortest schedule, and its makespan.
     Known(Schedule, u32),
-    /// It was handed out.
+    /// The schedule was handed out.
     Taken,
 }
 
 impl BestPass {
-    /// The schedule, until it is handed out.
     pub(crate) fn schedule(&self) -> Option<&Schedule>
         ensures { option_copied result ≡ best_in self.now }
     {
@@ -34,7 +31,6 @@ impl BestPass {
         }
     }
 
-    /// The makespan of the schedule, until that is handed out.
     pub(crate) fn makespan(&self) -> Option<u32>
         ensures { (p : ProjectData) → IsKept p self.now → result ≡ option_map (greatest_finish p) (best_in self.now) }
     {
@@ -44,7 +40,6 @@ impl BestPass {
         }
     }
 
-    /// Hands out the schedule.
     pub(crate) fn take(&mut self) -> Option<Schedule>
         ensures best { result ≡ best_in self.old }
         ensures taken { self.new ≡ BestPass.Taken }
@@ -56,7 +51,7 @@ impl BestPass {
     }
 }
 
-/// The schedule of a pass that is not void, in the memory of another one.
+/// Writes the schedule of a pass that is not void into the memory of `room`.
 fn rewritten(room: Schedule, pass: &Pass) -> Schedule
     requires room { HasRoom (size pass.now.project) room }
     requires some { IsSome pass.now.placed }
@@ -69,8 +64,7 @@ fn rewritten(room: Schedule, pass: &Pass) -> Schedule
     }
 }
 
-/// The best schedule after a pass that has ended: the pass's where that is shorter than the best one so far, or there is
-/// none. Takes no memory.
+/// The pass's schedule if it is shorter than the best one, or there is none yet. Takes no memory.
 pub(crate) fn better(best: BestPass, pass: &Pass) -> BestPass
     requires kept { IsKept pass.now.project best }
     requires whole { IfSome pass.now.placed (λ placed. length placed ≡ size pass.now.project) }

@@ -1,4 +1,4 @@
-//! What the words of a seed draw: one of the eligible activities, and one of its allowed modes.
+//! What a word of a seed draws: an eligible activity, and one of its allowed modes.
 ghost use Rattle.std.specs.Prelude.{◌≡◌, ◌+◌, ◌-◌, ◌<◌, ◌≤◌, IfSome, length, map, sum_by};
 ghost use Rattle.mrcpsp.specs.Numbers.{largest};
 ghost use Rattle.mrcpsp.specs.Project.{ProjectData, size};
@@ -9,7 +9,6 @@ ghost use Rattle.sample_search.specs.Draw.{AreMeasures, AreActivities};
 use measures::Measures;
 use mrcpsp::MOST_HORIZON;
 
-/// The latest finish time of an activity.
 fn latest_finish(measures: &Measures, activity: usize) -> u32
     ghost project: { ProjectData }
     requires measures { AreMeasures project measures.now }
@@ -20,16 +19,12 @@ fn latest_finish(measures: &Measures, activity: usize) -> u32
     measures.lft(activity)
 }
 
-/// Latest finish times of some activities.
 #[derive(Clone, Copy)]
 struct Finishes {
-    /// The greatest of them.
     greatest: u32,
-    /// The sum of them all.
     sum: u32,
 }
 
-/// The latest finish times of these activities.
 #[tactic(auto, using(crate::proofs::DrawLemmas::largest_more, crate::proofs::DrawLemmas::sum_more))]
 fn finishes_of(measures: &Measures, activities: &[usize]) -> Finishes
     ghost project: { ProjectData }
@@ -49,7 +44,7 @@ fn finishes_of(measures: &Measures, activities: &[usize]) -> Finishes
     Finishes { greatest, sum }
 }
 
-/// How much sooner than this period an activity has to finish, and one more.
+/// The weight of regret-based biased random sampling (Drexl 1991), with exponent 1.
 fn weight(measures: &Measures, greatest: u32, activity: usize) -> u32
     ghost project: { ProjectData }
     requires measures { AreMeasures project measures.now }
@@ -62,7 +57,7 @@ fn weight(measures: &Measures, greatest: u32, activity: usize) -> u32
     greatest - latest_finish(measures, activity) + 1
 }
 
-/// The sum of the weights of these activities, whose latest finish times are given.
+/// The sum of the weights, from the sum and the greatest of the latest finish times.
 fn total(activities: &[usize], finishes: Finishes) -> u32
     ghost project: { ProjectData }
     requires activities { AreActivities project activities.now }
@@ -76,8 +71,7 @@ fn total(activities: &[usize], finishes: Finishes) -> u32
     count * (finishes.greatest + 1) - finishes.sum
 }
 
-/// The activity that a word draws from these, none where there are none: the first at which the running sum of their
-/// weights exceeds the word modulo the sum of them all.
+/// The first activity at which the running sum of the weights exceeds `word` modulo their sum.
 pub(crate) fn draw_activity(measures: &Measures, activities: &[usize], word: u32) -> Option<usize>
     ghost project: { ProjectData }
     requires measures { AreMeasures project measures.now }
@@ -100,7 +94,7 @@ pub(crate) fn draw_activity(measures: &Measures, activities: &[usize], word: u32
     None
 }
 
-/// The mode that a word draws from these, none where there are none: the one whose place is the word modulo their number.
+/// The mode whose place is `word` modulo the number of modes.
 pub(crate) fn draw_mode(modes: &[usize], word: u32) -> Option<usize>
     ensures { result ≡ drawn_mode word modes.now }
 {

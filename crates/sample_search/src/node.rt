@@ -1,4 +1,3 @@
-//! A node of a pass that is drawn from words.
 ghost use Rattle.std.specs.Prelude.{◌≡◌, ◌+◌, ◌<◌, ◌^◌, option_and_then};
 ghost use Rattle.mrcpsp.specs.Project.{ProjectData};
 ghost use Rattle.strategy.specs.Words.{word_at};
@@ -9,8 +8,8 @@ use crate::words::RandomWords;
 use measures::Measures;
 use serial_pass::{Candidate, Pass};
 
-/// The candidate that two words draw: an activity by the first, and one of its allowed modes by the second. None where the
-/// activity has none, or the pass is void.
+/// `first` draws an activity, `second` one of its allowed modes. `None` if it has none, or the pass
+/// is void.
 fn draw_candidate(pass: &Pass, measures: &Measures, first: u32, second: u32) -> Option<Candidate>
     ghost project: { ProjectData }
     requires project { pass.now.project ≡ project }
@@ -23,7 +22,6 @@ fn draw_candidate(pass: &Pass, measures: &Measures, first: u32, second: u32) -> 
     Some(Candidate { activity, mode })
 }
 
-/// Runs one node of a pass with two words: it places what they draw, and gives up where that is nothing.
 fn run_drawn(pass: &mut Pass, measures: &Measures, first: u32, second: u32)
     ghost project: { ProjectData }
     requires project { pass.old.project ≡ project }
@@ -34,7 +32,7 @@ fn run_drawn(pass: &mut Pass, measures: &Measures, first: u32, second: u32)
     pass.run(chosen);
 }
 
-/// Runs one node of a pass with the next two words. A void pass draws its words too. Takes no memory.
+/// A void pass draws its words too. Takes no memory.
 pub(crate) fn run_node(pass: &mut Pass, measures: &Measures, words: &mut RandomWords)
     ghost project: { ProjectData }
     requires project { pass.old.project ≡ project }

@@ -1,4 +1,3 @@
-//! Passes drawn from the words of a seed, one node at a time and without end.
 ghost use Rattle.std.specs.Prelude.{◌≡◌, ◌↔◌, ◌%◌, ◌<◌, false, length, IsTrue, IfOk, IfSome, option_map};
 ghost use Rattle.mrcpsp.specs.Project.{size};
 ghost use Rattle.mrcpsp.specs.Placed.{schedule_of};
@@ -20,12 +19,11 @@ use std::alloc::{AllocError, Global};
 use std::mem;
 use strategy::{Kind, Plan};
 
-/// A search whose passes are drawn from the words of a seed. Node `i`, counted through all passes, draws the words `2i` and
-/// `2i + 1`. A pass has as many nodes as the project has activities. The best schedule is the shortest of the whole passes,
-/// the earliest of these. The search ends only with a schedule as short as the project's bound.
+/// A `SampleSearch` is a search whose passes are drawn from a seed. Node `i`, counted through all
+/// passes, draws the words `2i` and `2i + 1`. A pass has a node for each activity.
 pub type SampleSearch = Paid<SamplePasses>;
 
-/// The passes that are drawn from a seed, and the best schedule of the whole ones.
+/// A `SamplePasses` is the passes of a seed, and the best schedule of the whole ones.
 #[derive(Drop)]
 pub struct SamplePasses {
     measures: Measures,
@@ -43,7 +41,6 @@ struct Tools {
     room: Schedule,
 }
 
-/// What takes the memory of a search, or an error where there is none.
 fn make_tools(alloc: Global, project: &Project) -> Result<Tools, AllocError>
     ensures measures { IfOk result (λ tools. tools.measures ≡ measures_of project.now) }
     ensures pass { IfOk result (λ tools. tools.pass ≡ passes.fresh project.now) }
@@ -59,7 +56,6 @@ fn make_tools(alloc: Global, project: &Project) -> Result<Tools, AllocError>
     })
 }
 
-/// The seed of a kind that has one.
 fn seed(kind: Kind) -> u64
     requires { IsSample kind }
     ensures { kind ≡ Sample result }
@@ -70,7 +66,6 @@ fn seed(kind: Kind) -> u64
     }
 }
 
-/// Whether passes of so many activities are all whole after so many nodes.
 fn are_whole_passes(nodes: u64, activities: usize) -> bool
     requires { 0 < activities }
     ensures { IsTrue result ↔ (nodes % activities ≡ 0) }
@@ -78,7 +73,7 @@ fn are_whole_passes(nodes: u64, activities: usize) -> bool
     nodes % activities as u64 == 0
 }
 
-/// Ends a pass: keeps its schedule where that is the best so far, and begins the next pass.
+/// Keeps the pass's schedule if it is the best so far, and begins the next pass.
 fn end_pass(pass: &mut Pass, best: &mut BestPass)
     requires kept { IsKept pass.old.project best.old }
     requires whole { IfSome pass.old.placed (λ placed. length placed ≡ size pass.old.project) }

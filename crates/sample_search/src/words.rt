@@ -1,4 +1,3 @@
-//! The words of a seed.
 ghost use Rattle.std.specs.Prelude.{◌≡◌, ◌+◌, ◌<◌, ◌^◌};
 ghost use Rattle.strategy.specs.Words.{word_at};
 
@@ -6,10 +5,10 @@ use rand_core::utils::NextWord;
 use rand_pcg::Pcg32;
 use std::marker::Model;
 
-/// The stream of the generator: its increment is twice this and one.
+/// The stream of the generator: its increment is 2 · `STREAM` + 1.
 const STREAM: u64 = 54;
 
-/// The words of a seed, one after another. Contracts see the seed and how many words were drawn.
+/// Contracts see the seed, and the number of words that were drawn.
 #[derive(Drop)]
 pub(crate) struct RandomWords {
     seed: u64,
@@ -29,7 +28,6 @@ impl Model for RandomWords {
 }
 
 impl RandomWords {
-    /// The words of a seed, none of them drawn.
     pub(crate) fn new(seed: u64) -> RandomWords
         ensures { result ≡ record { seed = seed; drawn = 0 } }
     {
@@ -40,7 +38,6 @@ impl RandomWords {
         }
     }
 
-    /// Draws the next word.
     #[tactic(auto, unfolding(strategy::specs::Words::word_at))]
     pub(crate) fn next(&mut self) -> u32
         requires { self.old.drawn + 1 < 2 ^ 64 }

@@ -3,11 +3,11 @@ use Rattle.std.specs.Prelude.{◌≡◌, ℕ, ◌+◌, ◌/◌, ◌%◌, ◌≤�
 use Rattle.std.specs.Int.{bit_at}
 use Rattle.mrcpsp.specs.Numbers.{sum_below}
 
--- activity j is one of these
+-- whether activity j is in the set
 unfoldable pub is_among : List ℕ → ℕ → Bool
 is_among activities j = bit_at (get_or activities (j / 64) 0) (j % 64) == 1
 
--- the sum over these, of the first n activities
+-- the sum over the activities of the set, among the first n
 abbrev pub sum_among : (ℕ → ℕ) → List ℕ → ℕ → ℕ
 sum_among f activities n = sum_below (λ j. cond (is_among activities j) (f j) 0) n
 
@@ -15,7 +15,8 @@ sum_among f activities n = sum_below (λ j. cond (is_among activities j) (f j) 0
 pub record IsPart (part whole : List ℕ) : Type 0 where
   pub each : (j : ℕ) → is_among part j ≡ true → is_among whole j ≡ true
 
--- if those of `whole` take at most c and activity j of them takes this amount, those of `part` take at most e
+-- `part` is in `whole` without activity j: if `whole` takes at most c and j takes `amount`, `part`
+-- takes at most e
 pub record Leaves (whole part : List ℕ) (c e j amount : ℕ) : Type 0 where
   pub nested : IsPart part whole
   pub inside : is_among whole j ≡ true

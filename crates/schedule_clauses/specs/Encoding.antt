@@ -1,4 +1,5 @@
--- The values that a schedule gives the variables, and clauses that each schedule within the limit satisfies.
+-- The values that a schedule gives the variables, and clauses that each schedule within the limit
+-- satisfies.
 use Rattle.std.specs.Prelude.{◌≡◌, ℕ, ◌/◌, ◌%◌, ◌<◌, ◌==◌, Bool, false, List, All, Vec, Option, Some, None, slice_get, slice_index, length}
 use Rattle.std.specs.declared.alloc.Global.{Global}
 use Rattle.mrcpsp.specs.Project.{ProjectData}
@@ -7,7 +8,7 @@ use Rattle.schedule_clauses.specs.Meaning.{IsWithin, holds}
 use Rattle.schedule_clauses.specs.declared.encoding.Encoding.{Encoding}
 use Rattle.schedule_clauses.specs.declared.meaning.Fact.{Fact}
 
--- what a variable says holds; one without a meaning says nothing
+-- whether the fact of a variable holds; without a meaning it does not
 abbrev pub told : ProjectData → ScheduleData → Option Fact → Bool
 told p s None = false
 told p s (Some x) = holds p s x
@@ -22,17 +23,17 @@ pub record IsTold (p : ProjectData) (s : ScheduleData) (meanings : List Fact) (l
   pub stands : slice_get meanings (l / 2) ≡ Some meaning
   pub holds : holds p s meaning ≡ (l % 2 == 0)
 
--- one of the clause's literals is
+-- one of the clause's literals is such a literal
 pub record IsGood (p : ProjectData) (s : ScheduleData) (meanings : List Fact) (clause : List ℕ) : Type 0 where
   pub place : ℕ
   pub inside : place < length clause
   pub told : IsTold p s meanings (slice_index clause place)
 
--- each clause is, for each schedule within the limit
+-- each clause is good, for each schedule within the limit
 pub record AreGood (p : ProjectData) (limit : Option ℕ) (meanings : List Fact) (clauses : List (Vec ℕ Global)) : Type 0 where
   pub each : (s : ScheduleData) → IsWithin p limit s → All (λ c. IsGood p s meanings c.items) clauses
 
--- each clause of an encoding is
+-- each clause of an encoding is good
 abbrev pub AllGood : ProjectData → Option ℕ → Encoding → Type 0
 AllGood p limit encoding = AreGood p limit encoding.formula.meanings.items encoding.formula.clauses.items
 

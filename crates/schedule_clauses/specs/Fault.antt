@@ -14,7 +14,7 @@ use Rattle.schedule_clauses.specs.declared.certificate.CertificateFault.TheVaria
 abbrev pub IsBeyond : ProjectData → ℕ → ℕ → Type 0
 IsBeyond p bound h = (h ≡ horizon p.activities) × (h < bound)
 
--- the bound makes so many clauses on starts, and that is more than are made
+-- the bound makes n clauses on starts, and n is above the limit
 abbrev pub IsTooMany : ProjectData → ℕ → ℕ → Type 0
 IsTooMany p bound n = (n ≡ start_clauses p bound) × (MOST_START_CLAUSES < n)
 
@@ -26,14 +26,14 @@ IsOfClauses p bound (TooMany n) = IsTooMany p bound n
 IsOfClauses p bound (Schedule b) = ⊥
 IsOfClauses p bound (Proof f) = ⊥
 
--- a proof's own fault is never that there is no memory; which of the others it has is not said
+-- a proof's own fault is not want of memory; any other fault may be
 abbrev pub IsOfProof : ProofFault → Type 0
 IsOfProof of_proof.NoMemory = ⊥
 IsOfProof (of_proof.Word line) = ⊤
 IsOfProof (of_proof.Unproved line) = ⊤
 IsOfProof of_proof.Unfinished = ⊤
 
--- or the proof was refused: nothing is said of its bytes
+-- there are no clauses of the bound, or its proof was refused
 abbrev pub IsOfBound : ProjectData → ℕ → CertificateFault → Type 0
 IsOfBound p bound NoMemory = ⊤
 IsOfBound p bound (Horizon h) = IsBeyond p bound h
@@ -41,7 +41,7 @@ IsOfBound p bound (TooMany n) = IsTooMany p bound n
 IsOfBound p bound (Schedule b) = ⊥
 IsOfBound p bound (Proof f) = IsOfProof f
 
--- the same without a bound
+-- without a bound: there is no memory, or the proof was refused
 abbrev pub IsOfStocks : CertificateFault → Type 0
 IsOfStocks NoMemory = ⊤
 IsOfStocks (Horizon h) = ⊥
@@ -49,7 +49,8 @@ IsOfStocks (TooMany n) = ⊥
 IsOfStocks (Schedule b) = ⊥
 IsOfStocks (Proof f) = IsOfProof f
 
--- the schedule breaks this first; or it is feasible, and the proof was refused, or it is too long for the clauses
+-- the schedule breaks this first; or it is feasible, and its proof was refused, or it is too long
+-- for the clauses
 abbrev pub IsOfSchedule : ProjectData → ScheduleData → CertificateFault → Type 0
 IsOfSchedule p s NoMemory = ⊤
 IsOfSchedule p s (Horizon h) = IsFeasible p s × IsBeyond p (makespan p s - 1) h

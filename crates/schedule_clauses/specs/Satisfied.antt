@@ -1,4 +1,4 @@
--- Clauses that schedules satisfy, and what follows where no values make all of them true.
+-- Clauses that schedules satisfy, and what follows if no values make all of them true.
 use Rattle.std.specs.Prelude.{ℕ, ◌<◌, ◌≤◌, Bool, List, Vec}
 use Rattle.std.specs.declared.alloc.Global.{Global}
 use Rattle.mrcpsp.specs.Project.{ProjectData}

@@ -1,4 +1,5 @@
--- How many clauses on starts a bound makes, about: those of rows, of which there may be fewer, are not counted.
+-- About how many clauses on starts a bound makes: clauses of rows, which may be fewer, are not
+-- counted.
 use Rattle.std.specs.Prelude.{ℕ, zero, suc, ◌+◌, ◌-◌, ◌*◌, cond}
 use Rattle.mrcpsp.specs.Numbers.{sum_below, max_below}
 use Rattle.mrcpsp.specs.Project.{ProjectData, size, mode_count, precedes}
@@ -9,7 +10,8 @@ abbrev pub chain_before : ProjectData → ℕ → ℕ → ℕ
 chain_before p zero j = 0
 chain_before p (suc k) j = max_below (λ i. cond (precedes p i j) (chain_before p k i + shortest p i) 0) j
 
--- the longest of all; numbers rise along a chain, so no more than j activities are before activity j
+-- the head: the longest chain before activity j. Numbers rise along a chain, so at most j
+-- activities are before it
 unfoldable pub head : ProjectData → ℕ → ℕ
 head p j = chain_before p j j
 
@@ -17,10 +19,10 @@ head p j = chain_before p j j
 unfoldable pub starts_of : ProjectData → ℕ → ℕ → ℕ
 starts_of p bound j = (bound + 1) - (head p j + shortest p j + tail p j)
 
--- the modes of activity j, and of the activities right before it
+-- the number of modes of the activities right before activity j
 unfoldable pub modes_before : ProjectData → ℕ → ℕ
 modes_before p j = sum_below (λ i. cond (precedes p i j) (mode_count p i) 0) j
 
--- each start of an activity, counted once for each of these modes
+-- each start of an activity, counted once for each of its modes and of the modes right before it
 unfoldable pub start_clauses : ProjectData → ℕ → ℕ
 start_clauses p bound = sum_below (λ j. starts_of p bound j * (mode_count p j + modes_before p j)) (size p)

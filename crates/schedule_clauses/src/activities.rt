@@ -2,10 +2,10 @@
 ghost use Rattle.std.specs.Prelude.{◌≡◌, true};
 ghost use Rattle.schedule_clauses.specs.Activities.{is_among, IsPart};
 
-/// A set of activities, which are named by their places from 0: a bit for each, the lowest of the first word for activity 0.
+/// An `Activities` is a set of activities, by their places from 0: a bit for each, the lowest of
+/// the first word for activity 0.
 pub type Activities = [u64; 4];
 
-/// Whether an activity is one of these.
 #[tactic(auto, unfolding(crate::specs::Activities::is_among))]
 pub(crate) fn is_among(activities: Activities, activity: usize) -> bool
     ensures { result ≡ is_among activities activity }
@@ -16,7 +16,6 @@ pub(crate) fn is_among(activities: Activities, activity: usize) -> bool
     }
 }
 
-/// Whether each activity of `part` is one of `whole`.
 #[tactic(auto, using(crate::proofs::ActivityLemmas::part_rules))]
 pub(crate) fn is_part(part: Activities, whole: Activities) -> bool
     ensures { result ≡ true → IsPart part whole }
@@ -29,7 +28,6 @@ pub(crate) fn is_part(part: Activities, whole: Activities) -> bool
     true
 }
 
-/// Adds one more.
 pub(crate) fn add_one(activities: &mut Activities, activity: usize) {
     let at = activity / 64;
     if at < 4 {
@@ -37,7 +35,6 @@ pub(crate) fn add_one(activities: &mut Activities, activity: usize) {
     }
 }
 
-/// Adds others.
 pub(crate) fn add_all(activities: &mut Activities, others: Activities) {
     for at in 0..4 {
         activities[at] |= others[at];

@@ -1,5 +1,6 @@
-//! Forms of clauses on amounts: what a set of activities uses of a renewable resource in a period, and consumes of a
-//! nonrenewable one. They hold of every feasible schedule; where their numbers do not fit, nothing is added.
+//! Forms of clauses on amounts: what activities use of a renewable resource in a period, and
+//! consume of a nonrenewable one. They hold of every feasible schedule; if their numbers do not
+//! fit, nothing is added.
 ghost use Rattle.std.specs.Prelude.{◌≡◌, ◌<◌, true, IfOk};
 ghost use Rattle.mrcpsp.specs.Project.{size, mode_count, renewables, nonrenewables};
 ghost use Rattle.schedule_clauses.specs.Activities.{Leaves};
@@ -12,14 +13,13 @@ use crate::formula::CapacityRow;
 use crate::meaning::{Share, in_mode, runs_at, stock_within, use_within};
 use std::alloc::AllocError;
 
-/// What is left for activities, and for those among them that stand below: nothing if there are none that fit.
+/// What is left for activities, and for those among them that are below: `None` if that cannot be.
 #[derive(Clone, Copy)]
 pub(crate) struct Descent {
     pub(crate) from: Share,
     pub(crate) to: Option<Share>,
 }
 
-/// Whether an activity that takes `amount` leaves no more than `to` of `from` to those below.
 fn does_leave(from: Share, to: Share, activity: usize, amount: u32) -> bool
     ensures { result ≡ true → Leaves from.activities to.activities from.most to.most activity amount }
 {
@@ -114,7 +114,7 @@ fn use_run(
     }
 }
 
-/// An activity in this mode leaves the less to those below it, or cannot have it.
+/// An activity in this mode leaves the less to those below it, or cannot have the mode.
 #[tactic(auto, using(crate::proofs::FormLemmas::form_rules))]
 fn stock_mode(
     encoding: &mut Encoding,
@@ -145,7 +145,6 @@ fn stock_mode(
     }
 }
 
-/// A demand on a row leaves the less to the activities below it, or cannot be.
 pub(crate) fn take(
     encoding: &mut Encoding,
     scope: Scope<'_>,

@@ -1,4 +1,4 @@
-//! All clauses of a project: within a bound, or of modes and stocks alone, which hold of every feasible schedule.
+//! All clauses of a project within a bound, or those of modes and stocks, which hold without one.
 ghost use Rattle.std.specs.Prelude.{IfOk, Some, None};
 ghost use Rattle.schedule_clauses.specs.Encoding.{AllGood};
 
@@ -11,7 +11,6 @@ use measures::Measures;
 use mrcpsp::Project;
 use std::alloc::{AllocError, Global};
 
-/// Clauses that each feasible schedule of at most this makespan satisfies.
 pub(crate) fn encode(alloc: Global, project: &Project, bound: u32) -> Result<Encoding, AllocError>
     ensures { IfOk result (λ encoding. AllGood project.now (Some bound) encoding) }
 {
@@ -31,7 +30,6 @@ pub(crate) fn encode(alloc: Global, project: &Project, bound: u32) -> Result<Enc
     Ok(encoding)
 }
 
-/// Clauses that each feasible schedule satisfies.
 pub(crate) fn encode_stocks(alloc: Global, project: &Project) -> Result<Encoding, AllocError>
     ensures { IfOk result (λ encoding. AllGood project.now None encoding) }
 {

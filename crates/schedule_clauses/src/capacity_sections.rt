@@ -1,4 +1,4 @@
-//! Clauses on modes and on capacities: all of a kind, section by section. Which numbers go into which clause is a hint alone.
+//! Clauses on modes and capacities, section by section. Which numbers are in a clause is a hint.
 ghost use Rattle.std.specs.Prelude.{◌<◌, IfOk};
 ghost use Rattle.mrcpsp.specs.Project.{size, mode_count, renewables};
 ghost use Rattle.schedule_clauses.specs.Encoding.{AllGood};
@@ -13,7 +13,6 @@ use crate::windows::Windows;
 use mrcpsp::Project;
 use std::alloc::{AllocError, Global};
 
-/// An activity has this mode only if that can be executed.
 fn executable_clauses(
     encoding: &mut Encoding,
     scope: Scope<'_>,
@@ -31,7 +30,6 @@ fn executable_clauses(
     Ok(())
 }
 
-/// An activity has exactly one mode, and one that can be executed.
 fn mode_clauses(
     encoding: &mut Encoding,
     scope: Scope<'_>,
@@ -51,7 +49,6 @@ fn mode_clauses(
     Ok(())
 }
 
-/// Each activity has exactly one mode, and one that can be executed.
 pub(crate) fn mode_section(encoding: &mut Encoding, scope: Scope<'_>) -> Result<(), AllocError>
     requires good { AllGood scope.project.now scope.limit encoding.old }
     ensures { IfOk result (λ _. AllGood scope.entry.project.now scope.entry.limit encoding.new) }
@@ -62,7 +59,6 @@ pub(crate) fn mode_section(encoding: &mut Encoding, scope: Scope<'_>) -> Result<
     encoding.end_section(Kind::Modes)
 }
 
-/// What may use a renewable resource in a period.
 fn use_demands(
     alloc: Global,
     project: &Project,
@@ -92,7 +88,6 @@ fn use_demands(
     Ok(demands)
 }
 
-/// What consumes a nonrenewable resource.
 fn stock_demands(
     alloc: Global,
     project: &Project,
@@ -118,8 +113,7 @@ fn stock_demands(
     Ok(demands)
 }
 
-/// What runs before the bound fits the capacity of a renewable resource: a chain of activities a level. Periods in which the
-/// same modes can run share their diagram.
+/// A chain of activities is a level. Periods in which equal modes can run share their diagram.
 fn use_section(
     encoding: &mut Encoding,
     scope: Scope<'_>,
@@ -148,7 +142,6 @@ fn use_section(
     Ok(())
 }
 
-/// What runs before the bound fits the capacities of the renewable resources.
 pub(crate) fn renewable_section(
     encoding: &mut Encoding,
     scope: Scope<'_>,
@@ -166,7 +159,6 @@ pub(crate) fn renewable_section(
     encoding.end_section(Kind::Renewable)
 }
 
-/// The modes fit the stocks of the nonrenewable resources.
 pub(crate) fn nonrenewable_section(
     encoding: &mut Encoding,
     scope: Scope<'_>,

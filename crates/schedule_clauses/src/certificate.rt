@@ -1,4 +1,4 @@
-//! Certificates: a proof that the clauses of a shorter makespan cannot all be true makes a schedule optimal.
+//! Certificates: a schedule is optimal if the clauses of a shorter makespan cannot all be true.
 ghost use Rattle.std.specs.Prelude.{◌≡◌, ◌≤◌, IfOk, IfErr};
 ghost use Rattle.mrcpsp.specs.Schedule.{IsOptimal, IsInfeasible, makespan};
 ghost use Rattle.schedule_clauses.specs.Fault.{IsOfClauses, IsOfBound, IsOfStocks, IsOfSchedule};
@@ -13,22 +13,19 @@ use mrcpsp::{Breach, Project, Schedule, check};
 use std::alloc::{AllocError, Global};
 use thiserror::Error;
 
-/// Why something is not certified. Each is printed by what is wrong and its own fault, as `no proof Word(17)`.
+/// A `CertificateFault` is why nothing is certified. Its text is as in `no proof Word(17)`.
 #[derive(Clone, Copy, Debug, PartialEq, Eq, Error)]
 pub enum CertificateFault {
-    /// There is no memory for the clauses or for the check of the proof.
     #[error("no memory")]
     NoMemory,
-    /// The bound is above the horizon, the sum of the longest durations, which is this.
+    /// The bound is above this horizon, the sum of the longest durations.
     #[error("no bound Horizon({0})")]
     Horizon(u32),
-    /// The bound makes more clauses on starts than [`MOST_START_CLAUSES`], which is found before any is made: about so many.
+    /// The bound makes about this number of clauses on starts, more than [`MOST_START_CLAUSES`].
     #[error("no bound TooMany({0})")]
     TooMany(u64),
-    /// The schedule is not feasible.
     #[error("no schedule {0}")]
     Schedule(Breach),
-    /// The proof was refused.
     #[error("no proof {0}")]
     Proof(ProofFault),
 }
@@ -44,9 +41,9 @@ impl From<AllocError> for CertificateFault {
     }
 }
 
-/// Clauses that each feasible schedule of at most this makespan satisfies, under values of their variables. An error is a
-/// bound above the horizon, one that makes more than [`MOST_START_CLAUSES`] clauses on starts, or want of memory, for which
-/// more than 999,999,999 variables count too.
+/// Clauses that each feasible schedule of at most `bound` periods satisfies. Fails for a bound
+/// above the horizon, and for one with more than [`MOST_START_CLAUSES`] clauses on starts. More
+/// than 999,999,999 variables count as want of memory.
 #[tactic(auto, using(crate::proofs::EncodingLemmas::short_rules))]
 pub fn clauses(alloc: Global, project: &Project, bound: u32) -> Result<Formula, CertificateFault>
     ensures clauses { IfOk result (λ formula. SatisfiedByShort project.now bound formula.clauses.items) }
@@ -65,7 +62,7 @@ pub fn clauses(alloc: Global, project: &Project, bound: u32) -> Result<Formula, 
     Ok(encoding.formula)
 }
 
-/// Clauses on modes and stocks alone, which each feasible schedule satisfies, whatever its makespan.
+/// Clauses on modes and stocks alone, which each feasible schedule satisfies.
 #[tactic(auto, using(crate::proofs::EncodingLemmas::feasible_rules))]
 pub fn stock_clauses(alloc: Global, project: &Project) -> Result<Formula, CertificateFault>
     ensures clauses { IfOk result (λ formula. SatisfiedByFeasible project.now formula.clauses.items) }
@@ -75,7 +72,7 @@ pub fn stock_clauses(alloc: Global, project: &Project) -> Result<Formula, Certif
     Ok(encoding.formula)
 }
 
-/// Checks a proof that each feasible schedule takes more periods than the bound.
+/// Checks a proof that each feasible schedule takes more than `bound` periods.
 #[tactic(auto, using(crate::proofs::EncodingLemmas::exceed_rules))]
 pub fn certify_bound(
     alloc: Global,
@@ -94,7 +91,7 @@ pub fn certify_bound(
     }
 }
 
-/// Checks a proof that no modes fit the stocks of the nonrenewable resources, so that no schedule is feasible.
+/// Checks a proof that no modes fit the stocks, so that no schedule is feasible.
 #[tactic(auto, using(crate::proofs::EncodingLemmas::infeasible_rules))]
 pub fn certify_infeasible(
     alloc: Global,
@@ -112,8 +109,8 @@ pub fn certify_infeasible(
     }
 }
 
-/// Checks a schedule, and a proof that no schedule is shorter. Answers its makespan, which is the optimum. Where it is 0,
-/// or where heads and tails alone exceed a shorter one, the proof is not read.
+/// Checks a schedule and a proof that none is shorter, and returns the makespan. The proof is not
+/// read if that is 0, or if heads and tails alone exceed a shorter bound.
 #[tactic(auto, using(crate::proofs::EncodingLemmas::optimal_rules))]
 pub fn certify(
     alloc: Global,

@@ -1,4 +1,4 @@
-//! Activities in few chains of precedences, so that at most one of each chain runs in a period. They are hints alone.
+//! Few chains of precedences, so that at most one activity of each runs in a period. Hints alone.
 use crate::activities::{Activities, add_all, add_one, is_among};
 use crate::diagram::Demand;
 use mrcpsp::Project;
@@ -22,7 +22,6 @@ impl Chains {
         Ok(chains)
     }
 
-    /// All that come before an activity, from what comes before those with lower numbers.
     fn before_next(&self, project: &Project, activity: usize) -> Activities {
         let mut before = [0; 4];
         for other in 0..self.before.len() {
@@ -44,7 +43,7 @@ impl Chains {
         }
     }
 
-    /// The chain of an activity: the first whose last activity comes before it, or a new one.
+    /// The first chain whose last activity comes before this one, or a new chain.
     fn place(&self, lasts: &mut Vec<usize>, activity: usize) -> Result<usize, AllocError> {
         for place in 0..lasts.len() {
             if self.does_precede(lasts[place], activity) {
@@ -56,7 +55,7 @@ impl Chains {
         Ok(lasts.len() - 1)
     }
 
-    /// Puts demands that are sorted by activity into levels of one chain each.
+    /// `demands` is sorted by activity. Each level is one chain.
     pub(crate) fn in_levels(
         &self,
         alloc: Global,

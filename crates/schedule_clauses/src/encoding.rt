@@ -10,17 +10,16 @@ use crate::meaning::{Fact, Term};
 use mrcpsp::Project;
 use std::alloc::{AllocError, Global};
 
-/// No variable.
 const NONE: u32 = u32::MAX;
 
-/// The schedules of which clauses are true: the feasible ones of a project, with a limit those of at most this makespan.
+/// The feasible schedules of a project; with a limit, those of at most this makespan.
 #[derive(Clone, Copy)]
 pub(crate) struct Scope<'a> {
     pub(crate) project: &'a Project,
     pub(crate) limit: Option<u32>,
 }
 
-/// The clauses and their variables, and for each hash value the variables that have it.
+/// Clauses and their variables. `heads` and `nexts` chain the variables of each hash value.
 #[derive(Drop)]
 pub(crate) struct Encoding {
     pub(crate) alloc: Global,
@@ -73,7 +72,6 @@ fn hash(meaning: Fact) -> u64 {
     }
 }
 
-/// The variable with this meaning in a chain, if it is there.
 fn find(meanings: &[Fact], nexts: &[u32], first: u32, meaning: Fact) -> Option<u32>
     ensures { IfSome result (λ x. slice_get meanings.now x ≡ Some meaning) }
 {
@@ -92,7 +90,7 @@ fn find(meanings: &[Fact], nexts: &[u32], first: u32, meaning: Fact) -> Option<u
 }
 
 impl Encoding {
-    /// No clauses. The number 0 is no variable's, since proofs cannot name it.
+    /// The number 0 is no variable's, since proofs cannot name it.
     pub(crate) fn new(alloc: Global) -> Result<Encoding, AllocError>
         ensures { IfOk result (λ encoding. encoding.formula.clauses.items ≡ []) }
     {
@@ -119,7 +117,6 @@ impl Encoding {
         })
     }
 
-    /// The place of a meaning's chain in the index.
     fn chain_of(&self, meaning: Fact) -> usize {
         let chains = self.heads.len() as u64;
         if chains == 0 {
@@ -128,7 +125,6 @@ impl Encoding {
         (hash(meaning) % chains) as usize
     }
 
-    /// Puts a variable at the front of its chain.
     fn link(&mut self, meaning: Fact, variable: usize) -> Result<(), AllocError>
         ensures { self.new.formula ≡ self.old.formula }
     {
@@ -141,7 +137,7 @@ impl Encoding {
         Ok(())
     }
 
-    /// Makes four times as many chains once there are four variables for each.
+    /// Makes four times the chains once there are four variables for each.
     fn spread(&mut self) -> Result<(), AllocError>
         ensures { self.new.formula ≡ self.old.formula }
     {
@@ -158,7 +154,6 @@ impl Encoding {
         self.link_all()
     }
 
-    /// Links all variables anew, but the number 0, which is no variable's.
     fn link_all(&mut self) -> Result<(), AllocError>
         ensures { self.new.formula ≡ self.old.formula }
     {
@@ -169,7 +164,7 @@ impl Encoding {
         Ok(())
     }
 
-    /// The variable with this meaning; it is made where there is none. No more than 1,000,000,000 are.
+    /// Makes the variable if there is none, but no more than 1,000,000,000 of them.
     fn variable(&mut self, meaning: Fact) -> Result<u32, AllocError>
         ensures extends { IfOk result (λ _. Extends self.old.formula.meanings.items self.new.formula.meanings.items) }
         ensures stands { IfOk result (λ x. slice_get self.new.formula.meanings.items x ≡ Some meaning) }
@@ -193,7 +188,6 @@ impl Encoding {
         Ok(number as u32)
     }
 
-    /// The literal of a term.
     #[tactic(auto, using(crate::proofs::EncodingLemmas::sign_rules))]
     fn literal(&mut self, term: Term) -> Result<u32, AllocError>
         ensures extends { IfOk result (λ _. Extends self.old.formula.meanings.items self.new.formula.meanings.items) }
@@ -210,7 +204,6 @@ impl Encoding {
         Ok(literal)
     }
 
-    /// One more clause, of which each schedule in the scope makes a term true.
     #[tactic(auto, using(crate::proofs::EncodingLemmas::add_rules))]
     pub(crate) fn add(&mut self, scope: Scope<'_>, terms: &[Term]) -> Result<(), AllocError>
         requires valid { IsValid scope.project.now scope.limit terms.now }
@@ -240,7 +233,6 @@ impl Encoding {
         Ok(())
     }
 
-    /// A row is left out.
     pub(crate) fn leave_out(&mut self, row: CapacityRow) -> Result<(), AllocError>
         ensures meanings { self.new.formula.meanings ≡ self.old.formula.meanings }
         ensures clauses { self.new.formula.clauses ≡ self.old.formula.clauses }

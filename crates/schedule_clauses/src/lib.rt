@@ -1,23 +1,20 @@
-//! The clauses of 'there is a schedule of at most this makespan', and certificates by a proof that they cannot all be true.
+//! The clauses of 'there is a schedule of at most this makespan', and certificates by proofs
+//! against them.
 //!
-//! A variable has a meaning, as 'activity 3 starts by period 7' (the order encoding of Crawford and Baker 1994), which is true
-//! or false of a schedule. Each clause is of one of 18 forms, and each form is proved to be true of every feasible schedule
-//! within the bound; which clauses there are is a hint. So where [`clause_proof::refute`] accepts a proof, no schedule is that
-//! short, and a schedule that takes one period more is optimal ([`certify`]). That there are enough clauses for a proof is
-//! tested.
+//! A variable has a meaning, as 'activity 3 starts by period 7', true or false of a schedule. This
+//! is the order encoding of Crawford and Baker (1994). Each clause is of one of 18 forms. Each form
+//! is proved to hold of every feasible schedule within the bound; which clauses there are is a
+//! hint. So if [`clause_proof::refute`] accepts a proof, no schedule is that short. One that takes
+//! a period more is optimal ([`certify`]). That the clauses suffice for a proof is only tested.
 //!
-//! - `meaning`: what a variable says of a schedule.
-//! - `encoding`: clauses over variables whose meanings are kept, and of which schedules they are true.
+//! - `meaning`, `encoding`: the meanings of variables; clauses, and of which schedules they hold.
 //! - `mode_forms`, `start_forms`, `amount_forms`, `weight_forms`: the forms of clauses.
-//! - `windows`: the times at which an activity can start. Hints.
-//! - `size`: how many clauses on starts there are to be, before they are made.
-//! - `activities`: sets of activities.
-//! - `chains`: chains of activities, of which at most one runs in a period. Hints.
-//! - `diagram`, `rows`: capacity rows as decision diagrams. Hints, and their clauses.
-//! - `surrogate`: the weights of the surrogate row. Hints.
-//! - `capacity_sections`, `start_sections`, `surrogate_section`, `builder`: all clauses of a project.
-//! - `formula`: the clauses, and what each run of them says.
-//! - `certificate`: `clauses`, `stock_clauses`, `certify`, `certify_bound`, `certify_infeasible`.
+//! - `windows`, `size`: when an activity can start (hints); how many clauses on starts to expect.
+//! - `activities`, `chains`: sets of activities; chains, one of which runs at a time (hints).
+//! - `diagram`, `rows`, `surrogate`: diagrams of capacity rows, their clauses, and weights (hints).
+//! - `capacity_sections`, `start_sections`, `surrogate_section`, `builder`: all clauses.
+//! - `formula`: the clauses, section by section.
+//! - `certificate`: `clauses`, `stock_clauses`, and the three checks of proofs.
 #![tactic(auto)]
 
 mod activities;

@@ -1,4 +1,4 @@
-//! Forms of clauses on modes: an activity has exactly one, and one that can be executed. They hold of every feasible schedule.
+//! Forms of clauses on modes, which hold of every feasible schedule.
 ghost use Rattle.std.specs.Prelude.{◌<◌, IfOk};
 ghost use Rattle.mrcpsp.specs.Project.{size, mode_count, renewables};
 ghost use Rattle.schedule_clauses.specs.Encoding.{AllGood};
@@ -44,8 +44,8 @@ pub(crate) fn exclude(
     encoding.add(scope, &clause)
 }
 
-/// An activity has no mode that takes time and requests more of a renewable resource than there is. (One of duration 0 uses
-/// nothing in any period.)
+/// An activity has no mode that takes time and requests more of a renewable resource than there is.
+/// A mode of duration 0 uses nothing in any period.
 #[tactic(auto, using(crate::proofs::FormLemmas::form_rules))]
 pub(crate) fn executable(
     encoding: &mut Encoding,

@@ -8,10 +8,9 @@ use crate::encoding::{Encoding, Scope};
 use crate::formula::CapacityRow;
 use std::alloc::AllocError;
 
-/// The most clauses of all rows together, half a gigabyte of them.
+/// The most clauses of all rows together: half a gigabyte of them.
 const MOST_ROW_CLAUSES: usize = 8_000_000;
 
-/// A capacity row and its diagram, at a level.
 #[derive(Clone, Copy)]
 struct RowLevel<'a> {
     row: CapacityRow,
@@ -19,7 +18,6 @@ struct RowLevel<'a> {
     level: Level,
 }
 
-/// The clauses of a demand at a node: it leaves the less to the activities below it, or cannot be.
 fn demand_clauses(
     encoding: &mut Encoding,
     scope: Scope<'_>,
@@ -71,8 +69,8 @@ fn skip_clauses(
     fewer(encoding, scope, row, level.up_to(amount), level.under(most))
 }
 
-/// The clauses of one node: with this amount left for the activities up to this level's. The amounts that it leaves to the
-/// levels below go to `below`.
+/// `amount` is left for the activities up to this level. What it leaves to the levels below goes to
+/// `below`.
 fn node_clauses(
     encoding: &mut Encoding,
     scope: Scope<'_>,
@@ -90,7 +88,7 @@ fn node_clauses(
     Ok(())
 }
 
-/// The clauses of these nodes of a level. Answers the nodes of the level below.
+/// Returns the nodes of the level below.
 fn level_clauses(
     encoding: &mut Encoding,
     scope: Scope<'_>,
@@ -107,7 +105,7 @@ fn level_clauses(
     in_order(encoding.alloc, below)
 }
 
-/// How many clauses rows may have: all that are to come together, and each of them.
+/// The clauses that all rows to come may have, and each of them.
 #[derive(Drop)]
 pub(crate) struct Room {
     left: usize,
@@ -115,7 +113,7 @@ pub(crate) struct Room {
 }
 
 impl Room {
-    /// Room for so many rows: for each of them four times what it has if all share alike, since most rows are smaller.
+    /// Each row may have four times its equal share, since most rows are smaller.
     pub(crate) fn of(rows: usize) -> Room {
         let shares = rows.max(1);
         Room {
@@ -124,18 +122,15 @@ impl Room {
         }
     }
 
-    /// The most clauses of the next row.
     pub(crate) fn most(&self) -> usize {
         self.each.min(self.left)
     }
 
-    /// Takes the room of a row.
     fn take(&mut self, clauses: usize) {
         self.left = self.left.saturating_sub(clauses);
     }
 }
 
-/// The clauses of all levels of a row.
 fn diagram_clauses(
     encoding: &mut Encoding,
     scope: Scope<'_>,
@@ -166,7 +161,7 @@ fn diagram_clauses(
     Ok(())
 }
 
-/// The clauses of a row by its diagram. One that is too large, or larger than the room that is left, is left out.
+/// A row that is too large, or larger than the room that is left, is left out.
 pub(crate) fn row_clauses(
     encoding: &mut Encoding,
     scope: Scope<'_>,

@@ -1,4 +1,4 @@
-//! How many clauses on starts a bound makes, about, before there are any.
+//! How many clauses on starts a bound makes, about, before they are made.
 ghost use Rattle.std.specs.Prelude.{◌≡◌, ℕ, ◌<◌, ◌≤◌, IfOk};
 ghost use Rattle.mrcpsp.specs.Project.{size, mode_count};
 ghost use Rattle.measures.specs.Measures.{measures_of};
@@ -10,10 +10,9 @@ use measures::Measures;
 use mrcpsp::Project;
 use std::alloc::{AllocError, Global};
 
-/// The most clauses on starts that are made, as [`start_clauses`] counts them: half a gigabyte of them.
+/// The most clauses on starts, by the count of `specs/Size`: half a gigabyte of them.
 pub const MOST_START_CLAUSES: u64 = 8_000_000;
 
-/// The longest chain before an activity, from those of the activities before it.
 #[tactic(auto, using(crate::proofs::SizeLemmas::size_rules))]
 fn head_of(project: &Project, measures: &Measures, heads: &[u32], activity: usize) -> u32
     requires activity { activity < size project.now }
@@ -32,7 +31,8 @@ fn head_of(project: &Project, measures: &Measures, heads: &[u32], activity: usiz
     longest
 }
 
-/// The longest chain before each activity, by shortest durations: its earliest start by precedence alone.
+/// The earliest starts by precedence: the longest chain before each activity, by shortest
+/// durations.
 #[tactic(auto, using(crate::proofs::SizeLemmas::size_rules))]
 pub(crate) fn heads_of(
     alloc: Global,
@@ -50,7 +50,6 @@ pub(crate) fn heads_of(
     Ok(heads)
 }
 
-/// How many modes the activities right before an activity have.
 #[tactic(auto, unfolding(crate::specs::Size::modes_before))]
 fn modes_before_of(project: &Project, activity: usize) -> u64
     requires activity { activity < size project.now }
@@ -68,7 +67,6 @@ fn modes_before_of(project: &Project, activity: usize) -> u64
     modes
 }
 
-/// How many starts an activity has within a bound.
 #[tactic(auto, unfolding(crate::specs::Size::starts_of))]
 fn starts_in(
     project: &Project,
@@ -88,7 +86,6 @@ fn starts_in(
     (bound as u64 + 1).saturating_sub(earliest as u64 + least + rest)
 }
 
-/// The clauses on starts that a bound makes, about.
 #[tactic(auto, using(crate::proofs::SizeLemmas::size_rules))]
 pub(crate) fn start_clauses_of(
     alloc: Global,

@@ -1,5 +1,5 @@
-//! Forms of clauses on starts: order, precedence, ends within the bound, and when an activity runs. Each is added only where
-//! it is known to be true of every schedule within the limit; where its numbers do not fit, nothing is added.
+//! Forms of clauses on starts. Each is added only if it is known to hold of every schedule within
+//! the limit: if its numbers do not fit, nothing is added.
 ghost use Rattle.std.specs.Prelude.{◌≡◌, ◌<◌, IfOk};
 ghost use Rattle.mrcpsp.specs.Project.{size, mode_count};
 ghost use Rattle.mrcpsp.specs.Values.{tail, shortest};
@@ -28,7 +28,7 @@ pub(crate) fn later(
     encoding.add(scope, &clause)
 }
 
-/// Where a successor starts by `time`, the activity in this mode has started by `latest`, or cannot have started.
+/// If a successor starts by `time`, the activity in `mode` starts by `latest`, or cannot (`None`).
 #[tactic(auto, using(crate::proofs::FormLemmas::form_rules))]
 pub(crate) fn precedence(
     encoding: &mut Encoding,
@@ -60,7 +60,7 @@ pub(crate) fn precedence(
     }
 }
 
-/// The same in whichever mode.
+/// Is `precedence` by the shortest mode, whichever mode the activity has.
 #[tactic(auto, using(crate::proofs::FormLemmas::form_rules))]
 pub(crate) fn shortest_precedence(
     encoding: &mut Encoding,
@@ -90,7 +90,7 @@ pub(crate) fn shortest_precedence(
     }
 }
 
-/// What comes behind an activity in this mode ends within the bound.
+/// An activity in `mode` starts by `latest`, for what comes behind it to end, or cannot (`None`).
 #[tactic(auto, using(crate::proofs::FormLemmas::end_rules))]
 pub(crate) fn end(
     encoding: &mut Encoding,
@@ -121,7 +121,7 @@ pub(crate) fn end(
     }
 }
 
-/// The same in whichever mode.
+/// Is `end` by the shortest mode, whichever mode the activity has.
 #[tactic(auto, using(crate::proofs::FormLemmas::end_rules))]
 pub(crate) fn latest(
     encoding: &mut Encoding,

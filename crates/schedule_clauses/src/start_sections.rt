@@ -1,4 +1,4 @@
-//! Clauses on starts: all of a kind, section by section. Which numbers go into which clause is a hint alone.
+//! Clauses on starts, section by section. Which numbers are in a clause is a hint.
 ghost use Rattle.std.specs.Prelude.{◌≡◌, ◌<◌, IfOk};
 ghost use Rattle.mrcpsp.specs.Project.{size};
 ghost use Rattle.mrcpsp.specs.Values.{tail, shortest};
@@ -13,7 +13,6 @@ use measures::Measures;
 use mrcpsp::Project;
 use std::alloc::AllocError;
 
-/// What starts by a time of its window starts by the next.
 fn order_clauses(
     encoding: &mut Encoding,
     scope: Scope<'_>,
@@ -30,7 +29,6 @@ fn order_clauses(
     Ok(())
 }
 
-/// The order of the starts of all activities.
 pub(crate) fn start_section(
     encoding: &mut Encoding,
     scope: Scope<'_>,
@@ -45,7 +43,6 @@ pub(crate) fn start_section(
     encoding.end_section(Kind::Starts)
 }
 
-/// What comes behind an activity ends within the bound.
 fn end_clauses(
     encoding: &mut Encoding,
     scope: Scope<'_>,
@@ -72,7 +69,6 @@ fn end_clauses(
     Ok(())
 }
 
-/// What comes behind each activity ends within the bound.
 pub(crate) fn end_section(
     encoding: &mut Encoding,
     scope: Scope<'_>,
@@ -91,7 +87,7 @@ pub(crate) fn end_section(
     encoding.end_section(Kind::Ends)
 }
 
-/// Where `after` starts by a time, `before` has ended, in each of its modes and in the shortest.
+/// For each mode of `before`, and for the shortest.
 fn time_clauses(
     encoding: &mut Encoding,
     scope: Scope<'_>,
@@ -121,7 +117,6 @@ fn time_clauses(
     Ok(())
 }
 
-/// The successor `after` starts where `before` has ended.
 fn precedence_clauses(
     encoding: &mut Encoding,
     scope: Scope<'_>,
@@ -151,7 +146,6 @@ fn precedence_clauses(
     Ok(())
 }
 
-/// Each activity starts where those before it have ended.
 pub(crate) fn precedence_section(
     encoding: &mut Encoding,
     scope: Scope<'_>,
@@ -173,7 +167,6 @@ pub(crate) fn precedence_section(
     encoding.end_section(Kind::Precedence)
 }
 
-/// Whether an activity in this mode uses a renewable resource.
 fn does_use(project: &Project, activity: usize, mode: usize) -> bool {
     if activity >= project.size() || mode >= project.mode_count(activity) {
         return false;
@@ -186,7 +179,7 @@ fn does_use(project: &Project, activity: usize, mode: usize) -> bool {
     false
 }
 
-/// When an activity runs, in each mode that uses a renewable resource.
+/// Only for modes that use a renewable resource.
 fn run_clauses(
     encoding: &mut Encoding,
     scope: Scope<'_>,
@@ -212,7 +205,6 @@ fn run_clauses(
     Ok(())
 }
 
-/// When each activity runs.
 pub(crate) fn run_section(
     encoding: &mut Encoding,
     scope: Scope<'_>,

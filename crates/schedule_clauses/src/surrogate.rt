@@ -1,5 +1,6 @@
-//! The weights of a surrogate row. They are hints alone: weights for which the lightest modes of all activities weigh nearly
-//! as much as the capacities, or more, by steps along the subgradient (Held, Wolfe and Crowder 1974).
+//! The weights of a surrogate row. They are hints, found by steps along the subgradient (Held,
+//! Wolfe and Crowder 1974). By them the lightest modes weigh nearly as much as the capacities, or
+//! more.
 ghost use Rattle.std.specs.Prelude.{◌<◌};
 ghost use Rattle.mrcpsp.specs.Project.{size, mode_count};
 
@@ -7,10 +8,10 @@ use crate::meaning::Weights;
 use mrcpsp::Project;
 use std::alloc::{AllocError, Global};
 
-/// A number for each resource, renewable ones from place 0, nonrenewable ones from place 8.
+/// Renewable resources are from place 0, nonrenewable ones from place 8.
 type Numbers = [u64; 16];
 
-/// What an activity needs in a mode of each resource, in shares of what there is.
+/// What an activity needs in a mode, in shares of what there is.
 #[derive(Clone, Copy)]
 struct Choice {
     activity: usize,
@@ -19,9 +20,9 @@ struct Choice {
 
 /// All that there is of a resource.
 const WHOLE: u64 = 1 << 20;
-/// How many steps are made.
+
 const STEPS: u64 = 200;
-/// The factor of each resource at first.
+
 const FACTOR: u64 = 1 << 24;
 /// The greatest weight. Small weights make small diagrams, and lose little.
 const MOST_WEIGHT: u64 = 24;
@@ -40,7 +41,6 @@ fn supplies(project: &Project, bound: u32) -> Numbers {
     supplies
 }
 
-/// What an activity needs in a mode.
 fn needs(project: &Project, activity: usize, mode: usize) -> Numbers
     requires activity { activity < size project.now }
     requires mode { mode < mode_count project.now activity }
@@ -58,7 +58,7 @@ fn needs(project: &Project, activity: usize, mode: usize) -> Numbers
     needs
 }
 
-/// The needs in shares of the supplies. A resource of which there is none counts for nothing.
+/// A resource of which there is none counts for nothing.
 fn shares(needs: Numbers, supplies: Numbers) -> Numbers {
     let mut shares = [0; 16];
     for at in 0..16 {
@@ -81,7 +81,6 @@ fn choices(alloc: Global, project: &Project, bound: u32) -> Result<Vec<Choice>, 
     Ok(choices)
 }
 
-/// The sum of products.
 fn cost(factors: Numbers, shares: Numbers) -> u64 {
     let mut cost = 0u64;
     for at in 0..16 {
@@ -90,7 +89,6 @@ fn cost(factors: Numbers, shares: Numbers) -> u64 {
     cost
 }
 
-/// Adds to each number.
 fn add_to(sum: &mut Numbers, other: Numbers) {
     for at in 0..16 {
         sum[at] = sum[at].saturating_add(other[at]);
@@ -119,7 +117,7 @@ fn cheapest(choices: &[Choice], factors: Numbers) -> Numbers {
     taken
 }
 
-/// Makes a step: the factors of resources that are taken more than the mean grow.
+/// The factors of resources that are taken more than the mean grow.
 fn make_step(factors: &mut Numbers, taken: Numbers, mean: u64, step: u64) {
     let calm = WHOLE.saturating_mul(step.saturating_add(8)) / 8;
     for at in 0..16 {
@@ -129,7 +127,7 @@ fn make_step(factors: &mut Numbers, taken: Numbers, mean: u64, step: u64) {
     }
 }
 
-/// Factors for which the cheapest modes take the greatest share of all that there is.
+/// Factors for which the cheapest modes take the greatest share of what there is.
 fn factors(alloc: Global, project: &Project, bound: u32) -> Result<Numbers, AllocError> {
     let choices = choices(alloc, project, bound)?;
     let mut factors = [FACTOR; 16];
@@ -166,7 +164,6 @@ fn greatest(numbers: Numbers) -> u64 {
     greatest
 }
 
-/// Whole weights nearest to these ratios.
 fn rounded(ratios: Numbers) -> Weights {
     let greatest = greatest(ratios);
     let mut weights = [0; 16];
@@ -178,7 +175,6 @@ fn rounded(ratios: Numbers) -> Weights {
     weights
 }
 
-/// Weights for the surrogate row of a bound.
 pub(crate) fn weights_for(
     alloc: Global,
     project: &Project,

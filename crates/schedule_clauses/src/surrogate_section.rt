@@ -1,5 +1,5 @@
-//! The surrogate row of a bound: a decision diagram over what each activity weighs above its lightest mode. Its numbers are
-//! hints alone.
+//! The surrogate row of a bound: a diagram of what each activity weighs above its lightest mode.
+//! Its numbers are hints.
 ghost use Rattle.std.specs.Prelude.{◌≡◌, ◌<◌, IfOk};
 ghost use Rattle.mrcpsp.specs.Project.{size};
 ghost use Rattle.schedule_clauses.specs.Encoding.{AllGood};
@@ -15,11 +15,11 @@ use crate::weight_forms::{
 use mrcpsp::Project;
 use std::alloc::{AllocError, Global};
 
-/// The most clauses of the row's diagram, counted before equal nodes are joined. A larger one is left out: if the capacities
-/// weigh much more than the lightest modes, it costs a solver more time than it saves.
+/// Counted before equal nodes are joined. A larger diagram is left out: if the capacities weigh
+/// much more than the lightest modes, it costs a solver more time than it saves.
 const MOST_CLAUSES: usize = 100_000;
 
-/// A surrogate row: its weights, the least that so many first activities weigh, and the most that all may weigh.
+/// `lows` is the least that the first activities weigh, `most` the most that all may weigh.
 #[derive(Drop)]
 struct Surrogate {
     weights: Weights,
@@ -28,22 +28,19 @@ struct Surrogate {
 }
 
 impl Surrogate {
-    /// The least that so many first activities weigh.
     fn low(&self, count: usize) -> u32 {
         number_at(&self.lows, count)
     }
 
-    /// What the first activities weigh at most, by how much that is above the least.
     fn most(&self, count: usize, above: u32) -> u32 {
         self.low(count).saturating_add(above)
     }
 
-    /// One less than the first activities weigh at least, or `None` if they may weigh nothing.
     fn under(&self, count: usize) -> Option<u32> {
         self.low(count).checked_sub(1)
     }
 
-    /// The row of a bound, or `None` if its numbers are too great.
+    /// `None` if its numbers are too great.
     fn new(alloc: Global, project: &Project, bound: u32) -> Result<Option<Surrogate>, AllocError> {
         let weights = weights_for(alloc, project, bound)?;
         let mut lows = Vec::new(alloc);
@@ -65,7 +62,7 @@ impl Surrogate {
         }))
     }
 
-    /// What each mode weighs above the lightest of its activity.
+    /// What each mode weighs above the lightest mode of its activity.
     fn demands(&self, alloc: Global, project: &Project) -> Result<Vec<Demand>, AllocError> {
         let mut demands = Vec::new(alloc);
         for activity in 0..project.size() {
@@ -85,7 +82,6 @@ impl Surrogate {
     }
 }
 
-/// A row, and the diagram of what its modes weigh above the lightest.
 #[derive(Drop)]
 struct Drawn {
     row: Surrogate,
@@ -93,7 +89,6 @@ struct Drawn {
 }
 
 impl Drawn {
-    /// What is left at a node for an activity and those before it, and for those before it alone.
     fn step(&self, activity: usize, above: u32, rest: Option<u32>) -> Step
         ensures { result.activity ≡ activity }
     {
@@ -106,7 +101,7 @@ impl Drawn {
     }
 }
 
-/// The clauses of an activity at a node, whichever mode it has. What it leaves to those before it goes to `below`.
+/// For whichever mode the activity has. What it leaves to those before it goes to `below`.
 fn any_clauses(
     encoding: &mut Encoding,
     scope: Scope<'_>,
@@ -130,8 +125,9 @@ fn any_clauses(
     weigh_any(encoding, scope, drawn.step(activity, above, rest))
 }
 
-/// The clauses of a mode at a node, unless it is the lightest, of which those of any mode say as much. What it leaves to the
-/// activities before it goes to `below`. A mode that leaves less than these weigh at least is excluded by [`low_clauses`].
+/// Not for the lightest mode: `any_clauses` are enough. What the mode leaves to the activities
+/// before it goes to `below`. If that is less than they weigh at least, [`low_clauses`] exclude the
+/// mode.
 fn demand_clauses(
     encoding: &mut Encoding,
     scope: Scope<'_>,
@@ -165,7 +161,6 @@ fn demand_clauses(
     weigh_mode(encoding, scope, drawn.step(activity, above, rest), mode)
 }
 
-/// The clauses of one node.
 fn node_clauses(
     encoding: &mut Encoding,
     scope: Scope<'_>,
@@ -184,7 +179,7 @@ fn node_clauses(
     Ok(())
 }
 
-/// The clauses of these nodes of a level. Returns the nodes of the level below.
+/// Returns the nodes of the level below.
 fn level_clauses(
     encoding: &mut Encoding,
     scope: Scope<'_>,
@@ -202,7 +197,7 @@ fn level_clauses(
     in_order(encoding.alloc, below)
 }
 
-/// The first activities weigh no less than their lightest modes do, for one activity after the other.
+/// The first activities weigh no less than their lightest modes, for each number of them.
 fn low_clauses(encoding: &mut Encoding, scope: Scope<'_>, row: &Surrogate) -> Result<(), AllocError>
     requires good { AllGood scope.project.now scope.limit encoding.old }
     ensures { IfOk result (λ _. AllGood scope.entry.project.now scope.entry.limit encoding.new) }
@@ -221,7 +216,6 @@ fn low_clauses(encoding: &mut Encoding, scope: Scope<'_>, row: &Surrogate) -> Re
     Ok(())
 }
 
-/// The clauses of the row's diagram, if that is small enough.
 fn diagram_clauses(
     encoding: &mut Encoding,
     scope: Scope<'_>,
@@ -248,8 +242,7 @@ fn diagram_clauses(
     Ok(())
 }
 
-/// The energies and the consumptions of all activities, weighted, fit the capacities over the periods of the bound. If even
-/// the lightest modes weigh too much, two clauses conflict at once.
+/// If even the lightest modes weigh too much, two clauses conflict at once.
 pub(crate) fn surrogate_section(
     encoding: &mut Encoding,
     scope: Scope<'_>,

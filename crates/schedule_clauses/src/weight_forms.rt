@@ -1,5 +1,5 @@
-//! Forms of clauses on the weights of a surrogate row. They hold of every schedule within the limit; where their numbers do
-//! not fit, nothing is added.
+//! Forms of clauses on the weights of a surrogate row. They hold of every schedule within the
+//! limit; if their numbers do not fit, nothing is added.
 ghost use Rattle.std.specs.Prelude.{◌≡◌, ℕ, ◌*◌, ◌<◌, ◌≤◌, IfOk};
 ghost use Rattle.mrcpsp.specs.Project.{size, mode_count, renewables, duration, request, capacity};
 ghost use Rattle.schedule_clauses.specs.Encoding.{AllGood};
@@ -10,8 +10,8 @@ use crate::meaning::{MOST, Node, Weights, in_mode, weight_within};
 use mrcpsp::Project;
 use std::alloc::AllocError;
 
-/// An activity at a node of a surrogate row. With those before it, it weighs at most `most`; what is left for those before it
-/// alone is `rest`, or `None` if the activity alone weighs too much.
+/// An activity at a node of a surrogate row: with those before it, it weighs at most `most`. `rest`
+/// is left for those before it; `None` if the activity alone weighs too much.
 #[derive(Clone, Copy)]
 pub(crate) struct Step {
     pub(crate) weights: Weights,
@@ -20,7 +20,6 @@ pub(crate) struct Step {
     pub(crate) rest: Option<u32>,
 }
 
-/// The energy of an activity in a mode.
 fn energy_of(project: &Project, activity: usize, mode: usize, resource: usize) -> u64
     requires activity { activity < size project.now }
     requires mode { mode < mode_count project.now activity }
@@ -33,7 +32,6 @@ fn energy_of(project: &Project, activity: usize, mode: usize, resource: usize) -
     duration * request
 }
 
-/// What there is of a renewable resource over the periods of a bound.
 fn supply_of(project: &Project, bound: u32, resource: usize) -> u64
     requires { resource < renewables project.now }
     ensures exact { result ≡ bound * capacity project.now resource }
@@ -43,7 +41,6 @@ fn supply_of(project: &Project, bound: u32, resource: usize) -> u64
     bound as u64 * capacity
 }
 
-/// The product of a weight and an amount.
 fn weighted(weight: u8, amount: u64) -> u64
     requires { amount ≤ 4294967295000000 }
     ensures exact { result ≡ weight * amount }
@@ -52,7 +49,6 @@ fn weighted(weight: u8, amount: u64) -> u64
     weight as u64 * amount
 }
 
-/// The weighted energy of an activity in a mode.
 #[tactic(auto, unfolding(crate::specs::Surrogate::renewable_need))]
 fn renewable_need_of(project: &Project, weights: Weights, activity: usize, mode: usize) -> u64
     requires activity { activity < size project.now }
@@ -68,7 +64,6 @@ fn renewable_need_of(project: &Project, weights: Weights, activity: usize, mode:
     sum
 }
 
-/// The weighted consumptions of an activity in a mode.
 #[tactic(auto, unfolding(crate::specs::Surrogate::nonrenewable_need))]
 fn nonrenewable_need_of(project: &Project, weights: Weights, activity: usize, mode: usize) -> u64
     requires activity { activity < size project.now }
@@ -84,7 +79,6 @@ fn nonrenewable_need_of(project: &Project, weights: Weights, activity: usize, mo
     sum
 }
 
-/// What an activity weighs in a mode.
 #[tactic(auto, unfolding(crate::specs::Surrogate::weight))]
 pub(crate) fn weight_of(project: &Project, weights: Weights, activity: usize, mode: usize) -> u64
     requires activity { activity < size project.now }
@@ -96,7 +90,6 @@ pub(crate) fn weight_of(project: &Project, weights: Weights, activity: usize, mo
         + nonrenewable_need_of(project, weights, activity, mode)
 }
 
-/// No more than what an activity weighs in any of its modes.
 pub(crate) fn least_weight_of(project: &Project, weights: Weights, activity: usize) -> u64
     requires { activity < size project.now }
     ensures { IsLightest project.now weights activity (mode_count project.now activity) result }
@@ -108,7 +101,6 @@ pub(crate) fn least_weight_of(project: &Project, weights: Weights, activity: usi
     least
 }
 
-/// What the renewable capacities weigh over the periods of a bound.
 #[tactic(auto, unfolding(crate::specs::Surrogate::renewable_supply))]
 fn renewable_supply_of(project: &Project, weights: Weights, bound: u32) -> u64
     ensures exact { result ≡ renewable_supply project.now weights bound }
@@ -121,7 +113,6 @@ fn renewable_supply_of(project: &Project, weights: Weights, bound: u32) -> u64
     sum
 }
 
-/// What the stocks weigh.
 #[tactic(auto, unfolding(crate::specs::Surrogate::nonrenewable_supply))]
 fn nonrenewable_supply_of(project: &Project, weights: Weights) -> u64
     ensures exact { result ≡ nonrenewable_supply project.now weights }
@@ -135,7 +126,6 @@ fn nonrenewable_supply_of(project: &Project, weights: Weights) -> u64
     sum
 }
 
-/// What the capacities weigh over the periods of a bound.
 #[tactic(auto, unfolding(crate::specs::Surrogate::capacity_weight))]
 pub(crate) fn capacity_weight_of(project: &Project, weights: Weights, bound: u32) -> u64
     ensures { result ≡ capacity_weight project.now weights bound }
@@ -164,7 +154,7 @@ pub(crate) fn weigh_all(
     encoding.add(scope, &[weight_within(weights, Node { count, most })])
 }
 
-/// An activity leaves the less to those before it, whichever mode it has, or weighs too much in each.
+/// An activity in any mode leaves the less to those before it, or weighs too much in each.
 #[tactic(auto, using(crate::proofs::FormLemmas::form_rules))]
 pub(crate) fn weigh_any(
     encoding: &mut Encoding,
@@ -199,7 +189,7 @@ pub(crate) fn weigh_any(
     }
 }
 
-/// An activity in this mode leaves the less to those before it, or weighs too much.
+/// An activity in `mode` leaves the less to those before it, or weighs too much.
 #[tactic(auto, using(crate::proofs::FormLemmas::form_rules))]
 pub(crate) fn weigh_mode(
     encoding: &mut Encoding,

@@ -1,4 +1,4 @@
-//! The times at which an activity can start. They are hints alone: they decide which clauses there are.
+//! The times at which an activity can start. They are hints: they decide which clauses there are.
 ghost use Rattle.std.specs.Prelude.{◌≡◌, ◌<◌};
 ghost use Rattle.mrcpsp.specs.Project.{size};
 ghost use Rattle.mrcpsp.specs.Values.{tail, shortest};
@@ -10,7 +10,7 @@ use measures::Measures;
 use mrcpsp::Project;
 use std::alloc::{AllocError, Global};
 
-/// The first and the last start of each activity, where all end by the bound.
+/// The first and the last start of each activity, if all end by the bound.
 #[derive(Drop)]
 pub(crate) struct Windows {
     pub(crate) bound: u32,
@@ -18,7 +18,6 @@ pub(crate) struct Windows {
     last: Vec<u32>,
 }
 
-/// The first and the last start of one activity.
 #[derive(Clone, Copy)]
 pub(crate) struct Window {
     pub(crate) first: u32,
@@ -34,7 +33,6 @@ pub(crate) fn rest_of(project: &Project, measures: &Measures, activity: usize) -
     measures.tail(activity)
 }
 
-/// Its shortest duration.
 pub(crate) fn least_of(project: &Project, measures: &Measures, activity: usize) -> u32
     requires activity { activity < size project.now }
     requires measures { measures.now ≡ measures_of project.now }
@@ -72,7 +70,6 @@ impl Windows {
         Ok(Windows { bound, first, last })
     }
 
-    /// The window of an activity.
     pub(crate) fn of(&self, activity: usize) -> Window {
         Window {
             first: number_at(&self.first, activity),

@@ -4,12 +4,14 @@ use Rattle.std.specs.List.Sorted.{IsPermutation}
 use Rattle.mrcpsp.specs.Schedule.{ScheduleData}
 use Rattle.schedule_files.specs.declared.places.ScheduleEntry.{ScheduleEntry}
 
+-- the next step reads what this one gives; a missing part ends the reading
 infixl 10 ◌>>=◌
 abbrev pub ◌>>=◌ : {A B : Type 0} → Option A → (A → Option B) → Option B
 None >>= f = None
 (Some x) >>= f = f x
 
--- a number of a text counts as 4,294,967,295 if it is above: as that it is no mode of an activity, and too late a start
+-- a number above 4,294,967,295 counts as that: it is then no mode of an activity, and too late a
+-- start
 abbrev pub counted : ℕ → ℕ
 counted n = min 4294967295 n
 
@@ -19,7 +21,7 @@ placed_from j [] starts = []
 placed_from j (mode ∷ modes) [] = []
 placed_from j (mode ∷ modes) (start ∷ starts) = record { activity = j; mode = mode; start = start } ∷ placed_from (j + 1) modes starts
 
--- these are a mode and a start for each activity, in any order
+-- the places are a mode and a start for each activity, in any order
 pub record ArePlaces (places : List ScheduleEntry) (s : ScheduleData) : Type 0 where
   pub even : length s.modes ≡ length s.starts
   pub whole : IsPermutation places (placed_from 1 s.modes s.starts)

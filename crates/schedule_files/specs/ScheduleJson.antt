@@ -1,4 +1,5 @@
--- A schedule as JSON (RFC 8259): an array with an object for each activity, in any order, or an object with such an array as `schedule`.
+-- A schedule as JSON (RFC 8259): an array with an object for each activity, in any order, or an
+-- object with such an array as `schedule`.
 use Rattle.std.specs.Prelude.{◌≡◌, ◌⊎◌, ℕ, List, [], ◌∷◌, ◌++◌, Option, Some, None, option_and_then, option_map, codes}
 use Rattle.serde_json.specs.Data.{Data, Items, no_items, item}
 use Rattle.serde_json.specs.Read.{read}
@@ -19,6 +20,7 @@ place_of value = do
   start ← number_at (codes "start") value
   Some (record { activity = activity; mode = mode; start = start })
 
+-- the places of an array
 abbrev pub places_of : Items → Option (List ScheduleEntry)
 places_of no_items = Some []
 places_of (item value values) = do
@@ -31,10 +33,11 @@ abbrev pub array_at : Data → Option Data → Option Items
 array_at value None = as_array value
 array_at value (Some at) = as_array at
 
+-- the array of a value
 abbrev pub array_of : Data → Option Items
 array_of value = array_at value (get (codes "schedule") value)
 
--- the whole text, or what stands behind one of its line feeds
+-- the end is the whole text, or what is behind one of its line feeds
 abbrev pub IsEnd : List ℕ → List ℕ → Type 0
 IsEnd text end = (end ≡ text) ⊎ ((front : List ℕ) × (text ≡ front ++ 10 ∷ end))
 

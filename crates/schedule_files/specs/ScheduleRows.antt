@@ -6,41 +6,47 @@ use Rattle.std.specs.Str.Parse.{digits_value}
 use Rattle.schedule_files.specs.Places.{◌>>=◌, counted}
 use Rattle.schedule_files.specs.declared.places.ScheduleEntry.{ScheduleEntry}
 
--- the words of a text: the longest runs of bytes that are no white space of ASCII
+-- whether a part of a text has a byte
 abbrev pub is_word : List ℕ → Bool
 is_word part = not (length part == 0)
 
+-- the words of a text: its longest runs of bytes that are no white space of ASCII
 abbrev pub words_of : List ℕ → List (List ℕ)
 words_of text = filter is_word (slice_split is_ascii_whitespace text)
 
--- the rows of a text: its lines in which there is a digit, so neither a line of heads nor an empty one
+-- whether a line has a digit, and so is neither empty nor a line of heads
 abbrev pub has_digit : List ℕ → Bool
 has_digit line = list_any is_ascii_digit line
 
+-- the rows of a text: its lines with a digit
 abbrev pub rows_of : List ℕ → List (List ℕ)
 rows_of text = filter has_digit (slice_split (λ b. b == 10) text)
 
--- without the white space at both ends
+-- a text without the white space at its beginning
 abbrev pub without_front : List ℕ → List ℕ
 without_front text = drop (prefix_len is_ascii_whitespace text) text
 
+-- a text without the white space at its end
 abbrev pub without_back : List ℕ → List ℕ
 without_back text = take (length text - suffix_len is_ascii_whitespace text) text
 
+-- a text without the white space at both ends
 abbrev pub trimmed : List ℕ → List ℕ
 trimmed text = without_back (without_front text)
 
--- the number that digits write, with white space around them or not
+-- the number that digits write
 abbrev pub number_of : List ℕ → Option ℕ
 number_of word = if not (length word == 0) && list_all is_ascii_digit word then Some (counted (digits_value 10 word)) else None
 
+-- the number that digits write, with or without white space around them
 abbrev pub number_in : List ℕ → Option ℕ
 number_in text = number_of (trimmed text)
 
--- what stands before the first mark, and behind it
+-- the text before the first mark
 abbrev pub before : ℕ → List ℕ → List ℕ
 before mark text = before_first (λ b. b == mark) text
 
+-- the text behind the first mark
 abbrev pub behind : ℕ → List ℕ → List ℕ
 behind mark text = after_first (λ b. b == mark) text
 
@@ -52,7 +58,7 @@ place_at mark text = do
   start ← number_in (behind mark (behind mark text))
   Some (record { activity = activity; mode = mode; start = start })
 
--- the places that all of these texts are
+-- the places that these texts are, if each is one
 abbrev pub places_at : ℕ → List (List ℕ) → Option (List ScheduleEntry)
 places_at mark [] = Some []
 places_at mark (text ∷ texts) = do

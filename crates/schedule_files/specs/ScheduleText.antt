@@ -1,5 +1,5 @@
--- The text of a schedule: for each activity a word of its number, its mode and its start, with colons between them. What is
--- read besides: words with other white space between them, rows with commas, and JSON.
+-- The text of a schedule: for each activity a word of its number, mode and start, with colons
+-- between them. Words with other white space, rows with commas, and JSON are read too.
 use Rattle.std.specs.Prelude.{◌≡◌, ◌⊎◌, ℕ, ◌+◌, ◌<◌, ◌≤◌, List, [], ◌∷◌, ◌++◌, length, Some, codes, decimal}
 use Rattle.mrcpsp.specs.Schedule.{ScheduleData}
 use Rattle.schedule_files.specs.Places.{placed_from, ArePlaces}
@@ -18,6 +18,7 @@ places_text j [] starts = []
 places_text j (mode ∷ modes) [] = []
 places_text j (mode ∷ modes) (start ∷ starts) = place_text j mode start ++ places_text (j + 1) modes starts
 
+-- the words of all activities
 abbrev pub schedule_text : ScheduleData → List ℕ
 schedule_text s = places_text 1 s.modes s.starts
 
@@ -37,7 +38,7 @@ pub record TellsRows (text : List ℕ) (s : ScheduleData) : Type 0 where
   pub each : ArePlaces places s
   pub some : 0 < length s.modes
 
--- a text of at most 1,048,576 bytes tells the schedule as words, as rows or as JSON
+-- a text of at most 1,048,576 bytes writes the schedule as words, as rows or as JSON
 pub record Tells (text : List ℕ) (s : ScheduleData) : Type 0 where
   pub short : length text ≤ MOST_BYTES
   pub ways : TellsWords text s ⊎ (TellsRows text s ⊎ TellsJson text s)

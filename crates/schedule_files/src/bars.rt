@@ -2,28 +2,19 @@
 use mrcpsp::{Mode, Project, Schedule};
 use std::alloc::{AllocError, Global};
 
-/// An activity as it is drawn.
 #[derive(Drop)]
 pub(crate) struct Bar<'a> {
-    /// The number of the activity.
     pub(crate) number: usize,
-    /// The number of its mode.
     pub(crate) mode: u32,
-    /// Its first period.
     pub(crate) start: u32,
     /// The period behind its last one.
     pub(crate) finish: u32,
-    /// What it uses of each renewable resource.
     pub(crate) requests: &'a [u32],
-    /// What it consumes of each nonrenewable resource.
     pub(crate) consumptions: &'a [u32],
-    /// The numbers of its successors.
     pub(crate) successors: &'a [u32],
-    /// Whether it is in the critical chain.
     pub(crate) is_critical: bool,
 }
 
-/// The mode in which a schedule runs the activity at this place.
 fn mode_at<'a>(project: &'a Project, place: usize, number: u32) -> Option<&'a Mode> {
     let activity = project.activities().get(place)?;
     activity
@@ -32,7 +23,6 @@ fn mode_at<'a>(project: &'a Project, place: usize, number: u32) -> Option<&'a Mo
         .get((number as usize).checked_sub(1)?)
 }
 
-/// The numbers of the successors of the activity at this place.
 fn successors_at(project: &Project, place: usize) -> &[u32] {
     match project.activities().get(place) {
         Some(activity) => activity.successors.as_slice(),
@@ -40,7 +30,6 @@ fn successors_at(project: &Project, place: usize) -> &[u32] {
     }
 }
 
-/// The bars of a schedule, in the order of the activities.
 pub(crate) fn bars_of<'a>(
     alloc: Global,
     project: &'a Project,
@@ -66,7 +55,6 @@ pub(crate) fn bars_of<'a>(
     Ok(bars)
 }
 
-/// What runs in a period uses so much of the renewable resource at this place.
 pub(crate) fn use_at(bars: &[Bar<'_>], place: usize, time: u32) -> u32 {
     let mut total = 0u32;
     for bar in bars {
@@ -78,7 +66,6 @@ pub(crate) fn use_at(bars: &[Bar<'_>], place: usize, time: u32) -> u32 {
     total
 }
 
-/// What all activities consume of the nonrenewable resource at this place.
 pub(crate) fn consumed(bars: &[Bar<'_>], place: usize) -> u32 {
     let mut total = 0u32;
     for bar in bars {
@@ -88,7 +75,7 @@ pub(crate) fn consumed(bars: &[Bar<'_>], place: usize) -> u32 {
     total
 }
 
-/// When something starts or finishes, each time once, by rising time.
+/// The starts and finishes, each time once, the earliest first.
 pub(crate) fn times_of(alloc: Global, bars: &[Bar<'_>]) -> Result<Vec<u32>, AllocError> {
     let mut times = Vec::new(alloc);
     for bar in bars {
@@ -100,7 +87,6 @@ pub(crate) fn times_of(alloc: Global, bars: &[Bar<'_>]) -> Result<Vec<u32>, Allo
     Ok(times)
 }
 
-/// The most that is used of the renewable resource at this place.
 pub(crate) fn peak(bars: &[Bar<'_>], times: &[u32], place: usize) -> u32 {
     let mut most = 0u32;
     for time in times {
@@ -109,7 +95,6 @@ pub(crate) fn peak(bars: &[Bar<'_>], times: &[u32], place: usize) -> u32 {
     most
 }
 
-/// Whether some activity runs in the mode of this number.
 pub(crate) fn has_mode(bars: &[Bar<'_>], mode: u32) -> bool {
     bars.iter().any(|bar| bar.mode == mode)
 }

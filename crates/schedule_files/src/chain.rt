@@ -1,8 +1,7 @@
-//! The critical chain of a schedule: from an activity that ends last back to one that begins first, each activity begins
-//! when the one before it in the chain ends, which is its predecessor or uses a renewable resource that it uses too.
+//! The critical chain of a schedule, from an activity that ends last back to one that begins first.
+//! Each begins when the one before it ends: a predecessor, or a user of one of its resources.
 use crate::bars::Bar;
 
-/// Whether both activities use some renewable resource.
 fn share_resource(one: &Bar<'_>, other: &Bar<'_>) -> bool {
     one.requests
         .iter()
@@ -10,7 +9,7 @@ fn share_resource(one: &Bar<'_>, other: &Bar<'_>) -> bool {
         .any(|(a, b)| *a > 0 && *b > 0)
 }
 
-/// How an activity can have delayed another one that begins when it ends: 2 for a predecessor, 1 for one with a resource of it.
+/// 2 for a predecessor, 1 for an activity with a resource in common, 0 for no cause.
 fn hold_of(before: &Bar<'_>, after: &Bar<'_>) -> u32 {
     if before.finish != after.start || before.number == after.number {
         return 0;
@@ -28,7 +27,7 @@ fn hold_of(before: &Bar<'_>, after: &Bar<'_>) -> u32 {
     0
 }
 
-/// The place of an activity that has delayed the one at this place: a predecessor, if one has.
+/// A predecessor is preferred to an activity with a resource in common.
 fn cause_of(bars: &[Bar<'_>], place: usize) -> Option<usize> {
     let after = bars.get(place)?;
     let mut found = None;
@@ -43,7 +42,6 @@ fn cause_of(bars: &[Bar<'_>], place: usize) -> Option<usize> {
     found
 }
 
-/// The place of the first activity that ends last.
 fn last_of(bars: &[Bar<'_>]) -> Option<usize> {
     let mut latest = None;
     let mut found = None;
@@ -56,7 +54,6 @@ fn last_of(bars: &[Bar<'_>]) -> Option<usize> {
     found
 }
 
-/// Marks the activities of the critical chain.
 pub(crate) fn mark_chain(bars: &mut Vec<Bar<'_>>) {
     let mut next = last_of(bars);
     for _ in 0..bars.len() {

@@ -7,26 +7,25 @@ use crate::svg::{Picture, Size};
 use mrcpsp::{Project, Schedule};
 use std::alloc::{AllocError, Global};
 
-/// The order of the rows.
+/// An `Order` is the order of a picture's rows.
 #[derive(Clone, Copy, Debug, PartialEq, Eq)]
 pub enum Order {
-    /// By the numbers of the activities.
     Number,
-    /// By their starts, and by their numbers among those that start together.
+    /// By the starts, and by the numbers of activities that start together.
     Start,
 }
 
-/// What is said of a schedule above its picture.
+/// A `Heading` is what is known of a schedule above its picture.
 #[derive(Clone, Copy, Debug)]
 pub struct Heading {
-    /// Its makespan, in periods.
+    /// In periods.
     pub makespan: u32,
     /// The longest chain of activities by shortest modes, in periods.
     pub chain: u32,
 }
 
-/// A feasible schedule as an SVG picture: a bar for each activity with its number and its mode, and under them what is used of
-/// each renewable resource against its capacity. An error is want of memory.
+/// Returns an SVG picture of a feasible schedule: a bar for each activity, and the use of each
+/// renewable resource against its capacity. An error is want of memory.
 pub fn draw(
     alloc: Global,
     project: &Project,
@@ -56,7 +55,6 @@ pub fn draw(
     Ok(picture.text)
 }
 
-/// Adds all parts of a picture.
 fn put_whole(
     picture: &mut Picture,
     project: &Project,

@@ -1,26 +1,19 @@
 //! Schedules as files: their text, read and written, and a picture.
 //!
-//! The text of a schedule is the words `J:MODE:START` of its activities, each behind a blank.
-//! Activities and modes are numbered from 1, periods from 0. [`put_schedule`] adds exactly those
-//! words to a text. [`read_schedule`] reads them with any white space between them, rows with
-//! commas, and JSON; it answers only with a schedule that the text tells, of at most 1,048,576
-//! bytes (`specs/ScheduleText`). That it finds one if there is one is tested.
+//! The text of a schedule is the words `J:MODE:START` of its activities. Activities and modes are
+//! numbered from 1, periods from 0. [`put_schedule`] adds these words to a text. [`read_schedule`]
+//! returns only a schedule that the text has (`specs/ScheduleText`). That it finds one if there is
+//! one is only tested.
 //!
 //! - `words`: the words of a schedule.
-//! - `places`: the places of activities, and their schedule.
-//! - `rows`: the places that words and lines write.
-//! - `json`: the schedule that a JSON text tells.
-//! - `reading`: the schedule that a text tells.
+//! - `places`, `rows`: the places of activities, and how words and lines write them.
+//! - `reading`, `json`: the schedule that a text has, and that of a JSON text.
 //!
-//! The picture of a feasible schedule is an SVG text: a bar for each activity, and the use of each
-//! resource. No contract speaks of what it shows: `tests/picture` reads it, and compares bars,
-//! outlines and words with the schedule.
+//! A picture of a schedule is an SVG text. What it shows is in no contract: `tests/picture`
+//! compares bars, outlines and words with the schedule.
 //!
-//! - `bars`: the activities as they are drawn, and what they use.
-//! - `chain`: the critical chain, whose activities each begin when the one before ends.
-//! - `scale`: the marks of the axis.
-//! - `svg`: the parts of the picture.
-//! - `drawing`: `draw`.
+//! - `bars`, `chain`: the activities as they are drawn, and the critical chain.
+//! - `drawing`, `svg`, `scale`: `draw`, the parts of a picture, and the marks of its axis.
 #![tactic(auto)]
 
 mod bars;

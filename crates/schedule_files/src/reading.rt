@@ -1,4 +1,4 @@
-//! The schedule that a text tells.
+//! The schedule that a text has.
 ghost use Rattle.std.specs.Prelude.{◌≡◌, ◌⊎◌, ◌++◌, ◌==◌, length, IfOk, IfSome};
 ghost use Rattle.schedule_files.specs.ScheduleJson.{TellsJson};
 ghost use Rattle.schedule_files.specs.ScheduleText.{TellsWords, TellsRows, Tells};
@@ -9,7 +9,6 @@ use crate::rows::{place_at, places_at, rows_of, words_of};
 use mrcpsp::Schedule;
 use std::alloc::{AllocError, Global};
 
-/// How many activities the last of these words says that there are.
 fn count_of(words: &[&[u8]]) -> usize {
     match words.last() {
         Some(word) => place_at(word, b':').map_or(0, |place| place.activity as usize),
@@ -17,7 +16,7 @@ fn count_of(words: &[&[u8]]) -> usize {
     }
 }
 
-/// As many of the last words as the last one says.
+/// The last words: as many as the number of the last word's activity.
 fn ending<'a, 'b>(words: &'b [&'a [u8]]) -> &'b [&'a [u8]]
     ensures { (front : _) × (words.now ≡ front ++ result.now) }
 {
@@ -25,14 +24,12 @@ fn ending<'a, 'b>(words: &'b [&'a [u8]]) -> &'b [&'a [u8]]
     &words[start..]
 }
 
-/// Whether a schedule has no activity.
 fn is_empty(schedule: &Schedule) -> bool
     ensures { result ≡ (length schedule.now.modes == 0) }
 {
     schedule.modes.as_slice().is_empty()
 }
 
-/// The schedule whose words a text ends with.
 fn read_words(alloc: Global, text: &[u8]) -> Result<Option<Schedule>, AllocError>
     ensures { IfOk result (λ found. IfSome found (λ schedule. TellsWords text.now schedule)) }
 {
@@ -46,7 +43,6 @@ fn read_words(alloc: Global, text: &[u8]) -> Result<Option<Schedule>, AllocError
     }
 }
 
-/// The schedule whose rows are a text.
 fn read_rows(alloc: Global, text: &[u8]) -> Result<Option<Schedule>, AllocError>
     ensures { IfOk result (λ found. IfSome found (λ schedule. TellsRows text.now schedule)) }
 {
@@ -60,7 +56,6 @@ fn read_rows(alloc: Global, text: &[u8]) -> Result<Option<Schedule>, AllocError>
     }
 }
 
-/// The schedule that a text of any length tells.
 fn read_any(alloc: Global, text: &[u8]) -> Result<Option<Schedule>, AllocError>
     ensures { IfOk result (λ found. IfSome found (λ schedule.
         TellsWords text.now schedule ⊎ (TellsRows text.now schedule ⊎ TellsJson text.now schedule))) }
@@ -74,13 +69,15 @@ fn read_any(alloc: Global, text: &[u8]) -> Result<Option<Schedule>, AllocError>
     read_json(alloc, text)
 }
 
-/// The most bytes that a schedule's text may have.
+/// The most bytes of a schedule's text.
 pub const MOST_BYTES: usize = 1_048_576;
 
-/// The schedule that a text tells: a result line of a farm, or the words `J:MODE:START` of its activities alone, in the order of their
-/// numbers and with any white space between them; rows `J,MODE,START` in any order, and lines without a digit; or what
-/// `solve --json` prints, or its array alone, in any order. A number above 4,294,967,295 counts as that.
-/// `None` where it tells none, as an empty text does, or has more than 1,048,576 bytes. An error is want of memory.
+/// Returns the schedule of `text`, in one of three forms. A number above 4,294,967,295 counts as
+/// that. `None`: no such form, or more than 1,048,576 bytes. An error is want of memory.
+///
+/// - a farm's result line, or its words `J:MODE:START` alone, in the order of activities
+/// - rows `J,MODE,START` in any order, and lines without a digit
+/// - what `solve --json` prints, or its array alone, in any order
 pub fn read_schedule(alloc: Global, text: &[u8]) -> Result<Option<Schedule>, AllocError>
     ensures { IfOk result (λ found. IfSome found (λ schedule. Tells text.now schedule)) }
 {

@@ -8,7 +8,6 @@ ghost use Rattle.schedule_files.specs.ScheduleRows.{rows_of, words_of};
 use crate::places::ScheduleEntry;
 use std::alloc::{AllocError, Global};
 
-/// The parts of a text between white space.
 fn spaced(alloc: Global, text: &[u8]) -> Result<Vec<&[u8]>, AllocError>
     ensures { IfOk result (λ parts.
         map (λ part. part.now) parts.items ≡ slice_split is_ascii_whitespace text.now) }
@@ -16,7 +15,6 @@ fn spaced(alloc: Global, text: &[u8]) -> Result<Vec<&[u8]>, AllocError>
     text.split(|b| b.is_ascii_whitespace()).collect(alloc)
 }
 
-/// Those of these parts that are not empty.
 fn filled<'a>(alloc: Global, parts: &[&'a [u8]]) -> Result<Vec<&'a [u8]>, AllocError>
     ensures { IfOk result (λ words.
         map (λ word. word.now) words.items ≡ filter is_word (map (λ part. part.now) parts.now)) }
@@ -30,7 +28,6 @@ fn filled<'a>(alloc: Global, parts: &[&'a [u8]]) -> Result<Vec<&'a [u8]>, AllocE
     Ok(words)
 }
 
-/// The words of a text.
 pub(crate) fn words_of(alloc: Global, text: &[u8]) -> Result<Vec<&[u8]>, AllocError>
     ensures { IfOk result (λ words. map (λ word. word.now) words.items ≡ words_of text.now) }
 {
@@ -38,21 +35,18 @@ pub(crate) fn words_of(alloc: Global, text: &[u8]) -> Result<Vec<&[u8]>, AllocEr
     filled(alloc, parts.as_slice())
 }
 
-/// The lines of a text.
 fn lines_of(alloc: Global, text: &[u8]) -> Result<Vec<&[u8]>, AllocError>
     ensures { IfOk result (λ lines. map (λ line. line.now) lines.items ≡ slice_split (λ b. b == 10) text.now) }
 {
     text.split(|b| *b == b'\n').collect(alloc)
 }
 
-/// Whether a line has a digit.
 fn has_digit(line: &[u8]) -> bool
     ensures { result ≡ has_digit line.now }
 {
     line.iter().any(|b| b.is_ascii_digit())
 }
 
-/// Those of these lines that have a digit.
 fn numbered<'a>(alloc: Global, lines: &[&'a [u8]]) -> Result<Vec<&'a [u8]>, AllocError>
     ensures { IfOk result (λ rows.
         map (λ row. row.now) rows.items ≡ filter has_digit (map (λ line. line.now) lines.now)) }
@@ -66,7 +60,7 @@ fn numbered<'a>(alloc: Global, lines: &[&'a [u8]]) -> Result<Vec<&'a [u8]>, Allo
     Ok(rows)
 }
 
-/// The rows of a text.
+/// The lines with a digit.
 pub(crate) fn rows_of(alloc: Global, text: &[u8]) -> Result<Vec<&[u8]>, AllocError>
     ensures { IfOk result (λ rows. map (λ row. row.now) rows.items ≡ rows_of text.now) }
 {
@@ -74,7 +68,7 @@ pub(crate) fn rows_of(alloc: Global, text: &[u8]) -> Result<Vec<&[u8]>, AllocErr
     numbered(alloc, lines.as_slice())
 }
 
-/// The number that digits write, or `u32::MAX` if it is above.
+/// A number above `u32::MAX` counts as that.
 fn number_of(word: &[u8]) -> Option<u32>
     ensures { result ≡ number_of word.now }
 {
@@ -93,7 +87,6 @@ fn number_of(word: &[u8]) -> Option<u32>
     Some(value)
 }
 
-/// The number between white space.
 fn number_in(text: &[u8]) -> Option<u32>
     ensures { result ≡ number_in text.now }
 {
@@ -106,7 +99,6 @@ fn mark_place(text: &[u8], mark: u8) -> Option<usize>
     text.iter().position(|b| *b == mark)
 }
 
-/// What stands before the first mark, or the whole text.
 fn before(text: &[u8], mark: u8) -> &[u8]
     ensures { result.now ≡ before mark text.now }
 {
@@ -116,7 +108,6 @@ fn before(text: &[u8], mark: u8) -> &[u8]
     }
 }
 
-/// What stands behind the first mark, or nothing.
 fn behind(text: &[u8], mark: u8) -> &[u8]
     ensures { result.now ≡ behind mark text.now }
 {
@@ -126,7 +117,7 @@ fn behind(text: &[u8], mark: u8) -> &[u8]
     }
 }
 
-/// The place that three numbers with marks between them are.
+/// Three numbers with a mark between them.
 pub(crate) fn place_at(text: &[u8], mark: u8) -> Option<ScheduleEntry>
     ensures { result ≡ place_at mark text.now }
 {
@@ -141,7 +132,6 @@ pub(crate) fn place_at(text: &[u8], mark: u8) -> Option<ScheduleEntry>
     })
 }
 
-/// The places that all of these texts are.
 pub(crate) fn places_at(
     alloc: Global,
     texts: &[&[u8]],

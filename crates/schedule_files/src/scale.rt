@@ -1,6 +1,6 @@
 //! The marks of the axis.
 
-/// How many periods lie between two marks, so that there are at most 20.
+/// The periods between two marks, so that there are at most 20.
 pub(crate) fn step_of(span: u32) -> u32 {
     let mut step = 1u32;
     for _ in 0..10 {
@@ -15,7 +15,6 @@ pub(crate) fn step_of(span: u32) -> u32 {
     step
 }
 
-/// A number of things, in the singular where it is 1.
 pub(crate) fn plural(count: u64, one: &'static str, more: &'static str) -> &'static str {
     if count == 1 { one } else { more }
 }

@@ -4,36 +4,29 @@ use crate::drawing::Heading;
 use crate::scale::{plural, step_of};
 use std::alloc::AllocError;
 
-/// Where the periods begin, from the left.
 const LEFT: u64 = 1_100;
 
-/// How long all periods are together.
 const WIDTH: u64 = 9_000;
 
-/// What is left free on the right.
 const RIGHT: u64 = 500;
 
-/// Where the bars begin, from the top.
 const TOP: u64 = 1_150;
 
-/// How high the row of an activity is.
 const ROW: u64 = 180;
 
-/// How high the capacity of a resource is drawn, and how much room is above it.
+/// The height of a capacity, and the room above it.
 const HEIGHT: u64 = 800;
 
 const ROOM: u64 = 500;
 
-/// What is left free at the bottom.
 const BOTTOM: u64 = 450;
 
-/// The fills of modes 1 to 10, which readers with any kind of colour vision tell apart.
+/// The fills of modes 1 to 10, which readers with any kind of colour vision can tell apart.
 const FILLS: [&str; 10] = [
     "#88ccee", "#ddcc77", "#cc6677", "#44aa99", "#aa4499", "#999933", "#332288", "#117733",
     "#882255", "#bbbbbb",
 ];
 
-/// How many rows and profiles a picture has, and how many periods.
 #[derive(Clone, Copy, Debug)]
 pub(crate) struct Size {
     pub(crate) rows: usize,
@@ -41,38 +34,32 @@ pub(crate) struct Size {
     pub(crate) span: u32,
 }
 
-/// The text of a picture.
 #[derive(Drop)]
 pub(crate) struct Picture {
     pub(crate) text: String,
     pub(crate) size: Size,
 }
 
-/// The fill of a mode.
 fn fill_of(mode: u32) -> &'static str {
     FILLS[(mode.saturating_sub(1) % 10) as usize]
 }
 
-/// Where the row of this bar is, from the top.
 fn row_at(row: usize) -> u64 {
     TOP.saturating_add(ROW.saturating_mul(row as u64))
 }
 
 impl Size {
-    /// Where a time is, from the left.
     fn at(self, time: u32) -> u64 {
         let all = u64::from(self.span.max(1));
         LEFT.saturating_add(u64::from(time).saturating_mul(WIDTH) / all)
     }
 
-    /// Where the profile of the resource at this place ends.
     fn base_at(self, place: usize) -> u64 {
         let each = HEIGHT.saturating_add(ROOM);
         let above = row_at(self.rows).saturating_add(150);
         above.saturating_add(each.saturating_mul((place as u64).saturating_add(1)))
     }
 
-    /// Where the last profile ends, or the last row if there is none.
     fn bottom(self) -> u64 {
         match self.profiles.checked_sub(1) {
             Some(last) => self.base_at(last),
@@ -82,7 +69,6 @@ impl Size {
 }
 
 impl Picture {
-    /// The beginning, with what the picture is of.
     pub(crate) fn put_head(&mut self) -> Result<(), AllocError> {
         let (rows, span) = (self.size.rows, self.size.span);
         let width = LEFT.saturating_add(WIDTH).saturating_add(RIGHT);
@@ -108,7 +94,6 @@ impl Picture {
         )
     }
 
-    /// The heading: how many activities, the makespan, and what is known of it.
     pub(crate) fn put_heading(&mut self, heading: Heading) -> Result<(), AllocError> {
         let (rows, makespan) = (self.size.rows, heading.makespan);
         let activities = plural(rows as u64, "activity", "activities");
@@ -125,7 +110,6 @@ impl Picture {
         self.text.push_str("</text>\n")
     }
 
-    /// What is consumed of each nonrenewable resource.
     pub(crate) fn put_stocks(
         &mut self,
         bars: &[Bar<'_>],
@@ -147,7 +131,6 @@ impl Picture {
         self.text.push_str("</text>\n")
     }
 
-    /// The colours of the modes that are used, and the mark of the critical chain.
     pub(crate) fn put_legend(&mut self, bars: &[Bar<'_>]) -> Result<(), AllocError> {
         let mut x = LEFT;
         for mode in 1u32..=10 {
@@ -175,7 +158,6 @@ impl Picture {
         )
     }
 
-    /// A light band behind every other row.
     pub(crate) fn put_bands(&mut self) -> Result<(), AllocError> {
         for row in 0..self.size.rows {
             if row % 2 == 1 {
@@ -189,7 +171,6 @@ impl Picture {
         Ok(())
     }
 
-    /// The mark of one time, from the bars down to the bottom.
     fn put_mark(&mut self, time: u32) -> Result<(), AllocError> {
         let (x, bottom) = (self.size.at(time), self.size.bottom());
         let (above, below) = (TOP.saturating_sub(60), bottom.saturating_add(160));
@@ -207,7 +188,6 @@ impl Picture {
         )
     }
 
-    /// The marks of periods, and the end.
     pub(crate) fn put_marks(&mut self) -> Result<(), AllocError> {
         let (span, bottom) = (self.size.span, self.size.bottom());
         let step = step_of(span);
@@ -235,7 +215,7 @@ impl Picture {
         )
     }
 
-    /// The shape of an activity: a rectangle, or a diamond if it takes no period.
+    /// A rectangle, or a diamond if the activity takes no period.
     fn put_shape(&mut self, bar: &Bar<'_>, y: u64) -> Result<(), AllocError> {
         let fill = fill_of(bar.mode);
         let x = self.size.at(bar.start);
@@ -254,7 +234,6 @@ impl Picture {
         }
     }
 
-    /// The bar of an activity, with its number and its mode on the left, and its number behind it.
     fn put_bar(&mut self, row: usize, bar: &Bar<'_>) -> Result<(), AllocError> {
         let (number, mode, start, finish) = (bar.number, bar.mode, bar.start, bar.finish);
         let top = row_at(row);
@@ -280,7 +259,6 @@ impl Picture {
         )
     }
 
-    /// The outline of what is used of the resource at this place.
     fn put_outline(
         &mut self,
         bars: &[Bar<'_>],
@@ -303,7 +281,6 @@ impl Picture {
         )
     }
 
-    /// What is used of the resource at this place, against its capacity.
     fn put_profile(
         &mut self,
         bars: &[Bar<'_>],
@@ -335,7 +312,6 @@ impl Picture {
         )
     }
 
-    /// The line of a capacity, and that of nothing.
     fn put_frame(&mut self, top: u64, base: u64) -> Result<(), AllocError> {
         let end = LEFT.saturating_add(WIDTH);
         write!(
@@ -348,7 +324,6 @@ impl Picture {
         )
     }
 
-    /// The bars of all activities.
     pub(crate) fn put_bars(&mut self, bars: &[Bar<'_>]) -> Result<(), AllocError> {
         for row in 0..bars.len() {
             self.put_bar(row, &bars[row])?;
@@ -356,7 +331,6 @@ impl Picture {
         Ok(())
     }
 
-    /// The profiles of all renewable resources.
     pub(crate) fn put_profiles(
         &mut self,
         bars: &[Bar<'_>],

@@ -1,11 +1,9 @@
-//! The words of a schedule.
 ghost use Rattle.std.specs.Prelude.{◌≡◌, ◌++◌, IfOk, string_bytes};
 ghost use Rattle.schedule_files.specs.ScheduleText.{place_text, schedule_text};
 
 use mrcpsp::Schedule;
 use std::alloc::AllocError;
 
-/// Adds the word of an activity behind a blank.
 fn put_place(text: &mut String, number: usize, mode: u32, start: u32) -> Result<(), AllocError>
     ensures { IfOk result (λ _. string_bytes text.new ≡ string_bytes text.old ++ place_text number mode start) }
 {
@@ -13,7 +11,7 @@ fn put_place(text: &mut String, number: usize, mode: u32, start: u32) -> Result<
     Ok(())
 }
 
-/// Adds the words of a schedule, each behind a blank. An error is want of memory.
+/// Adds the words of `schedule`, each behind a blank. An error is want of memory.
 #[tactic(auto, using(crate::proofs::PlaceLemmas::place_rules))]
 pub fn put_schedule(text: &mut String, schedule: &Schedule) -> Result<(), AllocError>
     ensures { IfOk result (λ _. string_bytes text.new ≡ string_bytes text.old ++ schedule_text schedule.now) }

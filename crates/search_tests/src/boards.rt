@@ -1,16 +1,13 @@
-//! Partial schedules that grow and shrink.
 use crate::fixtures::{DIAMOND, GREEDY, project};
 use mrcpsp::Project;
 use serial_sgs::Board;
 use std::alloc::Global;
 use std::process::Abort;
 
-/// The empty board of a project.
 fn board_of(rt: &impl Abort, alloc: Global, project: &Project) -> Board {
     Board::new(alloc, project).expect(rt, "no memory for a board")
 }
 
-/// The earliest start, where it may be asked for.
 fn earliest(rt: &impl Abort, board: &Board, activity: usize, mode: usize, from: u32) -> u32 {
     assert!(rt; activity < board.project().size());
     assert!(rt; mode < board.project().mode_count(activity));
@@ -19,7 +16,6 @@ fn earliest(rt: &impl Abort, board: &Board, activity: usize, mode: usize, from: 
     board.earliest(activity, mode, from)
 }
 
-/// Places the activity in its first mode at its earliest start from `from` on, and tells the start.
 fn place(rt: &impl Abort, board: &mut Board, activity: usize, from: u32) -> u32 {
     assert!(rt; activity < board.project().size());
     assert!(rt; 0 < board.project().mode_count(activity));
@@ -32,7 +28,6 @@ fn place(rt: &impl Abort, board: &mut Board, activity: usize, from: u32) -> u32 
     start
 }
 
-/// Whether the third activity may be afforded in each of its modes.
 fn affordable_modes(rt: &impl Abort, board: &Board) -> [bool; 2] {
     assert!(rt; 2 < board.project().size());
     assert!(rt; board.project().mode_count(2) == 2);
@@ -72,13 +67,11 @@ fn earliest_starts(rt: HostRuntime) {
     }
 }
 
-/// Compares how many are placed, and the latest finish.
 fn compare(rt: &impl Abort, board: &Board, count: usize, makespan: u32) {
     assert!(rt; board.count() == count && board.placed().len() == count);
     assert!(rt; board.makespan() == makespan);
 }
 
-/// What is told of two of the activities, of which the second is placed.
 fn compare_placed(rt: &impl Abort, board: &Board) {
     assert!(rt; 3 < board.project().size());
     assert!(rt; board.is_eligible(2) && !board.is_eligible(3));
@@ -86,7 +79,6 @@ fn compare_placed(rt: &impl Abort, board: &Board) {
     assert!(rt; board.finish(1) == 6);
 }
 
-/// Places two activities, and takes the second one away.
 fn grow_and_shrink(rt: &impl Abort, board: &mut Board) {
     compare(rt, board, 0, 0);
     place(rt, board, 0, 0);

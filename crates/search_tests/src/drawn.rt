@@ -3,8 +3,8 @@ use mrcpsp::{Activity, Mode, Project, Sequence};
 use std::alloc::{AllocError, Global};
 use std::process::Abort;
 
-/// The numbers below which a project is drawn: how many more activities it has than one, how many
-/// more modes an activity has, and durations.
+/// A `Bounds` is the numbers below which a project is drawn: further activities, further modes of
+/// an activity, and durations.
 #[derive(Clone, Copy, Debug)]
 pub(crate) struct Bounds {
     activities: u32,
@@ -26,27 +26,25 @@ pub(crate) const SMALLEST: Bounds = Bounds {
     durations: 3,
 };
 
-/// Numbers for the random projects: x becomes x * 1103515245 + 12345 modulo 2^31, and gives x div
-/// 2^16.
+/// A `Drawn` is a generator: x becomes x * 1103515245 + 12345 modulo 2^31, and gives x div 2^16.
 #[derive(Drop)]
 pub(crate) struct Drawn {
     x: u32,
 }
 
 impl Drawn {
-    /// The numbers of a seed.
     pub(crate) fn new(seed: u32) -> Drawn {
         Drawn { x: seed }
     }
 
-    /// A number below n, or 0 where n is 0.
+    /// A number below `n`, or 0 if `n` is 0.
     pub(crate) fn below(&mut self, n: u32) -> u32 {
         let next = self.x.wrapping_mul(1_103_515_245).wrapping_add(12_345);
         self.x = next & 0x7fff_ffff;
         (self.x >> 16).checked_rem(n).unwrap_or(0)
     }
 
-    /// So many numbers below n, each with the least one added.
+    /// `count` numbers below `n`, each with `least` added.
     fn list(
         &mut self,
         alloc: Global,
@@ -61,7 +59,6 @@ impl Drawn {
         Ok(Sequence::from(numbers))
     }
 
-    /// Some modes for so many resources of each sort.
     fn modes(
         &mut self,
         alloc: Global,
@@ -83,8 +80,6 @@ impl Drawn {
         Ok(Sequence::from(modes))
     }
 
-    /// The numbers of an activity's successors, of so many activities. The activity is told by its
-    /// number.
     fn successors(
         &mut self,
         alloc: Global,
@@ -100,7 +95,6 @@ impl Drawn {
         Ok(Sequence::from(numbers))
     }
 
-    /// So many activities, for so many resources of each sort.
     fn activities(
         &mut self,
         alloc: Global,
@@ -117,7 +111,6 @@ impl Drawn {
         Ok(Sequence::from(activities))
     }
 
-    /// A project within these bounds, of 0 to 2 resources of each sort.
     pub(crate) fn project(&mut self, rt: &impl Abort, alloc: Global, bounds: Bounds) -> Project {
         let drawn = self.project_of(alloc, bounds);
         drawn
@@ -125,7 +118,6 @@ impl Drawn {
             .expect(rt, "within the limits")
     }
 
-    /// The same, none if it is not within the limits.
     fn project_of(&mut self, alloc: Global, bounds: Bounds) -> Result<Option<Project>, AllocError> {
         let size = self.below(bounds.activities).saturating_add(1);
         let kinds = (self.below(3), self.below(3));

@@ -1,10 +1,9 @@
-//! The projects of the tests, as texts whose last line is given beside them.
+//! The projects of the tests, as texts. The last line, the capacities, is an argument.
 use mrcpsp::Project;
 use psplib_mm::read;
 use std::alloc::Global;
 use std::process::Abort;
 
-/// The project of a text and its last line.
 pub(crate) fn project(rt: &impl Abort, alloc: Global, text: &str, capacities: &str) -> Project {
     let mut whole = Vec::new(alloc);
     assert!(rt;
@@ -39,7 +38,7 @@ RESOURCEAVAILABILITIES:
 h
 ";
 
-/// The same, where the second activity consumes something too.
+/// The diamond, but the second activity consumes something too.
 pub(crate) const GREEDY: &str = "jobs (incl. supersource/sink ): 4
 - renewable : 1 R
 - nonrenewable : 1 N
@@ -60,7 +59,7 @@ RESOURCEAVAILABILITIES:
 h
 ";
 
-/// The diamond with one mode for the third, which consumes something.
+/// The diamond, but the third activity has one mode, which consumes something.
 pub(crate) const STARVED: &str = "jobs (incl. supersource/sink ): 4
 - renewable : 1 R
 - nonrenewable : 1 N
@@ -80,7 +79,7 @@ RESOURCEAVAILABILITIES:
 h
 ";
 
-/// The diamond, where the source asks for much and takes no time.
+/// The diamond, but the source requests much and takes no time.
 pub(crate) const ASKING: &str = "jobs (incl. supersource/sink ): 4
 - renewable : 1 R
 - nonrenewable : 1 N
@@ -101,7 +100,7 @@ RESOURCEAVAILABILITIES:
 h
 ";
 
-/// The third asks for 4 of a resource.
+/// The diamond, but the third activity requests 4 of the renewable resource.
 pub(crate) const BLOCKED: &str = "jobs (incl. supersource/sink ): 4
 - renewable : 1 R
 - nonrenewable : 1 N
@@ -167,7 +166,7 @@ RESOURCEAVAILABILITIES:
 h
 ";
 
-/// A source, an activity before another one, and one beside them.
+/// A source, an activity before another one, and one in parallel.
 pub(crate) const FORK: &str = "jobs (incl. supersource/sink ): 4
 - renewable : 1 R
 PRECEDENCE RELATIONS:
@@ -186,8 +185,8 @@ RESOURCEAVAILABILITIES:
 h
 ";
 
-/// Three activities in any order, of which the first in its first mode leaves no mode for the
-/// second, where there are 2 of each.
+/// Three activities in any order. With 2 of each resource, the first one in its first mode leaves
+/// no mode for the second.
 pub(crate) const SCARCE: &str = "jobs (incl. supersource/sink ): 3
 - renewable : 1 R
 - nonrenewable : 2 N
@@ -207,7 +206,6 @@ RESOURCEAVAILABILITIES:
 h
 ";
 
-/// One activity of two modes.
 pub(crate) const PAIR: &str = "jobs (incl. supersource/sink ): 1
 - renewable : 1 R
 PRECEDENCE RELATIONS:
@@ -221,7 +219,6 @@ RESOURCEAVAILABILITIES:
 h
 ";
 
-/// One activity, which takes no time.
 pub(crate) const LONE: &str = "jobs (incl. supersource/sink ): 1
 PRECEDENCE RELATIONS:
 h
@@ -233,7 +230,7 @@ RESOURCEAVAILABILITIES:
 h
 ";
 
-/// One activity, which takes no time and asks for 9.
+/// One activity, which takes no time and requests 9.
 pub(crate) const LONE_ASKING: &str = "jobs (incl. supersource/sink ): 1
 - renewable : 1 R
 PRECEDENCE RELATIONS:

@@ -5,14 +5,13 @@ use std::alloc::{AllocError, Global};
 use std::process::Abort;
 use std::test::Fail;
 
-/// So many zeros, and this number behind them.
 fn row(alloc: Global, zeros: usize, last: u32) -> Result<Sequence<u32>, AllocError> {
     let mut row = vec![in alloc; 0u32; zeros]?;
     row.push(last)?;
     Ok(Sequence::from(row))
 }
 
-/// A mode of this duration, request and consumption; the resource is the last of several.
+/// The resource is the last of several.
 fn mode(
     alloc: Global,
     others: usize,
@@ -25,7 +24,6 @@ fn mode(
     })
 }
 
-/// An activity of these modes and successors.
 fn activity(
     alloc: Global,
     others: usize,
@@ -42,7 +40,8 @@ fn activity(
     })
 }
 
-/// A source, an activity of one mode, one of two modes, and a sink. A unit is this many, and the resource stands behind others.
+/// A source, an activity of one mode, one of two modes, and a sink. Amounts are multiples of
+/// `unit`, and `others` resources come before.
 fn diamond(
     alloc: Global,
     (unit, others): (u32, usize),
@@ -60,7 +59,6 @@ fn diamond(
     Ok(Project::new(Sequence::from(activities), renewable, nonrenewable))
 }
 
-/// The makespan of the best schedule after so many, which is also checked.
 fn best_of(
     rt: &impl Abort,
     alloc: Global,

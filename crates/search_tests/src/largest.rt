@@ -1,8 +1,6 @@
-//! A project at the limits.
 use mrcpsp::{Activity, Mode, Project, Sequence};
 use std::alloc::{AllocError, Global};
 
-/// So many times the same number.
 fn copies(alloc: Global, number: u32, count: u32) -> Result<Sequence<u32>, AllocError> {
     let mut numbers = Vec::new(alloc);
     for _ in 0..count {
@@ -11,7 +9,6 @@ fn copies(alloc: Global, number: u32, count: u32) -> Result<Sequence<u32>, Alloc
     Ok(Sequence::from(numbers))
 }
 
-/// So many modes of ten periods, each of which asks for one of each resource.
 fn modes(alloc: Global, count: u32) -> Result<Sequence<Mode>, AllocError> {
     let mut modes = Vec::new(alloc);
     for _ in 0..count {
@@ -26,8 +23,8 @@ fn modes(alloc: Global, count: u32) -> Result<Sequence<Mode>, AllocError> {
     Ok(Sequence::from(modes))
 }
 
-/// 202 activities, one after another, with eight resources of each sort. The last has ten modes,
-/// and each other one.
+/// A project at the limits: 202 activities in a chain, and eight resources of each sort. The last
+/// activity has ten modes, each other one has one.
 pub(crate) fn largest(alloc: Global) -> Result<Option<Project>, AllocError> {
     let mut activities = Vec::new(alloc);
     for number in 1..=202u32 {

@@ -8,7 +8,6 @@ use std::process::Abort;
 use strategy::{Kind, Plan, Strategy};
 use tree_search::TreeSearch;
 
-/// The search of a project's tree.
 fn tree_of(rt: &impl Abort, alloc: Global, project: Project) -> TreeSearch {
     let (till, mut desk) = Till::new(alloc, 0, 1_000).expect(rt, "no memory for a till");
     let lease = till.lease(&mut desk, 0).expect(rt, "no memory for a lease");
@@ -19,7 +18,6 @@ fn tree_of(rt: &impl Abort, alloc: Global, project: Project) -> TreeSearch {
     }
 }
 
-/// Runs a search to its end, with 1,000 quanta.
 fn run<S: Strategy>(rt: &impl Abort, search: &mut S) {
     assert!(rt; !search.closed() && search.nodes() == 0 && search.left() == 0);
     search.fund(1_000);
@@ -32,7 +30,6 @@ fn run<S: Strategy>(rt: &impl Abort, search: &mut S) {
     assert!(rt; search.closed());
 }
 
-/// The makespan of the best schedule that is known, none if there is none.
 fn makespan_of<S: Strategy>(search: &S) -> Option<u32> {
     let best = search.best()?;
     check(&search.plan().project, best).ok()

@@ -1,30 +1,15 @@
-//! The searches, their parts and the problem itself: on small worked projects by hand, and on small
-//! random ones against an independent program. `tests/plain_searches.py` is that program; it has
-//! nothing in common with these crates.
+//! Searches, their parts and the problem, on small projects by hand, and on random ones against
+//! `tests/plain_searches.py`. That program has nothing in common with these crates.
 //!
-//! - `fixtures`: the worked projects, as texts.
-//! - `schedules`: what is a project, what a schedule breaks, and how that prints.
-//! - `readings`: whole texts, how faults print, and want of memory. `tests/readings` throws many
-//!   more texts at the program.
-//! - `values`: the values of activities, and the bounds of projects.
-//! - `boards`: partial schedules that grow and shrink.
-//! - `passes`: passes that are led by hand.
-//! - `improvements`: the local search on small projects.
-//! - `plans`: copies and equality of plans.
-//! - `walks`: the tree, the rules and sampling node by node, their quanta, and what becomes of a
-//!   best schedule that is taken.
-//! - `drawn`: small random projects.
-//! - `largest`: a project at the limits, whose line `plain_searches.py largest` prints.
-//! - `sum`: a sum over numbers.
-//! - `shown`: a sum over all that a search shows after each of its nodes.
-//! - `random_searches`: the searches node by node, by the table of
-//!   `plain_searches.py groups 7 12 10`.
-//! - `random_values`: the values of activities, as `plain_searches.py values 7 1000` adds them up.
-//! - `random_boards`: partial schedules that grow and shrink, by `plain_searches.py boards 7 1000`.
-//! - `sums`: the earliest start by its definition, with sums, which boards are compared with too.
-//! - `random_schedules`: what schedules break first, by `plain_searches.py schedules 7 1000`.
-//! - `least`: the last best schedule of the precedence tree against the least makespan of all
-//!   schedules, by `plain_searches.py least 7 60`.
+//! - `fixtures`, `drawn`, `largest`: worked, random and largest projects.
+//! - `schedules`, `readings`, `values`, `plans`: projects and breaches; texts; values; plans.
+//! - `boards`, `passes`, `improvements`, `walks`: partial schedules, passes and searches by hand.
+//! - `sum`, `shown`: a sum over numbers, and over all that a search shows after each node.
+//! - `random_searches`: by the table of `plain_searches.py groups 7 12 10`.
+//! - `random_values`, `random_boards`: by `values 7 1000` and `boards 7 1000`.
+//! - `sums`: the earliest start by its definition, which boards are compared with too.
+//! - `random_schedules`: what schedules break first, by `schedules 7 1000`.
+//! - `least`: the tree against the least makespan of all schedules, by `least 7 60`.
 #![tactic(auto)]
 
 #[cfg(test)]

@@ -10,7 +10,7 @@ use serial_pass::{Candidate, Pass};
 use std::alloc::Global;
 use std::process::Abort;
 
-/// Runs a node that places this, if it is listed, and gives up otherwise.
+/// Places the candidate if it is listed, and gives up otherwise.
 fn step(pass: &mut Pass, activity: usize, mode: usize)
     ensures { pass.new.project ≡ pass.old.project }
 {
@@ -25,13 +25,11 @@ fn step(pass: &mut Pass, activity: usize, mode: usize)
     pass.run(None);
 }
 
-/// Compares what a pass shows with this.
 fn shows(rt: &impl Abort, pass: &Pass, eligible: &[usize], makespan: Option<u32>) {
     assert!(rt; pass.eligible() == eligible && pass.makespan() == makespan);
     assert!(rt; pass.is_void() == makespan.is_none());
 }
 
-/// Runs a node that places this, and compares what the pass then shows.
 fn node(
     rt: &impl Abort,
     pass: &mut Pass,
@@ -63,7 +61,6 @@ fn second_first(rt: &impl Abort, pass: &mut Pass)
     node(rt, pass, (1, 0), &[2], Some(3));
 }
 
-/// The other half.
 fn then_third(rt: &impl Abort, pass: &mut Pass)
     ensures { pass.new.project ≡ pass.old.project }
 {
@@ -81,7 +78,6 @@ fn blocked(rt: &impl Abort, pass: &mut Pass)
     node(rt, pass, (1, 0), &[], None);
 }
 
-/// The schedule that a pass is, in this memory, with these modes and starts.
 fn made(rt: &impl Abort, pass: &Pass, room: Schedule, modes: &[u32], starts: &[u32]) -> Schedule
     requires { HasRoom (size pass.now.project) room }
     ensures { HasRoom (size pass.now.project) result }
@@ -91,14 +87,12 @@ fn made(rt: &impl Abort, pass: &Pass, room: Schedule, modes: &[u32], starts: &[u
     made
 }
 
-/// A new pass over a project.
 fn pass_over(rt: &impl Abort, alloc: Global, text: &str, capacities: &str) -> Pass {
     let project = project(rt, alloc, text, capacities);
     let measures = Measures::of(alloc, &project).expect(rt, "no memory for values");
     Pass::new(alloc, &project, &measures).expect(rt, "no memory for a pass")
 }
 
-/// Memory for a schedule of a pass.
 fn room_for(rt: &impl Abort, alloc: Global, pass: &Pass) -> Schedule
     ensures { HasRoom (size pass.now.project) result }
 {
@@ -114,7 +108,6 @@ fn each_starts_as_early_as_it_may(rt: HostRuntime) {
     made(&rt, &pass, room, &[1, 1, 2, 1], &[0, 0, 0, 4]);
 }
 
-/// A new pass, which is the whole diamond.
 fn anew(rt: &impl Abort, pass: &mut Pass)
     ensures { pass.new.project ≡ pass.old.project }
 {
@@ -124,7 +117,7 @@ fn anew(rt: &impl Abort, pass: &mut Pass)
     then_third(rt, pass);
 }
 
-/// The first half of the diamond in some memory, and then all of it in the same.
+/// The first half of the diamond in `room`, and then all of it in the same memory.
 fn half_and_whole(rt: &impl Abort, pass: &mut Pass, room: Schedule)
     requires { HasRoom (size pass.old.project) room }
 {

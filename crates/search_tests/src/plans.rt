@@ -1,18 +1,16 @@
-//! Plans: copies and equality.
 use crate::fixtures::{CHAIN, DIAMOND, project};
 use std::alloc::Global;
 use std::process::Abort;
 use strategy::laws::{each_best_is_feasible, what_is_shown_is_true};
 use strategy::{Kind, Plan, same_plan};
 
-/// Whether a plan is the same as this one, and as its own copy.
 fn is_same(rt: &impl Abort, alloc: Global, plan: &Plan, other: &Plan) -> bool {
     let copy = other.clone_in(alloc).expect(rt, "no memory for a copy");
     assert!(rt; same_plan(other, &copy));
     same_plan(plan, other)
 }
 
-/// A plan is another one where the kind, the seed or the project differs.
+/// A plan is another one if the kind, the seed or the project differs.
 #[test]
 fn copies_and_other_plans(rt: HostRuntime) {
     let table = [

@@ -1,4 +1,3 @@
-//! Partial schedules of random projects.
 use crate::drawn::{Drawn, SMALL};
 use crate::fixtures::{DIAMOND, project};
 use crate::sum::Sum;
@@ -7,8 +6,8 @@ use serial_sgs::Board;
 use std::alloc::Global;
 use std::process::Abort;
 
-/// Adds the earliest start of an activity that is not placed, which is the one that sums tell, and
-/// places it there where it may come next.
+/// Adds the earliest start of an unplaced activity, which has to be `first_start`. An eligible
+/// activity is placed there.
 fn place(
     rt: &impl Abort,
     sum: &mut Sum,
@@ -33,8 +32,8 @@ fn place(
     }
 }
 
-/// Adds what a board tells of a random activity, which is placed where it may be; sometimes the
-/// last one is taken away.
+/// Adds what a board shows of a random activity, which is placed if it may be; sometimes the last
+/// one is taken away.
 fn add_step(rt: &impl Abort, sum: &mut Sum, board: &mut Board, drawn: &mut Drawn) {
     let size = board.project().size();
     let activity = drawn.below(size as u32) as usize;
@@ -52,7 +51,7 @@ fn add_step(rt: &impl Abort, sum: &mut Sum, board: &mut Board, drawn: &mut Drawn
     }
 }
 
-/// Places four activities in this order, the third one in this mode, each from one period on.
+/// Places four activities in this order, the third one in `mode`.
 fn place_all(
     rt: &impl Abort,
     alloc: Global,

@@ -1,12 +1,10 @@
-//! What random schedules break first.
 use crate::drawn::{Drawn, SMALL};
 use crate::sum::Sum;
 use mrcpsp::{Breach, Project, Schedule, Sequence, check};
 use std::alloc::{AllocError, Global};
 use std::process::Abort;
 
-/// A schedule whose starts rise, so that precedence is often kept. A mode is sometimes one that is
-/// not there.
+/// The starts rise, so that precedence is often kept. A mode is sometimes not there.
 fn random_schedule(alloc: Global, drawn: &mut Drawn, size: usize) -> Result<Schedule, AllocError> {
     let mut modes = Vec::new(alloc);
     let mut starts = Vec::new(alloc);
@@ -23,7 +21,7 @@ fn random_schedule(alloc: Global, drawn: &mut Drawn, size: usize) -> Result<Sche
     })
 }
 
-/// Adds what the check tells: its sort, and its numbers.
+/// The kind of the breach, and its numbers.
 fn add_told(sum: &mut Sum, told: Result<u32, Breach>) {
     let (sort, number, more) = match told {
         Ok(makespan) => (0, makespan, None),
@@ -40,7 +38,6 @@ fn add_told(sum: &mut Sum, told: Result<u32, Breach>) {
     }
 }
 
-/// Adds what ten random schedules of a project break.
 fn add_schedules(
     rt: &impl Abort,
     alloc: Global,

@@ -1,4 +1,4 @@
-//! The table: 120 random projects in twelve groups; and a project at the limits.
+//! 120 random projects in twelve groups, and a project at the limits.
 use crate::drawn::{Drawn, SMALL};
 use crate::largest::largest;
 use crate::shown::Shown;
@@ -6,8 +6,8 @@ use std::alloc::Global;
 use std::process::Abort;
 use strategy::Kind;
 
-/// What the independent program says of each group, of each kind: how many nodes, and the sum over
-/// all that was shown.
+/// For each group and kind: the nodes, and the sum over all that was shown, by the independent
+/// program.
 const TABLE: [[(u64, u32); 5]; 12] = [
     [
         (383, 3_730_078_364),
@@ -95,7 +95,7 @@ const TABLE: [[(u64, u32); 5]; 12] = [
     ],
 ];
 
-/// The same of the project at the limits, after at most 205 nodes.
+/// For the project at the limits, after at most 205 nodes.
 const LARGEST: [(u64, u32); 5] = [
     (202, 3_513_922_436),
     (202, 3_513_922_436),
@@ -104,8 +104,8 @@ const LARGEST: [(u64, u32); 5] = [
     (202, 3_513_930_124),
 ];
 
-/// What the five kinds show of ten projects: sampling with the seeds 0 to 9 and for four passes,
-/// the others to their ends, but the tree for at most 400 nodes.
+/// Runs the five kinds on ten projects. Sampling has the seeds 0 to 9 and four passes, the tree at
+/// most 400 nodes; the rules run to their ends.
 fn group(rt: &impl Abort, alloc: Global, drawn: &mut Drawn) -> [Shown; 5] {
     let mut shown = [Shown { nodes: 0, sum: 0 }; 5];
     for seed in 0..10u32 {
@@ -125,7 +125,6 @@ fn group(rt: &impl Abort, alloc: Global, drawn: &mut Drawn) -> [Shown; 5] {
     shown
 }
 
-/// Compares what five kinds show with a line of the table.
 fn compare(rt: &impl Abort, shown: &[Shown; 5], line: &[(u64, u32); 5]) {
     for (one, (nodes, sum)) in shown.iter().zip(line) {
         assert!(rt; one.nodes == *nodes && one.sum == *sum);

@@ -3,7 +3,6 @@ use crate::drawn::{Drawn, SMALL};
 use crate::sum::Sum;
 use measures::Measures;
 
-/// Adds the values of each activity, with the least consumptions of so many resources.
 fn add_values(sum: &mut Sum, measures: &Measures, resources: usize) {
     for activity in 0..measures.count() {
         sum.add(measures.tail(activity));

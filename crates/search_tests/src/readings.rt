@@ -6,7 +6,7 @@ use std::alloc::{AllocError, Global};
 use std::process::Abort;
 use std::test::Fail;
 
-/// The text of the diamond in the layout that ProGen writes.
+/// The diamond in the layout that ProGen writes.
 const LONG: &str = "************************************************************************
 file with basedata            : a.bas
 initial value random generator: 1
@@ -67,8 +67,7 @@ RESOURCEAVAILABILITIES:
 h
 3 1";
 
-/// The text with this end of each line, and words behind the end of the file that count for
-/// nothing.
+/// `text` with `end` behind each line, and ignored words behind the end of the file.
 fn with_ends(alloc: Global, text: &str, end: &str) -> Result<String, AllocError> {
     let mut ended = String::new(alloc);
     for line in text.lines() {
@@ -79,7 +78,6 @@ fn with_ends(alloc: Global, text: &str, end: &str) -> Result<String, AllocError>
     Ok(ended)
 }
 
-/// Compares a mode with its duration, its request and its consumption.
 fn compare_mode(rt: &impl Abort, mode: &Mode, numbers: &[u32; 3]) {
     let [duration, request, consumption] = *numbers;
     assert!(rt; mode.duration == duration);
@@ -87,7 +85,6 @@ fn compare_mode(rt: &impl Abort, mode: &Mode, numbers: &[u32; 3]) {
     assert!(rt; mode.nonrenewable.as_slice() == [consumption].as_slice());
 }
 
-/// Compares the successors and the modes of an activity with these.
 fn compare_activity(
     rt: &impl Abort,
     project: &Project,
@@ -106,7 +103,7 @@ fn compare_activity(
     }
 }
 
-/// Asserts that this is the diamond with a capacity of 3 and a stock of 1.
+/// The diamond has a capacity of 3 and a stock of 1.
 pub(crate) fn compare_diamond(rt: &impl Abort, project: &Project) {
     assert!(rt; project.size() == 4 && project.horizon() == 7);
     assert!(rt; project.renewable() == [3].as_slice());
@@ -159,7 +156,7 @@ fn texts_of_faults(rt: HostRuntime) -> Result<(), Fail> {
     Ok(())
 }
 
-/// With each growth refused in turn: want of memory or the same answer, and never another.
+/// Each growth is refused in turn: the answer is want of memory, or it does not change.
 #[test]
 fn want_of_memory(rt: HostRuntime) {
     match read(rt.alloc(), SPLIT.as_bytes()) {

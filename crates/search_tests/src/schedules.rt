@@ -10,8 +10,7 @@ fn numbers(alloc: Global, items: &[u32]) -> Result<Sequence<u32>, AllocError> {
     Ok(Sequence::from(Vec::from_slice(alloc, items)?))
 }
 
-/// A project with its capacities, the modes and the starts of a schedule, and what the check tells
-/// of it.
+/// A project with its capacities, the modes and starts of a schedule, and the result of `check`.
 type Line = (
     &'static str,
     &'static str,
@@ -103,11 +102,10 @@ const SCHEDULES: [Line; 14] = [
         Err(Breach::Renewable(1, 7)),
     ),
     (DIAMOND, "3 1", &[1, 1, 1, 1], &[0, 5, 8, 10], Ok(10)),
-    // What takes no time uses nothing.
+    // An activity that takes no time uses nothing.
     (LONE_ASKING, "3", &[1], &[5], Ok(5)),
 ];
 
-/// The schedule of these modes and starts.
 fn schedule_of(alloc: Global, modes: &[u32], starts: &[u32]) -> Result<Schedule, AllocError> {
     let modes = numbers(alloc, modes)?;
     let starts = numbers(alloc, starts)?;
@@ -155,7 +153,7 @@ fn compare_capacities(rt: &impl Abort, project: &Project, capacity: u32, stock: 
     assert!(rt; project.capacity(0) == capacity && project.stock(0) == stock);
 }
 
-/// The last mode of the third activity by places, and what comes before what.
+/// The last mode of the third activity by places, and the precedences.
 fn compare_places(rt: &impl Abort, project: &Project) {
     assert!(rt; 2 < project.size());
     assert!(rt; project.precedes(0, 2) && !project.precedes(2, 0));
@@ -178,7 +176,6 @@ fn readers_by_place(rt: HostRuntime) {
     compare_requests(&rt, &project);
 }
 
-/// A project of one activity of one mode, and of a nonrenewable resource.
 fn alone(
     alloc: Global,
     duration: u32,

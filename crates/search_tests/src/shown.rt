@@ -1,4 +1,3 @@
-//! What a search shows, summed up.
 ghost use Rattle.quanta_till.specs.Lease.{IsEmpty};
 
 use mrcpsp::{Project, Schedule, check};
@@ -10,7 +9,7 @@ use std::process::Abort;
 use strategy::{Kind, Plan, Strategy};
 use tree_search::TreeSearch;
 
-/// How many nodes there were, and a sum over all that was shown after each of them.
+/// A `Shown` is the number of nodes, and a sum over all that was shown after each of them.
 #[derive(Clone, Copy, Debug, PartialEq, Eq)]
 pub(crate) struct Shown {
     pub(crate) nodes: u64,
@@ -23,7 +22,7 @@ impl Shown {
         self.sum = self.sum.wrapping_mul(31).wrapping_add(value);
     }
 
-    /// A schedule: 1 more than its makespan, and then the modes and starts by rising activity.
+    /// Adds 1 more than the makespan, and then modes and starts by rising activity.
     fn add_schedule(&mut self, project: &Project, schedule: &Schedule) {
         let makespan = check(project, schedule).unwrap_or(0);
         self.add(makespan.wrapping_add(1));
@@ -34,7 +33,7 @@ impl Shown {
         }
     }
 
-    /// What a search shows after a node: its best schedule or 0, and 1 where it is closed, else 0.
+    /// Adds the best schedule or 0, and 1 if the search is closed, else 0.
     fn add_node<S: Strategy>(&mut self, search: &S) {
         match search.best() {
             Some(schedule) => self.add_schedule(&search.plan().project, schedule),
@@ -44,7 +43,6 @@ impl Shown {
         self.nodes = self.nodes.wrapping_add(1);
     }
 
-    /// Runs a search that has run nothing, for at most so many nodes.
     fn add_search<S: Strategy>(&mut self, search: &mut S, most: u32) {
         if search.closed() || search.nodes() != 0 || search.left() != 0 {
             return;
@@ -59,7 +57,6 @@ impl Shown {
         }
     }
 
-    /// Runs the search that was made, for at most so many nodes.
     fn add_made<S: Strategy>(&mut self, rt: &impl Abort, made: Result<S, Refused>, most: u32) {
         match made {
             Ok(mut search) => self.add_search(&mut search, most),
@@ -67,7 +64,6 @@ impl Shown {
         }
     }
 
-    /// Makes the search of a plan and runs it.
     fn add_run(&mut self, rt: &impl Abort, alloc: Global, plan: Plan, lease: Lease, most: u32)
         requires { IsEmpty lease }
     {
@@ -78,7 +74,6 @@ impl Shown {
         }
     }
 
-    /// Runs the search of a kind for a project, for at most so many nodes.
     pub(crate) fn add_kind(
         &mut self,
         rt: &impl Abort,

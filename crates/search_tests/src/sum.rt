@@ -1,7 +1,4 @@
-//! A sum over numbers.
-
-/// How many there were of what is counted, and a sum over all numbers: the sum h becomes h * 31 +
-/// number modulo 2^32.
+/// A `Sum` is a count, and a sum over numbers: h becomes h * 31 + number modulo 2^32.
 #[derive(Clone, Copy, Debug, PartialEq, Eq)]
 pub(crate) struct Sum {
     pub(crate) count: u32,

@@ -2,7 +2,6 @@
 use mrcpsp::Project;
 use serial_sgs::{Board, Placement};
 
-/// The period in which a placed activity has finished.
 fn finish(project: &Project, place: Placement) -> u32 {
     if project.size() <= place.activity || project.mode_count(place.activity) <= place.mode {
         return 0;
@@ -12,7 +11,6 @@ fn finish(project: &Project, place: Placement) -> u32 {
         .saturating_add(project.duration(place.activity, place.mode))
 }
 
-/// What a placed activity uses of a renewable resource in a period.
 fn load(project: &Project, place: Placement, resource: usize, time: u32) -> u32 {
     if project.size() <= place.activity || project.mode_count(place.activity) <= place.mode {
         return 0;
@@ -23,7 +21,6 @@ fn load(project: &Project, place: Placement, resource: usize, time: u32) -> u32 
     project.request(place.activity, place.mode, resource)
 }
 
-/// What the placed activities leave of a renewable resource in a period.
 fn left(board: &Board, resource: usize, time: u32) -> u32 {
     if board.project().renewables() <= resource {
         return 0;
@@ -35,7 +32,6 @@ fn left(board: &Board, resource: usize, time: u32) -> u32 {
     left
 }
 
-/// Whether there is room for the activity in a period.
 fn has_room(board: &Board, own: Placement, time: u32) -> bool {
     for resource in 0..board.project().renewables() {
         if left(board, resource, time) < load(board.project(), own, resource, time) {
@@ -45,7 +41,6 @@ fn has_room(board: &Board, own: Placement, time: u32) -> bool {
     true
 }
 
-/// Whether the placed predecessors of the activity have finished by its start.
 fn is_ready(board: &Board, own: Placement) -> bool {
     for place in board.placed() {
         let size = board.project().size();
@@ -60,7 +55,6 @@ fn is_ready(board: &Board, own: Placement) -> bool {
     true
 }
 
-/// Whether the activity may start when it does.
 fn may_start(board: &Board, own: Placement) -> bool {
     for time in own.start..finish(board.project(), own) {
         if !has_room(board, own, time) {
@@ -70,7 +64,7 @@ fn may_start(board: &Board, own: Placement) -> bool {
     is_ready(board, own)
 }
 
-/// The first period, from `from` on and before 10,000, in which the activity may start, or none.
+/// The first period in `[from, 10,000)` in which the activity may start.
 pub(crate) fn first_start(board: &Board, activity: usize, mode: usize, from: u32) -> Option<u32> {
     for start in from..10_000 {
         let own = Placement {

@@ -1,17 +1,14 @@
-//! The values of activities, and the bounds of projects.
 use crate::fixtures::{CHAIN, DIAMOND, FORK, LONE, SEVEN, STARVED, project};
 use measures::Measures;
 use std::alloc::Global;
 use std::process::Abort;
 
-/// The values of a project's activities.
 fn measures_of(rt: &impl Abort, alloc: Global, text: &str, capacities: &str) -> Measures {
     let project = project(rt, alloc, text, capacities);
     Measures::of(alloc, &project).expect(rt, "no memory for values")
 }
 
-/// Compares the values of an activity: its tail, latest finish time, number of followers and
-/// shortest duration.
+/// `values` are the tail, latest finish time, number of followers and shortest duration.
 fn compare(rt: &impl Abort, measures: &Measures, activity: usize, values: &[u32; 4]) {
     let [tail, lft, mts, shortest] = *values;
     assert!(rt; activity < measures.count());
@@ -30,8 +27,8 @@ fn values_of_the_diamond(rt: HostRuntime) {
     }
 }
 
-/// A project, its capacities and its bound, the longest chain by shortest durations. In the seven
-/// the fourth activity follows the first, and takes 6 after 2.
+/// A project, its capacities and its bound. In `SEVEN` the fourth activity follows the first, and
+/// takes 6 after 2.
 const BOUNDS: [(&str, &str, u32); 6] = [
     (DIAMOND, "3 1", 3),
     (STARVED, "3 0", 3),

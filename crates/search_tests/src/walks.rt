@@ -14,11 +14,11 @@ use std::process::Abort;
 use strategy::{Kind, Plan, Strategy, Verdict};
 use tree_search::TreeSearch;
 
-/// The modes and the starts of the best schedule, none where there is none.
+/// The modes and the starts of the best schedule.
 type BestLists = (&'static [u32], &'static [u32]);
 
-/// A project with its capacities, a kind, up to which node the search has which best schedule, and
-/// the verdict after the last of these nodes. A search that is going is not closed.
+/// A project with its capacities, a kind, the best schedule up to some nodes, and the last verdict.
+/// A search that is going is not closed.
 type Walk = (
     &'static str,
     &'static str,
@@ -29,9 +29,9 @@ type Walk = (
 
 const NONE: BestLists = (&[], &[]);
 
-/// The precedence tree to its end, and for some of its nodes. It ends too where its best schedule
-/// is as short as the bound: in the fork that is so where two may run at once. What takes no time
-/// takes nothing, however much it asks for.
+/// The precedence tree to its end, and for some nodes. It ends early if its best schedule is as
+/// short as the bound: in the fork if two activities may run at once. An activity that takes no
+/// time takes nothing, whatever it requests.
 const TREES: [Walk; 8] = [
     (
         DIAMOND,
@@ -97,8 +97,8 @@ const TREES: [Walk; 8] = [
     ),
 ];
 
-/// A pass by each rule: a longer mode where the stock is gone, void passes, and one that is given
-/// up. That of the chain is as short as the bound.
+/// A pass by each rule: a longer mode if the stock is gone, void passes, and one that is given up.
+/// That of the chain is as short as the bound.
 const RULES: [Walk; 19] = [
     (
         DIAMOND,
@@ -211,8 +211,8 @@ const RULES: [Walk; 19] = [
     (DIAMOND, "3 1", Kind::RuleLft, &[(1, NONE)], Verdict::Going),
 ];
 
-/// Drawn passes, of which some or all are void. A later schedule that is as long as the first
-/// changes nothing, and one that is as short as the bound ends the search.
+/// Drawn passes, of which some or all are void. A later schedule of equal length changes nothing.
+/// One that is as short as the bound ends the search.
 const SAMPLES: [Walk; 10] = [
     (
         CHAIN,
@@ -302,7 +302,6 @@ const SAMPLES: [Walk; 10] = [
     ),
 ];
 
-/// The modes and the starts of a schedule.
 fn shown(best: Option<&Schedule>) -> (&[u32], &[u32]) {
     match best {
         Some(best) => (best.modes.as_slice(), best.starts.as_slice()),
@@ -310,14 +309,13 @@ fn shown(best: Option<&Schedule>) -> (&[u32], &[u32]) {
     }
 }
 
-/// Funds three nodes, unless the search is over or holds so many quanta.
+/// Funds three nodes, unless the search is over, holds three quanta or has run 1,000 nodes.
 fn fund<S: Strategy>(search: &mut S) {
     if !search.closed() && search.nodes() < 1_000 && search.left() < 3 {
         search.fund(3);
     }
 }
 
-/// Runs a node, unless the search is over.
 fn step<S: Strategy>(search: &mut S) {
     fund(search);
     if !search.closed() && 0 < search.left() {
@@ -325,7 +323,6 @@ fn step<S: Strategy>(search: &mut S) {
     }
 }
 
-/// Runs nodes up to this number, and compares the best schedule after each.
 fn run<S: Strategy>(rt: &impl Abort, search: &mut S, last: u64, best: BestLists) {
     for _ in search.nodes()..last {
         assert!(rt; !search.closed() && search.verdict() == Verdict::Going);
@@ -335,7 +332,7 @@ fn run<S: Strategy>(rt: &impl Abort, search: &mut S, last: u64, best: BestLists)
     assert!(rt; search.nodes() == last);
 }
 
-/// Takes the best schedule. From then on the search has none and is over; the rest stays.
+/// From then on the search has no best schedule and is over; the rest stays.
 fn take<S: Strategy>(rt: &impl Abort, search: &mut S, best: BestLists, verdict: Verdict) {
     let nodes = search.nodes();
     let taken = search.take_best();
@@ -344,7 +341,7 @@ fn take<S: Strategy>(rt: &impl Abort, search: &mut S, best: BestLists, verdict: 
     assert!(rt; search.nodes() == nodes && search.verdict() == verdict);
 }
 
-/// Compares the words of a till of 100 quanta with these.
+/// For a till of 100 quanta.
 fn compare(rt: &impl Abort, words: TillWords, pool: u64, spent: u64) {
     let wanted = TillWords {
         pool,
@@ -354,8 +351,7 @@ fn compare(rt: &impl Abort, words: TillWords, pool: u64, spent: u64) {
     assert!(rt; words == wanted);
 }
 
-/// Funds a search that has run nothing, and settles it: it holds nothing, and the till has all of
-/// it again.
+/// The search has run nothing: the till has all its quanta again.
 fn settle<S: Strategy>(rt: &impl Abort, search: &mut S, till: &Till, desk: &mut Desk)
     requires { desk.old.id ≡ till.now.id }
     ensures { desk.new.id ≡ desk.old.id }
@@ -367,7 +363,7 @@ fn settle<S: Strategy>(rt: &impl Abort, search: &mut S, till: &Till, desk: &mut 
     compare(rt, till.words(desk), 100, 0);
 }
 
-/// Drops a search: what it holds goes back.
+/// The quanta that the search holds go back.
 fn end<S: Strategy>(rt: &impl Abort, search: S, till: &Till, desk: &mut Desk)
     requires { desk.old.id ≡ till.now.id }
 {
@@ -379,7 +375,7 @@ fn end<S: Strategy>(rt: &impl Abort, search: S, till: &Till, desk: &mut Desk)
     compare(rt, till.words(desk), 100 - nodes, nodes);
 }
 
-/// Runs a search by a line, and takes its best schedule at the end.
+/// Takes the best schedule at the end.
 fn follow<S: Strategy>(rt: &impl Abort, search: &mut S, line: &Walk) {
     let mut best = NONE;
     for (last, next) in line.3 {
@@ -391,7 +387,6 @@ fn follow<S: Strategy>(rt: &impl Abort, search: &mut S, line: &Walk) {
     take(rt, search, best, line.4);
 }
 
-/// Walks through a search that has run nothing, and drops it.
 fn walk<S: Strategy>(rt: &impl Abort, mut search: S, till: &Till, desk: &mut Desk, line: &Walk)
     requires { desk.old.id ≡ till.now.id }
 {
@@ -400,7 +395,7 @@ fn walk<S: Strategy>(rt: &impl Abort, mut search: S, till: &Till, desk: &mut Des
     end(rt, search, till, desk);
 }
 
-/// Where a search is refused for want of memory, its lease comes back as it was.
+/// Without memory for a search, its lease comes back as it was.
 fn give_back(rt: &impl Abort, lease: Lease, till: &Till, desk: &mut Desk)
     requires { desk.old.id ≡ till.now.id }
 {
@@ -409,7 +404,6 @@ fn give_back(rt: &impl Abort, lease: Lease, till: &Till, desk: &mut Desk)
     compare(rt, till.words(desk), 100, 0);
 }
 
-/// Walks through the search of a plan.
 fn search(
     rt: &impl Abort,
     alloc: Global,
@@ -438,7 +432,6 @@ fn search(
     }
 }
 
-/// Makes a search and walks through it.
 fn walk_once(rt: &impl Abort, alloc: Global, line: &Walk) {
     let (till, mut desk) = Till::new(alloc, 3, 100).expect(rt, "no memory for a till");
     let lease = till.lease(&mut desk, 3).expect(rt, "no memory for a lease");

@@ -1,5 +1,4 @@
--- What each mode takes, as a row of numbers for as many resources of either kind as a project may have: those that it does
--- not have stand at 0.
+-- What each mode takes, as a row of `MOST_RESOURCES` numbers: 0 for a resource that is not there.
 use Rattle.std.specs.Prelude.{◌≡◌, ℕ, ◌+◌, ◌<◌, false, List, [], length, get_or}
 use Rattle.mrcpsp.specs.declared.limits.TheConstants.{MOST_RESOURCES}
 use Rattle.mrcpsp.specs.Project.{ProjectData, size, mode_count, duration, request, consumption, capacity, stock}
@@ -8,10 +7,12 @@ use Rattle.mrcpsp.specs.Placed.{is_executable}
 use Rattle.serial_sgs.specs.declared.rows.ModeRow.{ModeRow}
 use Rattle.serial_sgs.specs.declared.rows.Rows.{Rows}
 
+-- the default for a missing mode
 abbrev pub no_row : ModeRow
 no_row = record { extra = []; request = []; duration = 0; is_executable = false }
 
--- it says what the project says of mode m of activity j, and its consumption beyond the least of the activity
+-- the row of mode m of activity j: its requests, its duration, and its consumption beyond the
+-- activity's least one
 pub record IsRow (p : ProjectData) (j m : ℕ) (row : ModeRow) : Type 0 where
   pub extra : (r : ℕ) → r < MOST_RESOURCES → get_or row.extra r 0 + least p j r ≡ consumption p j m r
   pub request : (r : ℕ) → r < MOST_RESOURCES → get_or row.request r 0 ≡ request p j m r
@@ -23,11 +24,12 @@ pub record AreRows (p : ProjectData) (j bound : ℕ) (rows : List ModeRow) : Typ
   pub count : length rows ≡ bound
   pub each : (m : ℕ) → m < bound → IsRow p j m (get_or rows m no_row)
 
+-- rows for each of the first activities
 pub record HasRows (p : ProjectData) (bound : ℕ) (table : List (List ModeRow)) : Type 0 where
   pub count : length table ≡ bound
   pub each : (j : ℕ) → j < bound → AreRows p j (mode_count p j) (get_or table j [])
 
--- a row for each mode of each activity, and what there is of each resource
+-- a row for each mode of each activity, and the capacity of each resource
 pub record IsTable (p : ProjectData) (table : Rows) : Type 0 where
   pub rows : HasRows p (size p) table.rows.items
   pub capacities : (r : ℕ) → r < MOST_RESOURCES → get_or table.capacities r 0 ≡ capacity p r

@@ -1,21 +1,19 @@
-//! Amounts of as many resources as a project has at most of either kind: those that it does not have stand at 0. All are
-//! taken at once, since that is one step of the machine for four of them. Sums are made in a copy:
-//! the compiler does not know that two references are of different amounts.
+//! Amounts of `MOST_RESOURCES` resources, 0 for each that a project does not have. They are taken
+//! at once: that is one step of the machine for four of them. Sums are made in a copy, since the
+//! compiler does not know that two references differ.
 ghost use Rattle.std.specs.Prelude.{◌≡◌, ℕ, ◌+◌, ◌<◌, ◌≤◌, ◌↔◌, IsTrue, slice_index};
 
 use mrcpsp::MOST_RESOURCES;
 
-/// An amount of each resource.
 pub(crate) type Amounts = [u32; MOST_RESOURCES];
 
-/// The most that two amounts that are added may come to, below `GUARD`. It is enough: of a nonrenewable resource at most
-/// `MOST_AMOUNT` is needed for each activity, and of a renewable one at most its capacity is used in a period.
+/// The most of a sum, below `GUARD`. It is enough: a nonrenewable resource needs at most
+/// `MOST_AMOUNT` for each activity, a renewable one at most its capacity in a period.
 pub(crate) const MOST_SUM: u32 = 2_000_000_000;
 
-/// The highest bit. A difference of two amounts has it where more is taken away than there is.
+/// The highest bit. A difference has it if more is subtracted than there is.
 const GUARD: u32 = 1 << 31;
 
-/// Adds these amounts to those.
 pub(crate) fn add(amounts: &mut Amounts, more: &Amounts)
     requires few { (r : ℕ) → r < MOST_RESOURCES → slice_index amounts.old r + slice_index more.now r ≤ MOST_SUM }
     ensures { (r : ℕ) → r < MOST_RESOURCES
@@ -28,7 +26,6 @@ pub(crate) fn add(amounts: &mut Amounts, more: &Amounts)
     *amounts = sums;
 }
 
-/// Takes these amounts away from those.
 pub(crate) fn subtract(amounts: &mut Amounts, less: &Amounts)
     requires enough { (r : ℕ) → r < MOST_RESOURCES → slice_index less.now r ≤ slice_index amounts.old r }
     ensures { (r : ℕ) → r < MOST_RESOURCES
@@ -41,7 +38,7 @@ pub(crate) fn subtract(amounts: &mut Amounts, less: &Amounts)
     *amounts = rests;
 }
 
-/// Whether these amounts are within the most of each, with so much more of each.
+/// Whether `amounts + more` is at most `most`, for each resource.
 pub(crate) fn fits(amounts: &Amounts, more: &Amounts, most: &Amounts) -> bool
     requires few { (r : ℕ) → r < MOST_RESOURCES → slice_index amounts.now r + slice_index more.now r ≤ MOST_SUM }
     requires most { (r : ℕ) → r < MOST_RESOURCES → slice_index most.now r ≤ MOST_SUM }
@@ -55,7 +52,6 @@ pub(crate) fn fits(amounts: &Amounts, more: &Amounts, most: &Amounts) -> bool
     over < GUARD
 }
 
-/// Whether these amounts are the same as those.
 pub(crate) fn are_same(one: &Amounts, other: &Amounts) -> bool
     ensures { IsTrue result ↔ ((r : ℕ) → r < MOST_RESOURCES → slice_index one.now r ≡ slice_index other.now r) }
 {

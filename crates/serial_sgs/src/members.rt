@@ -2,7 +2,6 @@
 ghost use Rattle.std.specs.Prelude.{◌≡◌, ℕ, ◌*◌, ◌<◌, ◌≤◌, true, false, MatchOption};
 ghost use Rattle.serial_sgs.specs.Members.{has, IsNext, IsOver};
 
-/// Puts an activity in.
 pub(crate) fn put_in(words: &mut [u64; 4], activity: usize)
     requires { activity < 256 }
     ensures own { has words.new activity ≡ true }
@@ -11,7 +10,6 @@ pub(crate) fn put_in(words: &mut [u64; 4], activity: usize)
     words[activity / 64] |= 1 << (activity % 64);
 }
 
-/// Takes an activity out.
 pub(crate) fn take_out(words: &mut [u64; 4], activity: usize)
     requires { activity < 256 }
     ensures own { has words.new activity ≡ false }
@@ -20,7 +18,6 @@ pub(crate) fn take_out(words: &mut [u64; 4], activity: usize)
     words[activity / 64] &= !(1 << (activity % 64));
 }
 
-/// Puts an activity in where it is to be a member, else takes it out.
 pub(crate) fn keep_in(words: &mut [u64; 4], activity: usize, is_member: bool)
     requires { activity < 256 }
     ensures own { has words.new activity ≡ is_member }
@@ -33,7 +30,6 @@ pub(crate) fn keep_in(words: &mut [u64; 4], activity: usize, is_member: bool)
     }
 }
 
-/// Whether an activity is a member.
 pub(crate) fn is_in(words: &[u64; 4], activity: usize) -> bool
     requires { activity < 256 }
     ensures { result ≡ has words.now activity }
@@ -41,7 +37,7 @@ pub(crate) fn is_in(words: &[u64; 4], activity: usize) -> bool
     (words[activity / 64] >> (activity % 64)) & 1 == 1
 }
 
-/// The least member of the words from `first` on. Words from `end` on are not looked at.
+/// Words from `end` on are not looked at.
 fn first_in(words: &[u64; 4], first: usize, end: usize) -> Option<usize>
     requires first { first ≤ 4 }
     requires end { end ≤ 256 }
@@ -59,7 +55,7 @@ fn first_in(words: &[u64; 4], first: usize, end: usize) -> Option<usize>
     None
 }
 
-/// The least member from an activity on. Words from `end` on are not looked at.
+/// The least member, `from` or later. Words from `end` on are not looked at.
 pub(crate) fn next_in(words: &[u64; 4], from: usize, end: usize) -> Option<usize>
     requires from { from < 256 }
     requires end { end ≤ 256 }

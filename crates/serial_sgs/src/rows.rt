@@ -1,4 +1,4 @@
-//! Rows: what each mode takes, as the scheme asks for it, beside what there is.
+//! What each mode takes, and what there is.
 ghost use Rattle.std.specs.Prelude.{◌≡◌, ℕ, ◌+◌, ◌<◌, ◌≤◌, IfOk, slice_index};
 ghost use Rattle.mrcpsp.specs.Project.{ProjectData, size, mode_count, request, consumption, capacity, stock};
 ghost use Rattle.mrcpsp.specs.Limits.{IsProject};
@@ -13,21 +13,19 @@ use measures::Measures;
 use mrcpsp::{MOST_RESOURCES, Project, Sequence};
 use std::alloc::{AllocError, Global};
 
-/// What an activity takes in a mode. There are numbers for as many resources of either kind as a project may have: those
-/// that it does not have stand at 0.
+/// A `ModeRow` is what an activity takes in a mode, 0 of each resource that is not there.
 #[derive(Clone, Copy, Debug)]
 pub(crate) struct ModeRow {
-    /// What it consumes of each nonrenewable resource beyond the least of the activity.
+    /// The consumption beyond the activity's least one.
     pub(crate) extra: Amounts,
-    /// What it uses of each renewable resource in each of its periods.
+    /// The use in each period of the activity.
     pub(crate) request: Amounts,
-    /// How many periods it takes.
+    /// In periods.
     pub(crate) duration: u32,
     /// Whether it fits into an idle project.
     pub(crate) is_executable: bool,
 }
 
-/// A row for each mode of each activity, and what there is of each resource.
 #[derive(Drop)]
 pub(crate) struct Rows {
     rows: Vec<Sequence<ModeRow>>,
@@ -35,7 +33,6 @@ pub(crate) struct Rows {
     pub(crate) stocks: Amounts,
 }
 
-/// What an activity in a mode requests of each renewable resource.
 fn requests_of(project: &Project, activity: usize, mode: usize) -> Amounts
     requires project { IsProject project.now }
     requires activity { activity < size project.now }
@@ -49,7 +46,6 @@ fn requests_of(project: &Project, activity: usize, mode: usize) -> Amounts
     requests
 }
 
-/// What an activity in a mode consumes of each nonrenewable resource beyond its least.
 fn extras_of(project: &Project, measures: &Measures, activity: usize, mode: usize) -> Amounts
     requires project { IsProject project.now }
     requires measured { measures.now ≡ measures_of project.now }
@@ -68,7 +64,6 @@ fn extras_of(project: &Project, measures: &Measures, activity: usize, mode: usiz
     extras
 }
 
-/// The row of a mode.
 fn row_of(project: &Project, measures: &Measures, activity: usize, mode: usize) -> ModeRow
     requires project { IsProject project.now }
     requires measured { measures.now ≡ measures_of project.now }
@@ -84,7 +79,6 @@ fn row_of(project: &Project, measures: &Measures, activity: usize, mode: usize) 
     }
 }
 
-/// The rows of an activity.
 fn rows_of(
     alloc: Global,
     project: &Project,
@@ -103,7 +97,6 @@ fn rows_of(
     Ok(rows)
 }
 
-/// The rows of each activity.
 fn all_rows(
     alloc: Global,
     project: &Project,
@@ -120,7 +113,6 @@ fn all_rows(
     Ok(table)
 }
 
-/// The capacity of each renewable resource.
 fn capacities_of(project: &Project) -> Amounts
     requires { IsProject project.now }
     ensures { (r : ℕ) → r < MOST_RESOURCES → slice_index result r ≡ capacity project.now r }
@@ -132,7 +124,6 @@ fn capacities_of(project: &Project) -> Amounts
     capacities
 }
 
-/// The stock of each nonrenewable resource.
 fn stocks_of(project: &Project) -> Amounts
     requires { IsProject project.now }
     ensures { (r : ℕ) → r < MOST_RESOURCES → slice_index result r ≡ stock project.now r }
@@ -145,7 +136,6 @@ fn stocks_of(project: &Project) -> Amounts
 }
 
 impl Rows {
-    /// The rows of a project, or an error where there is no memory for them.
     pub(crate) fn of(
         alloc: Global,
         project: &Project,
@@ -162,14 +152,12 @@ impl Rows {
         })
     }
 
-    /// How many activities there are.
     pub(crate) fn size(&self) -> usize
         ensures { (p : ProjectData) → IsTable p self.now → result ≡ size p }
     {
         self.rows.len()
     }
 
-    /// How many modes an activity has.
     pub(crate) fn count(&self, activity: usize) -> usize
         requires { (p : ProjectData) × IsTable p self.now × (activity < size p) }
         ensures { (p : ProjectData) → IsTable p self.now → activity < size p → result ≡ mode_count p activity }
@@ -177,7 +165,6 @@ impl Rows {
         self.rows[activity].as_slice().len()
     }
 
-    /// The row of a mode of an activity.
     pub(crate) fn row(&self, activity: usize, mode: usize) -> &ModeRow
         requires { (p : ProjectData) × IsTable p self.now × (activity < size p) × (mode < mode_count p activity) }
         ensures { (p : ProjectData) → IsTable p self.now → activity < size p → mode < mode_count p activity

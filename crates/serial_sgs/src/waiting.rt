@@ -1,4 +1,3 @@
-//! Who is placed, how many predecessors of each activity are not, and who may come next.
 ghost use Rattle.std.specs.Prelude.{◌≡◌, ◌+◌, ◌-◌, ◌<◌, ◌≤◌, ◌==◌, true, false, All, IfOk, MatchOption, get_or, length, replicate, set};
 ghost use Rattle.serial_sgs.specs.Waiting.{AreOthers, IsFirst, IsLess, IsNextOpen, NoneIsOpen, is_open};
 
@@ -7,8 +6,8 @@ use mrcpsp::{MOST_ACTIVITIES, Sequence};
 use std::alloc::{AllocError, Global};
 use std::marker::Model;
 
-/// A mark and a count of missing predecessors for each activity, and the set of those that may come next: they are not
-/// marked, and miss nobody.
+/// A `Waiting` is a mark and a count of missing predecessors for each activity, with the set of
+/// open ones: not marked, and without a missing predecessor.
 #[derive(Drop)]
 pub(crate) struct Waiting {
     placed: Vec<bool>,
@@ -16,14 +15,12 @@ pub(crate) struct Waiting {
     eligible: [u64; 4],
 }
 
-/// As many zeros.
 pub(crate) fn zeros(alloc: Global, size: usize) -> Result<Vec<u32>, AllocError>
     ensures { IfOk result (λ list. list.items ≡ replicate size 0) }
 {
     Ok(vec![in alloc; 0; size]?)
 }
 
-/// As many marks, all of them set.
 fn all_marked(alloc: Global, size: usize) -> Result<Vec<bool>, AllocError>
     ensures { IfOk result (λ marks. marks.items ≡ replicate size true) }
 {
@@ -41,7 +38,7 @@ impl Model for Waiting {
 }
 
 impl Waiting {
-    /// Nobody is placed, of so many activities with these predecessors; or an error where there is no memory.
+    /// No activity is placed.
     pub(crate) fn new(alloc: Global, before: &[Sequence<u32>]) -> Result<Waiting, AllocError>
         requires few { length before.now ≤ 255 }
         requires short { All (λ list. length list ≤ MOST_ACTIVITIES) before.now }
@@ -59,7 +56,6 @@ impl Waiting {
         Ok(waiting)
     }
 
-    /// Notes of one activity whether it is placed, and how many predecessors it misses.
     fn note(&mut self, activity: usize, is_placed: bool, missing: u32)
         requires { activity < length self.old.flags }
         ensures exact { self.new ≡ record {
@@ -73,7 +69,6 @@ impl Waiting {
         keep_in(&mut self.eligible, activity, !is_placed && missing == 0);
     }
 
-    /// Notes of one activity whether it is placed.
     fn note_placed(&mut self, activity: usize, is_placed: bool)
         requires { activity < length self.old.flags }
         ensures { self.new ≡ record self.old { flags = set self.old.flags activity is_placed } }
@@ -83,7 +78,7 @@ impl Waiting {
         keep_in(&mut self.eligible, activity, is_member);
     }
 
-    /// Notes that an activity misses one predecessor less. It can come next only if it misses none.
+    /// One predecessor less is missing. If none is, and the activity is not placed, it is open.
     fn note_less(&mut self, activity: usize)
         requires inside { activity < length self.old.flags }
         requires some { 0 < get_or self.old.missing activity 0 }
@@ -99,7 +94,7 @@ impl Waiting {
         }
     }
 
-    /// Notes that an activity misses one predecessor more, and cannot come next any more.
+    /// One predecessor more is missing. The activity is not open.
     fn note_more(&mut self, activity: usize)
         requires inside { activity < length self.old.flags }
         requires few { get_or self.old.missing activity 0 < 1000000 }
@@ -115,7 +110,7 @@ impl Waiting {
         }
     }
 
-    /// Nobody is placed any more. These are the predecessors of each activity.
+    /// Is `new` in the memory of an old one.
     pub(crate) fn restart(&mut self, before: &[Sequence<u32>])
         requires count { length before.now ≡ length self.old.flags }
         requires short { All (λ list. length list ≤ MOST_ACTIVITIES) before.now }
@@ -127,14 +122,12 @@ impl Waiting {
         }
     }
 
-    /// How many activities there are.
     pub(crate) fn count(&self) -> usize
         ensures { result ≡ length self.now.flags }
     {
         self.placed.len()
     }
 
-    /// Whether an activity is placed.
     pub(crate) fn is_placed(&self, activity: usize) -> bool
         requires { activity < length self.now.flags }
         ensures { result ≡ get_or self.now.flags activity false }
@@ -142,14 +135,12 @@ impl Waiting {
         self.placed[activity]
     }
 
-    /// The marks of those that are placed.
     pub(crate) fn marks(&self) -> &[bool]
         ensures { result.now ≡ self.now.flags }
     {
         self.placed.as_slice()
     }
 
-    /// Whether an activity may come next.
     pub(crate) fn is_open(&self, activity: usize) -> bool
         requires { activity < length self.now.flags }
         ensures { result ≡ is_open self.now activity }
@@ -157,7 +148,7 @@ impl Waiting {
         is_in(&self.eligible, activity)
     }
 
-    /// The first activity, from one on, that may come next.
+    /// The first open activity, `from` or later.
     pub(crate) fn next_open(&self, from: usize) -> Option<usize>
         requires { from ≤ length self.now.flags }
         ensures { MatchOption result (NoneIsOpen self.now from) (IsNextOpen self.now from) }
@@ -165,7 +156,6 @@ impl Waiting {
         next_in(&self.eligible, from, self.placed.len())
     }
 
-    /// Whether all predecessors of an activity are placed.
     pub(crate) fn misses_none(&self, activity: usize) -> bool
         requires { activity < length self.now.flags }
         ensures { result ≡ (get_or self.now.missing activity 0 == 0) }
@@ -173,7 +163,7 @@ impl Waiting {
         self.missing[activity] == 0
     }
 
-    /// Notes that an activity is placed, for which these wait.
+    /// The activities in `after` wait for this one.
     pub(crate) fn mark(&mut self, activity: usize, after: &[u32])
         requires inside { activity < length self.old.flags }
         requires others { AreOthers (length self.old.flags) after.now }
@@ -187,7 +177,7 @@ impl Waiting {
         }
     }
 
-    /// Takes back that an activity is placed, for which these wait.
+    /// The activities in `after` wait for this one.
     pub(crate) fn unmark(&mut self, activity: usize, after: &[u32])
         requires inside { activity < length self.old.flags }
         requires others { AreOthers (length self.old.flags) after.now }

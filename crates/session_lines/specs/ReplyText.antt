@@ -15,6 +15,7 @@ use Rattle.farm_core.specs.declared.reply.Reply.TheVariants as reply
 use Rattle.session_lines.specs.declared.said.Said.{Said}
 use Rattle.session_lines.specs.declared.said.Said.TheVariants as said
 
+-- the word of a phase
 abbrev pub phase_text : Phase → List ℕ
 phase_text Waiting = codes "waiting"
 phase_text (Out slice) = codes "out"
@@ -23,39 +24,42 @@ phase_text Dry = codes "dry"
 phase_text Closed = codes "closed"
 phase_text Cancelled = codes "cancelled"
 
+-- the word of a verdict
 abbrev pub verdict_text : Verdict → List ℕ
 verdict_text Going = codes "open"
 verdict_text Optimal = codes "optimal"
 verdict_text Infeasible = codes "infeasible"
 verdict_text Ended = codes "ended"
 
--- the makespan of a best schedule, where there is one
+-- the makespan of a best schedule, or `none`
 abbrev pub best_text : Option ℕ → List ℕ
 best_text None = codes "none"
 best_text (Some makespan) = decimal makespan
 
--- what is known of a job, below its number
+-- the status of a job, without its number
 abbrev pub line_text : Line → List ℕ
 line_text line = phase_text line.phase ++ codes " nodes " ++ decimal line.nodes ++ codes " left " ++ decimal line.left ++ codes " best " ++ best_text line.best ++ codes " " ++ verdict_text line.verdict
 
--- the place of activity j: its mode and its start
+-- activity j in a schedule: its number, mode and start
 abbrev pub place_text : ℕ → ℕ → ℕ → List ℕ
 place_text j mode start = codes " " ++ decimal j ++ codes ":" ++ decimal mode ++ codes ":" ++ decimal start
 
--- the places of activities, from number j on
+-- the activities of a schedule, from number j on
 abbrev pub places_text : ℕ → List ℕ → List ℕ → List ℕ
 places_text j [] starts = []
 places_text j (mode ∷ modes) [] = []
 places_text j (mode ∷ modes) (start ∷ starts) = place_text j mode start ++ places_text (j + 1) modes starts
 
--- the places of all activities, where there is a schedule
+-- all activities of a schedule, nothing if there is none
 abbrev pub schedule_text : Option ScheduleData → List ℕ
 schedule_text None = []
 schedule_text (Some schedule) = places_text 1 schedule.modes schedule.starts
 
+-- the ledger of a purse
 abbrev pub book_text : BookData → List ℕ
 book_text book = codes "ledger granted " ++ decimal book.granted ++ codes " free " ++ decimal book.free ++ codes " held " ++ decimal book.held ++ codes " spent " ++ decimal book.spent
 
+-- the text of the farm's reply
 abbrev pub reply_text : Reply → List ℕ
 reply_text (reply.Job seq) = codes "job " ++ decimal seq
 reply_text (reply.Line line) = codes "job " ++ decimal line.seq ++ codes " " ++ line_text line
@@ -72,6 +76,7 @@ reply_text reply.NoJobs = codes "no jobs"
 reply_text (reply.NoShort free) = codes "no short " ++ decimal free
 reply_text reply.NoMemory = codes "no memory"
 
+-- the text of a fault of a submit's file
 abbrev pub file_text : MmFault → List ℕ
 file_text fault.NoMemory = codes "no memory"
 file_text fault = codes "no file " ++ fault_text fault
@@ -85,11 +90,11 @@ said_text said.Syntax = codes "no syntax"
 said_text said.LongLine = codes "no line"
 said_text (said.File fault) = file_text fault
 
--- how a line begins: `@`, and the tenant's name, or a question mark where none is known
+-- the beginning of a line: `@` and the tenant's name, or `@?` if it is not known
 abbrev pub who_text : Option (List ℕ) → List ℕ
 who_text None = codes "@? "
 who_text (Some name) = codes "@" ++ name ++ codes " "
 
--- the line of a reply
+-- the line of a reply, with its line feed
 abbrev pub reply_line : Option (List ℕ) → Said → List ℕ
 reply_line who said = who_text who ++ said_text said ++ 10 ∷ []

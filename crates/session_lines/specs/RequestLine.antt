@@ -15,32 +15,35 @@ use Rattle.session_lines.specs.declared.line.LineMeaning.TheVariants.{Blank, Who
 abbrev pub number_in : List ℕ → Option ℕ
 number_in word = if nat_le (length word) MOST_DIGITS then number_of word else None
 
+-- the tenant's name that a word is
 abbrev pub name_in : List ℕ → Option (List ℕ)
 name_in word = if is_name word then Some word else None
 
--- whose request it is: `@` and a name
+-- the tenant of a line that begins with `@` and a name
 abbrev pub tenant_in : List ℕ → Option (List ℕ)
 tenant_in [] = None
 tenant_in (b ∷ name) = if b == 64 then name_in name else None
 
--- the number that these words are, and the two
+-- the number of exactly one word
 abbrev pub one_number : List (List ℕ) → Option ℕ
 one_number [] = None
 one_number (a ∷ []) = number_in a
 one_number (a ∷ b ∷ more) = None
 
+-- two numbers, if both are there
 abbrev pub pair_of : Option ℕ → Option ℕ → Option (ℕ × ℕ)
 pair_of None b = None
 pair_of (Some a) None = None
 pair_of (Some a) (Some b) = Some (a, b)
 
+-- the numbers of exactly two words
 abbrev pub two_numbers : List (List ℕ) → Option (ℕ × ℕ)
 two_numbers [] = None
 two_numbers (a ∷ []) = None
 two_numbers (a ∷ b ∷ []) = pair_of (number_in a) (number_in b)
 two_numbers (a ∷ b ∷ c ∷ more) = None
 
--- how a project is to be searched
+-- the kind of search that a word names
 abbrev pub kind_in : List ℕ → Option Kind
 kind_in word =
     if is_same word (codes "tree") then Some Tree
@@ -50,7 +53,7 @@ kind_in word =
     else if is_same (take 7 word) (codes "sample:") then option_map Sample (number_in (drop 7 word))
     else None
 
--- what a tenant asks for, but for a submit
+-- a tenant's request other than a submit
 abbrev pub what_in : List ℕ → List (List ℕ) → Option What
 what_in verb words =
     if is_same verb (codes "fund") then option_map (λ (p : ℕ × ℕ). Fund p.0 p.1) (two_numbers words)
@@ -61,7 +64,7 @@ what_in verb words =
     else if is_same verb (codes "ledger") && (length words == 0) then Some Ledger
     else None
 
--- what a worker is asked for
+-- a request for a turn
 abbrev pub turn_in : List ℕ → List (List ℕ) → Option What
 turn_in verb words =
     if is_same verb (codes "take") then option_map (λ (p : ℕ × ℕ). Take p.0 p.1) (two_numbers words)
@@ -69,13 +72,14 @@ turn_in verb words =
     else if is_same verb (codes "turn") then option_map (λ (p : ℕ × ℕ). Turn p.0 p.1) (two_numbers words)
     else None
 
--- a submit: how its project is searched, its quanta, and how many lines its text has, 1 to 20,000
+-- a submit: its kind, its quanta, and the lines of its text, 1 to 20,000
 abbrev pub submit_of : Option Kind → Option ℕ → Option ℕ → Option (Kind × ℕ × ℕ)
 submit_of None quanta lines = None
 submit_of (Some kind) None lines = None
 submit_of (Some kind) (Some quanta) None = None
 submit_of (Some kind) (Some quanta) (Some lines) = if nat_le 1 lines && nat_le lines MOST_LINES then Some (kind, quanta, lines) else None
 
+-- a submit, from exactly three words
 abbrev pub submit_in : List (List ℕ) → Option (Kind × ℕ × ℕ)
 submit_in [] = None
 submit_in (kind ∷ []) = None
@@ -83,38 +87,42 @@ submit_in (kind ∷ quanta ∷ []) = None
 submit_in (kind ∷ quanta ∷ lines ∷ []) = submit_of (kind_in kind) (number_in quanta) (number_in lines)
 submit_in (kind ∷ quanta ∷ lines ∷ other ∷ more) = None
 
+-- the meaning of tenant `who`'s submit line, if its words are a submit
 abbrev pub opens : List ℕ → Option (Kind × ℕ × ℕ) → LineMeaning
 opens who None = Bad (Some who)
 opens who (Some submit) = Opens (record { who = who; kind = submit.0; quanta = submit.1; lines = submit.2 })
 
+-- the meaning of tenant `who`'s other line, if its words are a request
 abbrev pub asks : List ℕ → Option What → LineMeaning
 asks who None = Bad (Some who)
 asks who (Some what) = Whole (record { who = who; what = what })
 
--- a tenant's line, below its name
+-- the meaning of a tenant's line, after its name
 abbrev pub own_line : List ℕ → List (List ℕ) → LineMeaning
 own_line who [] = Bad (Some who)
 own_line who (verb ∷ words) = if is_same verb (codes "submit") then opens who (submit_in words) else asks who (what_in verb words)
 
+-- the meaning of a turn's line, if its words are a name and a request
 abbrev pub turn_for : Option (List ℕ) → Option What → LineMeaning
 turn_for None what = Bad None
 turn_for (Some who) None = Bad None
 turn_for (Some who) (Some what) = Whole (record { who = who; what = what })
 
--- a worker's line
+-- the meaning of a turn's line, which begins with its verb
 abbrev pub turn_line : List ℕ → List (List ℕ) → LineMeaning
 turn_line verb [] = Bad None
 turn_line verb (name ∷ words) = turn_for (name_in name) (turn_in verb words)
 
+-- the meaning of a line: a tenant's if it begins with `@` and a name, else a turn's
 abbrev pub line_for : Option (List ℕ) → List ℕ → List (List ℕ) → LineMeaning
 line_for None first words = turn_line first words
 line_for (Some who) first words = own_line who words
 
--- what a line of these words means
+-- the meaning of a line of these words
 abbrev pub meaning_in : List (List ℕ) → LineMeaning
 meaning_in [] = Blank
 meaning_in (first ∷ words) = line_for (tenant_in first) first words
 
--- what a line means, without its end
+-- the meaning of a line without its end
 abbrev pub meaning_of : List ℕ → LineMeaning
 meaning_of line = meaning_in (words_of line)

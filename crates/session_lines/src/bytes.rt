@@ -1,4 +1,4 @@
-//! Lines of a reader, with no memory: the place of a line's end, and lines that no buffer holds whole.
+//! Lines of a reader without memory: a line's end, and lines that no buffer holds whole.
 ghost use Rattle.std.specs.Prelude.{◌≡◌, ◌≢◌, ◌<◌, true, false, not, ◌&&◌, ◌||◌, ◌==◌, take, [], ◌∷◌, ◌++◌, All, IfOk, IfSome, OnErr, length};
 ghost use Rattle.std.specs.List.{position};
 ghost use Rattle.watched_io.specs.Failure.{HasFailed, IsNotedAtMostOnce};
@@ -12,26 +12,25 @@ use arrayvec::ArrayVec;
 use std::io::BufRead;
 use watched_io::{Watch, fill};
 
-/// The reader failed, or more bytes came than may.
+/// A `ReadFault` is a failed read, or more bytes than may come.
 #[derive(Clone, Copy, Debug, PartialEq, Eq)]
 pub struct ReadFault;
 
-/// As many bytes of a line as it takes to tell a long one: one more than it may have, a carriage return and a line feed.
+/// The bytes of a line that show that it is too long: one more than it may have, and its end of
+/// two.
 pub const KEPT_OF_LINE: usize = LONGEST + 3;
 
-/// A line that is gathered: its first bytes, with its end where that is among them.
+/// A `Line` is a line that is gathered: its first bytes, with its end if that is among them.
 #[derive(Debug, Drop)]
 pub struct Line {
-    /// The first `KEPT_OF_LINE` bytes.
     pub kept: ArrayVec<u8, KEPT_OF_LINE>,
-    /// Whether there is no byte of a word, of all bytes of the line without its end.
+    /// Whether the line, without its end, has no byte of a word.
     pub is_blank: bool,
     /// Whether the last byte is a carriage return.
     returns: bool,
 }
 
 impl Line {
-    /// A line of no bytes.
     pub fn new() -> Line
         ensures kept { result.kept.items ≡ [] }
         ensures blank { result.is_blank ≡ true }
@@ -44,7 +43,6 @@ impl Line {
         }
     }
 
-    // One more byte, or its line feed.
     fn keep(&mut self, byte: u8)
         ensures kept { self.new.kept.items ≡ take KEPT_OF_LINE (self.old.kept.items ++ byte ∷ []) }
         ensures blank { self.new.is_blank ≡ self.old.is_blank }
@@ -55,7 +53,6 @@ impl Line {
         }
     }
 
-    // One more byte that is no line feed.
     fn push(&mut self, byte: u8)
         ensures kept { self.new.kept.items ≡ take KEPT_OF_LINE (self.old.kept.items ++ byte ∷ []) }
         ensures blank { self.new.is_blank
@@ -67,7 +64,6 @@ impl Line {
         self.returns = byte == b'\r';
     }
 
-    // More bytes, of which none is a line feed.
     fn extend(&mut self, bytes: &[u8])
         ensures { All (λ x. x ≢ 10) bytes.now → Extends bytes.now self.old self.new }
     {
@@ -77,18 +73,16 @@ impl Line {
     }
 }
 
-/// What a reader gives of a line.
+/// A `Piece` is what a reader shows of a line at once.
 #[derive(Clone, Copy, Debug, PartialEq, Eq)]
 pub enum Piece {
-    /// Nothing: the input is at its end.
     End,
-    /// Bytes of it, and not its line feed.
+    /// Bytes of the line without its line feed.
     Inside,
-    /// Bytes of it up to its line feed, which is taken too.
+    /// Bytes of the line up to its line feed, which is taken too.
     Last,
 }
 
-/// Where the first line feed is.
 pub fn feed_place(bytes: &[u8]) -> Option<usize>
     ensures place { result ≡ position is_line_feed bytes.now }
     ensures within { IfSome result (λ place. place < length bytes.now) }
@@ -96,7 +90,6 @@ pub fn feed_place(bytes: &[u8]) -> Option<usize>
     bytes.iter().position(|byte| *byte == b'\n')
 }
 
-// Adds to the line what the reader shows, up to a line feed.
 fn take_piece<R: BufRead>(
     reader: &mut R,
     watch: &mut Watch<R>,
@@ -135,7 +128,7 @@ fn take_piece<R: BufRead>(
     Ok(Piece::Last)
 }
 
-/// Gathers the next line. `false` where there is none: the input is at its end.
+/// Gathers the next line. Returns `false` at the end of the input.
 pub fn gather_line<R: BufRead>(
     reader: &mut R,
     watch: &mut Watch<R>,

@@ -1,10 +1,10 @@
 //! The lines of a session: which requests a script's bytes are, and the bytes of each reply.
 //!
-//! [`read_request`] takes exactly the bytes of the next request, and returns what the definition
-//! makes of them (`specs/Script`): a request, the named fault of its line, or the end.
-//! [`write_reply`] writes exactly the line of a reply (`specs/ReplyText`), or a front part of it if
-//! the writer fails. Each goes through the watch of its stream, and reports a failed read or write
-//! only if one has failed (`specs/Cause`). Only the text of a submit takes memory.
+//! [`read_request`] takes exactly the bytes of the next request, and returns what `specs/Script`
+//! makes of them: a request, the named fault of its line, or the end. [`write_reply`] writes
+//! exactly the line of a reply (`specs/ReplyText`), or a prefix of it if the writer fails. Both
+//! report a failed read or write only if one has failed (`specs/Cause`). Only the text of a submit
+//! takes memory.
 //!
 //! - `bytes`, `words`: lines of a reader with their first bytes; words and numbers of a line.
 //! - `line`, `text`: what one line means; the text of a submit while its lines come.

@@ -7,34 +7,27 @@ use crate::words::{LineWords, is, number};
 use farm_core::Name;
 use strategy::Kind;
 
-/// The most lines that the text of a submit may have.
 const MOST_LINES: u64 = 20_000;
 
-/// The line that begins a submit. Its text follows.
+/// A `Head` is the line that begins a submit. Its text follows.
 #[derive(Debug, Drop)]
 pub struct Head {
-    /// The tenant's name.
     pub who: Name,
-    /// How the project is searched.
     pub kind: Kind,
-    /// How many quanta the job is given.
     pub quanta: u64,
-    /// How many lines the text has: 1 to 20,000.
+    /// The lines of the text: 1 to 20,000.
     pub lines: u64,
 }
 
-/// What a line means.
+/// A `LineMeaning` is what a line means.
 #[derive(Debug, Drop)]
 pub enum LineMeaning {
-    /// Nothing: it has no word.
     Blank,
-    /// A request.
     Whole(Request),
-    /// A submit, whose text follows.
     Opens(Head),
-    /// No request: it has more than 4,096 bytes, and a word.
+    /// It has more than 4,096 bytes, and a word.
     Long,
-    /// No request. With the tenant's name where the line begins with `@` and a name.
+    /// No request. With the tenant's name if the line begins with `@` and a name.
     Bad(Option<Name>),
 }
 
@@ -102,7 +95,6 @@ fn turn_of(verb: &[u8], words: LineWords<'_>) -> Option<What>
     }
 }
 
-// The kind, the quanta and the count of lines of a submit.
 fn submit_of(words: LineWords<'_>) -> Option<(Kind, u64, u64)>
     ensures { result ≡ submit_in words.entry }
 {
@@ -160,7 +152,7 @@ fn turn_line(verb: &[u8], mut words: LineWords<'_>) -> LineMeaning
     }
 }
 
-/// What a line means, which comes without its end.
+/// What `line`, which comes without its end, means.
 pub fn read_line(line: &[u8]) -> LineMeaning
     ensures { result ≡ meaning_of line.now }
 {

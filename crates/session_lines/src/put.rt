@@ -9,26 +9,25 @@ use itoa::Buffer;
 use std::io::Write;
 use watched_io::Watch;
 
-/// The writer failed, or took no byte.
+/// A `WriteFault` is a write that failed, or took no byte.
 #[derive(Clone, Copy, Debug, PartialEq, Eq)]
 pub struct WriteFault;
 
-/// How many bytes are gathered before they are written. A reply without a schedule has fewer.
+/// The bytes that are gathered before they are written. A reply without a schedule has fewer.
 const ROOM: usize = 256;
 
-/// Bytes that are still to be written.
+/// A `Gathered` is the bytes that are still to be written.
 pub type Gathered = ArrayVec<u8, ROOM>;
 
-/// A part of a line.
+/// A `Part` is a part of a line.
 #[derive(Clone, Copy, Debug)]
 pub enum Part<'a> {
-    /// These bytes.
     Text(&'a [u8]),
     /// A number, in decimal digits.
     Number(u64),
 }
 
-/// Writes bytes. After a fault some of them may have gone out, from the front.
+/// Writes `bytes`. After a fault a prefix of them may have gone out.
 pub fn put<W: Write>(writer: &mut W, watch: &mut Watch<W>, bytes: &[u8]) -> Result<(), WriteFault>
     ensures writes { Writes result (W.contents writer.old) (W.contents writer.new) bytes.now }
     ensures noted { IsNoted result watch.old watch.new }
@@ -43,7 +42,7 @@ pub fn put<W: Write>(writer: &mut W, watch: &mut Watch<W>, bytes: &[u8]) -> Resu
     Ok(())
 }
 
-/// Gathers bytes. If they do not fit behind the gathered ones, both are written, and none is left.
+/// Gathers `bytes`. Without room for them all gathered bytes are written too, and none is left.
 pub fn gather<W: Write>(
     writer: &mut W,
     watch: &mut Watch<W>,
@@ -87,8 +86,7 @@ fn gather_part<W: Write>(
     }
 }
 
-/// Gathers parts, one after the other. After a fault some bytes of them may have gone out, from the
-/// front.
+/// Gathers `parts` in their order. After a fault a prefix of them may have gone out.
 pub fn gather_parts<W: Write>(
     writer: &mut W,
     watch: &mut Watch<W>,

@@ -14,17 +14,15 @@ use std::alloc::Global;
 use std::io::BufRead;
 use watched_io::{Watch, fill};
 
-/// The most bytes that a request may have, with the blank lines before it.
+/// The most bytes of a request, with the blank lines before it.
 pub const MOST_REQUEST_BYTES: u64 = 100_000_000;
 
-// Whether a line has no byte of a word.
 fn is_wordless(line: &[u8]) -> bool
     ensures { result ≡ is_wordless line.now }
 {
     shown(line).iter().all(|byte| is_blank(*byte))
 }
 
-// What a line means.
 fn judge(line: &[u8]) -> LineMeaning
     ensures { result ≡ judged line.now }
 {
@@ -38,7 +36,6 @@ fn judge(line: &[u8]) -> LineMeaning
     }
 }
 
-// What a line that was gathered means.
 fn judge_gathered(line: &Line) -> LineMeaning
     ensures { result ≡ judged_by line.now.kept.items line.now.is_blank }
 {
@@ -53,7 +50,7 @@ fn judge_gathered(line: &Line) -> LineMeaning
     }
 }
 
-// Takes a line that the reader does not show whole.
+// For a line that the reader does not show whole.
 fn gather_meaning<R: BufRead>(
     reader: &mut R,
     watch: &mut Watch<R>,
@@ -74,7 +71,7 @@ fn gather_meaning<R: BufRead>(
     }
 }
 
-// Takes the next line, and tells what it means. It is judged where it lies if the reader shows it whole.
+// A line is judged in the reader's buffer if that holds it whole.
 fn next_meaning<R: BufRead>(
     reader: &mut R,
     watch: &mut Watch<R>,
@@ -106,7 +103,7 @@ fn next_meaning<R: BufRead>(
     Ok(Some(meaning))
 }
 
-// Adds a line to a text that the reader does not show whole. `false` where there is none.
+// For a line that the reader does not show whole.
 fn gather_text_line<R: BufRead>(
     reader: &mut R,
     watch: &mut Watch<R>,
@@ -132,7 +129,7 @@ fn gather_text_line<R: BufRead>(
     }
 }
 
-// Adds the next line to a text. `false` where there is none: the input is at its end.
+// Returns `false` at the end of the input.
 fn next_text_line<R: BufRead>(
     reader: &mut R,
     watch: &mut Watch<R>,
@@ -166,7 +163,6 @@ fn next_text_line<R: BufRead>(
     Ok(true)
 }
 
-// Takes the lines of a submit's text.
 fn read_text<R: BufRead>(
     alloc: Global,
     reader: &mut R,
@@ -195,7 +191,7 @@ fn read_text<R: BufRead>(
     }
 }
 
-/// Takes the bytes of the next request, which may have so many.
+/// Is `read_request` with `most` bytes for a request.
 pub fn read_within<R: BufRead>(
     alloc: Global,
     reader: &mut R,
@@ -224,10 +220,9 @@ pub fn read_within<R: BufRead>(
     }
 }
 
-/// Takes the bytes of the next request, with the blank lines before it, through a watch, and leaves the rest. Where a
-/// line or a text is no request, its bytes are taken too; what is left after `LineFault::Read` is not known. It comes
-/// only if a read fails during the call or the request has more than 100,000,000 bytes. Only a submit takes memory. A line is
-/// judged where it lies in the reader's buffer if it lies there whole.
+/// Takes the bytes of the next request, with the blank lines before it, also if they are faulty. It
+/// fails with `LineFault::Read` if a read failed or the request has more than 100,000,000 bytes;
+/// what is left then is not known.
 pub fn read_request<R: BufRead>(
     alloc: Global,
     reader: &mut R,

@@ -5,7 +5,7 @@ ghost use Rattle.session_lines.specs.ReplyText.{phase_text, verdict_text};
 use job_table::Phase;
 use strategy::Verdict;
 
-/// The word of a phase.
+/// The word of `phase` in a reply.
 pub fn phase_word(phase: Phase) -> &'static str
     ensures { result.now ≡ phase_text phase }
 {
@@ -19,7 +19,7 @@ pub fn phase_word(phase: Phase) -> &'static str
     }
 }
 
-/// The word of a verdict.
+/// The word of `verdict` in a reply.
 pub fn verdict_word(verdict: Verdict) -> &'static str
     ensures { result.now ≡ verdict_text verdict }
 {

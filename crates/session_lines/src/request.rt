@@ -4,74 +4,62 @@ use mrcpsp::Project;
 use psplib_mm::MmFault;
 use strategy::Kind;
 
-/// What is asked for.
+/// A `What` is what is asked for. A number alone is a job's; `slice` is the most nodes of a turn.
 #[derive(Debug, Drop)]
 pub enum What {
-    /// A job for this project, searched in this way, with so many quanta.
+    /// A job for `project` with its first quanta.
     Submit {
-        /// How it is searched.
         kind: Kind,
-        /// How many quanta it is given.
         quanta: u64,
-        /// What is to be scheduled.
         project: Project,
     },
-    /// So many quanta more for the job of this number.
+    /// More quanta for the job.
     Fund {
-        /// The job's number.
         seq: u64,
-        /// How many quanta it is given.
         quanta: u64,
     },
-    /// What is known of the job of this number.
+    /// What is known of the job.
     Status(u64),
-    /// The best schedule of the job of this number.
+    /// The best schedule of the job.
     Fetch(u64),
-    /// That the job of this number be searched no more.
+    /// That the job be searched no more.
     Cancel(u64),
-    /// That the job of this number be kept no longer.
+    /// That the job be kept no longer.
     Forget(u64),
     /// The ledger of the tenant's purse.
     Ledger,
-    /// That a turn of the job of this number be taken, for at most so many nodes.
+    /// That a turn of the job be taken.
     Take {
-        /// The job's number.
         seq: u64,
-        /// The most nodes.
         slice: u64,
     },
-    /// That the turn of the job of this number be run and given back.
+    /// That the turn of the job be run and given back.
     Give(u64),
-    /// That a turn of the job of this number be taken, run and given back.
+    /// That a turn of the job be taken, run and given back.
     Turn {
-        /// The job's number.
         seq: u64,
-        /// The most nodes.
         slice: u64,
     },
 }
 
-/// A request, and the tenant whose it is.
+/// A `Request` is what a tenant asks for.
 #[derive(Debug, Drop)]
 pub struct Request {
-    /// The tenant's name.
     pub who: Name,
-    /// What is asked for.
     pub what: What,
 }
 
-/// Why there is no request. The bytes of what was no request are taken, but after `Read`.
+/// A `LineFault` is why there is no request. The faulty bytes are taken, except after `Read`.
 #[derive(Debug, Drop)]
 pub enum LineFault {
     /// The input has no more requests.
     Eof,
     /// The reader failed, or one request passed 100,000,000 bytes.
     Read,
-    /// A line has more than 4,096 bytes: the request's own, or, with the tenant's name, one of a
-    /// submit's text.
+    /// A line has more than 4,096 bytes: the request's, or, with a name, one of a submit's text.
     TooLong(Option<Name>),
-    /// The line is no request, or a submit's text is cut by the end of the input. With the tenant's
-    /// name where the line begins with `@` and a name.
+    /// The line is no request, or the input's end cuts a submit's text. With the tenant's name if
+    /// the line begins with `@` and a name.
     Syntax(Option<Name>),
     /// The text of a submit spells no project.
     File(Name, MmFault),

@@ -1,15 +1,14 @@
-//! What is replied to a line.
 use farm_core::Reply;
 use psplib_mm::MmFault;
 
-/// What is replied to a line.
+/// A `Said` is what is replied to a line.
 #[derive(Debug, Drop)]
 pub enum Said {
-    /// What the farm answered, or the line of a job whose turn was taken.
+    /// The farm's answer, or the line of a job whose turn was taken.
     Reply(Reply),
     /// No turn could be taken, or there is none to be given.
     NoTurn,
-    /// No tenant has that name.
+    /// No tenant has this name.
     NoTenant,
     /// The line is no request, or the text of a submit is cut.
     Syntax,

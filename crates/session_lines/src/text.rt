@@ -9,28 +9,26 @@ use farm_core::Name;
 use psplib_mm::{MOST_BYTES, MmFault, read};
 use std::alloc::Global;
 
-/// The longest line, without its end.
+/// The most bytes of a line, without its end.
 pub(crate) const LONGEST: usize = 4096;
 
-/// As many bytes of a text as it takes to tell one that is too long: one more than a file may have.
+/// The bytes of a text that show that it is too long: one more than a file may have.
 const KEPT_OF_TEXT: usize = MOST_BYTES + 1;
 
-/// The text of a submit, while its lines come.
+/// A `Text` is the text of a submit, while its lines come.
 #[derive(Debug, Drop)]
 pub struct Text {
-    /// The line before it.
     head: Head,
-    /// How many lines are missing.
+    /// The lines that are missing.
     left: u64,
-    /// Whether one of its lines so far is too long.
+    /// Whether a line has been too long.
     is_long: bool,
     /// Whether there was no memory for its bytes.
     is_refused: bool,
-    /// Its first bytes.
     bytes: Vec<u8>,
 }
 
-/// A line without its end.
+/// `line` without its line feed, and without the carriage return before that.
 pub fn shown(line: &[u8]) -> &[u8]
     ensures { result.now ≡ shown line.now }
 {
@@ -44,14 +42,14 @@ pub fn shown(line: &[u8]) -> &[u8]
     }
 }
 
-/// Whether a line has more than 4,096 bytes, without its end.
+/// Whether `line` has more than 4,096 bytes, without its end.
 pub fn is_long(line: &[u8]) -> bool
     ensures { result ≡ is_long line.now }
 {
     LONGEST < shown(line).len()
 }
 
-// Adds bytes as far as there is room. `false` where a growth was refused.
+// Adds no bytes behind `KEPT_OF_TEXT`. Returns `false` if there was no memory.
 fn add_bytes(bytes: &mut Vec<u8>, more: &[u8]) -> bool
     ensures { (whole : List ℕ) → bytes.old.items ≡ take KEPT_OF_TEXT whole → result ≡ true
         → bytes.new.items ≡ take KEPT_OF_TEXT (whole ++ more.now) }
@@ -60,7 +58,6 @@ fn add_bytes(bytes: &mut Vec<u8>, more: &[u8]) -> bool
     bytes.extend_from_slice(&more[..room]).is_ok()
 }
 
-// Why there is no submit where its text was not read.
 fn unread(who: Name, fault: MmFault) -> LineFault
     ensures { result ≡ unread who fault }
 {
@@ -71,7 +68,6 @@ fn unread(who: Name, fault: MmFault) -> LineFault
 }
 
 impl Text {
-    /// The text of which no line has come.
     pub fn new(alloc: Global, head: Head) -> Text
         ensures { IsText result (opened_text head) }
     {
@@ -85,14 +81,13 @@ impl Text {
         }
     }
 
-    /// Whether no line is missing.
     pub fn is_whole(&self) -> bool
         ensures { result ≡ (self.now.left == 0) }
     {
         self.left == 0
     }
 
-    /// Takes one more line, of which these are the first bytes.
+    /// Takes one more line, by its first bytes.
     pub fn add(&mut self, line: &[u8])
         ensures head { self.new.head ≡ self.old.head }
         ensures left { self.new.left ≡ self.old.left - 1 }
@@ -148,7 +143,7 @@ impl Text {
         }
     }
 
-    /// Why there is no submit where the input's end cuts the text.
+    /// Why there is no submit if the input's end cuts the text.
     pub fn cut(self) -> LineFault
         ensures answers { (said : TextData) → IsText self said → IsAnswerFor (cut_text said) (Err result) }
         ensures judged { result ≢ LineFault.Read }

@@ -8,13 +8,11 @@ ghost use Rattle.session_lines.specs.RequestLine.{number_in, one_number, two_num
 
 use std::marker::Model;
 
-/// The most digits of a number.
 const MOST_DIGITS: usize = 18;
 
-/// The words of a line that are still to come.
+/// A `LineWords` is the words of a line that are still to come.
 #[derive(Debug, Drop)]
 pub struct LineWords<'a> {
-    /// What is left of the line.
     rest: &'a [u8],
 }
 
@@ -34,7 +32,6 @@ pub fn is_blank(byte: u8) -> bool
     byte == b' ' || byte == b'\t'
 }
 
-/// Whether the word is this text.
 pub fn is(word: &[u8], text: &[u8]) -> bool
     ensures { result ≡ is_same word.now text.now }
 {
@@ -61,7 +58,7 @@ fn word_end(bytes: &[u8]) -> usize
     blank_place(bytes).unwrap_or(bytes.len())
 }
 
-/// The number that a word of 1 to 18 digits writes.
+/// The number that `word` writes in 1 to 18 digits.
 pub fn number(word: &[u8]) -> Option<u64>
     ensures { result ≡ number_in word.now }
 {
@@ -79,14 +76,12 @@ pub fn number(word: &[u8]) -> Option<u64>
 }
 
 impl<'a> LineWords<'a> {
-    /// The words of a line.
     pub fn of(line: &'a [u8]) -> LineWords<'a>
         ensures { result ≡ words_of line.now }
     {
         LineWords { rest: line }
     }
 
-    /// Takes the next word.
     pub fn next_word(&mut self) -> Option<&'a [u8]>
         ensures { Takes (option_copied result) self.old self.new }
     {
@@ -96,14 +91,13 @@ impl<'a> LineWords<'a> {
         Some(word)
     }
 
-    /// Whether no word is left.
     pub fn are_over(mut self) -> bool
         ensures { result ≡ (length self.entry == 0) }
     {
         self.next_word().is_none()
     }
 
-    /// The number that is left, where it is all that is left.
+    /// The number that is left, if nothing else is left.
     pub fn one_number(mut self) -> Option<u64>
         ensures { result ≡ one_number self.entry }
     {
@@ -114,7 +108,7 @@ impl<'a> LineWords<'a> {
         }
     }
 
-    /// The two numbers that are left, where they are all that is left.
+    /// The two numbers that are left, if nothing else is left.
     pub fn two_numbers(mut self) -> Option<(u64, u64)>
         ensures { result ≡ two_numbers self.entry }
     {

@@ -52,7 +52,6 @@ fn best_part(best: Option<u32>) -> Part<'static>
     }
 }
 
-// `@`, the tenant's name or a question mark, and a space.
 fn gather_who<W: Write>(
     writer: &mut W,
     watch: &mut Watch<W>,
@@ -78,7 +77,6 @@ fn gather_who<W: Write>(
     }
 }
 
-// What is known of a job, below its number.
 fn gather_line<W: Write>(
     writer: &mut W,
     watch: &mut Watch<W>,
@@ -107,7 +105,6 @@ fn gather_line<W: Write>(
     )
 }
 
-// Parts, and what is known of a job.
 fn gather_job<W: Write>(
     writer: &mut W,
     watch: &mut Watch<W>,
@@ -152,7 +149,6 @@ fn gather_book<W: Write>(
     )
 }
 
-// Why a text is no project.
 fn gather_file<W: Write>(
     writer: &mut W,
     watch: &mut Watch<W>,
@@ -226,7 +222,6 @@ fn gather_file<W: Write>(
     }
 }
 
-// A text that ends with an opening bracket, what stands in the brackets, and the closing one.
 fn gather_bracketed<'a, W: Write>(
     writer: &mut W,
     watch: &mut Watch<W>,
@@ -246,7 +241,6 @@ fn gather_bracketed<'a, W: Write>(
     )
 }
 
-// The places of a schedule's activities.
 fn gather_schedule<W: Write>(
     writer: &mut W,
     watch: &mut Watch<W>,
@@ -302,7 +296,6 @@ fn gather_place<W: Write>(
     )
 }
 
-// The places of a schedule's activities, where there is one.
 fn gather_places<W: Write>(
     writer: &mut W,
     watch: &mut Watch<W>,
@@ -319,7 +312,6 @@ fn gather_places<W: Write>(
     }
 }
 
-// A job's best makespan and its verdict.
 fn gather_front<W: Write>(
     writer: &mut W,
     watch: &mut Watch<W>,
@@ -443,7 +435,6 @@ fn gather_said<W: Write>(
     }
 }
 
-// The line of a reply.
 fn gather_reply_line<W: Write>(
     writer: &mut W,
     watch: &mut Watch<W>,
@@ -464,10 +455,9 @@ fn gather_reply_line<W: Write>(
     gather(writer, watch, gathered, b"\n")
 }
 
-/// Writes the one line of a reply, with its line feed, through a watch: `@`, the tenant's name, a space and the reply's
-/// text. Where no tenant is known, a question mark stands for the name. After a fault, which comes only if a write of this
-/// call fails or takes nothing, an unknown part of the line has gone out, from its front. Takes no memory. A line of at most
-/// 256 bytes goes out in one write, a longer one in pieces.
+/// Writes a reply's line: `@`, the tenant's name or a question mark, a space and the text. After a
+/// fault a prefix of the line has gone out. Takes no memory. A line of at most 256 bytes goes out
+/// in one write, a longer one in pieces.
 pub fn write_reply<W: Write>(
     writer: &mut W,
     watch: &mut Watch<W>,

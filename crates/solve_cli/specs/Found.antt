@@ -1,4 +1,4 @@
--- What one search finds within so many nodes.
+-- What one search finds within `most` nodes.
 use Rattle.std.specs.Prelude.{◌≡◌, ℕ, ◌+◌, ◌≤◌, ◌<◌, ◌⊎◌, true, false, option_map}
 use Rattle.mrcpsp.specs.Numbers.{first_from}
 use Rattle.mrcpsp.specs.Schedule as schedule
@@ -7,7 +7,7 @@ use Rattle.strategy.specs.Search.{Meaning, shown_closed}
 use Rattle.strategy.specs.declared.plan.Plan.{Plan}
 use Rattle.solve_cli.specs.declared.searching.SearchResult.{SearchResult}
 
--- what the search of the plan gives after the first number of nodes at which it is over, or after so many where it is not over before
+-- the result of a plan's search once it is over, or after `most` nodes
 pub record IsFound (plan : Plan) (most : ℕ) (f : SearchResult) : Type 0 where
   pub nodes : f.nodes ≡ first_from (is_closed plan) most 0
   pub best : f.best ≡ best_after plan f.nodes
@@ -20,25 +20,25 @@ pub record IsFresh (m : Meaning) : Type 0 where
   pub left : m.left ≡ 0
   pub taken : m.taken ≡ false
 
--- the same search, with some of its quanta used for as many nodes, none of which it ran once it was over
+-- a search after some of its quanta were used for nodes, none of which it ran once it was over
 pub record IsAt (before after : Meaning) : Type 0 where
   pub plan : after.plan ≡ before.plan
   pub taken : after.taken ≡ before.taken
   pub paid : after.nodes + after.left ≡ before.nodes + before.left
   pub going : (n : ℕ) → before.nodes ≤ n → n < after.nodes → is_closed before.plan n ≡ false
 
--- it is over, or has nothing left
+-- a search is over, or has no quanta left
 abbrev pub IsOver : Meaning → Type 0
 IsOver m = (shown_closed m ≡ true) ⊎ (m.left ≡ 0)
 
--- it has run no nodes, and holds so many quanta, or none where it is over
+-- a search has run no nodes, and holds `most` quanta, or none if it is over
 pub record IsBegun (of : Plan) (most : ℕ) (m : Meaning) : Type 0 where
   pub plan : m.plan ≡ of
   pub nodes : m.nodes ≡ 0
   pub taken : m.taken ≡ false
   pub left : ((shown_closed m ≡ true) × (m.left ≡ 0)) ⊎ (m.left ≡ most)
 
--- what a search shows whose best was not taken
+-- the result of a search whose best was not taken
 pub record IsShown (m : Meaning) (f : SearchResult) : Type 0 where
   pub nodes : f.nodes ≡ m.nodes
   pub best : f.best ≡ best_after m.plan m.nodes

@@ -1,4 +1,5 @@
--- The text of what a search has found: in the words of a farm's replies, a line of its nodes and a line of its best schedule; or as JSON.
+-- The text of a result: a line of its nodes and a line of its best schedule, in the words of a
+-- farm's replies; or JSON.
 use Rattle.std.specs.Prelude.{ℕ, ◌+◌, ◌==◌, cond, List, [], ◌∷◌, ◌++◌, Option, Some, None, codes, decimal}
 use Rattle.mrcpsp.specs.Schedule.{ScheduleData}
 use Rattle.schedule_files.specs.ScheduleText.{schedule_text}
@@ -6,17 +7,19 @@ use Rattle.strategy.specs.declared.verdict.Verdict.{Verdict}
 use Rattle.strategy.specs.declared.verdict.Verdict.TheVariants.{Going, Optimal, Infeasible, Ended}
 use Rattle.solve_cli.specs.declared.searching.SearchResult.{SearchResult}
 
+-- the word of a verdict
 abbrev pub verdict_text : Verdict → List ℕ
 verdict_text Going = codes "open"
 verdict_text Optimal = codes "optimal"
 verdict_text Infeasible = codes "infeasible"
 verdict_text Ended = codes "ended"
 
--- the makespan of a best schedule, and its activities' words, where there is one
+-- the makespan of a best schedule, or `none`
 abbrev pub best_text : Option ℕ → List ℕ
 best_text None = codes "none"
 best_text (Some makespan) = decimal makespan
 
+-- the words of a best schedule's activities, nothing without one
 abbrev pub places_of : Option ScheduleData → List ℕ
 places_of None = []
 places_of (Some schedule) = schedule_text schedule
@@ -25,50 +28,58 @@ places_of (Some schedule) = schedule_text schedule
 abbrev pub shown_text : SearchResult → List ℕ
 shown_text f = best_text f.makespan ++ codes " " ++ verdict_text f.verdict
 
+-- the line of the nodes
 abbrev pub nodes_line : SearchResult → List ℕ
 nodes_line f = codes "nodes " ++ decimal f.nodes ++ codes " best " ++ shown_text f ++ 10 ∷ []
 
+-- the line of the best schedule
 abbrev pub result_line : SearchResult → List ℕ
 result_line f = codes "makespan " ++ shown_text f ++ places_of f.best ++ 10 ∷ []
 
+-- both lines of a result
 abbrev pub found_text : SearchResult → List ℕ
 found_text f = nodes_line f ++ result_line f
 
--- the line of this makespan and this schedule, as the best so far of a search that goes on
+-- the line of the best schedule so far of a search that goes on
 abbrev pub better_line : ℕ → ScheduleData → List ℕ
 better_line makespan best = codes "makespan " ++ decimal makespan ++ codes " open" ++ schedule_text best ++ 10 ∷ []
 
 -- ---- as one JSON object on one line
 
+-- the object of activity j
 abbrev pub place_json : ℕ → ℕ → ℕ → List ℕ
 place_json j mode start = codes "{\"activity\":" ++ decimal j ++ codes ",\"mode\":" ++ decimal mode ++ codes ",\"start\":" ++ decimal start ++ codes "}"
 
--- what stands before the place of an activity behind so many others
+-- the text before the object of an activity behind i others
 abbrev pub comma_before : ℕ → List ℕ
 comma_before i = cond (i == 0) [] (codes ",")
 
--- the place of an activity behind so many others
+-- the object of an activity behind i others
 abbrev pub next_json : ℕ → ℕ → ℕ → List ℕ
 next_json i mode start = comma_before i ++ place_json (i + 1) mode start
 
--- the places of activities behind so many others
+-- the objects of activities behind i others
 abbrev pub places_json : ℕ → List ℕ → List ℕ → List ℕ
 places_json i [] starts = []
 places_json i (mode ∷ modes) [] = []
 places_json i (mode ∷ modes) (start ∷ starts) = next_json i mode start ++ places_json (i + 1) modes starts
 
+-- the array of a schedule, or `null`
 abbrev pub schedule_json : Option ScheduleData → List ℕ
 schedule_json None = codes "null"
 schedule_json (Some schedule) = codes "[" ++ places_json 0 schedule.modes schedule.starts ++ codes "]"
 
+-- the number of a makespan, or `null`
 abbrev pub makespan_json : Option ℕ → List ℕ
 makespan_json None = codes "null"
 makespan_json (Some makespan) = decimal makespan
 
+-- the object of a result, from its parts
 abbrev pub object_json : ℕ → Option ℕ → List ℕ → Option ScheduleData → List ℕ
 object_json nodes makespan word best =
     codes "{\"nodes\":" ++ decimal nodes ++ codes ",\"makespan\":" ++ makespan_json makespan
     ++ codes ",\"verdict\":\"" ++ word ++ codes "\",\"schedule\":" ++ schedule_json best ++ codes "}" ++ 10 ∷ []
 
+-- the object of a result
 abbrev pub found_json : SearchResult → List ℕ
 found_json f = object_json f.nodes f.makespan (verdict_text f.verdict) f.best

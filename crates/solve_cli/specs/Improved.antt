@@ -1,11 +1,12 @@
--- What a local search finds within so many schedules.
+-- What a local search finds within `most` schedules.
 use Rattle.std.specs.Prelude.{◌≡◌, ℕ, ◌≤◌, IfSome, option_map}
 use Rattle.mrcpsp.specs.Project.{ProjectData}
 use Rattle.mrcpsp.specs.Schedule.{IsFeasible, makespan}
 use Rattle.strategy.specs.declared.verdict.Verdict.TheVariants.{Going}
 use Rattle.solve_cli.specs.declared.searching.SearchResult.{SearchResult}
 
--- no more nodes than that are told, the best is feasible and has the makespan that is told, and nothing is shown of others
+-- the result has at most `most` nodes, a feasible best schedule with its makespan, and the verdict
+-- 'open'
 pub record IsImproved (p : ProjectData) (most : ℕ) (f : SearchResult) : Type 0 where
   pub nodes : f.nodes ≤ most
   pub feasible : IfSome f.best (IsFeasible p)

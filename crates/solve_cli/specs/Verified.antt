@@ -12,8 +12,8 @@ use Rattle.solve_cli.specs.declared.verifying.Verified.{Verified}
 use Rattle.solve_cli.specs.declared.fault.VerifyFault.{VerifyFault}
 use Rattle.solve_cli.specs.declared.fault.VerifyFault.TheVariants as fault
 
--- the project is the file's, the text tells the schedule, which is feasible and starts nothing above period 1,000,000,000, and the
--- makespan is the schedule's
+-- the file is the project, and the text writes a feasible schedule of it, of this makespan. No
+-- start is above period 1,000,000,000
 pub record IsVerified (file text : List ℕ) (v : Verified) : Type 0 where
   pub read : reading file ≡ Ok v.project
   pub told : Tells text v.schedule
@@ -21,12 +21,12 @@ pub record IsVerified (file text : List ℕ) (v : Verified) : Type 0 where
   pub feasible : IsFeasible v.project v.schedule
   pub length : v.makespan ≡ makespan v.project v.schedule
 
--- the file is of a project
+-- the file is a project
 pub record IsFile (file : List ℕ) : Type 0 where
   pub project : ProjectData
   pub read : reading file ≡ Ok project
 
--- the file is of a project, and the text tells a schedule that breaks this first
+-- the file is a project, and b is the first breach of the text's schedule
 pub record IsToldBroken (file text : List ℕ) (b : Breach) : Type 0 where
   pub project : ProjectData
   pub schedule : ScheduleData
@@ -34,6 +34,7 @@ pub record IsToldBroken (file text : List ℕ) (b : Breach) : Type 0 where
   pub told : Tells text schedule
   pub first : IsFirstBreach project schedule b
 
+-- why a file and a text are no verified schedule
 abbrev pub IsAtFault : List ℕ → List ℕ → VerifyFault → Type 0
 IsAtFault file text (fault.File f) = Fails f (reading file)
 IsAtFault file text fault.Words = IsFile file × (length text ≤ MOST_BYTES)

@@ -6,53 +6,41 @@ use clap::{Arg, ArgAction, ArgMatches, Command};
 use schedule_files::Order;
 use std::alloc::{AllocError, Global};
 
-/// What the words of a command line ask for.
 #[derive(Clone, Copy, Debug, PartialEq, Eq)]
 pub(crate) enum Task<'a> {
-    /// Tell whether a schedule is feasible, and which breaches it has.
     Verify(Paths<'a>, Listing),
-    /// Search for a schedule.
     Solve(Solving<'a>),
-    /// Draw a feasible schedule, with its rows in this order.
     Draw(Paths<'a>, Order),
 }
 
-/// Which breaches of a schedule are told.
 #[derive(Clone, Copy, Debug, PartialEq, Eq)]
 pub(crate) enum Listing {
-    /// The first one.
     First,
-    /// Each one, with its amount.
     All,
 }
 
-/// What `solve` is asked for.
 #[derive(Clone, Copy, Debug, PartialEq, Eq)]
 pub(crate) struct Solving<'a> {
-    /// The path of a project's file.
     pub(crate) file: &'a str,
     /// The words of kinds of searches, with commas between them.
     pub(crate) search: &'a str,
     /// The digits of the most nodes of each search.
     pub(crate) nodes: &'a str,
-    /// Whether JSON is to be printed.
     pub(crate) is_json: bool,
-    /// Whether how far a search has come is told on standard error.
+    /// Whether progress is written on standard error.
     pub(crate) is_telling: bool,
-    /// Whether nothing of that is told.
+    /// Whether no progress is written, even with `is_telling`.
     pub(crate) is_quiet: bool,
     /// Whether each better schedule is printed at the next look.
     pub(crate) is_improving: bool,
 }
 
-/// The path of a project's file.
 fn file_arg<'a>(alloc: Global) -> Arg<'a> {
     Arg::new(alloc, "FILE")
         .help("A PSPLIB multi-mode file, or - for standard input")
         .required(true)
 }
 
-/// The path of a schedule's text.
 fn schedule_arg<'a>(alloc: Global) -> Arg<'a> {
     Arg::new(alloc, "SCHEDULE")
         .help(
@@ -61,7 +49,6 @@ fn schedule_arg<'a>(alloc: Global) -> Arg<'a> {
         .required(true)
 }
 
-/// An option of this name that takes no value.
 fn flag<'a>(alloc: Global, name: &'a str, help: &'a str) -> Arg<'a> {
     Arg::new(alloc, name)
         .long(name)
@@ -131,7 +118,6 @@ fn solve_command<'a>(alloc: Global) -> Result<Command<'a>, AllocError> {
         ))
 }
 
-/// The command with its subcommands, or an error where there is no memory for it.
 pub(crate) fn solve_commands<'a>(alloc: Global) -> Result<Command<'a>, AllocError> {
     Command::new(alloc, "farm")
         .about("Schedules one multi-mode project")
@@ -141,10 +127,8 @@ pub(crate) fn solve_commands<'a>(alloc: Global) -> Result<Command<'a>, AllocErro
         .subcommand(draw_command(alloc)?)
 }
 
-/// The words for orders of rows.
 const ORDERS: [&str; 2] = ["number", "start"];
 
-/// The order of rows that a word names; that of the numbers if there is none.
 fn order_of(word: Option<&str>) -> Order {
     match word {
         Some("start") => Order::Start,
@@ -152,7 +136,6 @@ fn order_of(word: Option<&str>) -> Order {
     }
 }
 
-/// What a subcommand and its arguments ask for.
 pub(crate) fn task_of<'a>(matches: &ArgMatches<'a>) -> Option<Task<'a>> {
     match matches.subcommand() {
         Some(("verify", chosen)) => {
@@ -187,7 +170,6 @@ pub(crate) fn task_of<'a>(matches: &ArgMatches<'a>) -> Option<Task<'a>> {
     }
 }
 
-/// What `verify --help` says at its end.
 const VERIFY_HELP: &str = "\
 It prints 'feasible makespan M', with status 0. Otherwise what is broken first goes to standard
 error, with status 1:
@@ -211,7 +193,6 @@ Examples:
   farm: breach Precedence(2, 4): activity 4 starts in period 2, before activity 2 ends at 3
   farm: breach Precedence(3, 4): activity 4 starts in period 2, before activity 3 ends at 4";
 
-/// What `draw --help` says at its end.
 const DRAW_HELP: &str = "\
 A bar for each activity with its number and its mode, and under them what is used of each renewable
 resource against its capacity. With --order start the rows are in the order of the starts. The critical
@@ -223,7 +204,6 @@ Example:
 
   $ farm solve examples/j10_1.mm | farm draw examples/j10_1.mm - > j10_1.svg";
 
-/// What `solve --help` says at its end.
 const SOLVE_HELP: &str = "\
 It prints a line of the nodes that were run and a line of the best schedule: its makespan, a verdict,
 and a word J:MODE:START for each activity. The verdict is 'optimal' or 'infeasible' where that is

@@ -1,4 +1,4 @@
-//! How a command ends: its text is written, or its fault is told.
+//! How a command ends: with its text, or with its fault on standard error.
 ghost use Rattle.std.specs.Prelude.{◌≡◌};
 ghost use Rattle.std.specs.Process.{exit_status};
 ghost use Rattle.solve_cli.specs.Commands.{command_status};
@@ -11,22 +11,18 @@ use std::io::Eprint;
 use std::process::ExitCode;
 use watched_io::{reason, tell_unread, tell_why};
 
-/// The most bytes that are read of a project's file or of a schedule's text: one more than a file may have.
+/// The most bytes that are read of an input: one more than a file may have, so that excess is seen.
 pub const MOST_TEXT: u64 = MOST_BYTES as u64 + 1;
 
-// So a file that is too long is seen to be.
 const _: () = prove!((psplib_mm::MOST_BYTES as u64) < MOST_TEXT);
 
-/// The paths of a project's file and of a schedule's text, as its faults are told.
+/// A `Paths` is the paths of a project's file and of a schedule's text, for messages.
 #[derive(Clone, Copy, Debug, PartialEq, Eq)]
 pub struct Paths<'a> {
-    /// Of the project's file.
     pub file: &'a str,
-    /// Of the schedule's text.
     pub text: &'a str,
 }
 
-/// Tells of a fault all breaches, if they were asked for, or else why it is one.
 fn tell_more<R: Env + Eprint, S, T, W>(rt: &R, watches: &SolveWatches<S, T, W>) {
     match &watches.list {
         Ok(Some(list)) => {
@@ -39,7 +35,6 @@ fn tell_more<R: Env + Eprint, S, T, W>(rt: &R, watches: &SolveWatches<S, T, W>) 
     }
 }
 
-/// The status of a command, with its fault on standard error, and behind it why it ended so, if that is known, or all breaches.
 pub(crate) fn end_command<R: Env + Eprint, S, T, W>(
     rt: &R,
     paths: Paths<'_>,

@@ -1,4 +1,4 @@
-//! What a second line says of how a command ended: why its inputs are at fault, or what to do next.
+//! The second line on how a command ended: why its inputs are at fault, or what to do next.
 ghost use Rattle.std.specs.Prelude.{◌≡◌, IfOk};
 ghost use Rattle.mrcpsp.specs.Values.{bound};
 
@@ -10,7 +10,6 @@ use mrcpsp::Project;
 use std::alloc::{AllocError, Global};
 use strategy::Verdict;
 
-/// Why there is no feasible schedule in these texts of a project's file and of a schedule.
 pub(crate) fn why_unverified(
     alloc: Global,
     file: &[u8],
@@ -25,7 +24,6 @@ pub(crate) fn why_unverified(
     }
 }
 
-/// A line of each breach, if the fault is one.
 pub(crate) fn list_of(
     alloc: Global,
     file: &[u8],
@@ -38,7 +36,7 @@ pub(crate) fn list_of(
     }
 }
 
-/// The length of the longest chain of activities by shortest modes, in periods. No schedule is shorter. An error is want of memory.
+/// The longest chain of activities by shortest modes, in periods. No schedule is shorter.
 pub(crate) fn chain_of(alloc: Global, project: &Project) -> Result<u32, AllocError>
     ensures { IfOk result (λ chain. chain ≡ bound project.now) }
 {
@@ -46,7 +44,6 @@ pub(crate) fn chain_of(alloc: Global, project: &Project) -> Result<u32, AllocErr
     Ok(measures.bound())
 }
 
-/// What a search that is not over leaves to do, and why an infeasible project is.
 pub(crate) fn next_step(alloc: Global, project: &Project, found: &SearchResult) -> Option<String> {
     if found.verdict == Verdict::Infeasible {
         return why_infeasible(alloc, project);

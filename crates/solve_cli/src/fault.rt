@@ -5,13 +5,12 @@ use std::alloc::AllocError;
 use std::io::ErrorKind;
 use thiserror::Error;
 
-/// Why a text is of no feasible schedule. Each prints what is wrong, by the name of its own fault, as `breach Mode(3)`.
+/// A `VerifyFault` is why a text has no feasible schedule. Its text is as in `breach Mode(3)`.
 #[derive(Clone, Copy, Debug, PartialEq, Eq, Error)]
 pub enum VerifyFault {
-    /// The file is of no project.
     #[error("no file {0}")]
     File(MmFault),
-    /// The text does not end with a word `J:MODE:START` for each activity 1, 2, and so on, nor with JSON that has each once.
+    /// The text has no schedule in any of the forms of `schedule_files`.
     #[error("no schedule Words")]
     Words,
     /// The text has more than 1,048,576 bytes.
@@ -20,7 +19,6 @@ pub enum VerifyFault {
     /// The schedule breaks this first.
     #[error("breach {0}")]
     Breach(Breach),
-    /// There is no memory left.
     #[error("no memory")]
     NoMemory,
 }
@@ -31,24 +29,20 @@ impl From<AllocError> for VerifyFault {
     }
 }
 
-/// Why nothing is made of a project's file and a schedule's text.
+/// An `InputFault` is why nothing is made of a project's file and a schedule's text.
 #[derive(Clone, Copy, Debug, PartialEq, Eq)]
 pub enum InputFault {
     /// The project's file could not be read, or there was no memory for it.
     File(ErrorKind),
     /// The schedule's text could not be read, or there was no memory for it.
     Text(ErrorKind),
-    /// What was read is at fault.
     Verify(VerifyFault),
 }
 
-/// Why a command does not end with its text.
+/// A `CommandFault` is why a command does not end with its text.
 #[derive(Clone, Copy, Debug, PartialEq, Eq)]
 pub enum CommandFault {
-    /// Nothing was made of its inputs.
     Input(InputFault),
-    /// There is no memory left.
     NoMemory,
-    /// A write failed.
     Write,
 }

@@ -7,18 +7,13 @@ use std::alloc::{AllocError, Global};
 use std::io::Print;
 use std::rt::Runtime;
 
-/// How better schedules are printed.
 #[derive(Clone, Copy, Debug, PartialEq, Eq)]
 pub(crate) enum Style {
-    /// Not at all.
     Silent,
-    /// As result lines.
     Lines,
-    /// As JSON objects, one a line.
     Json,
 }
 
-/// Prints each schedule that is shorter than all before it.
 #[derive(Drop)]
 pub(crate) struct Improvements<'a, R> {
     rt: &'a R,
@@ -29,7 +24,6 @@ pub(crate) struct Improvements<'a, R> {
 }
 
 impl<'a, R: Runtime + AllocGlobal> Improvements<'a, R> {
-    /// Prints from now on, and lets the progress of the search be told.
     pub(crate) fn new(rt: &'a R, style: Style, progress: Progress<'a, R>) -> Improvements<'a, R> {
         Improvements {
             rt,
@@ -40,7 +34,6 @@ impl<'a, R: Runtime + AllocGlobal> Improvements<'a, R> {
         }
     }
 
-    /// The text of a better schedule, where one is printed.
     fn told(
         &self,
         alloc: Global,
@@ -55,7 +48,6 @@ impl<'a, R: Runtime + AllocGlobal> Improvements<'a, R> {
         }
     }
 
-    /// Whether a schedule of this makespan is shorter than all before it.
     fn is_better(&self, makespan: u32) -> bool {
         match self.shortest {
             Some(shortest) => makespan < shortest,
@@ -63,7 +55,6 @@ impl<'a, R: Runtime + AllocGlobal> Improvements<'a, R> {
         }
     }
 
-    /// Prints a schedule that is shorter than all before it.
     fn take(&mut self, project: &Project, nodes: u64, best: &Schedule) {
         let Ok(makespan) = check(project, best) else {
             return;

@@ -7,21 +7,17 @@ use std::alloc::Global;
 use strategy::Kind;
 use thiserror::Error;
 
-/// Why words name no searches.
+/// A `SearchFault` is why words name no searches.
 #[derive(Clone, Copy, Debug, PartialEq, Eq, Error)]
 pub enum SearchFault<'a> {
-    /// This word is of no kind of search.
     #[error("no search {0}")]
     Unknown(&'a str),
-    /// They are more than `MOST_SEARCHES`.
     #[error("more than 1000 searches")]
     TooMany,
-    /// There is no memory left.
     #[error("no memory")]
     NoMemory,
 }
 
-/// The seed that the digits behind a word name, at most 18 of them.
 fn seed_of(word: &str, front: &str) -> Option<u64> {
     let seed = word.strip_prefix(front)?;
     if seed.len() > 18 || seed.starts_with('+') {
@@ -30,7 +26,6 @@ fn seed_of(word: &str, front: &str) -> Option<u64> {
     seed.parse().ok()
 }
 
-/// The kind of search that a word names.
 pub(crate) fn kind_of(word: &str) -> Option<SearchKind> {
     let kind = match word {
         "tree" => Kind::Tree,
@@ -45,8 +40,7 @@ pub(crate) fn kind_of(word: &str) -> Option<SearchKind> {
     Some(SearchKind::Planned(kind))
 }
 
-/// The searches that the word `all` stands for: one pass by each rule, the tree, which shows that small projects are solved, and local
-/// search, which finds the shortest schedules of large ones.
+/// A pass by each rule, the tree, which solves small projects, and local search for large ones.
 const ALL: [SearchKind; 5] = [
     SearchKind::Planned(Kind::RuleLft),
     SearchKind::Planned(Kind::RuleMts),
@@ -55,7 +49,6 @@ const ALL: [SearchKind; 5] = [
     SearchKind::Improve(1),
 ];
 
-/// Adds kinds of search, if there are then no more than `MOST_SEARCHES`.
 fn push_kinds(kinds: &mut Vec<SearchKind>, more: &[SearchKind]) -> Result<(), SearchFault<'static>>
     requires { vec_len kinds.old ≤ MOST_SEARCHES }
     ensures { vec_len kinds.new ≤ MOST_SEARCHES }
@@ -71,7 +64,7 @@ fn push_kinds(kinds: &mut Vec<SearchKind>, more: &[SearchKind]) -> Result<(), Se
     Ok(())
 }
 
-/// The kinds of search that words with commas between them name, in their order, at most `MOST_SEARCHES`.
+/// The kinds of search that `words` name, with commas between them, in their order.
 pub fn kinds_of(alloc: Global, words: &str) -> Result<Vec<SearchKind>, SearchFault<'_>>
     ensures { IfOk result (λ kinds. vec_len kinds ≤ MOST_SEARCHES) }
 {

@@ -1,29 +1,18 @@
-//! Commands on one project, without a script and a configuration: a schedule verified, a project searched, a schedule drawn.
+//! Commands on one project, without a configuration: `verify`, `solve` and `draw`.
 //!
-//! [`verify`] answers with a makespan exactly for a feasible schedule, and else with what is broken first (`specs/Verified`).
-//! [`solve`] tells what the definition of a search gives after so many nodes (`specs/Found`), and [`tell`] is its text, byte for
-//! byte (`specs/FoundText`). [`verify_to`], [`draw_to`] and [`solve_to`] are the commands over any readers and writer: what they write is
-//! what the definitions say of the bytes that are read, and the status goes with it (`specs/Commands`). That the commands hand these the
-//! files that are named, and standard output, is the shape of `program`.
+//! [`verify`] returns a makespan exactly for a feasible schedule, or else the first breach
+//! (`specs/Verified`). [`solve`] returns what the definition of a search gives after a number of
+//! nodes (`specs/Found`), and [`tell`] its text (`specs/FoundText`). [`verify_to`], [`draw_to`] and
+//! [`solve_to`] are the commands over any readers and writer (`specs/Commands`). Which files a
+//! command opens is in no contract.
 //!
-//! - `fault`: why a schedule is not feasible, and why a command writes nothing.
-//! - `verifying`: `verify`.
-//! - `searching`: `solve`, and who watches a search.
-//! - `local`: `improve`, a local search.
-//! - `search_kinds`: the kinds of search of this command.
-//! - `several`: `solve_each`, several searches one after another.
-//! - `laws`: why what they tell is true, and how long the texts may be, in figures.
-//! - `showing`: `verify_to` and `draw_to`, the commands on a schedule over any readers and writer.
-//! - `solving`: `solve_to`, the same of a search.
-//! - `ending`: how a command ends, with its text or its fault.
-//! - `explaining`: what a second line says of how a command ended.
-//! - `watches`: whether a command could not read its inputs, or not write its text.
-//! - `telling`: what a search has found, as lines and as JSON.
-//! - `kinds`: the words for kinds of search.
-//! - `improvements`: better schedules, printed when they are found.
-//! - `progress`: how far a search has come, on standard error.
-//! - `arguments`: the words of a command line.
-//! - `program`: the commands on files, with an exit status.
+//! - `verifying`, `searching`, `local`, `several`: `verify`; `solve`; `improve`; `solve_each`.
+//! - `search_kinds`, `kinds`: the kinds of search, and their words.
+//! - `telling`, `improvements`, `progress`: what a search has found, at its end and before.
+//! - `showing`, `solving`, `watches`: the commands over any readers and writer.
+//! - `fault`, `ending`, `explaining`: why a command writes nothing, and how it ends.
+//! - `arguments`, `program`: the words of a command line, and the commands on files.
+//! - `laws`: why what is written is true, and the limits in figures.
 #![tactic(auto)]
 
 mod arguments;

@@ -8,7 +8,6 @@ use mrcpsp::Project;
 use std::alloc::{AllocError, Global};
 use strategy::Verdict;
 
-/// Runs a search to its end, and lets it be looked at.
 fn run_all<W: Observer>(search: &mut Improving, project: &Project, observer: &mut W)
     ensures project { search.new.project ≡ search.old.project }
     ensures most { search.new.most ≡ search.old.most }
@@ -19,7 +18,6 @@ fn run_all<W: Observer>(search: &mut Improving, project: &Project, observer: &mu
     observer.look(project, search.spent(), search.best());
 }
 
-/// What a local search has found, at its end.
 fn found_by(search: Improving) -> SearchResult
     ensures { IsImproved search.project search.most result }
 {
@@ -33,7 +31,7 @@ fn found_by(search: Improving) -> SearchResult
     }
 }
 
-/// Runs the local search of a seed for at most so many schedules, and tells what it has found then. An error is want of memory.
+/// Runs the local search of `seed` for at most `most` schedules. An error is want of memory.
 pub fn improve<W: Observer>(
     alloc: Global,
     project: &Project,

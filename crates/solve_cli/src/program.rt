@@ -26,7 +26,7 @@ use std::process::ExitCode;
 use std::rt::Runtime;
 use watched_io::{Source, explains, open, reason, tell_unread, tell_why};
 
-/// What the help on all commands says of those of this crate.
+/// The help on the commands that need no configuration.
 pub const COMMANDS_HELP: &str = "\
 On one project, without a configuration (farm COMMAND --help):
   verify  Tells whether a schedule is feasible, and how long it takes
@@ -45,7 +45,6 @@ Example:
 
   $ farm solve examples/j10_1.mm";
 
-/// Whether the word at this place is a command of this crate.
 fn is_own(words: &[String], place: usize) -> bool {
     match words.get(place) {
         Some(word) => matches!(word.as_str(), "verify" | "solve" | "draw"),
@@ -53,12 +52,13 @@ fn is_own(words: &[String], place: usize) -> bool {
     }
 }
 
-/// Whether the first of these words, behind the program's name, is a command of this crate, or asks for help on one.
+/// Whether the first word behind the program's name is a command of this crate or asks for its
+/// help.
 pub fn is_command(words: &[String]) -> bool {
     is_own(words, 1) || (asks_for_help(words) && is_own(words, 2))
 }
 
-/// Whether the first of these words, behind the program's name, asks for help on all commands or on one of them.
+/// Whether the first word behind the program's name asks for help.
 pub fn asks_for_help(words: &[String]) -> bool {
     match words.get(1) {
         Some(word) => matches!(word.as_str(), "help" | "--help" | "-h"),
@@ -66,8 +66,8 @@ pub fn asks_for_help(words: &[String]) -> bool {
     }
 }
 
-/// Runs the command that the words ask for; the first of them is the program's name. The status is 0, 1 for a fault, and 2 for
-/// a command line that is refused and for a request for help; where the text that tells so cannot be printed, it is 1.
+/// Runs the command of `words`, the first of which is the program's name. The status is 0, or 2 for
+/// help and for a refused command line, or 1 for any fault.
 pub fn run_command<R: Runtime + AllocGlobal>(rt: &R, words: &[String]) -> ExitCode
     ensures { exit_status result ≤ 2 }
 {
@@ -91,12 +91,11 @@ pub fn run_command<R: Runtime + AllocGlobal>(rt: &R, words: &[String]) -> ExitCo
     }
 }
 
-/// Whether both paths are standard input, which gives its bytes once.
+/// Standard input gives its bytes only once.
 fn are_one(paths: Paths<'_>) -> bool {
     paths.file == "-" && paths.text == "-"
 }
 
-/// The status of a command line of which both files are standard input, with that on standard error.
 fn refuse_one<R: Eprint>(rt: &R) -> ExitCode
     ensures { exit_status result ≡ 2 }
 {
@@ -104,7 +103,6 @@ fn refuse_one<R: Eprint>(rt: &R) -> ExitCode
     ExitCode::from(2)
 }
 
-/// A picture of a verified schedule.
 fn picture(alloc: Global, verified: &Verified, order: Order) -> Result<String, AllocError>
     requires { IsFeasible verified.now.project verified.now.schedule }
 {
@@ -127,7 +125,6 @@ fn run_task<R: Runtime + AllocGlobal>(rt: &R, task: Task<'_>) -> ExitCode
     }
 }
 
-/// The status 1, with its cause on standard error.
 fn failure<R: Eprint>(rt: &R, why: &str) -> ExitCode
     ensures { exit_status result ≡ 1 }
 {
@@ -135,7 +132,6 @@ fn failure<R: Eprint>(rt: &R, why: &str) -> ExitCode
     ExitCode::FAILURE
 }
 
-/// What the path names. `None` is told on standard error.
 fn open_path<R: Runtime>(rt: &R, path: &str) -> Option<Source<R::Reader, R::File>> {
     match open(rt, path) {
         Ok(source) => Some(source),
@@ -146,7 +142,6 @@ fn open_path<R: Runtime>(rt: &R, path: &str) -> Option<Source<R::Reader, R::File
     }
 }
 
-/// Prints whether a schedule is feasible.
 fn run_verify<R: Runtime + AllocGlobal>(rt: &R, paths: Paths<'_>, told: Listing) -> ExitCode
     ensures { exit_status result ≤ 1 }
 {
@@ -161,7 +156,6 @@ fn run_verify<R: Runtime + AllocGlobal>(rt: &R, paths: Paths<'_>, told: Listing)
     verify_to(rt, paths, file, text, &mut io::writer(rt), &mut watches)
 }
 
-/// Prints a picture of a feasible schedule.
 fn run_draw<R: Runtime + AllocGlobal>(rt: &R, paths: Paths<'_>, order: Order) -> ExitCode
     ensures { exit_status result ≤ 1 }
 {
@@ -184,7 +178,7 @@ fn run_draw<R: Runtime + AllocGlobal>(rt: &R, paths: Paths<'_>, order: Order) ->
     )
 }
 
-/// The kinds of search that are asked for. An error is the status: 1 for want of memory, and 2 for words that are refused.
+/// An error is the status: 1 for want of memory, and 2 for words that are refused.
 fn kinds_asked<R: Env + Eprint + AllocGlobal>(
     rt: &R,
     search: &str,
@@ -205,7 +199,6 @@ fn kinds_asked<R: Env + Eprint + AllocGlobal>(
     }
 }
 
-/// Prints what searches of a file's project find. The status is 2 where their words are refused.
 fn run_solve<R: Runtime + AllocGlobal>(rt: &R, solving: Solving<'_>) -> ExitCode
     ensures { exit_status result ≤ 2 }
 {

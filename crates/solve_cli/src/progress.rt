@@ -1,4 +1,4 @@
-//! How far a search has come, told now and then.
+//! How far a search has come, written on standard error at most once a second.
 use crate::explaining::chain_of;
 use crate::searching::Observer;
 use mrcpsp::{Project, Schedule, check};
@@ -7,18 +7,15 @@ use std::io::Eprint;
 use std::rt::Runtime;
 use std::time::Instant;
 
-/// How far is told.
 #[derive(Clone, Copy, Debug, PartialEq, Eq)]
 pub(crate) enum Telling {
-    /// Nothing.
     Nothing,
     /// The nodes, the rate and the best makespan.
     Nodes,
-    /// With them the percent of all nodes that may be run, the seconds, and the longest chain of activities.
+    /// Also the percent of the most nodes, the seconds, and the longest chain of activities.
     All,
 }
 
-/// Tells on standard error, at most once a second, how far a search has come.
 #[derive(Drop)]
 pub(crate) struct Progress<'a, R> {
     rt: &'a R,
@@ -32,7 +29,6 @@ pub(crate) struct Progress<'a, R> {
     chain: Option<u32>,
 }
 
-/// A number of periods, or `none`.
 #[derive(Clone, Copy, Debug)]
 struct Periods(Option<u32>);
 
@@ -45,7 +41,6 @@ impl fmt::Display for Periods {
     }
 }
 
-/// The makespan of the best schedule.
 fn makespan_of(project: &Project, best: Option<&Schedule>) -> Option<u32> {
     match best {
         Some(schedule) => check(project, schedule).ok(),
@@ -54,8 +49,7 @@ fn makespan_of(project: &Project, best: Option<&Schedule>) -> Option<u32> {
 }
 
 impl<'a, R: Runtime + AllocGlobal> Progress<'a, R> {
-    /// Tells from now on, if it is asked to and the clock can be read; else it tells nothing. The searches run at most so many
-    /// nodes in all.
+    /// Writes nothing if it is not asked to, or if the clock cannot be read.
     pub(crate) fn new(rt: &'a R, telling: Telling, most: u64) -> Progress<'a, R> {
         let start = if telling == Telling::Nothing {
             None
@@ -73,7 +67,7 @@ impl<'a, R: Runtime + AllocGlobal> Progress<'a, R> {
         }
     }
 
-    /// The whole seconds since the start, where there is something to be told.
+    /// The whole seconds since the start, if a line is due.
     fn due(&self) -> Option<u64> {
         let start = self.start?;
         let seconds = start.elapsed(self.rt).ok()?.as_secs();
@@ -84,7 +78,6 @@ impl<'a, R: Runtime + AllocGlobal> Progress<'a, R> {
         }
     }
 
-    /// Prints a line of all figures.
     fn tell_all(&mut self, project: &Project, nodes: u64, seconds: u64, makespan: Option<u32>) {
         if self.chain.is_none() {
             self.chain = chain_of(self.rt.alloc(), project).ok();

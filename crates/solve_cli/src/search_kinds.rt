@@ -1,7 +1,6 @@
-//! The kinds of search of this command.
 use strategy::Kind;
 
-/// How this command searches a project.
+/// A `SearchKind` is how this command searches a project.
 #[derive(Clone, Copy, Debug, PartialEq, Eq)]
 pub enum SearchKind {
     /// By a search of this kind, as the farm does.

@@ -15,35 +15,31 @@ use strategy::laws::each_best_is_feasible;
 use strategy::{Kind, Plan, Strategy, Verdict};
 use tree_search::TreeSearch;
 
-/// The most nodes that a search is given.
+/// The most nodes of a search.
 pub const MOST_NODES: u64 = 1_000_000_000_000;
 
-/// How many nodes a search runs between two looks of its observer.
+/// The nodes between two looks of an observer.
 pub(crate) const CHUNK: u64 = 65_536;
 
-/// What a search has found.
+/// A `SearchResult` is what a search has found.
 #[derive(Debug, Drop)]
 pub struct SearchResult {
-    /// How many nodes it has run.
     pub nodes: u64,
-    /// The best schedule.
     pub best: Option<Schedule>,
-    /// The makespan of the best schedule, in periods.
+    /// The makespan of `best`, in periods.
     pub makespan: Option<u32>,
-    /// What it has shown.
     pub verdict: Verdict,
 }
 
-/// Who looks at a search now and then.
+/// An `Observer` is what looks at a search now and then.
 pub trait Observer {
-    /// Looks at a search of a project that has run so many nodes and knows this best schedule.
+    /// Looks at a search of `project` that has run `nodes` nodes and knows the schedule `best`.
     fn look(&mut self, project: &Project, nodes: u64, best: Option<&Schedule>);
 
-    /// Looks away from a search that has run so many nodes, and runs no more.
+    /// The search has run `nodes` nodes, and runs no more.
     fn end(&mut self, nodes: u64);
 }
 
-/// Runs some nodes of a search that is not over and may run so many in all.
 fn run_chunk<S: Strategy>(search: &mut S)
     requires going { IsFalse (shown_closed (S.meaning search.old)) }
     requires paid { 0 < (S.meaning search.old).left }
@@ -53,7 +49,6 @@ fn run_chunk<S: Strategy>(search: &mut S)
     let _ran = search.run(CHUNK);
 }
 
-/// Runs a search to its end, or until it has no quanta left.
 fn run_nodes<S: Strategy, W: Observer>(search: &mut S, observer: &mut W)
     ensures at { IsAt (S.meaning search.old) (S.meaning search.new) }
     ensures over { IsOver (S.meaning search.new) }
@@ -64,7 +59,6 @@ fn run_nodes<S: Strategy, W: Observer>(search: &mut S, observer: &mut W)
     }
 }
 
-/// Gives a search that has run nothing so many quanta, unless it is over.
 fn begin<S: Strategy>(search: &mut S, most: u64)
     requires fresh { IsFresh (S.meaning search.old) }
     requires few { most ≤ MOST_NODES }
@@ -75,7 +69,6 @@ fn begin<S: Strategy>(search: &mut S, most: u64)
     }
 }
 
-/// The makespan of the best schedule after so many nodes.
 fn makespan_of(plan: &Plan, nodes: u64, best: Option<&Schedule>) -> Option<u32>
     requires { option_copied best ≡ best_after plan.now nodes }
     ensures { result ≡ option_map (makespan plan.now.project) (best_after plan.now nodes) }
@@ -91,7 +84,6 @@ fn makespan_of(plan: &Plan, nodes: u64, best: Option<&Schedule>) -> Option<u32>
     }
 }
 
-/// What a search shows, at its end.
 fn shown_by<S: Strategy>(mut search: S) -> SearchResult
     requires { (S.meaning search).taken ≡ false }
     ensures { IsShown (S.meaning search) result }
@@ -107,7 +99,6 @@ fn shown_by<S: Strategy>(mut search: S) -> SearchResult
     }
 }
 
-/// What a search finds within so many nodes.
 fn found_by<S: Strategy, W: Observer>(mut search: S, most: u64, observer: &mut W) -> SearchResult
     requires fresh { IsFresh (S.meaning search) }
     requires few { most ≤ MOST_NODES }
@@ -118,7 +109,7 @@ fn found_by<S: Strategy, W: Observer>(mut search: S, most: u64, observer: &mut W
     shown_by(search)
 }
 
-/// Runs the search of a plan for at most so many nodes, and tells what it has found then. An error is want of memory.
+/// Runs the search of `plan` for at most `most` nodes. An error is want of memory.
 pub fn solve<W: Observer>(
     alloc: Global,
     plan: Plan,

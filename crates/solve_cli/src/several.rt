@@ -13,7 +13,6 @@ use strategy::{Plan, Verdict};
 /// The most searches that run one after another.
 pub const MOST_SEARCHES: usize = 1_000;
 
-/// Whether a verdict decides the project.
 fn is_decided(verdict: Verdict) -> bool
     ensures { result ≡ is_decided verdict }
 {
@@ -23,7 +22,6 @@ fn is_decided(verdict: Verdict) -> bool
     }
 }
 
-/// What two searches show together.
 fn stronger(one: Verdict, other: Verdict) -> Verdict
     ensures { result ≡ stronger one other }
 {
@@ -37,7 +35,6 @@ fn stronger(one: Verdict, other: Verdict) -> Verdict
     }
 }
 
-/// Whether the other makespan is less, where there is one.
 fn is_shorter(one: Option<u32>, other: Option<u32>) -> bool
     ensures { result ≡ is_shorter one other }
 {
@@ -48,7 +45,6 @@ fn is_shorter(one: Option<u32>, other: Option<u32>) -> bool
     }
 }
 
-/// What two searches of a project have found together.
 fn joined(_project: &Project, one: SearchResult, other: SearchResult) -> SearchResult
     requires one { one.makespan ≡ option_map (makespan _project.now) one.best }
     requires other { other.makespan ≡ option_map (makespan _project.now) other.best }
@@ -67,7 +63,6 @@ fn joined(_project: &Project, one: SearchResult, other: SearchResult) -> SearchR
     }
 }
 
-/// Runs a search of this kind for at most so many nodes, and tells what it has found then. An error is want of memory.
 fn solve_by<W: Observer>(
     alloc: Global,
     project: &Project,
@@ -87,8 +82,8 @@ fn solve_by<W: Observer>(
     }
 }
 
-/// Runs a search of each kind, one after another, each for at most so many nodes, and tells what they have found together. None
-/// runs after one that has decided the project. An error is want of memory.
+/// Runs a search of each kind for at most `most` nodes, and joins what they find. None runs after
+/// one that has decided the project. An error is want of memory.
 pub fn solve_each<W: Observer>(
     alloc: Global,
     project: &Project,

@@ -17,7 +17,6 @@ use std::env::Env;
 use std::io::{Eprint, Read, Write};
 use std::process::ExitCode;
 
-/// A line of each breach, if they are asked for.
 fn list_if(
     alloc: Global,
     is_asked: bool,
@@ -32,8 +31,7 @@ fn list_if(
     }
 }
 
-/// The project of a file's reader and the schedule that a text's reader tells, where that is feasible. Of the text more bytes are read
-/// than a schedule's may have, so that one that is too long is seen to be.
+/// Of the text one byte more is read than a schedule may have, so that excess is seen.
 fn read_verified<S: Read + Drop, T: Read + Drop, W>(
     alloc: Global,
     file: S,
@@ -66,8 +64,8 @@ fn read_verified<S: Read + Drop, T: Read + Drop, W>(
     }
 }
 
-/// Writes `feasible makespan M`, where the text that one reader gives tells a feasible schedule of the project whose file the other
-/// one gives, with its makespan. But for a fault of the writer nothing was written at an error.
+/// Writes `feasible makespan M` if `text` has a feasible schedule of the project of `file`. On any
+/// error except `Write`, nothing was written.
 pub fn verify_read<S: Read + Drop, T: Read + Drop, W: Write>(
     alloc: Global,
     file: S,
@@ -90,7 +88,8 @@ pub fn verify_read<S: Read + Drop, T: Read + Drop, W: Write>(
     Ok(())
 }
 
-/// Writes the text that `draw` gives of a feasible schedule. But for a fault of the writer nothing was written at an error.
+/// Writes the text that `draw` returns of a feasible schedule. On any error except `Write`, nothing
+/// was written.
 pub fn draw_read<
     S: Read + Drop,
     T: Read + Drop,
@@ -123,8 +122,7 @@ pub fn draw_read<
     Ok(())
 }
 
-/// `verify_read` with a status: 0 where the line was written, and 1 where its fault was told on standard error. The readers are of
-/// the files at the paths.
+/// Is `verify_read` with a status, 0 or 1. Standard error has each fault except `Write`.
 pub fn verify_to<R: AllocGlobal + Env + Eprint, S: Read + Drop, T: Read + Drop, W: Write>(
     rt: &R,
     paths: Paths<'_>,
@@ -143,7 +141,7 @@ pub fn verify_to<R: AllocGlobal + Env + Eprint, S: Read + Drop, T: Read + Drop, 
     end_command(rt, paths, ended, watches)
 }
 
-/// `draw_read` with a status, in the same way.
+/// Is `draw_read` with a status, 0 or 1. Standard error has each fault except `Write`.
 pub fn draw_to<
     R: AllocGlobal + Env + Eprint,
     S: Read + Drop,

@@ -21,18 +21,16 @@ use std::env::Env;
 use std::io::{Eprint, Read, Write};
 use std::process::ExitCode;
 
-/// Which searches of a project are asked for, and how they are told.
+/// A `SolveOptions` is which searches are asked for, and how their result is written.
 #[derive(Clone, Copy, Debug)]
 pub struct SolveOptions<'a> {
-    /// The kinds of the searches, in their order.
+    /// In the order in which they run.
     pub kinds: &'a [SearchKind],
     /// The most nodes of each search.
     pub most: u64,
-    /// Whether JSON is written.
     pub is_json: bool,
 }
 
-/// The project of a file's reader.
 fn read_project<S: Read + Drop, W>(
     alloc: Global,
     file: S,
@@ -57,7 +55,6 @@ fn read_project<S: Read + Drop, W>(
     }
 }
 
-/// What was found, as lines or as JSON.
 fn told(alloc: Global, is_json: bool, found: &SearchResult) -> Result<String, AllocError>
     ensures { IfOk result (λ text. string_bytes text ≡ told_text is_json found.now) }
 {
@@ -68,8 +65,8 @@ fn told(alloc: Global, is_json: bool, found: &SearchResult) -> Result<String, Al
     }
 }
 
-/// Writes what the searches find that are asked for, of the project whose file a reader gives. But for a fault of the writer nothing
-/// was written at an error.
+/// Writes what the searches of `asked` find of the project of `file`. On any error except `Write`,
+/// nothing was written.
 pub fn solve_read<S: Read + Drop, W: Write, L: Observer>(
     alloc: Global,
     file: S,
@@ -106,8 +103,7 @@ pub fn solve_read<S: Read + Drop, W: Write, L: Observer>(
     }
 }
 
-/// The same with a status: 0 where the text was written, and 1 where its fault was told on standard error. The reader is of the file
-/// at the path.
+/// Is `solve_read` with a status, 0 or 1. Standard error has each fault except `Write`.
 pub fn solve_to<R: AllocGlobal + Env + Eprint, S: Read + Drop, W: Write, L: Observer>(
     rt: &R,
     path: &str,

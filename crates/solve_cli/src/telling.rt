@@ -10,7 +10,7 @@ use schedule_files::put_schedule;
 use std::alloc::{AllocError, Global};
 use strategy::Verdict;
 
-/// The word for a verdict.
+/// The word of `verdict` in a result.
 pub fn verdict_word(verdict: Verdict) -> &'static str
     ensures { result.now ≡ verdict_text verdict }
 {
@@ -33,7 +33,6 @@ pub fn put_best(text: &mut String, makespan: Option<u32>) -> Result<(), AllocErr
     Ok(())
 }
 
-/// Adds the makespan and the verdict.
 fn put_shown(text: &mut String, found: &SearchResult) -> Result<(), AllocError>
     ensures { IfOk result (λ _. string_bytes text.new ≡ string_bytes text.old ++ shown_text found.now) }
 {
@@ -43,7 +42,6 @@ fn put_shown(text: &mut String, found: &SearchResult) -> Result<(), AllocError>
     Ok(())
 }
 
-/// Adds the words of a schedule, where there is one.
 fn put_places(text: &mut String, best: Option<&Schedule>) -> Result<(), AllocError>
     ensures { IfOk result (λ _. string_bytes text.new ≡ string_bytes text.old ++ places_of (option_copied best.entry)) }
 {
@@ -53,7 +51,7 @@ fn put_places(text: &mut String, best: Option<&Schedule>) -> Result<(), AllocErr
     }
 }
 
-/// A line of a search's nodes and a line of its best schedule. An error is want of memory.
+/// A line of the nodes, and a line of the best schedule. An error is want of memory.
 pub fn tell(alloc: Global, found: &SearchResult) -> Result<String, AllocError>
     ensures { IfOk result (λ text. string_bytes text ≡ found_text found.now) }
 {
@@ -68,7 +66,7 @@ pub fn tell(alloc: Global, found: &SearchResult) -> Result<String, AllocError>
     Ok(text)
 }
 
-/// A line of this makespan, whatever it is, and of this schedule, as the best so far of a search that goes on. An error is want of memory.
+/// A line of `best` and of `makespan`, which is not checked, with the verdict `open`.
 pub fn tell_better(alloc: Global, makespan: u32, best: &Schedule) -> Result<String, AllocError>
     ensures { IfOk result (λ text. string_bytes text ≡ better_line makespan best.now) }
 {
@@ -79,14 +77,12 @@ pub fn tell_better(alloc: Global, makespan: u32, best: &Schedule) -> Result<Stri
     Ok(text)
 }
 
-/// What stands before the place of an activity behind so many others.
 fn comma_before(place: usize) -> &'static str
     ensures { result.now ≡ comma_before place }
 {
     if place == 0 { "" } else { "," }
 }
 
-/// Adds the place of an activity as a JSON object, behind a comma where it is not the first.
 fn put_place_json(text: &mut String, place: usize, mode: u32, start: u32) -> Result<(), AllocError>
     requires { place + 1 < 2 ^ 64 }
     ensures { IfOk result (λ _. string_bytes text.new ≡ string_bytes text.old ++ next_json place mode start) }
@@ -100,7 +96,6 @@ fn put_place_json(text: &mut String, place: usize, mode: u32, start: u32) -> Res
     Ok(())
 }
 
-/// Adds the places of a schedule's activities as JSON objects, with commas between them.
 #[tactic(auto, using(crate::proofs::JsonLemmas::json_rules))]
 fn put_places_json(text: &mut String, schedule: &Schedule) -> Result<(), AllocError>
     ensures { IfOk result (λ _.
@@ -114,7 +109,6 @@ fn put_places_json(text: &mut String, schedule: &Schedule) -> Result<(), AllocEr
     Ok(())
 }
 
-/// Adds a schedule as a JSON array.
 fn put_array(text: &mut String, schedule: &Schedule) -> Result<(), AllocError>
     ensures { IfOk result (λ _. string_bytes text.new ≡ string_bytes text.old ++ schedule_json (Some schedule.now)) }
 {
@@ -123,7 +117,6 @@ fn put_array(text: &mut String, schedule: &Schedule) -> Result<(), AllocError>
     text.push(']')
 }
 
-/// Adds a schedule as a JSON array, or `null`.
 fn put_json(text: &mut String, best: Option<&Schedule>) -> Result<(), AllocError>
     ensures { IfOk result (λ _.
         string_bytes text.new ≡ string_bytes text.old ++ schedule_json (option_copied best.entry)) }
@@ -134,7 +127,6 @@ fn put_json(text: &mut String, best: Option<&Schedule>) -> Result<(), AllocError
     }
 }
 
-/// Adds a makespan, or `null`.
 fn put_makespan_json(text: &mut String, makespan: Option<u32>) -> Result<(), AllocError>
     ensures { IfOk result (λ _. string_bytes text.new ≡ string_bytes text.old ++ makespan_json makespan) }
 {
@@ -145,7 +137,6 @@ fn put_makespan_json(text: &mut String, makespan: Option<u32>) -> Result<(), All
     Ok(())
 }
 
-/// Adds one JSON object on one line: `nodes`, `makespan`, `verdict` and `schedule`.
 fn put_object(
     text: &mut String,
     nodes: u64,
@@ -164,7 +155,7 @@ fn put_object(
     text.push_str("}\n")
 }
 
-/// What `tell` says, as one JSON object on one line: `nodes`, `makespan`, `verdict` and `schedule`.
+/// What `tell` writes, as a JSON object: `nodes`, `makespan`, `verdict` and `schedule`.
 pub fn tell_json(alloc: Global, found: &SearchResult) -> Result<String, AllocError>
     ensures { IfOk result (λ text. string_bytes text ≡ found_json found.now) }
 {
@@ -180,7 +171,7 @@ pub fn tell_json(alloc: Global, found: &SearchResult) -> Result<String, AllocErr
     Ok(text)
 }
 
-/// The same of this makespan and this schedule after so many nodes, as such an object.
+/// What `tell_better` writes, as a JSON object, with `nodes`.
 pub fn tell_better_json(
     alloc: Global,
     nodes: u64,

@@ -1,16 +1,13 @@
-//! The kinds of search.
-
-/// How a project is searched.
+/// A `Kind` is how a project is searched. `Tree` is exact (Sprecher and Drexl 1998). A rule is one
+/// pass (Kolisch 1996), and `Sample` draws passes without end from its seed (Drexl 1991).
 #[derive(Clone, Copy, Debug, PartialEq, Eq)]
 pub enum Kind {
-    /// The precedence tree, exact.
     Tree,
-    /// One pass by the smallest latest finish time.
+    /// By the smallest latest finish time.
     RuleLft,
-    /// One pass by the most total successors.
+    /// By the most total successors.
     RuleMts,
-    /// One pass by the shortest duration.
+    /// By the shortest duration.
     RuleSpt,
-    /// Passes drawn from the words of this seed, without end.
     Sample(u64),
 }

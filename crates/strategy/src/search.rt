@@ -1,4 +1,3 @@
-//! The trait of searches, and its implementation for a box.
 ghost use Rattle.std.specs.Prelude.{◌≡◌, ◌+◌, ◌≤◌, ◌<◌, IsFalse, false};
 ghost use Rattle.std.specs.Option.{option_copied};
 ghost use Rattle.quanta_till.specs.Lease.{LeaseValue, after_draw, after_use, after_settle};
@@ -8,62 +7,50 @@ use crate::{Plan, Verdict};
 use mrcpsp::Schedule;
 use quanta_till::LEASE_LIMIT;
 
-/// A search for one plan of one tenant, which runs a node at a time and pays a quantum for each. None of its calls takes
-/// memory.
+/// A `Strategy` is a search for one plan of one tenant, which pays a quantum for each node. None of
+/// its calls takes memory.
 pub trait Strategy: Send + Drop {
-    /// What it is to those who use it: all that it shows follows from this.
     ghost meaning: { Self → Meaning };
 
-    /// The lease that it owns.
     ghost lease: { Self → LeaseValue };
 
-    /// The number of the tenant whose search it is.
     fn tenant(&self) -> u32
         ensures shown { result ≡ (meaning self.now).tenant }
         ensures owned { result ≡ (lease self.now).tenant };
 
-    /// What it searches, and how.
     fn plan(&self) -> &Plan
         ensures { result.now ≡ (meaning self.now).plan };
 
-    /// How many nodes it has run: as many as its lease has quanta used.
     fn nodes(&self) -> u64
         ensures shown { result ≡ (meaning self.now).nodes }
         ensures paid { result ≡ (lease self.now).used };
 
-    /// How many quanta it holds: how many nodes it may still run.
     fn left(&self) -> u64
         ensures shown { result ≡ (meaning self.now).left }
         ensures held { result ≡ (lease self.now).left };
 
-    /// Whether it runs no more nodes.
     fn closed(&self) -> bool
         ensures { result ≡ shown_closed (meaning self.now) };
 
-    /// What it has shown.
     fn verdict(&self) -> Verdict
         ensures { result ≡ shown_verdict (meaning self.now) };
 
-    /// The best schedule that it knows, until that is taken.
     fn best(&self) -> Option<&Schedule>
         ensures { option_copied result ≡ shown_best (meaning self.now) };
 
-    /// Draws so many quanta from the till of its lease.
     fn fund(&mut self, quanta: u64)
         requires going { IsFalse (shown_closed (meaning self.old)) }
         requires limited { (meaning self.old).nodes + (meaning self.old).left + quanta ≤ LEASE_LIMIT }
         ensures shown { meaning self.new ≡ funded quanta (meaning self.old) }
         ensures drawn { lease self.new ≡ after_draw (lease self.old) quanta };
 
-    /// Runs one node, and pays one quantum for it.
     fn advance(&mut self)
         requires going { IsFalse (shown_closed (meaning self.old)) }
         requires paid { 0 < (meaning self.old).left }
         ensures shown { meaning self.new ≡ advanced (meaning self.old) }
         ensures used { lease self.new ≡ after_use (lease self.old) 1 };
 
-    /// Runs nodes until so many have run, it holds no more quanta or it is over, and tells how many. An implementation may
-    /// pay for all of them in one step at the end: so searches that share a till do not wait for each other at every node.
+    /// May pay once at the end, so that searches of one till do not wait at each node.
     fn run(&mut self, most: u64) -> u64
         requires { (meaning self.old).taken ≡ false }
         ensures ran { result ≡ nodes_within most (meaning self.old) }
@@ -78,19 +65,17 @@ pub trait Strategy: Send + Drop {
         ran
     }
 
-    /// Hands back all quanta that it holds.
     fn settle(&mut self)
         ensures shown { meaning self.new ≡ settled (meaning self.old) }
         ensures back { lease self.new ≡ after_settle (lease self.old) };
 
-    /// Hands out the best schedule that it knows. From then on it has none and is closed; the rest stays.
+    /// From then on the search has no best schedule, and is closed.
     fn take_best(&mut self) -> Option<Schedule>
         ensures best { result ≡ shown_best (meaning self.old) }
         ensures taken { meaning self.new ≡ emptied (meaning self.old) }
         ensures kept { lease self.new ≡ lease self.old };
 }
 
-/// A boxed search is the search in the box.
 impl Strategy for Box<dyn Strategy> {
     ghost meaning = { λ b. (Strategy-box b).meaning b.value };
 

@@ -1,13 +1,12 @@
-//! Books: prepaid quanta, and where each of them is.
 ghost use Rattle.std.specs.Prelude.{◌≡◌, ◌≤◌, ◌<◌, ◌↔◌, IsOk, IfOk, IfErr, OnErr, OnOk};
 ghost use Rattle.tenant_book.specs.Book.{IsBook, opened, after_hold, after_spend, after_free_up};
 
 use std::marker::Model;
 
-/// The most quanta that a purse may be granted.
+/// The most quanta of a purse.
 pub const MOST_QUANTA: u64 = 1_000_000_000_000;
 
-/// A purse's ledger, in quanta: granted are always free, held and spent together.
+/// A `Book` is a purse's ledger: the quanta granted are the free, held and spent ones together.
 #[derive(Clone, Copy, Debug)]
 pub struct Book {
     granted: u64,
@@ -28,12 +27,12 @@ impl Model for Book {
     ghost invariant = { λ b. IsBook (record { granted = b.granted; free = b.free; held = b.held; spent = b.spent }) };
 }
 
-/// More quanta were asked for than are free, and how many these are.
+/// A `Short` is the number of free quanta if more were asked for.
 #[derive(Clone, Copy, Debug, PartialEq, Eq)]
 pub struct Short(pub u64);
 
 impl Book {
-    /// A book of so many quanta, at most `MOST_QUANTA`, that are all free.
+    /// All quanta are free.
     pub fn new(granted: u64) -> Book
         requires { granted ≤ MOST_QUANTA }
         ensures { result ≡ opened granted }
@@ -46,7 +45,6 @@ impl Book {
         }
     }
 
-    /// How many quanta the purse was granted.
     pub fn granted(&self) -> u64
         ensures exact { result ≡ self.now.granted }
         ensures book { IsBook self.now }
@@ -54,7 +52,7 @@ impl Book {
         self.granted
     }
 
-    /// How many quanta no job holds and no node was paid with.
+    /// The quanta that no job holds and no node was paid with.
     pub fn free(&self) -> u64
         ensures exact { result ≡ self.now.free }
         ensures book { IsBook self.now }
@@ -62,7 +60,6 @@ impl Book {
         self.free
     }
 
-    /// How many quanta its members' jobs hold.
     pub fn held(&self) -> u64
         ensures exact { result ≡ self.now.held }
         ensures book { IsBook self.now }
@@ -70,7 +67,6 @@ impl Book {
         self.held
     }
 
-    /// How many quanta were paid for nodes.
     pub fn spent(&self) -> u64
         ensures exact { result ≡ self.now.spent }
         ensures book { IsBook self.now }
@@ -78,7 +74,7 @@ impl Book {
         self.spent
     }
 
-    /// Gives so many free quanta to a job, or tells how many are free where these are fewer. Then nothing changes.
+    /// Gives free quanta to a job. If too few are free it fails, and nothing changes.
     pub fn hold(&mut self, quanta: u64) -> Result<(), Short>
         ensures enough { IsOk result ↔ (quanta ≤ self.old.free) }
         ensures held { OnOk result (self.new ≡ after_hold quanta self.old) }
@@ -93,7 +89,7 @@ impl Book {
         Ok(())
     }
 
-    /// Pays for so many nodes with held quanta.
+    /// Pays for nodes with held quanta.
     pub fn spend(&mut self, quanta: u64)
         requires { quanta ≤ self.old.held }
         ensures { self.new ≡ after_spend quanta self.old }
@@ -102,7 +98,7 @@ impl Book {
         self.spent += quanta;
     }
 
-    /// Takes so many held quanta back from a job.
+    /// Takes held quanta back from a job.
     pub fn free_up(&mut self, quanta: u64)
         requires { quanta ≤ self.old.held }
         ensures { self.new ≡ after_free_up quanta self.old }

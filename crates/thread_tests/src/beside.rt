@@ -1,4 +1,4 @@
-//! A cancel beside a worker that has the job's turn.
+//! A cancel while a worker has the job's turn.
 ghost use Rattle.std.specs.Prelude.{◌≡◌, length};
 ghost use Rattle.turn_lock.specs.Values.{IsPassOf};
 
@@ -10,19 +10,18 @@ use std::sync::atomic::{AtomicU64, Ordering};
 use std::thread;
 use std::thread::Threads;
 
-/// The most polls of a thread that waits for the other one.
+/// The most polls of a thread that waits for another one.
 const MOST_POLLS: u64 = 1_000_000_000;
 
-/// A gate that holds the turns until it is opened, and tells when it holds one.
+/// A gate that holds the turns until it is opened, and shows when it holds one.
 #[derive(Drop)]
 pub(crate) struct Barrier {
     /// 1 once a turn is held.
     held: AtomicU64,
-    /// 1 once it is opened.
+    /// 1 once the gate is open.
     opened: AtomicU64,
 }
 
-/// Waits until it is 1.
 fn wait_for(flag: &AtomicU64) {
     for _ in 0..MOST_POLLS {
         if flag.load(Ordering::SeqCst) == 1 {
@@ -32,7 +31,6 @@ fn wait_for(flag: &AtomicU64) {
 }
 
 impl Barrier {
-    /// A closed gate, which holds none.
     pub(crate) fn new() -> Barrier {
         Barrier {
             held: AtomicU64::new(0),
@@ -54,7 +52,7 @@ impl Gate for Barrier {
     }
 }
 
-/// Cancels job 1 twice while its turn is held, and then lets it go on.
+/// Lets the turn go on after the second cancel.
 fn cancel_twice<R: Wait>(rt: &R, pool: &Pool, pass: &mut PoolPass, gate: &Barrier) -> (Reply, Reply)
     requires own { IsPassOf pool.now.lock pass.old }
     requires known { length pool.now.lock.opening.tenants ≡ 1 }
@@ -67,7 +65,6 @@ fn cancel_twice<R: Wait>(rt: &R, pool: &Pool, pass: &mut PoolPass, gate: &Barrie
     (first, second)
 }
 
-/// A worker, while job 1 is cancelled twice.
 pub(crate) fn cancel_beside<R: Threads + Wait + Sync>(
     rt: &R,
     pool: &Pool,

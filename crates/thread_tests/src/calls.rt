@@ -1,4 +1,4 @@
-//! What is asked of a pool, and the text of what it answers.
+//! Calls of a pool, and the texts of their answers.
 ghost use Rattle.std.specs.Prelude.{◌≡◌, ◌<◌, length};
 ghost use Rattle.farm_core.specs.Command.{IsFresh};
 ghost use Rattle.turn_lock.specs.Values.{IsPassOf};
@@ -15,34 +15,28 @@ use std::sync::Wait;
 use strategy::Strategy;
 use watched_io::Watch;
 
-/// What is asked of a pool. Jobs are told by their numbers.
+/// An `Ask` is a call of a pool. A single number is a job's, but a submit's is its quanta.
 #[derive(Clone, Copy)]
 pub(crate) enum Ask {
-    /// A job of the diamond's tree, with so many quanta.
+    /// A job of the diamond's tree.
     Submit(u64),
-    /// So many quanta more for a job.
+    /// A job, and further quanta for it.
     Fund(u64, u64),
-    /// What is known of a job.
     Status(u64),
-    /// A job's best schedule.
     Fetch(u64),
-    /// That a job be searched no more.
     Cancel(u64),
-    /// That a job be kept no longer.
     Forget(u64),
-    /// The ledger.
     Ledger,
-    /// That a worker take what there is, which is one turn.
+    /// A worker takes what there is, which is one turn.
     Work,
 }
 
-/// What is said of a worker that had one turn.
+/// The answer of a worker that had one turn.
 pub(crate) const WORKED: &str = "@a worked\n";
 
-/// What is said where a growth was refused; of a worker too that took no turn.
+/// The answer if a growth was refused; also of a worker that took no turn.
 pub(crate) const SCARCE: &str = "@a no memory\n";
 
-/// The line of a reply.
 fn text_of(rt: &impl Abort, alloc: Global, reply: Reply) -> Vec<u8> {
     let mut text = Vec::new(alloc);
     assert!(rt; text.reserve(256).is_ok(), "no memory");
@@ -52,12 +46,11 @@ fn text_of(rt: &impl Abort, alloc: Global, reply: Reply) -> Vec<u8> {
     text
 }
 
-/// Whether this is the line of a reply.
 pub(crate) fn is_line(rt: &impl Abort, alloc: Global, reply: Reply, line: &str) -> bool {
     text_of(rt, alloc, reply).as_slice() == line.as_bytes()
 }
 
-/// A command that needs no search: the ledger, where it is none of the others.
+/// For calls that need no search. Any call that is no other one is for the ledger.
 fn command_of(ask: Ask) -> Command<Box<dyn Strategy>>
     ensures { IsFresh (λ b. (Strategy-box b).meaning b.value) 0 result }
 {
@@ -71,7 +64,7 @@ fn command_of(ask: Ask) -> Command<Box<dyn Strategy>>
     }
 }
 
-/// What is said of a worker that takes what there is, and asks once whether to go on.
+/// The worker takes what there is, and asks once whether to go on.
 fn work<R: Wait>(rt: &R, pool: &Pool, pass: &mut PoolPass) -> &'static str
     requires { IsPassOf pool.now.lock pass.old }
     ensures { IsPassOf pool.now.lock pass.new }
@@ -85,7 +78,7 @@ fn work<R: Wait>(rt: &R, pool: &Pool, pass: &mut PoolPass) -> &'static str
     }
 }
 
-/// The submit of the last of the searches that are ready.
+/// Takes the last of the searches that are ready.
 fn submit_of<R: Abort>(rt: &R, ready: &mut Vec<Planned>, quanta: u64) -> Command<Box<dyn Strategy>>
     ensures { IsFresh (λ b. (Strategy-box b).meaning b.value) 0 result }
 {
@@ -98,7 +91,6 @@ fn submit_of<R: Abort>(rt: &R, ready: &mut Vec<Planned>, quanta: u64) -> Command
     }
 }
 
-/// A text in a buffer.
 fn bytes_of(rt: &impl Abort, alloc: Global, said: &str) -> Vec<u8> {
     let mut text = Vec::new(alloc);
     assert!(rt;
@@ -108,7 +100,6 @@ fn bytes_of(rt: &impl Abort, alloc: Global, said: &str) -> Vec<u8> {
     text
 }
 
-/// What the pool replies to a call of tenant a.
 fn reply_to<R: Wait + Abort>(
     rt: &R,
     pool: &Pool,
@@ -128,8 +119,7 @@ fn reply_to<R: Wait + Abort>(
     pool.call(rt, pass, A, command)
 }
 
-/// Makes a call, and tells what is said of it. A submit takes the last of the searches that are
-/// ready.
+/// A submit takes the last of the searches that are ready.
 pub(crate) fn make<R: Wait + Abort>(
     rt: &R,
     alloc: Global,

@@ -1,36 +1,31 @@
-//! A counter: a number that begins somewhere, and takes what is added as long as it fits.
+//! A counter: a number that takes what is added as long as it fits.
 ghost use Rattle.std.specs.Prelude.{◌≡◌, [], ⊤};
 ghost use Rattle.thread_tests.specs.Counting.{total};
 
 use std::alloc::Global;
 use turn_lock::{Kept, Runs};
 
-/// One that was added.
 #[derive(Clone, Copy, Debug, PartialEq, Eq)]
 pub struct Added {
-    /// How much.
     pub amount: u64,
 }
 
-/// What a counter is asked.
 #[derive(Drop)]
 pub enum Ask {
-    /// That so much be added.
     Add(u64),
-    /// What it is at.
     Total,
 }
 
-/// What it answers.
+/// A `Reply` is the answer of a counter.
 #[derive(Clone, Copy, Debug, PartialEq, Eq, Drop)]
 pub enum Reply {
-    /// What it is at then.
+    /// The number after the call.
     Is(u64),
-    /// It does not fit, or there is no memory.
+    /// The sum does not fit, or there is no memory.
     NoRoom,
 }
 
-/// A counter, and all that was added.
+/// A `Counter` is a number, and all that was added to it.
 #[derive(Drop)]
 pub struct Counter {
     start: u64,
@@ -40,7 +35,6 @@ pub struct Counter {
 }
 
 impl Counter {
-    /// A counter to which nothing was added.
     pub fn new(alloc: Global, start: u64) -> Counter
         ensures opening { result.start ≡ start }
         ensures empty { result.history.items ≡ [] }
@@ -52,7 +46,7 @@ impl Counter {
         }
     }
 
-    /// All that was added, in order.
+    /// In the order of the calls.
     pub fn added(&self) -> &[Added]
         ensures { result.now ≡ self.now.history.items }
     {

@@ -8,7 +8,6 @@ use std::sync::Wait;
 use std::thread;
 use std::thread::Threads;
 
-/// One worker, whose pass comes back.
 fn work_as<R: Wait, G: Gate>(rt: &R, pool: &Pool, pass: PoolPass, gate: &G) -> (PoolPass, WorkEnd)
     requires { IsPassOf pool.now.lock pass }
     ensures { IsPassOf pool.now.lock result.0 }
@@ -18,7 +17,6 @@ fn work_as<R: Wait, G: Gate>(rt: &R, pool: &Pool, pass: PoolPass, gate: &G) -> (
     (pass, end)
 }
 
-/// Two workers at once.
 pub(crate) fn work_both<R: Threads + Wait + Sync, G: Gate + Sync>(
     rt: &R,
     pool: &Pool,
@@ -46,7 +44,6 @@ pub(crate) fn work_both<R: Threads + Wait + Sync, G: Gate + Sync>(
     (first, second)
 }
 
-/// Four workers at once.
 pub(crate) fn work_in_fours<R: Threads + Wait + Sync, G: Gate + Sync>(
     rt: &R,
     pool: &Pool,

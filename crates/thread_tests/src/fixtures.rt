@@ -1,4 +1,4 @@
-//! A project, its searches in boxes, tills, configurations and pools.
+//! A project, its boxed searches, tills, configurations and pools.
 ghost use Rattle.std.specs.Prelude.{◌≡◌, true, length, IfSome};
 ghost use Rattle.quanta_till.specs.Lease.{IsEmpty};
 ghost use Rattle.farm_core.specs.Tills.{opening_for, opening_of};
@@ -48,7 +48,6 @@ h
 3 1
 ";
 
-/// A plan of the diamond.
 fn plan_of(alloc: Global, kind: Kind) -> Option<Plan>
     ensures { IfSome result (λ plan. plan.kind ≡ kind) }
 {
@@ -58,14 +57,13 @@ fn plan_of(alloc: Global, kind: Kind) -> Option<Plan>
     }
 }
 
-/// A plan and its search.
 #[derive(Drop)]
 pub(crate) struct Planned {
     pub(crate) plan: Plan,
     pub(crate) search: Box<dyn Strategy>,
 }
 
-/// The search of a plan of a tree; none if there is no memory for it.
+/// `None`: out of memory.
 fn search_of(alloc: Global, plan: &Plan, lease: Lease) -> Option<Box<dyn Strategy>>
     requires kind { plan.now.kind ≡ Tree }
     requires lease { IsEmpty lease }
@@ -74,7 +72,6 @@ fn search_of(alloc: Global, plan: &Plan, lease: Lease) -> Option<Box<dyn Strateg
     Some(search)
 }
 
-/// The diamond's tree with an empty lease.
 pub(crate) fn tree_of(rt: &impl Abort, alloc: Global, lease: Lease) -> Planned
     requires { IsEmpty lease }
 {
@@ -83,7 +80,7 @@ pub(crate) fn tree_of(rt: &impl Abort, alloc: Global, lease: Lease) -> Planned
     Planned { plan, search }
 }
 
-/// So many of them, of tenant a.
+/// Trees of tenant a.
 pub(crate) fn trees_of(
     rt: &impl Abort,
     alloc: Global,
@@ -98,7 +95,7 @@ pub(crate) fn trees_of(
     trees
 }
 
-/// The diamond's pass by a rule with an empty lease, whose first node waits at a meeting.
+/// A pass by a rule whose first node waits at a meeting.
 pub(crate) fn patient_of(
     rt: &impl Abort,
     alloc: Global,
@@ -118,7 +115,6 @@ pub(crate) fn patient_of(
     Planned { plan, search }
 }
 
-/// The diamond's sampling with an empty lease.
 pub(crate) fn sample_of(rt: &impl Abort, alloc: Global, lease: Lease) -> SampleSearch
     requires { IsEmpty lease }
 {
@@ -129,7 +125,6 @@ pub(crate) fn sample_of(rt: &impl Abort, alloc: Global, lease: Lease) -> SampleS
     search
 }
 
-/// A purse's number, the quanta that it was granted, its till and its desk.
 #[derive(Drop)]
 pub(crate) struct Purse {
     number: u32,
@@ -142,7 +137,6 @@ pub(crate) struct Purse {
 }
 
 impl Purse {
-    /// The till of the purse of that number with so many quanta, and its first desk.
     pub(crate) fn new(rt: &impl Abort, alloc: Global, number: u32, granted: u64) -> Purse {
         let (till, desk) = Till::new(alloc, number, granted).expect(rt, "no memory for a till");
         Purse {
@@ -153,7 +147,6 @@ impl Purse {
         }
     }
 
-    /// An empty lease for a tenant.
     pub(crate) fn lease(&mut self, rt: &impl Abort, tenant: u32) -> Lease
         ensures { IsEmpty result }
     {
@@ -167,7 +160,6 @@ impl Purse {
         [words.pool, words.spent, words.granted]
     }
 
-    /// Whether its till is that of the configuration's purse of this number.
     fn is_of(&self, config: &Config, number: u32) -> bool
         ensures { result ≡ true → opening_of self.now.till ≡ opening_for config.now number }
     {
@@ -175,11 +167,10 @@ impl Purse {
     }
 }
 
-/// A tenant of a configuration: its name, that of its purse, empty where that is its own, and its
-/// quanta and entries of the journal.
+/// A tenant's name, its purse's name, empty for a purse of its own, and its quanta and entries.
 pub(crate) type Terms = (&'static str, &'static str, u64, u64);
 
-/// The line of a tenant, who may keep two jobs.
+/// The tenant may keep two jobs.
 fn line_of((name, purse, quanta, entries): Terms) -> Option<TenantLine> {
     Some(TenantLine {
         name: Name::new(name.as_bytes())?,
@@ -190,7 +181,7 @@ fn line_of((name, purse, quanta, entries): Terms) -> Option<TenantLine> {
     })
 }
 
-/// The configuration of these tenants, with two workers and turns of so many nodes.
+/// Two workers.
 pub(crate) fn config_of(rt: &impl Abort, alloc: Global, tenants: &[Terms], slice: u64) -> Config {
     let mut lines = Vec::new(alloc);
     for terms in tenants {
@@ -200,7 +191,6 @@ pub(crate) fn config_of(rt: &impl Abort, alloc: Global, tenants: &[Terms], slice
     Config::new(Sequence::from(lines), 2, slice).expect(rt, "no memory for a configuration")
 }
 
-/// The pool of a configuration of so many tenants, and its first pass.
 pub(crate) fn pool_of(alloc: Global, config: &Config, tenants: usize) -> Option<(Pool, PoolPass)>
     ensures own { IfSome result (λ made. IsPassOf made.0.lock made.1) }
     ensures opening { IfSome result (λ made. made.0.lock.opening ≡ config.now) }
@@ -220,7 +210,7 @@ fn is_whole(till: &Till, desk: &mut Desk) -> bool
     words.pool.checked_add(words.spent) == Some(words.granted)
 }
 
-/// How a farm ended, where jobs that held quanta were dropped with it: then all quanta are back.
+/// If the farm ended with jobs that held quanta, they were dropped with it: all quanta are back.
 fn once_dropped(
     ended: Result<Settled, Unsettled>,
     is_whole: bool,
@@ -231,7 +221,6 @@ fn once_dropped(
     Some(ended)
 }
 
-/// How a farm of two purses is settled with them.
 #[tactic(auto, using(crate::proofs::SeatLemmas::two_seated, crate::proofs::SeatLemmas::two_tills))]
 pub(crate) fn settle(
     config: &Config,
@@ -263,7 +252,6 @@ pub(crate) fn settle(
     once_dropped(ended, is_whole)
 }
 
-/// How a farm of one purse is settled with it.
 #[tactic(auto, using(crate::proofs::SeatLemmas::one_seated, crate::proofs::SeatLemmas::one_till))]
 pub(crate) fn settle_shared(
     config: &Config,

@@ -4,10 +4,9 @@ use std::alloc::Global;
 use std::sync::Arc;
 use std::sync::atomic::{AtomicU64, Ordering};
 
-/// The most polls of a worker that waits for another one.
 const MOST_POLLS: u64 = 1_000_000_000;
 
-/// A gate that holds nobody. A worker ends where it finds nothing to take.
+/// A gate that holds nobody. A worker ends if it finds nothing to take.
 pub(crate) struct Open;
 
 impl Gate for Open {
@@ -27,14 +26,12 @@ pub(crate) struct Counting {
 }
 
 impl Counting {
-    /// A gate that nobody has asked.
     pub(crate) fn new() -> Counting {
         Counting {
             times: AtomicU64::new(0),
         }
     }
 
-    /// How often it was asked.
     pub(crate) fn asked(&self) -> u64 {
         self.times.load(Ordering::SeqCst)
     }
@@ -51,17 +48,15 @@ impl Gate for Counting {
     }
 }
 
-/// Where the first to come waits for the second.
+/// The first to come waits for the second.
 #[derive(Drop)]
 pub(crate) struct Meeting {
-    /// How many have come.
     come: AtomicU64,
     /// How many have gone on without another one.
     alone: AtomicU64,
 }
 
 impl Meeting {
-    /// A meeting to which nobody has come.
     pub(crate) fn new() -> Meeting {
         Meeting {
             come: AtomicU64::new(0),
@@ -74,7 +69,6 @@ impl Meeting {
         self.come.fetch_add(1, Ordering::SeqCst);
     }
 
-    /// How many have come.
     fn here(&self) -> u64 {
         self.come.load(Ordering::SeqCst)
     }
@@ -90,7 +84,7 @@ impl Meeting {
         self.alone.fetch_add(1, Ordering::SeqCst);
     }
 
-    /// Whether two have come, and nobody has gone on without another one.
+    /// Whether two have come, and nobody has gone on alone.
     pub(crate) fn was_met(&self) -> bool {
         self.here() >= 2 && self.alone.load(Ordering::SeqCst) == 0
     }
@@ -114,7 +108,8 @@ impl Gate for Pair {
     }
 }
 
-/// A gate for one turn, of a search whose first node comes to a meeting: the gate comes there before the node, and leaves after it.
+/// A gate for one turn, whose first node comes to a meeting. The gate comes there before the node,
+/// and leaves after it.
 #[derive(Drop)]
 pub(crate) struct Escort {
     meeting: Arc<Meeting, Global>,
@@ -123,7 +118,6 @@ pub(crate) struct Escort {
 }
 
 impl Escort {
-    /// A gate that nobody has passed.
     pub(crate) fn new(meeting: Arc<Meeting, Global>) -> Escort {
         Escort {
             meeting,
@@ -131,12 +125,11 @@ impl Escort {
         }
     }
 
-    /// Whether the node came between.
     pub(crate) fn has_met(&self) -> bool {
         self.meeting.was_met() && self.astray.load(Ordering::SeqCst) == 0
     }
 
-    /// Notes whether others than so many have come.
+    /// Counts it as astray if not `wanted` have come.
     fn look(&self, wanted: u64) {
         if self.meeting.here() != wanted {
             self.astray.fetch_add(1, Ordering::SeqCst);
@@ -159,23 +152,23 @@ impl Gate for Escort {
     }
 }
 
-/// A gate that looks whether each turn comes in and goes out again before the next one of its worker. It has the worker go on twice.
+/// A gate that checks whether each turn ends before its worker's next one. Its worker goes on
+/// twice.
 #[derive(Drop)]
 pub(crate) struct Witness {
-    /// Whose turn is inside: 0 for nobody's, otherwise 1,000 for each tenant before it and the job's number.
+    /// Whose turn is inside: 0, or 1,000 for each tenant before its own, and the job's number.
     inside: AtomicU64,
-    /// How many turns of the first tenant's jobs went out.
+    /// The turns of the first tenant that went out.
     of_a: AtomicU64,
-    /// How many turns of the second tenant's jobs went out.
+    /// The turns of the second tenant that went out.
     of_b: AtomicU64,
-    /// How many came in or went out when it was not their turn.
+    /// The turns that came in or went out at a wrong time.
     astray: AtomicU64,
     /// How often the worker asked whether to go on.
     asked: AtomicU64,
 }
 
 impl Witness {
-    /// A gate that nobody has passed.
     pub(crate) fn new() -> Witness {
         Witness {
             inside: AtomicU64::new(0),
@@ -186,7 +179,7 @@ impl Witness {
         }
     }
 
-    /// Whether so many turns of either tenant went through, each in its time, and the worker asked so often.
+    /// Whether each turn went through in its time, with these counts of turns and of questions.
     pub(crate) fn has_seen(&self, of_a: u64, of_b: u64, asked: u64) -> bool {
         let turns = (
             self.of_a.load(Ordering::SeqCst),
@@ -199,7 +192,7 @@ impl Witness {
         turns == (of_a, of_b) && rest == (0, asked)
     }
 
-    /// Puts another turn inside, where this one is to be.
+    /// Puts `to` inside, and counts it as astray if `from` was not there.
     fn change(&self, from: u64, to: u64) {
         if self.inside.load(Ordering::SeqCst) != from {
             self.astray.fetch_add(1, Ordering::SeqCst);
@@ -208,7 +201,6 @@ impl Witness {
     }
 }
 
-/// The number by which a witness knows a job.
 fn mark_of(tenant: u32, seq: u64) -> u64 {
     u64::from(tenant).saturating_mul(1000).saturating_add(seq)
 }

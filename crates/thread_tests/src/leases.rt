@@ -7,7 +7,6 @@ use quanta_till::{Desk, LEASE_LIMIT, Till, TillWords};
 use std::alloc::AllocError;
 use std::test::Fail;
 
-/// The words of a till.
 pub(crate) fn words(pool: u64, spent: u64, granted: u64) -> TillWords {
     TillWords {
         pool,
@@ -55,7 +54,7 @@ fn a_settled_lease_may_draw_again(rt: HostRuntime) -> Result<(), Fail> {
     Ok(())
 }
 
-// A till of 1 from which 3 are drawn has 2 less than nothing in its pool.
+// The pool of a till of 1 from which 3 are drawn is 2 below zero.
 #[test]
 fn the_pool_goes_below_zero_modulo_2_to_the_64(rt: HostRuntime) -> Result<(), Fail> {
     let (till, mut desk) = Till::new(rt.alloc(), 0, 1)?;
@@ -70,7 +69,7 @@ fn the_pool_goes_below_zero_modulo_2_to_the_64(rt: HostRuntime) -> Result<(), Fa
     Ok(())
 }
 
-// The sum of what the tills' pools have and what was spent, as far as it fits.
+// The sum of the pools and of what was spent, as far as it fits.
 fn accounted(tills: &[Till], desks: &mut [Desk]) -> u64
     requires count { length desks.old ≡ length tills.now }
     requires seated { (i : ℕ) (t : TillValue) (d : DeskValue)
@@ -120,7 +119,7 @@ fn leases_of_two_tenants_draw_on_one_pool(rt: HostRuntime) -> Result<(), Fail> {
     Ok(())
 }
 
-// Where a growth of the first is refused, the second is made, and is as good.
+// If a growth of the first till is refused, the second one is made, and works.
 #[test]
 fn new_fails_only_for_want_of_memory(rt: HostRuntime) -> Result<(), Fail> {
     let (till, mut desk) = match Till::new(rt.alloc(), 3, 9) {

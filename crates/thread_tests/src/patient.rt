@@ -17,7 +17,6 @@ pub(crate) struct Patient {
 }
 
 impl Patient {
-    /// The search, before its first node.
     pub(crate) fn new(search: RuleSearch, meeting: Arc<Meeting, Global>) -> Patient
         ensures { result.search ≡ search }
     {

@@ -10,13 +10,12 @@ use std::test::Fail;
 use std::thread;
 use strategy::Strategy;
 
-/// How many nodes one thread runs: they take far longer than the looks of the other one.
+/// The nodes of one thread: they take far longer than the other thread's looks.
 const NODES: u64 = 300_000;
 
 /// How often the other thread looks.
 const LOOKS: u64 = 1_000;
 
-/// The most polls of a thread that waits for the other one.
 const MOST_POLLS: u64 = 1_000_000_000;
 
 /// How far the thread that runs nodes has come.
@@ -27,7 +26,6 @@ struct Progress {
 }
 
 impl Progress {
-    /// No node has begun.
     fn new() -> Progress {
         Progress {
             begun: AtomicU64::new(0),
@@ -35,7 +33,6 @@ impl Progress {
         }
     }
 
-    /// Runs the nodes, and tells how many.
     fn run(&self, search: &mut SampleSearch) -> u64 {
         if search.closed() {
             return 0;
@@ -55,7 +52,7 @@ impl Progress {
         }
     }
 
-    /// Looks at the till once the nodes have begun, and tells how often something was spent before they had ended.
+    /// Returns how often something was spent before the nodes had ended.
     fn looks(&self, till: &Till, desk: &mut Desk) -> u64
         requires { desk.old.id ≡ till.now.id }
     {
@@ -71,8 +68,8 @@ impl Progress {
     }
 }
 
-// A search pays at the end of a run, so nothing is spent while its nodes run. A look may fall between payment and end; half of
-// them may not.
+// A search pays at the end of a run: nothing is spent while its nodes run. A look may fall between
+// payment and end; half of the looks may not.
 #[test]
 fn nodes_are_paid_once_they_have_run(rt: HostRuntime) -> Result<(), Fail> {
     let (till, mut desk) = Till::new(rt.alloc(), 1, NODES)?;

@@ -9,27 +9,25 @@ use std::alloc::Global;
 use std::process::Abort;
 use std::sync::Wait;
 
-/// What is asked, what is said then, and what status and ledger are from then on.
+/// A call, its answer, and status and ledger from then on.
 #[derive(Clone, Copy)]
 pub(crate) struct Step(pub(crate) Ask, pub(crate) &'static str, pub(crate) Known);
 
-/// What job 1's status is, and the ledger.
+/// Job 1's status, and the ledger.
 #[derive(Clone, Copy)]
 pub(crate) struct Known(pub(crate) &'static str, pub(crate) &'static str);
 
 /// Tenant a alone, of 100 quanta and 100 entries.
 pub(crate) const ALONE: [Terms; 1] = [("a", "", 100, 100)];
 
-/// How many submits a script has at most, each of which may be made twice.
+/// The most submits of a script, each of which may be made twice.
 const MOST_SUBMITS: u32 = 4;
 
-/// What is known of a pool in which nothing has happened.
 const NOTHING: Known = Known("@a no unknown\n", WHOLE);
 
-/// Its ledger.
 const WHOLE: &str = "@a ledger granted 100 free 100 held 0 spent 0\n";
 
-/// Whether it may find no memory: not a cancel that is accepted.
+/// An accepted cancel wants no memory.
 fn may_want_memory(step: Step) -> bool {
     match step {
         Step(Ask::Cancel(_), told, _) => !told.starts_with("@a job"),
@@ -37,7 +35,7 @@ fn may_want_memory(step: Step) -> bool {
     }
 }
 
-/// How many entries of the journal a call leaves that had memory.
+/// The entries of a call that had memory.
 fn entries_of(ask: Ask) -> usize {
     match ask {
         Ask::Work => 2,
@@ -45,8 +43,7 @@ fn entries_of(ask: Ask) -> usize {
     }
 }
 
-/// Makes a call, and compares what is said of it. The texts are for messages too, the second one
-/// that of the step that found no memory.
+/// The texts are for messages too. The second one is that of the step that found no memory.
 fn see<R: Wait + Abort>(
     rt: &R,
     alloc: Global,
@@ -68,8 +65,8 @@ fn see<R: Wait + Abort>(
     );
 }
 
-/// Makes a call. Where it finds no memory it has changed nothing, and is made again. Tells how many
-/// entries were left.
+/// A call that finds no memory has changed nothing, and is made again. Returns the entries that it
+/// left.
 fn insist<R: Wait + Abort>(
     rt: &R,
     alloc: Global,
@@ -105,7 +102,7 @@ fn insist<R: Wait + Abort>(
     entries_of(ask).saturating_add(2)
 }
 
-/// The step of that place of a script, which stands behind so many calls for the ledger.
+/// `lead` calls for the ledger come before the script.
 fn step_at(lead: usize, steps: &[Step], at: usize) -> Step {
     match steps.get(at.saturating_sub(lead)) {
         Some(step) if lead <= at => *step,
@@ -113,8 +110,7 @@ fn step_at(lead: usize, steps: &[Step], at: usize) -> Step {
     }
 }
 
-/// Makes the calls one after another, behind so many for the ledger. Tells how many entries were
-/// left.
+/// Makes `lead` calls for the ledger first. Returns the entries that were left.
 fn play_all<R: Wait + Abort>(
     rt: &R,
     alloc: Global,
@@ -139,9 +135,7 @@ fn play_all<R: Wait + Abort>(
     entries
 }
 
-/// Plays a script on a pool of its own whose turns are of so many nodes, behind so many calls for
-/// the ledger, and compares how many entries the journal has, and the words of the till once the
-/// farm is gone.
+/// Compares the length of the journal, and the words of the till once the farm is gone.
 pub(crate) fn play<R: Wait + Abort>(
     rt: &R,
     alloc: Global,

@@ -65,7 +65,7 @@ const EACH: [Step; 13] = [
     Step(Ledger, NINE_SPENT, FORGOTTEN),
 ];
 
-/// A waiting job of which nothing has run, and then one that is cancelled.
+/// A waiting job that has run no node, and then a cancelled one.
 const CANCELLED: [Step; 3] = [
     Step(Submit(6), "@a job 1\n", MADE),
     Step(Cancel(1), GIVEN_UP, FRESH),
@@ -119,7 +119,7 @@ const DRY: [Step; 3] = [
     ),
 ];
 
-// Behind eight numbers of entries, so that each call is made where the journal grows.
+// Eight counts of entries come before, so that each call is made at a growth of the journal.
 #[test]
 fn each_call(rt: HostRuntime) {
     for lead in 0..8 {
@@ -141,8 +141,7 @@ fn cancels(rt: HostRuntime) {
     }
 }
 
-/// Cancels job 1 beside its turn of two nodes, which goes on only once the job is cancelled, and
-/// compares what is said, and then the words of the till.
+/// Cancels job 1 during its turn of two nodes, which goes on only once the job is cancelled.
 fn cancel_while_out<R: Threads + Wait + Sync + Abort>(
     rt: &R,
     alloc: Global,

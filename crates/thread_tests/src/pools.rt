@@ -13,10 +13,9 @@ use std::process::Abort;
 use std::sync::{Arc, Wait};
 use strategy::Strategy;
 
-/// The line of a job that has run all nine nodes of the diamond's tree.
+/// All nine nodes of the diamond's tree have run.
 const CLOSED: &str = "@a job 1 closed nodes 9 left 0 best 4 optimal\n";
 
-/// Makes a call of a tenant, and compares the line of its reply.
 fn tells<R: Wait + Abort>(
     rt: &R,
     alloc: Global,
@@ -32,17 +31,16 @@ fn tells<R: Wait + Abort>(
     assert!(rt; is_line(rt, alloc, reply, line), "{line}");
 }
 
-// How many turns two workers took.
+// The turns of two workers.
 fn turns_of(ends: (WorkEnd, WorkEnd)) -> u64 {
     ends.0.turns.saturating_add(ends.1.turns)
 }
 
-// How many turns of strangers two workers met.
+// The turns of strangers that two workers met.
 fn strangers_of(ends: (WorkEnd, WorkEnd)) -> u64 {
     ends.0.strangers.saturating_add(ends.1.strangers)
 }
 
-// Whether a worker did nothing.
 fn is_idle(end: &WorkEnd) -> bool {
     end.turns == 0 && end.strangers == 0
 }
@@ -76,8 +74,8 @@ fn two_turns_run_at_once(rt: HostRuntime) {
     assert!(rt; turns_of(ends) == 8 && strangers_of(ends) == 0);
 }
 
-// The first node of the one job goes on only once the other job's has begun: nodes run while nobody
-// has the farm.
+// The first node of one job goes on only once the other job's has begun: nodes run while nobody has
+// the farm.
 #[test]
 fn two_searches_run_at_once(rt: HostRuntime) {
     let mut stand = Stand::new(&rt, rt.alloc(), 100);
@@ -106,8 +104,8 @@ fn nodes_run_between_the_gates_calls(rt: HostRuntime) {
     assert!(rt; matches!(stand.settle(), Some(Ok(_))));
 }
 
-// Of the 20 quanta that a and b share, a, who brings 6, holds 16 and uses 9 in five turns; b holds
-// 4 and uses them in two.
+// Of the 20 quanta that a and b share, a brings 6. a holds 16 and uses 9 in five turns; b holds 4
+// and uses them in two.
 #[test]
 fn four_workers_of_one_purse_settle(rt: HostRuntime) {
     let mut stand = Stand::shared(&rt, rt.alloc());
@@ -123,8 +121,8 @@ fn four_workers_of_one_purse_settle(rt: HostRuntime) {
     assert!(rt; matches!(stand.settle(), Some(Ok(_))));
 }
 
-// Nine nodes of a's job and six of b's in turns of two, one turn after the other. The worker asks
-// at the end whether to go on, until it may not.
+// Nine nodes of a's job and six of b's run in turns of two, one after the other. The worker asks at
+// the end whether to go on, until it may not.
 #[test]
 fn each_turn_passes_the_gate(rt: HostRuntime) {
     let mut stand = Stand::new(&rt, rt.alloc(), 100);
@@ -138,7 +136,7 @@ fn each_turn_passes_the_gate(rt: HostRuntime) {
     assert!(rt; gate.has_seen(5, 3, 3));
 }
 
-// Nine nodes in turns of two: four whole ones and a last one of one node.
+// Nine nodes in turns of two: four whole ones, and one of one node.
 #[test]
 fn each_turn_is_counted_once(rt: HostRuntime) {
     let mut stand = Stand::new(&rt, rt.alloc(), 100);
@@ -150,7 +148,7 @@ fn each_turn_is_counted_once(rt: HostRuntime) {
     assert!(rt; is_idle(&stand.work(&rt, &Open)));
 }
 
-// With its one entry used for the submit, no turn of a's job can be taken.
+// Its one entry is used for the submit, so no turn of a's job can be taken.
 #[test]
 fn no_entries_for_a_turn(rt: HostRuntime) {
     let mut stand = Stand::new(&rt, rt.alloc(), 1);
@@ -168,7 +166,7 @@ fn no_worker(rt: HostRuntime) {
     assert!(rt; matches!(stand.settle(), Some(Err(Unsettled::Held(0, 6)))));
 }
 
-// What a lease beside the jobs has drawn is missing in its till's pool.
+// What another lease than the jobs' has drawn is missing in its till's pool.
 #[test]
 fn quanta_drawn_beside_the_jobs(rt: HostRuntime) {
     let mut stand = Stand::new(&rt, rt.alloc(), 100);
@@ -178,8 +176,8 @@ fn quanta_drawn_beside_the_jobs(rt: HostRuntime) {
     assert!(rt; matches!(stand.settle(), Some(Err(Unsettled::Pool(0)))));
 }
 
-// The tree's nine nodes are paid at another till, where its lease was made. The purse's own till has as
-// much in its pool as is free, since as much is drawn from it, but nothing of it was used.
+// The tree's nine nodes are paid at another till, which made its lease. The purse's own pool has as
+// much as is free. But none of its quanta was used.
 #[test]
 fn quanta_used_at_another_till(rt: HostRuntime) {
     let (till, mut desk) = Till::new(rt.alloc(), 0, 100).expect(&rt, "no memory for a till");

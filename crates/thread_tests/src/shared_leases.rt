@@ -9,8 +9,8 @@ use std::test::Fail;
 use std::thread;
 use std::thread::Threads;
 
-// Draws 7 and uses 3 of them, `rounds` times, handing back the rest each time, by `settle` or by
-// the drop at the end.
+// Draws 7 and uses 3 of them, `rounds` times. The rest goes back by `settle`, or by the drop at the
+// end.
 fn spend(mut lease: Lease, rounds: u64) {
     for round in 0..rounds {
         if lease.left() == 0 {
@@ -53,7 +53,7 @@ fn two_threads_add_up(rt: HostRuntime) -> Result<(), Fail> {
     Ok(())
 }
 
-// The leases were made by one thread, and four others draw, use and drop them at once.
+// The leases were made by one thread. Four others draw, use and drop them at once.
 #[test]
 fn four_threads_add_up(rt: HostRuntime) -> Result<(), Fail> {
     let (till, mut desk) = Till::new(rt.alloc(), 1, 10_000)?;
@@ -88,7 +88,7 @@ impl Work for Worker {
     }
 }
 
-// Takes a box to another thread, where it works twice and is dropped.
+// Takes a box to another thread. It works twice there, and is dropped.
 fn end_elsewhere(rt: &impl Threads, boxed: Box<dyn Work>) -> Result<(), AllocError> {
     let child = thread::spawn(rt, move || {
         let mut boxed = boxed;

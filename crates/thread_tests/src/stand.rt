@@ -16,7 +16,7 @@ use std::sync::Wait;
 use std::thread::Threads;
 use strategy::Strategy;
 
-/// A pool of the tenants a and b, one pass of it, and the purse that both share, or that of each.
+/// A pool of the tenants a and b, one pass of it, and their purses.
 #[derive(Drop)]
 pub(crate) struct Stand {
     config: Config,
@@ -30,8 +30,7 @@ pub(crate) struct Stand {
 }
 
 impl Stand {
-    /// Each tenant has a purse of its own: a one of 100 quanta and so many entries of the journal,
-    /// b one of 10 and 100.
+    /// a has 100 quanta and `entries` entries of the journal, b has 10 quanta and 100 entries.
     pub(crate) fn new(rt: &impl Abort, alloc: Global, entries: u64) -> Stand {
         let tenants = [("a", "", 100, entries), ("b", "", 10, 100)];
         let config = config_of(rt, alloc, &tenants, 2);
@@ -47,8 +46,7 @@ impl Stand {
         }
     }
 
-    /// Both share a purse of 20 quanta, of which a brings 6, and each has 100 entries of the
-    /// journal.
+    /// Both share a purse of 20 quanta, of which a brings 6. Each has 100 entries of the journal.
     pub(crate) fn shared(rt: &impl Abort, alloc: Global) -> Stand {
         let tenants = [("a", "p", 6, 100), ("b", "p", 14, 100)];
         let config = config_of(rt, alloc, &tenants, 2);
@@ -63,7 +61,6 @@ impl Stand {
         }
     }
 
-    /// Makes a call of one of the tenants.
     pub(crate) fn ask<R: Wait>(
         &mut self,
         rt: &R,
@@ -77,7 +74,6 @@ impl Stand {
         self.pool.call(rt, &mut self.pass, tenant, command)
     }
 
-    /// An empty lease of the tenant's purse.
     pub(crate) fn lease(&mut self, rt: &impl Abort, tenant: u32) -> Lease
         ensures empty { IsEmpty result }
         ensures pool { self.new.pool ≡ self.old.pool }
@@ -90,7 +86,6 @@ impl Stand {
         self.first.lease(rt, tenant)
     }
 
-    /// Submits a search for one of the tenants.
     pub(crate) fn submit<R: Wait + Abort>(
         &mut self,
         rt: &R,
@@ -111,12 +106,10 @@ impl Stand {
         self.ask(rt, tenant, command)
     }
 
-    /// What one worker did.
     pub(crate) fn work<R: Wait, G: Gate>(&mut self, rt: &R, gate: &G) -> WorkEnd {
         self.pool.work(rt, &mut self.pass, gate)
     }
 
-    /// What two workers did at once.
     pub(crate) fn work_both<R: Threads + Wait + Sync, G: Gate + Sync>(
         &mut self,
         rt: &R,
@@ -125,7 +118,6 @@ impl Stand {
         work_both(rt, &self.pool, &mut self.pass, gate)
     }
 
-    /// What four workers did at once.
     pub(crate) fn work_in_fours<R: Threads + Wait + Sync, G: Gate + Sync>(
         &mut self,
         rt: &R,
@@ -134,7 +126,7 @@ impl Stand {
         work_in_fours(rt, &self.pool, &mut self.pass, gate)
     }
 
-    /// What two workers did, while b cancelled its first job.
+    /// b cancels its first job meanwhile.
     pub(crate) fn work_while_cancelled<R: Threads + Wait + Sync, G: Gate + Sync>(
         &mut self,
         rt: &R,
@@ -143,7 +135,6 @@ impl Stand {
         work_while_cancelled(rt, &self.pool, &mut self.pass, gate)
     }
 
-    /// A second pass of the pool.
     pub(crate) fn split(&mut self) -> PoolPass
         ensures own { IsPassOf self.new.pool.lock result }
         ensures pool { self.new.pool ≡ self.old.pool }
@@ -151,7 +142,7 @@ impl Stand {
         self.pool.split_pass(&mut self.pass)
     }
 
-    /// Takes a pass in, which ends.
+    /// The other pass ends.
     pub(crate) fn join(&mut self, other: PoolPass)
         requires { IsPassOf self.old.pool.lock other }
         ensures { self.new.pool ≡ self.old.pool }
@@ -159,7 +150,6 @@ impl Stand {
         self.pool.join_pass(&mut self.pass, other);
     }
 
-    /// How the pool's farm is settled with the purses, once the pool is closed.
     pub(crate) fn settle(self) -> Option<Result<Settled, Unsettled>> {
         let Stand {
             config,

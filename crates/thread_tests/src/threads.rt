@@ -11,16 +11,14 @@ use std::thread;
 use std::thread::{Promise, PromisedHandle, Threads};
 use turn_lock::{Pass, TurnLock};
 
-/// What a thread brings back: its pass, and what it was answered, in order.
+/// A thread's pass, and its answers in order.
 #[derive(Drop)]
 pub struct Made {
-    /// Its pass.
     pub pass: Pass<Counter>,
-    /// What the counter was at after each of its calls.
     pub answers: Vec<u64>,
 }
 
-/// That a thread brings back a pass of this lock.
+/// The promise of a thread to return a pass of this lock.
 #[derive(Drop)]
 pub struct OfLock(Snapshot<TurnLock<Counter>>);
 
@@ -30,7 +28,6 @@ impl Promise<Made> for OfLock {
     ghost kept_by = { λ p made. IsPassOf p.0.value made.pass };
 }
 
-/// Adds so much so often.
 fn add<R: Wait>(
     rt: &R,
     alloc: Global,
@@ -52,8 +49,7 @@ fn add<R: Wait>(
     Made { pass, answers }
 }
 
-/// Joins threads, takes in their passes, and gathers what they were answered, the last thread
-/// first.
+/// Returns the answers, the last thread first.
 fn gather<R: Threads>(
     rt: &R,
     lock: &TurnLock<Counter>,
@@ -79,8 +75,7 @@ fn gather<R: Threads>(
     }
 }
 
-/// Lets so many threads add so often, the first 1, the second 2 and so on. Tells what each was
-/// answered, the last thread first.
+/// Thread 1 adds 1, thread 2 adds 2 and so on. Returns the answers, the last thread first.
 pub fn crowd<R: Threads + Wait + Sync>(
     rt: &R,
     alloc: Global,

@@ -3,8 +3,8 @@ use crate::{Added, Counter, crowd};
 use std::test::Fail;
 use turn_lock::TurnLock;
 
-/// Whether each thread's answers are the sums at its own entries, in order: thread i adds i + 1,
-/// and the last thread stands first.
+/// Whether each thread's answers are the sums at its own entries, in order. Thread i adds i + 1,
+/// and the last thread comes first.
 fn stands(start: u64, history: &[Added], told: &[Vec<u64>]) -> bool {
     let mut now = start;
     let mut next: [usize; 16] = [0; 16];

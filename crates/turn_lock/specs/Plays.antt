@@ -1,4 +1,5 @@
--- What each step tells its pass.
+-- What a pass knows after each step: one legal history has its calls (linearizability, Herlihy and
+-- Wing 1990).
 use Rattle.std.specs.Prelude.{◌≡◌, ◌≢◌, ℕ, ◌+◌, List, [], ◌∷◌, ◌++◌, Option, Some, None, length, drop}
 use mathlib.Core.List.{IsPrefix}
 use Rattle.atomic_table.specs.Table.{Me, Step}
@@ -8,38 +9,44 @@ use Rattle.turn_lock.specs.declared.view.Stage.{Stage}
 use Rattle.turn_lock.specs.declared.view.Stage.TheVariants.{New, Idle, Turn, Joined}
 
 module _ {O E : Type 0} where
-  -- a pass is as it was, and one more was split off from it
+  -- a pass after one more pass was split off from it
   abbrev pub having_split : View O E → View O E
   having_split v = record v { splits = v.splits + 1 }
 
-  -- a pass that is split off has seen as much, and did nothing
+  -- the pass that is split off: it has seen as much, and did nothing
   abbrev pub split_off : View O E → View O E
   split_off v = record v { stage = New; mine = []; splits = 0 }
 
+  -- a new pass of that number
   abbrev pub newcomer : View O E → ℕ → View O E
   newcomer v number = record v { stage = Idle; number = number; mine = []; splits = 0 }
 
+  -- the pass has this number
   abbrev pub numbered : View O E → ℕ → View O E
   numbered v number = record v { stage = Idle; number = number }
 
+  -- the pass takes in w, and what was split off from w counts for it
   abbrev pub taking_in : View O E → View O E → View O E
   taking_in v w = record v { stage = Joined w.number w.seen w.mine; splits = v.splits + w.splits }
 
-  -- it took in w, and has seen so much then. What was split off from w counts as split off from it
+  -- the pass has taken in w, and has seen `seen`; what was split off from w counts for it
   abbrev pub having_taken_in : View O E → View O E → List (ℕ × E) → View O E
   having_taken_in v w seen = record v { stage = Idle; seen = seen; splits = v.splits + w.splits }
 
+  -- the pass has seen `seen`, and is in this stage
   abbrev pub having_seen : View O E → Stage E → List (ℕ × E) → View O E
   having_seen v stage seen = record v { stage = stage; seen = seen }
 
-  -- after these events, which are its own
+  -- the pass has seen `before`, and has made these events after it
   abbrev pub having_made : View O E → List (ℕ × E) → List E → View O E
   having_made v before es = record v { stage = Idle; seen = before ++ tagged v.number es; mine = v.mine ++ tagged v.number es }
 
+  -- a step gives the pass another number, and changes nothing else
   abbrev pub told : {S : Type 0} → Step S → Me S (View O E) → ℕ → Me S (View O E) → Type 0
   told st m r n = (n.0.number ≢ m.0.number) × (n ≡ (numbered m.0 n.0.number, m.1))
 
 module _ {T O E C A : Type 0} (opening_of : T → O) (events : T → List E) (relation : O → List E → C → Option E → A → Type 0) where
+  -- the pass took the turn and the value: it has seen the value's whole history
   pub record Took (v : View O E) (n : Me (Option T) (View O E)) : Type 0 where
     pub value : T
     pub seen : List (ℕ × E)
@@ -69,7 +76,7 @@ module _ {T O E C A : Type 0} (opening_of : T → O) (events : T → List E) (re
     pub has : events value ≡ events_of v.seen ++ listed event
     pub stands : relation (opening_of value) (events_of v.seen) call event answer
 
-  -- the value's events are those of a legal history, which begins with what the pass has seen
+  -- the value's events make a legal history, which begins with what the pass has seen
   pub record Ended (v : View O E) (value : T) : Type 0 where
     pub log : List (ℕ × E)
     pub begins : IsPrefix v.seen log
@@ -78,14 +85,16 @@ module _ {T O E C A : Type 0} (opening_of : T → O) (events : T → List E) (re
     pub opened : v.opening ≡ Some (opening_of value)
     pub legal : IsLegal relation (opening_of value) log
 
+  -- a try for the turn: 0 is success, anything else changes nothing
   abbrev pub took : Step (Option T) → Me (Option T) (View O E) → ℕ → Me (Option T) (View O E) → Type 0
   took st m r n = (r ≡ 0 → Took m.0 n) × (r ≢ 0 → n ≡ m)
 
+  -- the turn is released: the value's new events are the pass's own
   abbrev pub released : Step (Option T) → Me (Option T) (View O E) → ℕ → Me (Option T) (View O E) → Type 0
   released st m r n = (t : T) → m.1 ≡ (0, Some t) ∷ [] → n ≡ (having_made m.0 m.0.seen (drop (length m.0.seen) (events t)), [])
 
 module _ {O E C A : Type 0} (relation : O → List E → C → Option E → A → Type 0) where
-  -- one history, which begins with what both had seen, and in which the entries of each are what it had made
+  -- one legal history begins with what both passes had seen, and the entries of each are its own
   pub record BothSeen (v other w : View O E) : Type 0 where
     pub after : w ≡ having_taken_in v other w.seen
     pub this : IsPrefix v.seen w.seen
@@ -95,10 +104,12 @@ module _ {O E C A : Type 0} (relation : O → List E → C → Option E → A �
     pub apart : other.number ≢ v.number
     pub legal : (opening : O) → v.opening ≡ Some opening → IsLegal relation opening w.seen
 
+  -- a step after which a pass that took in another has seen the history of both
   abbrev pub learned : {S : Type 0} → Step S → Me S (View O E) → ℕ → Me S (View O E) → Type 0
   learned st m r n = (n.1 ≡ m.1) × ((v w : View O E) → m.0 ≡ taking_in v w → BothSeen v w n.0)
 
-  -- one call of a pass
+  -- one call of a pass: its event, if there is one, comes at the end of the history that the pass
+  -- has seen then
   pub record Called (v : View O E) (call : C) (answer : A) (w : View O E) : Type 0 where
     pub opening : O
     pub before : List (ℕ × E)

@@ -10,22 +10,25 @@ use Rattle.turn_lock.specs.declared.view.Stage.{Stage}
 use Rattle.turn_lock.specs.declared.view.Stage.TheVariants.{Spent, New, Idle, Turn, Joined}
 
 module _ {E : Type 0} where
-  -- what the pass `by` has seen begins the history, and all that the history has of it is its own
+  -- what pass `by` has seen begins the history, and all that the history has of it is its own
   abbrev pub Knows : List (ℕ × E) → ℕ → List (ℕ × E) → List (ℕ × E) → Type 0
   Knows log by seen mine = IsPrefix seen log × (entries_of by seen ≡ mine) × (entries_of by log ≡ mine)
 
 module _ {O E : Type 0} where
+  -- the first pass of a lock
   abbrev pub opened : O → View O E
   opened opening = record { stage = Idle; number = 0; opening = Some opening; seen = []; mine = []; splits = 0 }
 
-  -- the one view of a pass that was taken in
+  -- the view of a pass that was taken in
   abbrev pub spent : View O E
   spent = record { stage = Spent; number = 0; opening = None; seen = []; mine = []; splits = 0 }
 
   module _ (word holder : ℕ) (log : List (ℕ × E)) (opening : O) (views : List (View O E)) (by : ℕ) (v : View O E) where
+    -- the pass knows the opening and its own entries
     abbrev pub Live : Type 0
     Live = (v.opening ≡ Some opening) × Knows log by v.seen v.mine
 
+    -- what the view of a pass keeps at each stage
     abbrev pub FitsAt : Stage E → Type 0
     FitsAt Spent = Unit {0}
     FitsAt New = Live × (v.number ≢ by)
@@ -34,6 +37,7 @@ module _ {O E : Type 0} where
     FitsAt (Joined other seen mine) = Live × (v.number ≡ by) × (other ≢ by) × Knows log other seen mine × (get_elem? views other ≡ some spent)
 
 module _ {T O E C A : Type 0} (opening_of : T → O) (events : T → List E) (relation : O → List E → C → Option E → A → Type 0) where
+  -- what the table keeps: one legal history, whose value is in its slot unless a pass has the turn
   pub record IsKept (opening : O) (s : State (Option T) (View O E)) : Type 0 where
     pub log : List (ℕ × E)
     pub holder : ℕ

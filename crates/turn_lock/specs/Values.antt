@@ -4,10 +4,12 @@ use Rattle.turn_lock.specs.History.{listed}
 use Rattle.atomic_table.specs.Seated.{TableId}
 use Rattle.turn_lock.specs.declared.view.View.{View}
 
+-- a lock: its table, and its opening
 pub record LockValue (O : Type 0) : Type 0 where
   pub table : TableId
   pub opening : O
 
+-- a pass: its lock's table, and what it knows
 pub record PassValue (O E : Type 0) : Type 0 where
   pub table : TableId
   pub view : View O E
@@ -16,6 +18,6 @@ pub record PassValue (O E : Type 0) : Type 0 where
 abbrev pub IsPassOf : {O E : Type 0} → LockValue O → PassValue O E → Type 0
 IsPassOf lock pass = (pass.table ≡ lock.table) × (pass.view.opening ≡ Some lock.opening)
 
--- a step from t to t' leaves the opening, and adds the event of this call, or none
+-- a step from t to t' keeps the opening, and adds the event of its call, or none
 abbrev pub Keeps : {T O E C A : Type 0} → (T → O) → (T → List E) → (O → List E → C → Option E → A → Type 0) → T → C → A → T → Type 0
 Keeps {E = E} opening events relation t call answer t' = (opening t' ≡ opening t) × ((e : Option E) × (events t' ≡ events t ++ listed e) × relation (opening t) (events t) call e answer)

@@ -1,14 +1,10 @@
-//! A lock that keeps a history: threads take turns at one value, a call at a time, and each knows where its calls stand.
+//! A lock that keeps a history: threads call one value in turns, and each knows its own calls.
 //!
-//! A [`TurnLock`] has one atomic word, 0 where it is free and 1 where a turn is held, and one slot, in which the value lies while
-//! it is free. Whoever calls the value has a [`Pass`]. A pass has a number; it knows `seen`, a beginning of the history of all
-//! calls, and `mine`, which are exactly the entries of `seen` that have its number. The history is legal: each entry is the event
-//! of a call that the value may answer so after the events before it.
+//! A [`Pass`] knows `seen`, a prefix of the history, and `mine`, its own entries there. The history
+//! is legal: the value may leave each event after the events before it.
 //!
-//! - `kept`: what may lie under a lock, and what its calls promise.
-//! - `view`: what a pass knows.
-//! - `rule`: what the word, the slot and all passes keep, and the kinds of atomic step.
-//! - `lock`: `TurnLock`, `Pass`, and the calls.
+//! - `kept`, `lock`: what may be under a lock; `TurnLock`, `Pass`, and the calls.
+//! - `view`, `rule`: what a pass knows; what the word, the slot and all passes keep.
 #![tactic(auto)]
 
 mod kept;

@@ -1,4 +1,3 @@
-//! The lock, and its passes.
 ghost use Rattle.std.specs.Prelude.{◌≡◌, ◌≢◌, [], ◌∷◌, None, length, drop, IfOk, IfErr, IfSome};
 ghost use Rattle.turn_lock.specs.Rule.{opened};
 ghost use Rattle.turn_lock.specs.Plays.{having_made, having_split, newcomer, Holds, MayEnd, BothSeen, Called, Ended};
@@ -15,13 +14,10 @@ use std::snapshot::Snapshot;
 use std::sync::Wait;
 use std::thread::yield_now;
 
-/// The word of a lock that nobody holds.
 const FREE: u64 = 0;
 
-/// The word of a lock that is held.
 const HELD: u64 = 1;
 
-/// How often a pass tries to take the turn before it gives its processor away between two tries.
 const TRIES: u32 = 64;
 
 type LockTable<T> = Table<
@@ -34,7 +30,7 @@ type LockTable<T> = Table<
 
 type Chair<T> = Seat<Option<T>, View<<T as Kept>::Opening, <T as Kept>::Event>>;
 
-/// A value that threads call one at a time, and the history of their calls.
+/// A `TurnLock` is a value that threads call one at a time, and the history of their calls.
 #[derive(Drop)]
 pub struct TurnLock<T: Kept> {
     table: LockTable<T>,
@@ -51,7 +47,7 @@ impl<T: Kept> Model for TurnLock<T> {
     ghost invariant = { λ l. (l.table.shared.table_id.words ≡ 1) × (l.table.shared.table_id.slots ≡ 1) };
 }
 
-/// The right to call what lies under a lock, and what is known of the lock's history.
+/// A `Pass` is the right to call a lock's value, with what is known of the history.
 #[derive(Drop)]
 pub struct Pass<T: Kept> {
     seat: Chair<T>,
@@ -70,7 +66,7 @@ impl<T: Kept> Model for Pass<T> {
 }
 
 impl<T: Kept + Drop> TurnLock<T> {
-    /// A lock of a value without events, and its first pass, which has seen nothing. Where there is no memory for it, the value comes back.
+    /// A lock of a value without events, and its first pass. Without memory it returns `value`.
     pub fn new(alloc: Global, value: T) -> Result<(TurnLock<T>, Pass<T>), AllocFailed<T>>
         requires { T.events value ≡ [] }
         ensures lock { IfOk result (λ r. (r.0.opening ≡ T.opening value) × IsPassOf r.0 r.1) }
@@ -91,7 +87,6 @@ impl<T: Kept + Drop> TurnLock<T> {
         }
     }
 
-    /// Waits until the turn is free, takes it, and takes the value out of the slot.
     fn take<R: Wait>(&self, rt: &R, seat: &mut Chair<T>) -> T
         requires own { seat.old.table_id ≡ self.now.table }
         requires idle { (seat.old.me.0.stage ≡ Idle) × (seat.old.me.1 ≡ []) }
@@ -113,7 +108,6 @@ impl<T: Kept + Drop> TurnLock<T> {
         unreachable!()
     }
 
-    /// Puts the value back into the slot, and ends the turn.
     fn end_turn(&self, seat: &mut Chair<T>, value: T)
         requires own { seat.old.table_id ≡ self.now.table }
         requires turn { (seat.old.me.0.stage ≡ Turn) × (seat.old.me.1 ≡ (0, None) ∷ []) }
@@ -127,7 +121,7 @@ impl<T: Kept + Drop> TurnLock<T> {
         shared.store::<Release<T>>(seat, 0, FREE);
     }
 
-    /// A pass for another thread, which has seen as much as this one and has made no call. This one counts one split more, and stays as it was else.
+    /// Returns a pass for another thread, with this pass's knowledge and no calls of its own.
     pub fn split_pass(&self, pass: &mut Pass<T>) -> Pass<T>
         requires own { IsPassOf self.now pass.old }
         ensures split { pass.new ≡ record pass.old { view = having_split pass.old.view } }
@@ -141,7 +135,7 @@ impl<T: Kept + Drop> TurnLock<T> {
         Pass { seat }
     }
 
-    /// Takes in another pass, which ends. What both had seen are beginnings of what this one has seen then, and the splits of both are its own.
+    /// Ends `other`. `pass` then knows what either had seen, and counts the splits of both.
     pub fn join_pass(&self, pass: &mut Pass<T>, other: Pass<T>)
         requires own { IsPassOf self.now pass.old }
         requires other { IsPassOf self.now other }
@@ -154,7 +148,7 @@ impl<T: Kept + Drop> TurnLock<T> {
         shared.load::<Learn<T>>(&mut pass.seat, 0);
     }
 
-    /// The value, or nothing where a turn was still held: then a pass was lost in the midst of a call.
+    /// The value, or `None` if a turn is still held: a pass was then lost during a call.
     pub fn close(self, pass: Pass<T>) -> Option<T>
         requires own { IsPassOf self pass }
         ensures { IfSome result (λ value. Ended T.opening T.events T.relation pass.view value) }
@@ -170,7 +164,7 @@ impl<T: Kept + Drop> TurnLock<T> {
 }
 
 impl<T: Kept + Runs<Says = <T as Kept>::Said, Tells = <T as Kept>::Told> + Drop> TurnLock<T> {
-    /// Waits for the turn, and makes one call of the value. Its event is the last that the pass has seen then.
+    /// Waits for the turn, and makes one call. Its event is then the last that `pass` has seen.
     pub fn with_turn<R: Wait>(&self, rt: &R, pass: &mut Pass<T>, call: T::Call) -> T::Answer
         requires own { IsPassOf self.now pass.old }
         requires can { (t : T) → T.opening t ≡ self.now.opening → T.may t call }

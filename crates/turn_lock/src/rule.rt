@@ -1,11 +1,10 @@
-//! The rule of a lock's table, and its kinds of atomic step.
 use crate::kept::Kept;
 use crate::view::View;
 use atomic_table::{Join, Play, Split, TableRule};
 use std::marker::PhantomData;
 use std::snapshot::Snapshot;
 
-/// The rule. Its key is the value that the lock was made with, of which only the opening is read.
+/// An `InTurns` is the rule of a lock's table. Of its key, a value, only the opening is read.
 pub struct InTurns<T> {
     marker: PhantomData<T>,
 }
@@ -18,7 +17,6 @@ impl<T: Kept> TableRule<Option<T>, View<T::Opening, T::Event>, Snapshot<T>> for 
     ghost first = { λ key. opened (T.opening key.value) };
 }
 
-/// A pass is split: it stays as it is but for the count of its splits, and one more is made.
 pub(crate) struct SplitOff;
 
 impl<O, E> Split<View<O, E>> for SplitOff {
@@ -29,7 +27,6 @@ impl<O, E> Split<View<O, E>> for SplitOff {
     ghost right = { split_off };
 }
 
-/// Two passes are joined: one goes on, and one has ended.
 pub(crate) struct TakeIn;
 
 impl<O, E> Join<View<O, E>> for TakeIn {
@@ -50,7 +47,7 @@ impl<S, O, E> Play<S, View<O, E>> for Tell {
     ghost then = { told };
 }
 
-/// A load, by which a pass that took in another learns that both had seen beginnings of one history.
+/// A load, by which a pass that took in another learns that both saw one history.
 pub(crate) struct Learn<T> {
     marker: PhantomData<T>,
 }
@@ -61,7 +58,6 @@ impl<T: Kept> Play<Option<T>, View<T::Opening, T::Event>> for Learn<T> {
     ghost then = { learned T.relation };
 }
 
-/// A compare and exchange of 0 by 1: the pass takes the turn, or finds that it is held.
 pub(crate) struct Take<T> {
     marker: PhantomData<T>,
 }
@@ -72,7 +68,6 @@ impl<T: Kept> Play<Option<T>, View<T::Opening, T::Event>> for Take<T> {
     ghost then = { took T.opening T.events T.relation };
 }
 
-/// A store of 0: the pass ends its turn, and the history has what the value has more.
 pub(crate) struct Release<T> {
     marker: PhantomData<T>,
 }

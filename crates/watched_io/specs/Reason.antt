@@ -3,6 +3,7 @@ use Rattle.std.specs.Prelude.{ℕ, List, codes}
 use Rattle.std.specs.declared.io.ErrorKind.{ErrorKind}
 use Rattle.std.specs.declared.io.ErrorKind.TheVariants.{NotFound, PermissionDenied, IsADirectory, NotADirectory, InvalidFilename, FilesystemLoop, OutOfMemory}
 
+-- the reason in words, by the kind of the error
 abbrev pub reason_text : ErrorKind → List ℕ
 reason_text NotFound = codes "there is no such file"
 reason_text PermissionDenied = codes "permission is denied"

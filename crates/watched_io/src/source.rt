@@ -1,18 +1,14 @@
-//! What a path names.
 ghost use Rattle.watched_io.specs.Source.{source_rest};
 
 use std::io::{Input, Read};
 use std::rt::Files;
 use std::{fs, io};
 
-/// Standard input, a file, or nothing.
+/// A `Source` is standard input, a file, or nothing.
 #[derive(Drop)]
 pub enum Source<S, F> {
-    /// Standard input.
     Standard(S),
-    /// A file.
     File(F),
-    /// No bytes.
     Nothing,
 }
 
@@ -28,7 +24,7 @@ impl<S: Read, F: Read> Read for Source<S, F> {
     }
 }
 
-/// Opens the file at a path, or standard input at `-`.
+/// Opens the file at `path`, or standard input if that is `-`.
 pub fn open<R: Input + Files>(rt: &R, path: &str) -> io::Result<Source<R::Reader, R::File>> {
     if path == "-" {
         return Ok(Source::Standard(rt.reader()));

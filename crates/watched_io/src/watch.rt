@@ -1,4 +1,3 @@
-//! `Watch`: what is read and written through it, byte by byte or whole.
 ghost use types.Logic.{sem};
 ghost use Rattle.std.specs.Prelude.{◌≡◌, ◌<◌, [], IfOk, IfSome, OnOk, length, take};
 ghost use Rattle.std.specs.Io.{WritesAtMost, StartsWith};
@@ -13,9 +12,8 @@ use std::io;
 use std::io::{BufRead, BufWriter, Error, ErrorKind, Read, Write};
 use std::marker::{Model, PhantomData};
 
-/// A watch is a count, modulo 2^64, of the failures of one reader or writer of type `S`. Contracts of
-/// `Read` and `Write` do not say when a call fails. That a noted failure was one of the reader, the
-/// writer or memory is seen in the bodies of its methods alone.
+/// A `Watch` is a count, modulo 2^64, of the failures of one reader or writer of type `S`. That it
+/// counts no other failure is seen in its methods' bodies alone.
 #[derive(Drop)]
 pub struct Watch<S> {
     failures: u64,
@@ -31,7 +29,6 @@ impl<S> Model for Watch<S> {
 }
 
 impl<S> Watch<S> {
-    /// A watch through which nothing has failed.
     pub fn new() -> Watch<S>
         ensures { result ≡ 0 }
     {
@@ -41,14 +38,12 @@ impl<S> Watch<S> {
         }
     }
 
-    /// Notes that something failed.
     fn count(&mut self)
         ensures { HasFailed self.old self.new }
     {
         self.failures = self.failures.wrapping_add(1);
     }
 
-    /// Notes that something failed, and answers why.
     fn note<T>(&mut self, error: Error) -> io::Result<T>
         ensures noted { HasFailed self.old self.new }
         ensures error { result ≡ Err error }
@@ -59,8 +54,7 @@ impl<S> Watch<S> {
 }
 
 impl<R: Read> Watch<R> {
-    /// Reads a reader to its end, or to `most` bytes, and notes an error: the reader's, or want of
-    /// memory.
+    /// Reads to the end or to `most` bytes, and notes the reader's error or want of memory.
     pub fn read_front(&mut self, alloc: Global, reader: R, most: u64) -> io::Result<Vec<u8>>
     where
         R: Drop,
@@ -76,7 +70,6 @@ impl<R: Read> Watch<R> {
 }
 
 impl<R: BufRead> Watch<R> {
-    /// Reads ahead if nothing was read ahead. Returns how many bytes the reader shows then: none at the end.
     fn wait(&mut self, reader: &mut R) -> io::Result<usize>
         ensures kept { Keeps (R.remaining reader.old) (R.remaining reader.new) }
         ensures end { IfOk result (λ count. count ≡ 0 → IsAtEnd (R.remaining reader.old)) }
@@ -97,9 +90,7 @@ impl<R: BufRead> Watch<R> {
 }
 
 impl<W: Write> Watch<W> {
-    /// Writes bytes, as `Write::write` does, and notes an error. Of some bytes at least one is
-    /// taken: to take none is an error too. A write that a signal interrupts is made again, and
-    /// fails only if it never comes to an end.
+    /// Is `Write::write`, but again after a signal, and notes an error: no byte taken is one.
     pub fn write(&mut self, writer: &mut W, bytes: &[u8]) -> io::Result<usize>
         ensures bound { WritesAtMost result bytes.now }
         ensures bytes { WriteAppends (W.contents writer.old) (W.contents writer.new) result bytes.now }
@@ -124,7 +115,6 @@ impl<W: Write> Watch<W> {
         self.note(Error::from(ErrorKind::Interrupted))
     }
 
-    /// Sends what was gathered, as `Write::flush` does, and notes an error.
     pub fn flush(&mut self, writer: &mut W) -> io::Result<()>
         ensures bytes { Keeps (W.contents writer.old) (W.contents writer.new) }
         ensures noted { IsNoted result self.old self.new }
@@ -135,7 +125,7 @@ impl<W: Write> Watch<W> {
         }
     }
 
-    /// Writes a whole text, as `Write::write_fmt` does, and notes an error.
+    /// Is `Write::write_fmt`, and notes an error.
     pub fn write_text<D: Display + Drop>(&mut self, writer: &mut W, text: D) -> io::Result<()>
         ensures bytes { OnOk result (IfSome (D.output text) (Appends (W.contents writer.old) (W.contents writer.new))) }
         ensures noted { IsNoted result self.old self.new }
@@ -148,7 +138,6 @@ impl<W: Write> Watch<W> {
 }
 
 impl<W: Write + Drop> Watch<BufWriter<W>> {
-    /// Writes out all that a buffer holds, as its `flush` does, and notes an error.
     pub fn send_all(&mut self, output: &mut BufWriter<W>) -> io::Result<()>
         ensures bytes { Keeps (writer_contents W.contents output.old) (writer_contents W.contents output.new) }
         ensures sent { OnOk result (writer_buffer output.new ≡ []) }
@@ -161,9 +150,8 @@ impl<W: Write + Drop> Watch<BufWriter<W>> {
     }
 }
 
-/// Shows bytes that were read ahead, as `BufRead::fill_buf` does, through a watch, which notes an
-/// error. A read that a signal interrupts is made again, and fails only where it never comes to an
-/// end. At the end of the input the reader is asked once.
+/// Is `BufRead::fill_buf`, but again after a signal, and notes an error. At the end of the input
+/// the reader is asked once.
 pub fn fill<'a, R: BufRead>(reader: &'a mut R, watch: &mut Watch<R>) -> io::Result<&'a [u8]>
     ensures front { IfSome (R.remaining reader.old) (λ xs. IfOk result (λ s. StartsWith xs s.now)) }
     ensures end { IfSome (R.remaining reader.old)

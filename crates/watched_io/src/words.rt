@@ -1,11 +1,10 @@
-//! What is told of a file that cannot be opened or read.
 ghost use Rattle.std.specs.Prelude.{◌≡◌};
 ghost use Rattle.watched_io.specs.Reason.{reason_text};
 
 use std::env::Env;
 use std::io::{Eprint, ErrorKind};
 
-/// Whether a second line on standard error is to explain each fault: the variable `FARM_EXPLAIN` is `1`.
+/// Whether each fault is to be explained: the variable `FARM_EXPLAIN` is `1`.
 pub fn explains<R: Env>(rt: &R) -> bool {
     let mut value = [0u8; 2];
     match rt.var("FARM_EXPLAIN", &mut value) {
@@ -14,7 +13,7 @@ pub fn explains<R: Env>(rt: &R) -> bool {
     }
 }
 
-/// Tells on standard error that the file at `path` cannot be read, and on a second line why, if that is asked for.
+/// Writes on standard error that `path` cannot be read, and `why` if that is asked for.
 pub fn tell_unread<R: Env + Eprint>(rt: &R, path: &str, why: &str) {
     let _ = eprintln!(rt; "farm: cannot read {path}");
     if explains(rt) {
@@ -22,7 +21,7 @@ pub fn tell_unread<R: Env + Eprint>(rt: &R, path: &str, why: &str) {
     }
 }
 
-/// Tells on a second line of standard error why there is a fault, if that is asked for and known.
+/// Writes on standard error why there is a fault, if that is asked for and known.
 pub fn tell_why<R: Env + Eprint>(rt: &R, why: &Option<String>) {
     if explains(rt)
         && let Some(text) = why
@@ -31,7 +30,7 @@ pub fn tell_why<R: Env + Eprint>(rt: &R, why: &Option<String>) {
     }
 }
 
-/// Why a file could not be opened or read: words that follow *cannot read PATH*.
+/// Why a file could not be opened or read.
 pub fn reason(kind: ErrorKind) -> &'static str
     ensures { result.now ≡ reason_text kind }
 {
