@@ -149,96 +149,48 @@ fn gather_book<W: Write>(
     )
 }
 
-fn gather_file<W: Write>(
-    writer: &mut W,
-    watch: &mut Watch<W>,
-    gathered: &mut Gathered,
-    fault: MmFault,
-) -> Result<(), WriteFault>
-    ensures gathers { Gathers result (W.contents writer.old) (W.contents writer.new)
-        gathered.old.items gathered.new.items (file_text fault) }
-    ensures noted { IsNoted result watch.old watch.new }
+fn alone(text: &[u8]) -> [Part<'_>; 3]
+    ensures { parts_text result ≡ text.entry.now }
 {
-    match fault {
-        MmFault::TooLong => gather(writer, watch, gathered, b"no file TooLong"),
-        MmFault::Header => gather(writer, watch, gathered, b"no file Header"),
-        MmFault::Projects => gather(writer, watch, gathered, b"no file Projects"),
-        MmFault::Doubly => gather(writer, watch, gathered, b"no file Doubly"),
-        MmFault::Section(name) => {
-            gather_bracketed(
-                writer,
-                watch,
-                gathered,
-                b"no file Section(",
-                Part::Text(section_word(name).as_bytes()),
-            )
-        }
-        MmFault::Number(line) => {
-            gather_bracketed(
-                writer,
-                watch,
-                gathered,
-                b"no file Number(",
-                Part::Number(u64::from(line)),
-            )
-        }
-        MmFault::Count(name) => {
-            gather_bracketed(
-                writer,
-                watch,
-                gathered,
-                b"no file Count(",
-                Part::Text(section_word(name).as_bytes()),
-            )
-        }
-        MmFault::Numbering(line) => {
-            gather_bracketed(
-                writer,
-                watch,
-                gathered,
-                b"no file Numbering(",
-                Part::Number(u64::from(line)),
-            )
-        }
-        MmFault::Successor(line) => {
-            gather_bracketed(
-                writer,
-                watch,
-                gathered,
-                b"no file Successor(",
-                Part::Number(u64::from(line)),
-            )
-        }
-        MmFault::Limit(name) => {
-            gather_bracketed(
-                writer,
-                watch,
-                gathered,
-                b"no file Limit(",
-                Part::Text(limit_word(name).as_bytes()),
-            )
-        }
-        MmFault::NoMemory => gather(writer, watch, gathered, b"no memory"),
-    }
+    [Part::Text(text), Part::Text(b""), Part::Text(b"")]
 }
 
-fn gather_bracketed<'a, W: Write>(
-    writer: &mut W,
-    watch: &mut Watch<W>,
-    gathered: &mut Gathered,
-    text: &'a [u8],
-    inside: Part<'a>,
-) -> Result<(), WriteFault>
-    ensures gathers { Gathers result (W.contents writer.old) (W.contents writer.new)
-        gathered.old.items gathered.new.items (text.entry.now ++ part_text inside.entry ++ codes ")") }
-    ensures noted { IsNoted result watch.old watch.new }
+fn with_line(text: &[u8], line: u32) -> [Part<'_>; 3]
+    ensures { parts_text result ≡ text.entry.now ++ decimal line ++ codes ")" }
 {
-    gather_parts(
-        writer,
-        watch,
-        gathered,
-        &[Part::Text(text), inside, Part::Text(b")")],
-    )
+    [
+        Part::Text(text),
+        Part::Number(u64::from(line)),
+        Part::Text(b")"),
+    ]
+}
+
+fn with_word<'a>(text: &'a [u8], word: &'a str) -> [Part<'a>; 3]
+    ensures { parts_text result ≡ text.entry.now ++ word.entry.now ++ codes ")" }
+{
+    [
+        Part::Text(text),
+        Part::Text(word.as_bytes()),
+        Part::Text(b")"),
+    ]
+}
+
+fn file_parts(fault: MmFault) -> [Part<'static>; 3]
+    ensures { parts_text result ≡ file_text fault }
+{
+    match fault {
+        MmFault::TooLong => alone(b"no file TooLong"),
+        MmFault::Header => alone(b"no file Header"),
+        MmFault::Projects => alone(b"no file Projects"),
+        MmFault::Doubly => alone(b"no file Doubly"),
+        MmFault::Section(name) => with_word(b"no file Section(", section_word(name)),
+        MmFault::Number(line) => with_line(b"no file Number(", line),
+        MmFault::Count(name) => with_word(b"no file Count(", section_word(name)),
+        MmFault::Numbering(line) => with_line(b"no file Numbering(", line),
+        MmFault::Successor(line) => with_line(b"no file Successor(", line),
+        MmFault::Limit(name) => with_word(b"no file Limit(", limit_word(name)),
+        MmFault::NoMemory => alone(b"no memory"),
+    }
 }
 
 fn gather_schedule<W: Write>(
@@ -431,7 +383,7 @@ fn gather_said<W: Write>(
         Said::NoTenant => gather(writer, watch, gathered, b"no tenant"),
         Said::Syntax => gather(writer, watch, gathered, b"no syntax"),
         Said::LongLine => gather(writer, watch, gathered, b"no line"),
-        Said::File(fault) => gather_file(writer, watch, gathered, *fault),
+        Said::File(fault) => gather_parts(writer, watch, gathered, &file_parts(*fault)),
     }
 }
 
