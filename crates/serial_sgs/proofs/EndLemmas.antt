@@ -1,11 +1,11 @@
 -- Where the placed ones start and finish: nowhere else does the use change, and there are two such periods for each.
-use Rattle.std.proofs.Common.{◌≡◌, ℕ, zero, suc, ◌+◌, ◌-◌, ◌*◌, ◌<◌, ◌≤◌, true, false, ◌||◌, ◌==◌, List, [], ◌∷◌, ◌++◌, length, add-one, arith, refl, sym, ap, ◌∙◌, ⊎_elim}
+use Rattle.std.proofs.Common.{◌≡◌, ℕ, zero, suc, ◌+◌, ◌-◌, ◌*◌, ◌<◌, ◌≤◌, max, true, false, ◌||◌, ◌==◌, List, [], ◌∷◌, ◌++◌, length, add-one, arith, refl, sym, ap, ◌∙◌, ⊎_elim}
 use Rattle.std.proofs.lemmas.Bool.{both_ways, cases_lt, cases_eq, or_cases, or_left, or_right, or_parts, eqb-true, eq-eqb, false≢true}
 use Rattle.std.proofs.lemmas.List.Recursion.{or_push}
 use Rattle.std.proofs.lemmas.List.Sums.{sum_by-cons}
 use Rattle.mrcpsp.specs.Project.{ProjectData, duration}
 use Rattle.mrcpsp.specs.Schedule.{load}
-use Rattle.mrcpsp.specs.Placed.{Placed, placed_use, finish_of}
+use Rattle.mrcpsp.specs.Placed.{Placed, placed_use, finish_of, latest}
 use Rattle.mrcpsp.proofs.ProjectLemmas.{load-before, load-over}
 use Rattle.serial_sgs.specs.declared.profile.Point.{Point}
 use Rattle.serial_sgs.specs.Profile.{IsSteps, IsAtEnds, IsLevel, time_at}
@@ -129,3 +129,24 @@ few_points p placed points steps ends =
     (λ (more : 2 ≤ length points).
     omega (arith, up_to p placed points steps ends k (omega arith), earlier_more p placed t (t + 1) (ends k (omega arith) (omega arith)) (omega arith), earlier_most p placed (t + 1)))
     (cases_lt (length points) 2)
+
+-- ---- when they are
+
+-- no placed one starts or finishes after the latest finish
+end_soon : (p : ProjectData) (placed : List Placed) (t : ℕ) → is_end p placed t ≡ true → t ≤ latest p placed
+end_soon p [] t ends = absurd (false≢true ends)
+end_soon p (a ∷ placed) t ends =
+    let now : latest p (a ∷ placed) ≡ max (finish_of p a) (latest p placed) = refl in
+    ⊎_elim
+    (λ own.
+    ⊎_elim
+    (λ starts. omega (arith, now, eqb-true a.start t starts))
+    (λ finishes. omega (arith, now, eqb-true (finish_of p a) t finishes))
+    (or_cases (a.start == t) (finish_of p a == t) own))
+    (λ rest. omega (arith, now, end_soon p placed t rest))
+    (or_cases ((a.start == t) || (finish_of p a == t)) (is_end p placed t) ends)
+
+-- no point is after the latest finish
+pub points_soon : (p : ProjectData) (placed : List Placed) (points : List Point) → IsSteps points → IsAtEnds (is_end p placed) points → (k : ℕ) → k < length points → time_at points k ≤ latest p placed
+points_soon p placed points steps ends zero inside = omega (arith, steps.first)
+points_soon p placed points steps ends (suc k) inside = end_soon p placed (time_at points (suc k)) (ends (suc k) (omega arith) inside)
