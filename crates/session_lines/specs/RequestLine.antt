@@ -1,19 +1,15 @@
 -- What a line asks for: its words, and which request they are.
-use Rattle.std.specs.Prelude.{ℕ, ◌&&◌, nat_le, ◌==◌, List, [], ◌∷◌, length, take, drop, Option, Some, None, option_map, if◌then◌else◌, codes}
-use Rattle.psplib_mm.specs.Text.{words_of, is_same, number_of}
+use Rattle.std.specs.Prelude.{ℕ, ◌&&◌, nat_le, ◌==◌, List, [], ◌∷◌, length, Option, Some, None, option_map, if◌then◌else◌, codes}
+use Rattle.psplib_mm.specs.Text.{words_of, is_same}
 use Rattle.strategy.specs.declared.kind.Kind.{Kind}
-use Rattle.strategy.specs.declared.kind.Kind.TheVariants.{Tree, RuleLft, RuleMts, RuleSpt, Sample}
 use Rattle.farm_core.specs.Name.{is_name}
 use Rattle.session_lines.specs.declared.request.What.{What}
 use Rattle.session_lines.specs.declared.request.What.TheVariants.{Fund, Status, Fetch, Cancel, Forget, Ledger, Take, Give, Turn}
-use Rattle.session_lines.specs.declared.words.TheConstants.{MOST_DIGITS}
 use Rattle.session_lines.specs.declared.line.TheConstants.{MOST_LINES}
 use Rattle.session_lines.specs.declared.line.LineMeaning.{LineMeaning}
 use Rattle.session_lines.specs.declared.line.LineMeaning.TheVariants.{Blank, Whole, Opens, Bad}
-
--- a number is 1 to 18 decimal digits
-abbrev pub number_in : List ℕ → Option ℕ
-number_in word = if nat_le (length word) MOST_DIGITS then number_of word else None
+-- the number that a word of 1 to 18 digits writes, and the kind of search that a word names
+pub use Rattle.strategy.specs.KindWord.{number_in, kind_in}
 
 -- the tenant's name that a word is
 abbrev pub name_in : List ℕ → Option (List ℕ)
@@ -42,16 +38,6 @@ two_numbers [] = None
 two_numbers (a ∷ []) = None
 two_numbers (a ∷ b ∷ []) = pair_of (number_in a) (number_in b)
 two_numbers (a ∷ b ∷ c ∷ more) = None
-
--- the kind of search that a word names
-abbrev pub kind_in : List ℕ → Option Kind
-kind_in word =
-    if is_same word (codes "tree") then Some Tree
-    else if is_same word (codes "rule:lft") then Some RuleLft
-    else if is_same word (codes "rule:mts") then Some RuleMts
-    else if is_same word (codes "rule:spt") then Some RuleSpt
-    else if is_same (take 7 word) (codes "sample:") then option_map Sample (number_in (drop 7 word))
-    else None
 
 -- a tenant's request other than a submit
 abbrev pub what_in : List ℕ → List (List ℕ) → Option What

@@ -1,11 +1,11 @@
 //! What a line asks for.
 ghost use Rattle.std.specs.Prelude.{◌≡◌};
-ghost use Rattle.session_lines.specs.RequestLine.{tenant_in, kind_in, what_in, turn_in, submit_in, own_line, turn_line, meaning_of};
+ghost use Rattle.session_lines.specs.RequestLine.{tenant_in, what_in, turn_in, submit_in, own_line, turn_line, meaning_of};
 
 use crate::request::{Request, What};
-use crate::words::{LineWords, is, number};
+use crate::words::{LineWords, is};
 use farm_core::Name;
-use strategy::Kind;
+use strategy::{Kind, number};
 
 const MOST_LINES: u64 = 20_000;
 
@@ -37,24 +37,6 @@ fn tenant_of(word: &[u8]) -> Option<Name>
     match word {
         [b'@', name @ ..] => Name::new(name),
         _ => None,
-    }
-}
-
-fn kind_of(word: &[u8]) -> Option<Kind>
-    ensures { result ≡ kind_in word.now }
-{
-    if is(word, b"tree") {
-        Some(Kind::Tree)
-    } else if is(word, b"rule:lft") {
-        Some(Kind::RuleLft)
-    } else if is(word, b"rule:mts") {
-        Some(Kind::RuleMts)
-    } else if is(word, b"rule:spt") {
-        Some(Kind::RuleSpt)
-    } else if 7 <= word.len() && is(&word[..7], b"sample:") {
-        number(&word[7..]).map(Kind::Sample)
-    } else {
-        None
     }
 }
 
@@ -105,7 +87,7 @@ fn submit_of(words: LineWords<'_>) -> Option<(Kind, u64, u64)>
     if !words.are_over() {
         return None;
     }
-    let kind = kind_of(kind)?;
+    let kind = Kind::parse(kind)?;
     let quanta = number(quanta)?;
     let lines = number(lines)?;
     if lines < 1 || MOST_LINES < lines {

@@ -1,14 +1,13 @@
-//! The words of a line, one after the other, and the numbers that they write.
+//! The words of a line, one after the other.
 ghost use Rattle.std.specs.Prelude.{◌≡◌, ◌≤◌, ◌==◌, length, IfSome};
 ghost use Rattle.std.specs.Option.{option_copied};
 ghost use Rattle.std.specs.List.{position, position_or_len};
-ghost use Rattle.psplib_mm.specs.Text.{is_blank, is_other, is_same, number_of, words_of};
+ghost use Rattle.psplib_mm.specs.Text.{is_blank, is_other, is_same, words_of};
 ghost use Rattle.psplib_mm.specs.Scan.{Takes};
-ghost use Rattle.session_lines.specs.RequestLine.{number_in, one_number, two_numbers};
+ghost use Rattle.session_lines.specs.RequestLine.{one_number, two_numbers};
 
 use std::marker::Model;
-
-const MOST_DIGITS: usize = 18;
+use strategy::number;
 
 /// A `LineWords` is the words of a line that are still to come.
 #[derive(Debug, Drop)]
@@ -56,23 +55,6 @@ fn word_end(bytes: &[u8]) -> usize
     ensures within { result ≤ length bytes.now }
 {
     blank_place(bytes).unwrap_or(bytes.len())
-}
-
-/// The number that `word` writes in 1 to 18 digits.
-pub fn number(word: &[u8]) -> Option<u64>
-    ensures { result ≡ number_in word.now }
-{
-    if word.is_empty() || MOST_DIGITS < word.len() {
-        return None;
-    }
-    let mut value: u64 = 0;
-    for digit in word {
-        if !digit.is_ascii_digit() {
-            return None;
-        }
-        value = value * 10 + u64::from(*digit - b'0');
-    }
-    Some(value)
 }
 
 impl<'a> LineWords<'a> {

@@ -7,3 +7,4 @@ pub mod PassLemmas
 pub mod OutcomeLemmas
 pub mod RunLemmas
 pub mod Examples
+pub mod NumberLemmas

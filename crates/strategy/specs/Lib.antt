@@ -5,3 +5,4 @@ pub mod Pass
 pub mod Outcome
 pub mod Search
 pub mod Laws
+pub mod KindWord

@@ -2,6 +2,7 @@
 //! A [`Strategy`] shows what `specs/Outcome` gives for its plan and `k`.
 //!
 //! - `kind`, `plan`, `verdict`, `search`, `laws`: what is solved and shown, the trait, its laws.
+//! - `words`: the numbers that words write, and the seeds in them.
 #![tactic(auto)]
 
 mod kind;
@@ -9,8 +10,10 @@ pub mod laws;
 mod plan;
 mod search;
 mod verdict;
+mod words;
 
 pub use kind::Kind;
 pub use plan::{Plan, same_plan};
 pub use search::Strategy;
 pub use verdict::Verdict;
+pub use words::{number, seed};

@@ -1,8 +1,8 @@
 use Rattle.std.proofs.Common.{◌≡◌, ◌<◌, true, get_or, arith}
 use Rattle.std.specs.Char.{is_ascii_digit}
 use Rattle.std.proofs.lemmas.Grind.{common_steps}
-use Rattle.session_lines.proofs.WordLemmas.{digit_fits, digit_small, digit_keeps_small, digit_more}
-use Rattle.session_lines.proofs.words.number.Goals as goal
+use Rattle.strategy.proofs.NumberLemmas.{digit_fits, digit_small, digit_keeps_small, digit_more}
+use Rattle.strategy.proofs.words.number.Goals as goal
 
 pub overflow_mul-value : goal.overflow_mul-value
 overflow_mul-value c =

@@ -2,7 +2,7 @@ use Rattle.std.proofs.Common.{◌≡◌, ◌^◌, ◌<◌, true, take}
 use Rattle.std.specs.Char.{is_ascii_digit}
 use Rattle.std.specs.List.{list_all}
 use Rattle.std.specs.Str.Parse.{digits_value}
-use Rattle.session_lines.proofs.words.number.Given as goal
+use Rattle.strategy.proofs.words.number.Given as goal
 
 -- the bytes before this one are digits, and write the value
 abbrev pub invariant-loop-digit : goal.invariant-loop-digit
