@@ -1,4 +1,4 @@
-//! The words for kinds of search.
+//! The searches that a list of words names.
 ghost use Rattle.std.specs.Prelude.{◌≤◌, IfOk, vec_len};
 
 use crate::search_kinds::SearchKind;
@@ -16,28 +16,6 @@ pub enum SearchFault<'a> {
     TooMany,
     #[error("no memory")]
     NoMemory,
-}
-
-fn seed_of(word: &str, front: &str) -> Option<u64> {
-    let seed = word.strip_prefix(front)?;
-    if seed.len() > 18 || seed.starts_with('+') {
-        return None;
-    }
-    seed.parse().ok()
-}
-
-pub(crate) fn kind_of(word: &str) -> Option<SearchKind> {
-    let kind = match word {
-        "tree" => Kind::Tree,
-        "rule:lft" => Kind::RuleLft,
-        "rule:mts" => Kind::RuleMts,
-        "rule:spt" => Kind::RuleSpt,
-        _ => match seed_of(word, "improve:") {
-            Some(seed) => return Some(SearchKind::Improve(seed)),
-            None => Kind::Sample(seed_of(word, "sample:")?),
-        },
-    };
-    Some(SearchKind::Planned(kind))
 }
 
 /// A pass by each rule, the tree, which solves small projects, and local search for large ones.
@@ -73,7 +51,7 @@ pub fn kinds_of(alloc: Global, words: &str) -> Result<Vec<SearchKind>, SearchFau
         if word == "all" {
             push_kinds(&mut kinds, &ALL)?;
         } else {
-            let Some(kind) = kind_of(word) else {
+            let Some(kind) = SearchKind::parse(word) else {
                 return Err(SearchFault::Unknown(word));
             };
             push_kinds(&mut kinds, &[kind])?;

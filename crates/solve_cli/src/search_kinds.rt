@@ -1,4 +1,7 @@
-use strategy::Kind;
+ghost use Rattle.std.specs.Prelude.{◌≡◌};
+ghost use Rattle.solve_cli.specs.SearchWord.{search_in};
+
+use strategy::{Kind, seed};
 
 /// A `SearchKind` is how this command searches a project.
 #[derive(Clone, Copy, Debug, PartialEq, Eq)]
@@ -7,4 +10,17 @@ pub enum SearchKind {
     Planned(Kind),
     /// By local search, with the words of this seed.
     Improve(u64),
+}
+
+impl SearchKind {
+    /// The search that `word` names: what `Kind::parse` takes, or `improve:` and a seed.
+    pub(crate) fn parse(word: &str) -> Option<SearchKind>
+        ensures { result ≡ search_in word.now }
+    {
+        let word = word.as_bytes();
+        match Kind::parse(word) {
+            Some(kind) => Some(SearchKind::Planned(kind)),
+            None => seed(b"improve:", word).map(SearchKind::Improve),
+        }
+    }
 }
