@@ -11,9 +11,9 @@ use Rattle.job_table.specs.Job.{given_up, IsFunded, IsGivenUp}
 use Rattle.job_table.specs.declared.phase.Phase.{Phase}
 use Rattle.job_table.specs.declared.phase.Phase.TheVariants.{Waiting, Out, Leaving, Dry, Closed, Cancelled}
 use Rattle.farm_core.specs.declared.account.Account.{Account}
-use Rattle.farm_core.specs.declared.effect.Change.TheVariants as change
-use Rattle.farm_core.specs.declared.effect.Effect.{Effect}
-use Rattle.farm_core.specs.declared.effect.Effect.TheVariants as effect
+use Rattle.farm_core.specs.declared.farm.effect.Change.TheVariants as change
+use Rattle.farm_core.specs.declared.farm.effect.Effect.{Effect}
+use Rattle.farm_core.specs.declared.farm.effect.Effect.TheVariants as effect
 use Rattle.farm_core.specs.declared.entry.Event.{Event}
 use Rattle.farm_core.specs.declared.entry.Event.TheVariants.{Submit, Fund, Cancel}
 use Rattle.farm_core.specs.declared.reply.Line.{Line}

@@ -1,4 +1,4 @@
--- What a command asks for, with which searches, when it may need memory, and who waits once it was answered.
+-- The event of a command, when it may need memory, and who waits after it.
 use Rattle.std.specs.Prelude.{◌≡◌, ⊤, ℕ, Bool, true, false, not, ◌&&◌, [], ◌∷◌, ◌++◌}
 use Rattle.strategy.specs.Search.{Meaning}
 use Rattle.job_table.specs.Job.{fresh_search}
@@ -22,22 +22,23 @@ event_of (command.Cancel seq) = Cancel seq
 event_of (command.Forget seq) = Forget seq
 event_of command.Ledger = Ledger
 
--- the search of a job that is submitted has run nothing, holds nothing and is of this tenant and of the job's plan
+-- the search of a submit is fresh: of this tenant and plan, and it has run no node
 abbrev pub IsFresh : {J : Type 0} → (J → Meaning) → ℕ → Command J → Type 0
 IsFresh meaning t (command.Submit plan quanta search) = meaning search ≡ fresh_search t plan
 IsFresh meaning t command = ⊤
 
--- an answer that tells where a job stands
+-- a reply with the line of a job
 abbrev pub is_line : Answer → Bool
 is_line (Replied (reply.Line line)) = true
 is_line answer = false
 
--- whether a tenant's command may need memory: where the journal has room for its entry, each but a cancel that is accepted
+-- if the journal has room for its entry, each command may need memory but an accepted cancel
 abbrev pub may_need : Tenant → Event → Bool
 may_need t (Cancel s) = has_room 1 t && not (is_line (step t (Cancel s)).answer)
 may_need t event = has_room 1 t
 
--- who waits once a command was answered: a job that is taken in stands behind all others, and where a job is funded or given up, it alone changes
+-- who waits after a command: a new job waits behind all others; a fund or a cancel changes the
+-- place of its own job alone
 abbrev pub WaitsThen : World → ℕ → Event → Reply → World → Type 0
 WaitsThen old t (Submit plan quanta) answer new = (seq : ℕ) → answer ≡ reply.Job seq → new.waiting ≡ old.waiting ++ (t, seq) ∷ []
 WaitsThen old t (Fund seq quanta) answer new = KeepsTurns old t seq new

@@ -6,7 +6,7 @@ use Rattle.farm_core.specs.Purses.{purses, members_of}
 use Rattle.farm_core.specs.declared.config.TenantLine.{TenantLine}
 use Rattle.farm_core.specs.declared.config.TheConstants.{MOST_QUANTA, MOST_TENANTS, MOST_JOBS, MOST_ENTRIES, MOST_WORKERS, MOST_SLICE}
 
--- the tenants in the order of their numbers, how many workers there are, and how many nodes their turns have
+-- the tenants by their numbers, the number of workers, and the nodes of their turns
 pub record ConfigData : Type 0 where
   pub tenants : List TenantLine
   pub workers : ℕ
@@ -15,7 +15,7 @@ pub record ConfigData : Type 0 where
 abbrev pub is_within : ℕ → ℕ → ℕ → Bool
 is_within least most n = nat_le least n && nat_le n most
 
--- a tenant has no more quanta than a purse may have, one job or more, and one entry of the journal or more
+-- a tenant's limits: quanta up to 10^12, 1 to 1,000 jobs, 1 to 1,000,000 entries of the journal
 unfoldable pub are_terms : TenantLine → Bool
 are_terms line = nat_le line.quanta MOST_QUANTA && is_within 1 MOST_JOBS line.jobs && is_within 1 MOST_ENTRIES line.entries
 
@@ -29,7 +29,7 @@ abbrev pub are_distinct : List TenantLine → Bool
 are_distinct [] = true
 are_distinct (line ∷ lines) = not (has_name line.name lines) && are_distinct lines
 
--- the names of the tenants' purses, where they name one
+-- the name of each tenant's purse, or None if it names none
 abbrev pub purse_names : List TenantLine → List (Option (List ℕ))
 purse_names lines = map (λ (line : TenantLine). line.purse) lines
 
@@ -49,7 +49,8 @@ granted_by lines = sum_by (λ (line : TenantLine). line.quanta) lines
 abbrev pub are_purses : List TenantLine → Bool
 are_purses lines = list_all (λ p. nat_le (granted_by (member_lines lines p)) MOST_QUANTA) (range_with_len 0 (purses (purse_names lines)))
 
--- tenants of different names, purses, workers and the nodes of a turn within their limits, one of each or more
+-- 1 to 64 tenants of different names within their limits, purses of at most 10^12 quanta, 1 to 16
+-- workers, turns of 1 to 1,000,000 nodes
 unfoldable pub is_config : ConfigData → Bool
 is_config c =
     is_within 1 MOST_TENANTS (length c.tenants) && list_all are_terms c.tenants && are_distinct c.tenants && are_purses c.tenants

@@ -7,10 +7,10 @@ use Rattle.job_table.specs.Job.{given_up, IsFunded, IsGivenUp}
 use Rattle.farm_core.specs.declared.account.Account.{Account}
 use Rattle.farm_core.specs.declared.entry.Event.{Event}
 use Rattle.farm_core.specs.declared.entry.Event.TheVariants as event
-use Rattle.farm_core.specs.declared.effect.Change.{Change}
-use Rattle.farm_core.specs.declared.effect.Change.TheVariants.{Fund, GiveUp}
-use Rattle.farm_core.specs.declared.effect.Effect.{Effect}
-use Rattle.farm_core.specs.declared.effect.Effect.TheVariants as effect
+use Rattle.farm_core.specs.declared.farm.effect.Change.{Change}
+use Rattle.farm_core.specs.declared.farm.effect.Change.TheVariants.{Fund, GiveUp}
+use Rattle.farm_core.specs.declared.farm.effect.Effect.{Effect}
+use Rattle.farm_core.specs.declared.farm.effect.Effect.TheVariants as effect
 use Rattle.farm_core.specs.declared.reply.Reply.{Reply}
 use Rattle.farm_core.specs.declared.reply.Reply.TheVariants as reply
 use Rattle.farm_core.specs.Tenant.{Tenant, book}
@@ -21,7 +21,7 @@ abbrev pub asking : Change → ℕ → Event
 asking (Fund quanta) s = event.Fund s quanta
 asking GiveUp s = event.Cancel s
 
--- the effect is the one that the tenant's part of the farm decides, and the account beside it has the purse's ledger after it
+-- the effect is the one that `Step` decides, and its account has the purse's ledger afterwards
 abbrev pub IsDecided : {J : Type 0} → Tenant → Event → Effect J → Type 0
 IsDecided t e (effect.Nothing answer) = decided t e ≡ Nothing (Replied answer)
 IsDecided t e (effect.Notes answer) = decided t e ≡ Notes answer

@@ -15,7 +15,7 @@ use Rattle.farm_core.specs.Step.{Replied, has_room}
 use Rattle.farm_core.specs.World.{World, Call, Run, purse_in, purses_in, account_of, view, Follows, IsOfJournal}
 use Rattle.farm_core.specs.Truth.{ArePlanned}
 
--- how many entries may still come of a job without asking for memory: one for its cancel, one for its give
+-- the entries that a job may still need without asking for memory: one for a cancel, one for a give
 abbrev pub owed_in : Phase → ℕ
 owed_in Waiting = 1
 owed_in (Out slice) = 2
@@ -39,7 +39,7 @@ abbrev pub AreFrom : ℕ → List Row → Type 0
 AreFrom t [] = ⊤
 AreFrom t (row ∷ rows) = (t ≤ row.tenant) × AreFrom row.tenant rows
 
--- each of these rows is of one of so many tenants
+-- each of these rows is of one of the first `count` tenants
 abbrev pub AreOf : ℕ → List Row → Type 0
 AreOf count [] = ⊤
 AreOf count (row ∷ rows) = (row.tenant < count) × AreOf count rows
@@ -48,7 +48,7 @@ AreOf count (row ∷ rows) = (row.tenant < count) × AreOf count rows
 abbrev pub AreAtHome : List Row → Type 0
 AreAtHome rows = (t s : ℕ) (job : JobData) → find_row t s rows ≡ Some job → job.here ≡ is_here job.phase
 
--- some calls lead to it from the farm in which nothing has happened, and what was submitted in them were projects
+-- a run of calls leads to it from the opened farm, and each submit of it was of a project
 pub record IsReached (w : World) : Type 0 where
   pub calls : List Call
   pub run : Run w.config calls w
@@ -58,8 +58,8 @@ pub record IsReached (w : World) : Type 0 where
 abbrev pub purse_numbers : ConfigData → List ℕ
 purse_numbers config = map (purse_in config) (range_with_len 0 (length config.tenants))
 
--- each tenant has its account, each purse is where its entries lead, a run leads to the whole, and the journal has room for all entries that
--- are owed; the rows stand by their tenants
+-- each tenant has its account; each purse is where its entries lead; a run leads to the whole; the
+-- journal has room for all owed entries; rows are in order of tenants
 pub record IsFarm (w : World) (capacity : ℕ) : Type 0 where
   pub count : length w.numbers ≡ length w.config.tenants
   pub ledgers : length w.books ≡ purses_in w.config
@@ -71,24 +71,26 @@ pub record IsFarm (w : World) (capacity : ℕ) : Type 0 where
   pub order : AreFrom 0 w.rows
   pub config : IsTrue (is_config w.config)
 
--- this key stands among these, and it and those before it are of tenants that have no entries for a turn
+-- the key is in the queue, and all up to it are of tenants with no entries for a turn
 abbrev pub IsPassed : World → ℕ × ℕ → List (ℕ × ℕ) → Type 0
 IsPassed w key [] = ⊥
 IsPassed w key (first ∷ keys) = (has_room 2 (view first.0 w) ≡ false) × ((first ≡ key) ⊎ IsPassed w key keys)
 
--- where a key is given, those who wait are passed up to it
+-- if there is a key, the queue is passed up to it
 abbrev pub ArePassed : World → Option (ℕ × ℕ) → Type 0
 ArePassed w None = ⊤
 ArePassed w (Some key) = IsPassed w key w.waiting
 
--- at some place, behind so many at least, this one waits or none; and those who wait before it are of tenants that have no entries for a turn
+-- `next` is the job at some place of the queue, `count` or later, or none; all jobs before that
+-- place are of tenants with no entries for a turn
 pub record IsNext (w : World) (count : ℕ) (next : Option (ℕ × ℕ)) : Type 0 where
   pub at : ℕ
   pub least : count ≤ at
   pub here : next ≡ slice_get w.waiting at
   pub before : (j u n : ℕ) → j < at → slice_get w.waiting j ≡ Some (u, n) → has_room 2 (view u w) ≡ false
 
--- a call makes its tenant's step with this reply; or the journal has room but there was no memory, and nothing has changed
+-- the call makes its tenant's step with this reply; or there was room but no memory, and nothing
+-- has changed
 abbrev pub IsReply : World → ℕ → Event → Reply → World → Type 0
 IsReply old t event reply.NoMemory new = (new ≡ old) × (has_room 1 (view t old) ≡ true)
 IsReply old t event answer new = Follows old t event (Replied answer) new

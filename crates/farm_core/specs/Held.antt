@@ -13,7 +13,7 @@ use Rattle.farm_core.specs.Step.{Answer, Replied}
 use Rattle.farm_core.specs.Turn.{IsTaken}
 use Rattle.farm_core.specs.World.{World, opened, view, Follows, IsOfJournal}
 
--- a job is out, where there is one
+-- there is a job, and it is out
 abbrev pub is_out_of : Option JobData → Bool
 is_out_of None = false
 is_out_of (Some job) = is_out job.phase
@@ -34,7 +34,7 @@ pub record IsOutFor (w : World) (t s slice : ℕ) (m : Meaning) : Type 0 where
   pub own : IsOwn t slice 0 m job
   pub best : m.taken ≡ false
 
--- how many nodes the turn runs that is out of a job, where there is one
+-- the nodes that the job's turn runs; 0 if there is no job
 abbrev pub nodes_out : Option JobData → ℕ
 nodes_out None = 0
 nodes_out (Some job) = nodes_out_in job job.phase

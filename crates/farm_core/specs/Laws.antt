@@ -8,9 +8,9 @@ use Rattle.farm_core.specs.Tenant.{Tenant, newcomer, seat, book, ledger_of}
 use Rattle.farm_core.specs.Step.{Answer, step}
 use Rattle.farm_core.specs.World.{World, Call, terms_in, purse_in, place_in, purse, view, Run, own_events, own_answers, opened_purse, answers_alone, after_alone}
 
--- tenants are of one purse where they share one by name, and never else; a purse's members are found at their places; purses are
--- numbered from 0 on, each number being that of some tenant's purse, in the order of their first members; and where no one names a
--- purse, each tenant's purse has its number
+-- tenants share a purse exactly if they name the same one; members are found at their places;
+-- purses are numbered by their first members with no gap; if no tenant names a purse, each has its
+-- own number
 pub record PursesAreShared : Type 0 where
   pub shared : (names : List (Option (List ℕ))) (t u : ℕ) → is_shared (purse_name names t) (purse_name names u) ≡ true → purse_of names t ≡ purse_of names u
   pub apart : (names : List (Option (List ℕ))) (t u : ℕ) → purse_of names t ≡ purse_of names u → (t ≡ u) ⊎ (is_shared (purse_name names t) (purse_name names u) ≡ true)
@@ -20,14 +20,16 @@ pub record PursesAreShared : Type 0 where
   pub ordered : (names : List (Option (List ℕ))) (t u : ℕ) → first_member names t ≡ t → first_member names u ≡ u → t < u → purse_of names t < purse_of names u
   pub plain : (names : List (Option (List ℕ))) → ((t : ℕ) → purse_name names t ≡ None) → (t : ℕ) → purse_of names t ≡ t
 
--- in each run, the answers to a purse's members, and what it has at the end, are those of their own calls alone,
+-- in each run, the replies to a purse's members, and the purse at the end, are those of their own
+-- calls alone,
 abbrev pub EachPurseIsAlone : Type 0
 EachPurseIsAlone = (config : ConfigData) (calls : List Call) (w : World) → Run config calls w → (p : ℕ) →
     (own_answers config p calls ≡ answers_alone (opened_purse config p) (own_events config p calls))
     × (purse p w ≡ after_alone (opened_purse config p) (own_events config p calls))
 
--- and so two runs in which a purse begins alike and its members, in their order, ask for the same, one after another, give them equal
--- answers, equal jobs and an equal ledger, whoever else uses the farms, and whatever numbers the purse and its members have in each
+-- noninterference (Goguen and Meseguer 1982): two runs in which a purse begins alike and its
+-- members ask for the same, one after another, agree in their replies, jobs and ledger, whoever
+-- else uses the farms, and whatever numbers the purse and its members have
 abbrev pub EachPurseIsIsolated : Type 0
 EachPurseIsIsolated = (config elsewhere : ConfigData) (calls others : List Call) (w x : World) → Run config calls w → Run elsewhere others x →
     (p q : ℕ) → opened_purse config p ≡ opened_purse elsewhere q → own_events config p calls ≡ own_events elsewhere q others →
@@ -37,7 +39,7 @@ EachPurseIsIsolated = (config elsewhere : ConfigData) (calls others : List Call)
 abbrev pub EachViewIsASeat : Type 0
 EachViewIsASeat = (w : World) (t : ℕ) → t < length w.config.tenants → view t w ≡ seat (purse (purse_in w.config t) w) (place_in w.config t)
 
--- the ledger that a tenant is told is that of its purse, and so all members of a purse are told the same
+-- each member of a purse is replied the purse's ledger
 abbrev pub EachLedgerIsThePurses : Type 0
 EachLedgerIsThePurses = (w : World) (t : ℕ) → t < length w.config.tenants → book (view t w) ≡ ledger_of (purse (purse_in w.config t) w)
 
@@ -71,14 +73,15 @@ abbrev pub after_by : Tenant → List Event → Tenant
 after_by t [] = t
 after_by t (e ∷ events) = after_by (step t e).after events
 
--- in each run, the answers to a tenant with which no other shares a purse, and what it has at the end, are those of its own calls alone
+-- in each run, the replies to a tenant that shares its purse with no other, and what it has at the
+-- end, are those of its own calls alone
 abbrev pub EachLoneTenantIsAlone : Type 0
 EachLoneTenantIsAlone = (config : ConfigData) (calls : List Call) (w : World) → Run config calls w → (t : ℕ) → t < length config.tenants → IsLone config t →
     (lone_answers t calls ≡ answers_by (newcomer (terms_in config t)) (lone_events t calls))
     × (view t w ≡ after_by (newcomer (terms_in config t)) (lone_events t calls))
 
--- and so two runs in each of which a tenant shares its purse with no other and begins alike, and asks for the same, give it equal
--- answers, and leave it the same, whoever else uses the farms, and whatever number the tenant has in each
+-- two runs in each of which a tenant shares its purse with no other, begins alike and asks for the
+-- same agree in its replies and in what it has, whoever else uses the farms
 abbrev pub EachLoneTenantIsIsolated : Type 0
 EachLoneTenantIsIsolated = (config elsewhere : ConfigData) (calls others : List Call) (w x : World) → Run config calls w → Run elsewhere others x →
     (t u : ℕ) → t < length config.tenants → u < length elsewhere.tenants → IsLone config t → IsLone elsewhere u →

@@ -14,7 +14,7 @@ use Rattle.farm_core.specs.Step.{Answer, Replied}
 use Rattle.farm_core.specs.Tenant.{Tenant, seat, book, find_job, line_of}
 use Rattle.farm_core.specs.World.{World, Call, Run, purse_in, purse, opened_purse, view}
 
--- the quanta that a call gave job s: those of the submit that made it, and of each fund that was taken
+-- the quanta that a call gave job s: those of its submit, and of each accepted fund
 abbrev pub given_by : ℕ → Event → Answer → ℕ
 given_by s (Submit plan quanta) (Replied (reply.Job n)) = cond (n == s) quanta 0
 given_by s (Fund n quanta) (Replied (reply.Line line)) = cond (n == s) quanta 0
@@ -25,11 +25,11 @@ abbrev pub given_to : ℕ → List Call → ℕ → ℕ
 given_to t [] s = 0
 given_to t (c ∷ calls) s = cond (c.tenant == t) (given_by s c.event c.answer) 0 + given_to t calls s
 
--- the first of 0, 1 .. at which the search of a plan is over, or so many
+-- the first of 0, 1 .. `quanta` at which the search of the plan is over, or `quanta`
 unfoldable pub nodes_for : Plan → ℕ → ℕ
 nodes_for plan quanta = first_from (is_closed plan) quanta 0
 
--- a job that is dry or closed has run as many nodes as it was given quanta, or until its search was over
+-- the nodes of a dry or closed job are the lesser of its quanta and the nodes that its search needs
 abbrev pub HasRunItsNodes : (ℕ → ℕ) → JobData → Type 0
 HasRunItsNodes given job = (job.phase ≡ Dry) ⊎ (job.phase ≡ Closed) → job.nodes ≡ nodes_for job.plan (given job.seq)
 
@@ -37,13 +37,12 @@ HasRunItsNodes given job = (job.phase ≡ Dry) ⊎ (job.phase ≡ Closed) → jo
 abbrev pub HasJob : Tenant → JobData → Type 0
 HasJob t job = find_job job.seq t.jobs ≡ Some job
 
--- in each run, a tenant's job that is dry or closed has run the lesser of the quanta that it was given and of the nodes that
--- its search needs, whatever turns and slices there were
+-- this holds of each job in each run, whatever turns and slices there were
 abbrev pub NodesAreTheLesser : Type 0
 NodesAreTheLesser = (config : ConfigData) (calls : List Call) (w : World) → Run config calls w → (t : ℕ) (job : JobData) → HasJob (view t w) job →
     HasRunItsNodes (given_to t calls) job
 
--- what an accepted submit, fund, cancel or forget asked for; status, result, ledger, takes, gives, and what was refused, ask for nothing
+-- the event of an accepted submit, fund, cancel or forget; no other call counts
 abbrev pub accepted : Event → Answer → List Event
 accepted (Submit plan quanta) (Replied (reply.Job n)) = Submit plan quanta ∷ []
 accepted (Fund s quanta) (Replied (reply.Line line)) = Fund s quanta ∷ []
@@ -75,8 +74,8 @@ members_in config p = members_of (purse_names config.tenants) p
 abbrev pub AllMembers : ConfigData → ℕ → (ℕ → Type 0) → Type 0
 AllMembers config p P = (t : ℕ) → t < length config.tenants → purse_in config t ≡ p → P t
 
--- at the end of these calls a member has been granted submits and funds and had nothing else accepted but status, result, ledger, takes and
--- gives, and its jobs are at rest
+-- a member's accepted calls that count are submits and funds, and at the end its jobs are dry or
+-- closed
 pub record HasRested (calls : List Call) (w : World) (t : ℕ) : Type 0 where
   pub gifts : are_gifts (asked_by t calls) ≡ true
   pub rests : AreAtRest (view t w).jobs
@@ -86,9 +85,9 @@ pub record AreAlike (one other : Tenant) : Type 0 where
   pub lines : map line_of one.jobs ≡ map line_of other.jobs
   pub ledger : book one ≡ book other
 
--- two runs in which a purse begins alike, each of its members, in their order, was granted the same submits and funds and had nothing else
--- accepted but status, result, ledger, takes and gives, and has only dry and closed jobs at the end, end alike for its members, whatever turns,
--- slices and refusals came between
+-- two runs in which a purse begins alike, the accepted calls of each member that count are the same
+-- submits and funds, and at the end all its jobs are dry or closed, end alike for its members,
+-- whatever turns, slices and refusals there were
 abbrev pub EachEndsAlike : Type 0
 EachEndsAlike = (config elsewhere : ConfigData) (calls others : List Call) (w x : World) → Run config calls w → Run elsewhere others x →
     (p q : ℕ) → opened_purse config p ≡ opened_purse elsewhere q →

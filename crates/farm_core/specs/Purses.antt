@@ -10,11 +10,11 @@ is_shared (Some name) (Some other) = same_bytes name other
 is_shared (Some name) None = false
 is_shared None other = false
 
--- the name of the purse of tenant t, where its line names one
+-- the name of the purse of tenant t, or None if its line names none
 abbrev pub purse_name : List (Option (List ℕ)) → ℕ → Option (List ℕ)
 purse_name names t = get_or names t None
 
--- the first member of a tenant's purse: the first tenant before it that shares the purse, or else itself
+-- the first member of a tenant's purse: the first tenant before it that shares it, or itself
 unfoldable pub first_member : List (Option (List ℕ)) → ℕ → ℕ
 first_member names t = first_from (λ u. is_shared (purse_name names u) (purse_name names t)) t 0
 
@@ -25,14 +25,14 @@ is_first names t = first_member names t == t
 abbrev pub passing : (ℕ → Bool) → ℕ → List ℕ
 passing test n = filter test (range_with_len 0 n)
 
--- purses are numbered by their first members: a purse's number is how many first members come before its own
+-- a purse's number is the number of first members before its own first member
 unfoldable pub purse_of : List (Option (List ℕ)) → ℕ → ℕ
 purse_of names t = length (passing (is_first names) (first_member names t))
 
 unfoldable pub purses : List (Option (List ℕ)) → ℕ
 purses names = length (passing (is_first names) (length names))
 
--- these are the numbers of the tenants' purses, and there are so many purses
+-- `numbers` are those of the tenants' purses, and `count` is the number of purses
 pub record AreNumbered (names : List (Option (List ℕ))) (numbers : List ℕ) (count : ℕ) : Type 0 where
   pub each : (t : ℕ) → t < length names → slice_index numbers t ≡ purse_of names t
   pub counted : count ≡ purses names

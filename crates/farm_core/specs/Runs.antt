@@ -9,7 +9,7 @@ use Rattle.farm_core.specs.World.{World, Call, purses_in, view, Steps, Run, entr
 abbrev pub HasAccounts : World → Type 0
 HasAccounts w = (length w.numbers ≡ length w.config.tenants) × (length w.books ≡ purses_in w.config)
 
--- each tenant can ask for anything at any time: there is a farm in which the call was made, answered as its step says
+-- each tenant can make each call at any time: there is a farm after it, answered as its step says
 abbrev pub EachCallCanBeMade : Type 0
 EachCallCanBeMade = (w : World) → HasAccounts w → (t : ℕ) → t < length w.config.tenants → (event : Event) →
     (new : World) × Steps w t event (step (view t w) event).answer new × HasAccounts new
@@ -18,7 +18,7 @@ EachCallCanBeMade = (w : World) → HasAccounts w → (t : ℕ) → t < length w
 abbrev pub wish_of : Call → ℕ × Event
 wish_of c = (c.tenant, c.event)
 
--- whatever the tenants of a configuration ask for, one call after another, there is a run of just these calls
+-- whatever the tenants of a configuration ask for, there is a run of just these calls
 abbrev pub EachSequenceIsARun : Type 0
 EachSequenceIsARun = (config : ConfigData) (wanted : List (ℕ × Event)) → All (λ (a : ℕ × Event). a.0 < length config.tenants) wanted →
     (calls : List Call) × (w : World) × Run config calls w × (map wish_of calls ≡ wanted)

@@ -1,4 +1,5 @@
--- What each call of a tenant comes to, which its part of the farm alone decides, and what that does: five effects for nine calls.
+-- What each of the nine calls of a tenant does: one of five effects, decided by the tenant's view
+-- alone.
 use Rattle.std.specs.Prelude.{ℕ, ◌+◌, Bool, not, ◌&&◌, ◌||◌, ◌==◌, true, nat_le, nat_lt, List, [], ◌∷◌, ◌++◌, length, if◌then◌else◌, Option, Some, None, option_map}
 use Rattle.mrcpsp.specs.Schedule.{makespan}
 use Rattle.strategy.specs.Outcome.{best_after, verdict_after}
@@ -15,8 +16,8 @@ use Rattle.farm_core.specs.declared.reply.Reply.{Reply}
 use Rattle.farm_core.specs.declared.reply.Reply.TheVariants as reply
 use Rattle.farm_core.specs.Tenant.{Tenant, book, free, kept, find_job, put_job, drop_job, line_of, nodes_out_in}
 
--- a command and a turn that is given are replied to; a turn that is taken is sent with what is known of its job, or there
--- is none
+-- a command and a give are replied to; a turn that is taken is sent with its job; or there is no
+-- turn
 pub data Answer : Type 0 where
   Replied : (reply : Reply) → Answer
   Sent : (line : Line) → Answer
@@ -28,8 +29,8 @@ pub record Step : Type 0 where
 
 -- ---- effects
 
--- nothing at all; an entry of the journal; an entry and a new job; an entry, and a job that stands otherwise after so many nodes more; an entry,
--- and a job less
+-- no change; a journal entry only; an entry and a new job; an entry, and the job is replaced after
+-- `ran` more nodes; an entry, and the job is removed
 pub data Effect : Type 0 where
   Nothing : (answer : Answer) → Effect
   Notes : (answer : Reply) → Effect
@@ -66,7 +67,7 @@ is_amount quanta = nat_lt 0 quanta && nat_le quanta MOST_QUANTA
 abbrev pub is_slice : ℕ → Bool
 is_slice slice = nat_lt 0 slice && nat_le slice MOST_SLICE
 
--- ---- what each call comes to, where it is about a job that there is
+-- ---- what each call about a known job does
 
 -- a job for a plan, with its search and some quanta
 abbrev pub fresh_job : Tenant → Plan → ℕ → JobData
@@ -120,12 +121,12 @@ to_give ran job = if may_have_run ran job job.phase
 
 -- ---- calls
 
--- about the tenant's job of that number, or what is done where there is none
+-- what is decided of the tenant's job of that number; `none` if there is no such job
 abbrev pub about : Effect → (JobData → Effect) → Option JobData → Effect
 about none f None = none
 about none f (Some job) = f job
 
--- a command, where the journal has room for it
+-- what a command decides, if the journal has room for it
 abbrev pub command : Tenant → Effect → Effect
 command t effect = if has_room 1 t then effect else Nothing (Replied reply.NoRoom)
 

@@ -17,8 +17,8 @@ pub record Terms : Type 0 where
   pub jobs : ℕ
   pub entries : ℕ
 
--- what is a tenant's own: its terms, the number of its next job, how many journal entries it has used, and its jobs in the
--- order in which they came
+-- what is a tenant's own: its limits, the number of its next job, the journal entries that it has
+-- used, and its jobs in the order of their numbers
 pub record Member : Type 0 where
   pub terms : Terms
   pub next : ℕ
@@ -31,7 +31,8 @@ pub record Purse : Type 0 where
   pub spent : ℕ
   pub members : List Member
 
--- a tenant at its purse: what is its own, what the purse was granted and has spent, and what the jobs of the other members hold
+-- a tenant at its purse: what is its own, what the purse was granted and has spent, and what the
+-- jobs of the other members hold
 pub record Tenant : Type 0 where
   pub terms : Terms
   pub granted : ℕ
@@ -94,7 +95,8 @@ own_of t = record { terms = t.terms; next = t.next; used = t.used; jobs = t.jobs
 abbrev pub with_seat : Purse → ℕ → Tenant → Purse
 with_seat p place t = record p { spent = t.spent; members = set p.members place (own_of t) }
 
--- a tenant's ledger is that of its purse: what the jobs of all members hold, what is free, and what was spent
+-- the ledger of the tenant's purse: what the jobs of all members hold, what is free and what is
+-- spent
 unfoldable pub held : Tenant → ℕ
 held t = held_by t.jobs + t.beside
 
@@ -139,12 +141,12 @@ line_of job = record {
   verdict = verdict_after job.plan job.nodes;
 }
 
--- how many nodes a turn of at most `most` runs: so many, or fewer where its search is over before
+-- the nodes of a turn of at most `most`: fewer if its search is over before
 unfoldable pub nodes_of_turn : ℕ → JobData → ℕ
 nodes_of_turn most job = first_from (λ r. is_closed job.plan (job.nodes + r)) most 0
 
--- how many nodes the turn runs that is out of a job in this phase: as many as its slice and the job's quanta allow, or until
--- the search is over; none where no turn is out
+-- the nodes that a job's turn runs: as many as its slice and the job's quanta allow, or until the
+-- search is over; 0 if no turn is out
 abbrev pub nodes_out_in : JobData → Phase → ℕ
 nodes_out_in job Waiting = 0
 nodes_out_in job (Out slice) = nodes_of_turn (min slice job.left) job

@@ -14,8 +14,8 @@ use Rattle.farm_core.specs.Config.{ConfigData}
 use Rattle.farm_core.specs.Step.{Answer, Replied, Sent, NoTurn}
 use Rattle.farm_core.specs.World.{World, Call, Run}
 
--- a best schedule is feasible; with 'optimal' there is one than which no feasible schedule is shorter, and with
--- 'infeasible' no schedule is feasible
+-- a best schedule is feasible; with 'optimal' there is one, and no feasible schedule is shorter;
+-- with 'infeasible' no schedule is feasible
 pub record IsTrueBest (plan : Plan) (best : Option ScheduleData) (verdict : Verdict) : Type 0 where
   pub feasible : IfSome best (λ s. IsFeasible plan.project s)
   pub optimal : verdict ≡ Optimal → IsSomeAnd best (λ s. IsOptimal plan.project s)
@@ -29,7 +29,7 @@ IsTrueOf made s best verdict =
 abbrev pub IsTrueLine : (ℕ → Plan → Type 0) → Line → Type 0
 IsTrueLine made line = IsTrueOf made line.seq line.best line.verdict
 
--- the same where the schedule itself is told
+-- this of a reply with the schedule itself
 abbrev pub IsTrueResult : (ℕ → Plan → Type 0) → ℕ → Option ScheduleData → Option ℕ → Verdict → Type 0
 IsTrueResult made s schedule best verdict =
     (plan : Plan) × made s plan × (best ≡ option_map (makespan plan.project) schedule) × IsTrueBest plan schedule verdict
@@ -81,9 +81,8 @@ IsPlanned (Give s ran) = ⊤
 abbrev pub ArePlanned : List Call → Type 0
 ArePlanned calls = (c : Call) → IsAmong calls c → IsPlanned c.event
 
--- in each run, where what was submitted before a call are projects, its answer is true of a plan that its tenant has
--- submitted under that number before it. And one call made a tenant's job of a number: no two plans of a tenant were
--- submitted under one
+-- in each run of submits of projects, a reply is true of the plan that its tenant submitted under
+-- that number before. No two plans of a tenant were submitted under one number
 pub record EachAnswerIsTrue : Type 0 where
   pub told : (config : ConfigData) (before behind : List Call) (c : Call) (w : World) →
       Run config (before ++ c ∷ behind) w → ArePlanned before → IsTrueAnswer (WasMade before c.tenant) c.answer

@@ -12,7 +12,7 @@ use Rattle.farm_core.specs.Step as step
 use Rattle.farm_core.specs.Step.{Replied, Sent, is_slice, has_room}
 use Rattle.farm_core.specs.World.{World, table_of, view, Follows}
 
--- what contracts see of a turn: the tenant and the number of its job, how many nodes it may run and how many it has run, and the search
+-- the tenant and number of a turn's job, the most nodes, the nodes that it has run, and the search
 pub record TurnData (J : Type 0) : Type 0 where
   pub tenant : ℕ
   pub seq : ℕ
@@ -20,14 +20,14 @@ pub record TurnData (J : Type 0) : Type 0 where
   pub ran : ℕ
   pub search : J
 
--- a turn that has run so many nodes: nothing yet, or all that it could; and the best schedule is still with its search
+-- a turn has run no node yet, or all that it could; and the best schedule is still with its search
 pub record IsTurn (slice ran : ℕ) (m : Meaning) : Type 0 where
   pub best : m.taken ≡ false
   pub start : Meaning
   pub after : m ≡ ran_on ran start
   pub all : (ran ≡ 0) ⊎ (ran ≡ nodes_within slice start)
 
--- a turn was taken: the search is that of a job that waited and waits no longer, and the call follows
+-- a turn was taken: the search is that of a job that waited, and the call makes its step
 pub record IsTaken (old : World) (t s slice : ℕ) (m : Meaning) (new : World) : Type 0 where
   pub job : JobData
   pub found : find_job s (view t old).jobs ≡ Some job
@@ -40,7 +40,7 @@ abbrev pub IsNotTaken : World → ℕ → ℕ → ℕ → NoTurn → World → T
 IsNotTaken old t s slice no_turn.None new = Follows old t (Take s slice) step.NoTurn new
 IsNotTaken old t s slice no_turn.NoMemory new = new ≡ old
 
--- a turn came back to the job whose it is, which stands behind all others where it waits again
+-- a turn came back to its job, which waits behind all others if it waits again
 pub record IsGiven (old : World) (t s slice ran : ℕ) (m : Meaning) (answer : Reply) (new : World) : Type 0 where
   pub job : JobData
   pub found : find_row t s old.rows ≡ Some job
@@ -48,7 +48,8 @@ pub record IsGiven (old : World) (t s slice ran : ℕ) (m : Meaning) (answer : R
   pub turns : new.waiting ≡ waiting_then t s false (is_waiting (back ran job).phase) old.waiting
   pub follows : Follows old t (Give s ran) (Replied answer) new
 
--- there is no turn to take: the slice is not 1 to 1,000,000, or no job waits whose tenant has entries for a turn
+-- there is no turn to take: the slice is not 1 to 1,000,000, or no waiting job is of a tenant with
+-- entries for a turn
 abbrev pub IsIdle : World → ℕ → Type 0
 IsIdle w slice =
     (is_slice slice ≡ false)
@@ -63,8 +64,8 @@ pub record IsReady (w : World) (t s slice : ℕ) : Type 0 where
   pub slice_is : is_slice slice ≡ true
   pub room : has_room 2 (view t w) ≡ true
 
--- the first of these in the order of their turns, in which each job that waits stands once: no waiting job before it is of a tenant that has entries
--- for a turn
+-- the first of these in the queue, in which each waiting job is once: no waiting job before it is
+-- of a tenant with entries for a turn
 pub record IsFirstReady (w : World) (t s slice : ℕ) : Type 0 where
   pub ready : IsReady w t s slice
   pub each : AreWaiting (table_of w)

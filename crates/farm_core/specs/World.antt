@@ -15,8 +15,8 @@ use Rattle.farm_core.specs.Config.{ConfigData, purse_names, no_terms, member_lin
 use Rattle.farm_core.specs.Tenant.{Tenant, Member, Purse, terms_of, newcomers, seated_at, seat, with_seat}
 use Rattle.farm_core.specs.Step.{Answer, Replied, Sent, NoTurn, step}
 
--- one table of jobs and one journal for all, the jobs that wait in the order in which they take their turns, a ledger for each purse, and for each
--- tenant the number of its next job and how many entries are its own
+-- a farm: the table of jobs, the queue of waiting jobs, the journal, a ledger for each purse, and
+-- for each tenant the number of its next job and the entries that it has used
 pub record World : Type 0 where
   pub config : ConfigData
   pub rows : List Row
@@ -38,7 +38,7 @@ no_book = ledger.opened 0
 abbrev pub terms_in : ConfigData → ℕ → TenantLine
 terms_in config t = get_or config.tenants t no_terms
 
--- the number of a tenant's purse, the tenant's place among its members, and how many purses there are
+-- the number of a tenant's purse, its place among the members, and the number of purses
 abbrev pub purse_in : ConfigData → ℕ → ℕ
 purse_in config t = purse_of (purse_names config.tenants) t
 
@@ -98,7 +98,7 @@ purse p w = record {
 unfoldable pub view : ℕ → World → Tenant
 view t w = seated_at (place_in w.config t) (purse (purse_in w.config t) w) (member t w)
 
--- a call that was answered 'no room', 'no memory' or 'no turn' leaves no entry, and any other leaves one
+-- a call leaves an entry unless its answer is 'no room', 'no memory' or 'no turn'
 abbrev pub is_noted : Answer → Bool
 is_noted (Replied reply.NoRoom) = false
 is_noted (Replied reply.NoMemory) = false
@@ -117,16 +117,18 @@ pub record IsWithout (t : ℕ) (old new : List (ℕ × ℕ)) : Type 0 where
   pub was : old ≡ before ++ (t, seq) ∷ behind
   pub is : new ≡ before ++ behind
 
--- no job passes another: all stand as they stood, one of tenant t came behind them, or one of tenant t is gone
+-- no job passes another: the queue is as before, one of tenant t came last, or one of tenant t is
+-- gone
 abbrev pub KeepsOrder : ℕ → List (ℕ × ℕ) → List (ℕ × ℕ) → Type 0
 KeepsOrder t old new = (new ≡ old) ⊎ ((seq : ℕ) × (new ≡ old ++ (t, seq) ∷ [])) ⊎ IsWithout t old new
 
--- who waits once this job alone has changed: it stands last where it begins to wait, is gone where it waits no longer, and all others keep their places
+-- the queue after a change of this job alone: last if it begins to wait, gone if it waits no
+-- longer; all others keep their places
 abbrev pub KeepsTurns : World → ℕ → ℕ → World → Type 0
 KeepsTurns old t s new = new.waiting ≡ waiting_then t s (does_wait (find_row t s old.rows)) (does_wait (find_row t s new.rows)) old.waiting
 
--- a call of a tenant makes the step of its place at its purse; what is another tenant's own, and what another purse has spent,
--- does not change
+-- a call makes its tenant's step; other tenants' own parts, and what other purses have spent, do
+-- not change
 pub record Steps (old : World) (t : ℕ) (event : Event) (answer : Answer) (new : World) : Type 0 where
   pub known : t < length old.config.tenants
   pub answer_is : answer ≡ (step (view t old) event).answer
@@ -136,7 +138,7 @@ pub record Steps (old : World) (t : ℕ) (event : Event) (answer : Answer) (new 
   pub journal : new.journal ≡ old.journal ++ entry_of t event answer
   pub config : new.config ≡ old.config
 
--- the same where no waiting job passes another
+-- this, and no waiting job passes another
 pub record Follows (old : World) (t : ℕ) (event : Event) (answer : Answer) (new : World) : Type 0 where
   pub known : t < length old.config.tenants
   pub answer_is : answer ≡ (step (view t old) event).answer
@@ -196,6 +198,6 @@ after_alone p (a ∷ asked) = after_alone (with_seat p a.place (step (seat p a.p
 abbrev pub opened_purse : ConfigData → ℕ → Purse
 opened_purse config p = newcomers (member_lines config.tenants p)
 
--- each purse's part of the world is where its own entries of the journal lead, from the farm in which nothing has happened
+-- each purse is where its own entries of the journal lead, from the opened farm
 abbrev pub IsOfJournal : World → Type 0
 IsOfJournal w = (p : ℕ) → purse p w ≡ after_alone (opened_purse w.config p) (events_of w.config p w.journal)

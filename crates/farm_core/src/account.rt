@@ -1,7 +1,7 @@
-//! What the farm keeps of each tenant beside its jobs.
+//! What the farm keeps of each tenant besides its jobs.
 use tenant_book::Book;
 
-/// The number of a tenant's next job, and how many entries of the journal are its own.
+/// The number of a tenant's next job, and the entries of the journal that it has used.
 #[derive(Clone, Copy, Debug)]
 pub struct Numbers {
     pub(crate) next: u64,

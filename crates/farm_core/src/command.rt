@@ -1,4 +1,4 @@
-//! What a tenant asks of the farm, as a value, and the call that is asked for so.
+//! Commands as values, and the call that each asks for.
 ghost use Rattle.std.specs.Prelude.{◌≡◌, ℕ, ◌<◌, length};
 ghost use Rattle.farm_core.specs.declared.reply.Line.{Line};
 ghost use Rattle.farm_core.specs.Step.{Replied, step};
@@ -9,39 +9,28 @@ ghost use Rattle.farm_core.specs.Command.{event_of, IsFresh, WaitsThen};
 use crate::{Event, Farm, Reply};
 use strategy::{Plan, Strategy};
 
-/// A command of a tenant.
+/// A `Command` is what a tenant asks of the farm.
 #[derive(Drop)]
 pub enum Command<J> {
-    /// A job for this plan, with so many quanta and its search.
     Submit {
-        /// What is searched, and how.
         plan: Plan,
-        /// How many quanta the job is given.
         quanta: u64,
-        /// Its search, which has run nothing, holds nothing and is of this tenant and plan.
+        /// A fresh search of this tenant and plan.
         search: J,
     },
-    /// So many quanta more for the job of this number.
     Fund {
-        /// The job's number.
         seq: u64,
-        /// How many quanta it is given.
         quanta: u64,
     },
-    /// What is known of the job of this number.
     Status(u64),
-    /// The best schedule of the job of this number.
     Fetch(u64),
-    /// That the job of this number be searched no more.
     Cancel(u64),
-    /// That the job of this number be kept no longer.
     Forget(u64),
-    /// The ledger of the tenant's purse.
     Ledger,
 }
 
 impl<J: Strategy> Farm<J> {
-    /// Makes the call that a command asks for: `submit`, `fund`, `status`, `result`, `cancel`, `forget` or `ledger`. Refused as that call is.
+    /// Makes the call that `command` names. Refused as that call is.
     pub fn command(&mut self, tenant: u32, command: Command<J>) -> Reply
         requires known { tenant < length self.old.config.tenants }
         requires fresh { IsFresh J.meaning tenant command }

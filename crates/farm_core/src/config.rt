@@ -1,4 +1,4 @@
-//! What a farm is made for.
+//! Configurations of a farm, and their limits.
 ghost use Rattle.std.specs.Prelude.{◌≡◌, ◌↔◌, IsTrue, Some, None, if◌then◌else◌, drop, length, ◌<◌, ◌≤◌, IfOk};
 ghost use Rattle.std.specs.List.{list_all};
 ghost use Rattle.farm_core.specs.Config.{ConfigData, are_terms, has_name, are_distinct, is_config, purse_names, member_lines, granted_by};
@@ -10,13 +10,13 @@ use mrcpsp::Sequence;
 use std::alloc::{AllocError, Global};
 use std::marker::Model;
 
-/// The most quanta that a purse may be granted.
+/// The most quanta of a purse.
 pub const MOST_QUANTA: u64 = tenant_book::MOST_QUANTA;
 
 /// The most tenants of a farm.
 pub const MOST_TENANTS: usize = 64;
 
-/// The most jobs that may be kept for a tenant.
+/// The most jobs that a tenant may keep.
 pub const MOST_JOBS: u64 = 1_000;
 
 /// The most entries of the journal that a tenant may use.
@@ -25,26 +25,25 @@ pub const MOST_ENTRIES: u64 = 1_000_000;
 /// The most workers of a farm.
 pub const MOST_WORKERS: u64 = 16;
 
-/// The most nodes that a turn may have.
+/// The most nodes of a turn.
 pub const MOST_SLICE: u64 = 1_000_000;
 
-/// A tenant's line of the configuration.
+/// A `TenantLine` is what a configuration says of a tenant.
 #[derive(Debug, Drop)]
 pub struct TenantLine {
-    /// Its name.
     pub name: Name,
-    /// How many quanta it was granted, at most 10^12.
+    /// The quanta that it is granted, at most 10^12.
     pub quanta: u64,
-    /// How many jobs are kept for it at most, 1 to 1,000.
+    /// The most jobs that it may keep, 1 to 1,000.
     pub jobs: u64,
-    /// How many entries of the journal it may use, 1 to 1,000,000.
+    /// The most entries of the journal that it may use, 1 to 1,000,000.
     pub entries: u64,
-    /// The name of its purse, where it shares one: the tenants that name the same purse share their quanta.
+    /// The purse that it shares with all tenants that name it. `None`: a purse of its own.
     pub purse: Option<Name>,
 }
 
-/// What a farm is made for: 1 to 64 tenants of different names within the limits of their lines, purses of at most 10^12 quanta,
-/// 1 to 16 workers, and turns of 1 to 1,000,000 nodes.
+/// A `Config` is what a farm is made for: 1 to 64 tenants of different names within their limits,
+/// purses of at most 10^12 quanta, 1 to 16 workers, and turns of 1 to 1,000,000 nodes.
 #[derive(Debug, Drop)]
 pub struct Config {
     tenants: Sequence<TenantLine>,
@@ -68,7 +67,7 @@ impl Model for Config {
 }
 
 impl TenantLine {
-    /// The same line once more. Takes no memory.
+    /// Takes no memory.
     pub fn copy(&self) -> TenantLine
         ensures { result ≡ self.now }
     {
@@ -86,7 +85,6 @@ impl TenantLine {
     }
 }
 
-/// The same lines once more, or an error where there is no memory for them.
 fn clone_lines(alloc: Global, lines: &[TenantLine]) -> Result<Vec<TenantLine>, AllocError>
     ensures { IfOk result (λ copy. copy.items ≡ lines.now) }
 {
@@ -144,8 +142,8 @@ fn are_distinct(lines: &[TenantLine]) -> bool
 }
 
 impl Config {
-    /// The configuration of these tenants, or `None` where a limit is broken or two have the same name. The list is then
-    /// dropped. Takes no memory.
+    /// `None`, and the list is dropped, if a limit is broken or two tenants have the same name. Takes
+    /// no memory.
     #[tactic(auto, unfolding(crate::specs::Config::is_config))]
     pub fn new(tenants: Sequence<TenantLine>, workers: u64, slice: u64) -> Option<Config>
         ensures { let given : ConfigData = record { tenants = tenants; workers = workers; slice = slice } in
@@ -173,7 +171,7 @@ impl Config {
         }
     }
 
-    /// An equal configuration, or an error where there is no memory for it.
+    /// Fails for want of memory.
     pub fn clone_in(&self, alloc: Global) -> Result<Config, AllocError>
         ensures { IfOk result (λ copy. copy ≡ self.now) }
     {
@@ -185,7 +183,7 @@ impl Config {
         })
     }
 
-    /// The tenants' lines, in the order of their numbers.
+    /// The tenants by their numbers.
     #[tactic(auto, unfolding(crate::specs::Config::is_config))]
     pub fn tenants(&self) -> &[TenantLine]
         ensures all { result.now ≡ self.now.tenants }
@@ -197,7 +195,7 @@ impl Config {
         self.tenants.as_slice()
     }
 
-    /// How many purses there are: at least 1, and no more than tenants.
+    /// The number of purses: at least 1, and no more than tenants.
     #[tactic(auto, using(crate::proofs::PurseCountLemmas::some_purse, crate::proofs::PurseCountLemmas::most_purses))]
     pub fn purses(&self) -> u32
         ensures exact { result ≡ purses (purse_names self.now.tenants) }
@@ -210,7 +208,7 @@ impl Config {
         self.purses.count()
     }
 
-    /// The number of a tenant's purse. Purses are numbered from 0 on, in the order of their first members.
+    /// The number of the tenant's purse. Purses are numbered by their first members, from 0.
     pub fn purse_of(&self, tenant: u32) -> u32
         requires { tenant < length self.now.tenants }
         ensures exact { result ≡ purse_of (purse_names self.now.tenants) tenant }
@@ -220,21 +218,21 @@ impl Config {
         self.purses.number(tenant as usize)
     }
 
-    /// How many quanta a purse was granted: what its members' lines grant together.
+    /// The quanta of a purse: the sum of what its members are granted.
     pub fn granted(&self, purse: u32) -> u64
         ensures { result ≡ granted_by (member_lines self.now.tenants purse) }
     {
         granted_to(self.tenants(), &self.purses, purse)
     }
 
-    /// How many workers there are.
+    /// The number of workers, 1 to 16.
     pub fn workers(&self) -> u64
         ensures { result ≡ self.now.workers }
     {
         self.workers
     }
 
-    /// How many nodes a worker's turn has at most.
+    /// The most nodes of a worker's turn, 1 to 1,000,000.
     pub fn slice(&self) -> u64
         ensures { result ≡ self.now.slice }
     {

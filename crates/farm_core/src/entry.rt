@@ -5,7 +5,8 @@ use std::alloc::{AllocError, Global};
 use std::marker::Model;
 use strategy::Plan;
 
-/// A plan in memory of its own, so that an entry takes 32 bytes. Contracts see the plan alone.
+/// A `NotedPlan` is a plan in memory of its own, so that an entry takes 32 bytes. Contracts see the
+/// plan.
 #[derive(Debug, Drop)]
 pub struct NotedPlan {
     plan: Box<Plan>,
@@ -20,7 +21,7 @@ impl Model for NotedPlan {
 }
 
 impl NotedPlan {
-    /// A copy of the plan, or an error if there is no memory for it.
+    /// Copies `plan`. Fails for want of memory.
     pub(crate) fn of(alloc: Global, plan: &Plan) -> Result<NotedPlan, AllocError>
         ensures { IfOk result (λ noted. noted ≡ plan.now) }
     {
@@ -30,7 +31,6 @@ impl NotedPlan {
         }
     }
 
-    /// The plan.
     pub fn plan(&self) -> &Plan
         ensures { result.now ≡ self.now }
     {
@@ -38,34 +38,28 @@ impl NotedPlan {
     }
 }
 
-/// What a tenant, or a worker for it, asked for.
+/// An `Event` is what a tenant asked for, or a worker for it.
 #[derive(Debug, Drop)]
 pub enum Event {
-    /// A job for this plan, with so many quanta.
+    /// A job for this plan, with its quanta.
     Submit(NotedPlan, u64),
-    /// So many quanta more for the job of this number.
+    /// More quanta for the job of this number.
     Fund(u64, u64),
-    /// What is known of the job of this number.
     Status(u64),
-    /// The best schedule of the job of this number.
     Fetch(u64),
-    /// That the job of this number be searched no more.
     Cancel(u64),
-    /// That the job of this number be kept no longer.
+    /// Removes the job of this number.
     Forget(u64),
-    /// The tenant's ledger.
     Ledger,
-    /// A turn of the job of this number, for at most so many nodes.
+    /// A turn of the job of this number, and its slice.
     Take(u64, u64),
-    /// The turn of the job of this number back, after so many nodes.
+    /// The turn of the job of this number, and its nodes.
     Give(u64, u64),
 }
 
-/// An event of a tenant.
+/// An `Entry` is an event and its tenant.
 #[derive(Debug, Drop)]
 pub struct Entry {
-    /// The tenant's number.
     pub tenant: u32,
-    /// What was asked for.
     pub event: Event,
 }

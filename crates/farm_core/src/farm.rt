@@ -8,6 +8,10 @@ ghost use Rattle.farm_core.specs.World.{World, purse, view, account_of, new_numb
 ghost use Rattle.farm_core.specs.Config.{is_config};
 ghost use Rattle.farm_core.specs.Farm.{IsAccount, IsReached, AreAtHome, ArePassed, purse_numbers};
 
+mod commands;
+mod effect;
+pub(crate) mod jobs;
+
 use crate::{
     Account, Config, Entry, Event, Line, MOST_ENTRIES, MOST_QUANTA, MOST_TENANTS, Numbers,
 };
@@ -16,7 +20,7 @@ use std::alloc::{AllocError, Global};
 use std::marker::Model;
 use tenant_book::Book;
 
-/// The ledgers of all purses, and for each tenant which purse is its own, the number of its next job, and how many entries it has used.
+/// The ledgers of all purses, and for each tenant its purse and its numbers.
 #[derive(Drop)]
 pub(crate) struct Ledgers {
     pub(crate) purses: Vec<u32>,
@@ -24,7 +28,7 @@ pub(crate) struct Ledgers {
     pub(crate) numbers: Vec<Numbers>,
 }
 
-/// All tenants' jobs, their journal and their ledgers. Contracts see a world.
+/// A `Farm` is all tenants' jobs, their journal and their ledgers. Contracts see a `World`.
 #[derive(Drop)]
 pub struct Farm<J> {
     pub(crate) alloc: Global,
@@ -32,8 +36,8 @@ pub struct Farm<J> {
     pub(crate) jobs: JobTable<J>,
     pub(crate) journal: Vec<Entry>,
     pub(crate) ledgers: Ledgers,
-    /// Up to this waiting job each is of a tenant that has no entries for a turn, and so never has them again: who looks for
-    /// the next turn begins behind it.
+    /// The last of the waiting jobs in front that are skipped: their tenants have no entries for a
+    /// turn, and never will. `take_next` begins behind it.
     pub(crate) passed: Option<(u32, u64)>,
 }
 
@@ -78,7 +82,6 @@ impl<J> Model for Farm<J> {
         f.passed };
 }
 
-/// The number of each tenant's purse. A configuration keeps its limits.
 fn number_purses(alloc: Global, config: &Config) -> Result<Vec<u32>, AllocError>
     ensures exact { IfOk result (λ numbers. numbers.items ≡ purse_numbers config.now) }
     ensures config { IsTrue (is_config config.now) }
@@ -90,7 +93,6 @@ fn number_purses(alloc: Global, config: &Config) -> Result<Vec<u32>, AllocError>
     Ok(purses)
 }
 
-/// The ledger of each purse that has spent nothing yet.
 fn open_books(alloc: Global, config: &Config) -> Result<Vec<Book>, AllocError>
     ensures { IfOk result (λ books. books.items ≡ opened_books config.now) }
 {
@@ -103,7 +105,6 @@ fn open_books(alloc: Global, config: &Config) -> Result<Vec<Book>, AllocError>
     Ok(books)
 }
 
-/// The numbers of each tenant that has done nothing yet.
 fn open_numbers(alloc: Global, config: &Config) -> Result<Vec<Numbers>, AllocError>
     ensures { IfOk result (λ numbers. numbers.items ≡ map (λ line. new_numbers) config.now.tenants) }
 {
@@ -114,8 +115,8 @@ fn open_numbers(alloc: Global, config: &Config) -> Result<Vec<Numbers>, AllocErr
     Ok(numbers)
 }
 
-/// Keeps room in the journal for one entry more, and for all that may come of so many jobs and one more without asking
-/// for memory: two of each.
+/// Reserves space in the journal for this entry, and for a give and a cancel of each of `jobs + 1`
+/// jobs: these take no memory later.
 pub(crate) fn keep_room(journal: &mut Vec<Entry>, jobs: usize) -> Result<(), AllocError>
     ensures room { OnOk result (length journal.old.items + 2 * jobs + 3 ≤ vec_capacity journal.new) }
     ensures kept { journal.new.items ≡ journal.old.items }
@@ -131,7 +132,7 @@ pub(crate) fn keep_room(journal: &mut Vec<Entry>, jobs: usize) -> Result<(), All
 }
 
 impl Ledgers {
-    /// Writes an entry down, and what its tenant's account tells then.
+    /// Writes `account` back, and the entry.
     pub(crate) fn write_down(
         &mut self,
         journal: &mut Vec<Entry>,
@@ -157,7 +158,6 @@ impl Ledgers {
     }
 }
 
-/// What is told of a job.
 #[tactic(auto, unfolding(crate::specs::Tenant::line_of))]
 pub(crate) fn line_of<J>(job: &Job<J>) -> Line
     ensures { result ≡ line_of job.now }
@@ -173,7 +173,7 @@ pub(crate) fn line_of<J>(job: &Job<J>) -> Line
 }
 
 impl<J> Farm<J> {
-    /// The farm of a configuration in which nothing has happened, or an error where there is no memory for it.
+    /// The farm of `config` in which nothing has happened yet. Fails for want of memory.
     pub fn new(alloc: Global, config: &Config) -> Result<Farm<J>, AllocError>
         ensures { IfOk result (λ farm. farm ≡ opened config.now) }
     {
@@ -192,7 +192,7 @@ impl<J> Farm<J> {
         })
     }
 
-    /// How many tenants there are.
+    /// The number of tenants, 1 to 64.
     pub fn tenants(&self) -> u32
         ensures exact { result ≡ length self.now.config.tenants }
         ensures few { result ≤ MOST_TENANTS }
@@ -200,7 +200,7 @@ impl<J> Farm<J> {
         self.config.tenants().len() as u32
     }
 
-    /// How many purses there are. Leaves no entry.
+    /// The number of purses. Leaves no entry.
     pub fn purses(&self) -> u32
         ensures exact { result ≡ purses_in self.now.config }
         ensures few { result ≤ MOST_TENANTS }
@@ -217,7 +217,6 @@ impl<J> Farm<J> {
         self.ledgers.purses[tenant as usize]
     }
 
-    /// What is kept of a tenant beside its jobs.
     pub(crate) fn account(&self, tenant: u32) -> Account
         requires { tenant < length self.now.config.tenants }
         ensures exact { result ≡ account_of self.now tenant }
@@ -232,8 +231,8 @@ impl<J> Farm<J> {
         }
     }
 
-    /// The entries of all tenants, in the order in which they came. The farm is where they lead, and a run leads to it.
-    /// A job that waits or is dry has its search with it, and no other has.
+    /// The entries of all tenants in their order. The farm is where they lead. Exactly the jobs
+    /// that wait or are dry hold their search.
     pub fn journal(&self) -> &[Entry]
         ensures exact { result.now ≡ self.now.journal }
         ensures replayed { IsOfJournal self.now }
@@ -259,7 +258,6 @@ impl<J> Farm<J> {
         self.ledgers.books[number as usize]
     }
 
-    /// A tenant's job of that number.
     #[tactic(auto, using(crate::proofs::ViewLemmas::found_own), unfolding(crate::specs::World::view, crate::specs::World::member))]
     pub(crate) fn job(&self, tenant: u32, seq: u64) -> Option<&Job<J>>
         requires { tenant < length self.now.config.tenants }
@@ -268,7 +266,7 @@ impl<J> Farm<J> {
         self.jobs.find(tenant, seq)
     }
 
-    /// What is told of a tenant's job of that number. Leaves no entry.
+    /// The line of job `seq` of `tenant`. Leaves no entry.
     pub fn snapshot(&self, tenant: u32, seq: u64) -> Option<Line>
         requires { tenant < length self.now.config.tenants }
         ensures { result ≡ option_map line_of (find_job seq (view tenant self.now).jobs) }
@@ -279,7 +277,7 @@ impl<J> Farm<J> {
         }
     }
 
-    /// Whether so many entries more of the journal are free to a tenant.
+    /// Whether `tenant` may use `entries` entries more.
     pub(crate) fn has_room(&self, tenant: u32, entries: u64) -> bool
         requires known { tenant < length self.now.config.tenants }
         requires few { entries ≤ 2 }
@@ -292,9 +290,9 @@ impl<J> Farm<J> {
         used + self.jobs.out_of(tenant) as u64 + entries <= limit
     }
 
-    /// Up to which job all are passed once one of this tenant's is gone. Where the tenant has no entries for a turn, that may be
-    /// the last that was passed, and it begins at the first again: once for each tenant, since a call that a job goes by
-    /// takes the only entry that is left.
+    /// `passed` after a job of `tenant` leaves the queue. If `tenant` has no entries for a turn,
+    /// that job may be `passed` itself, so the queue is looked through again. This happens once a
+    /// tenant.
     pub(crate) fn passed_without(&self, tenant: u32) -> Option<(u32, u64)>
         requires { tenant < length self.now.config.tenants }
         ensures passed { ArePassed self.now result }

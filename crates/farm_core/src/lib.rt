@@ -1,33 +1,29 @@
-//! The farm: one table of jobs and one journal for all tenants, and yet each purse's replies are those of a farm of its own.
+//! The farm: one table of jobs and one journal for all tenants. Yet the replies to a purse's
+//! members are those of a farm of their own.
 //!
-//! Tenants that name the same purse share its quanta; any other tenant has a purse for itself. Each call of a [`Farm`] answers what
-//! the step of its tenant at its purse answers (`specs/Step`), changes that tenant's part as the step does, and leaves what is another
-//! tenant's own and every other purse as it was. Over these steps the laws say what a user is promised: each purse
-//! is alone, two runs that agree in the calls of a purse's members agree in its replies, and each answer about a job is true of its plan.
-//! A [`Turn`] is a job's search in a worker's hands; it comes back by `give`, or is handed back as a [`Stranger`].
+//! Tenants that name the same purse share its quanta. Any other tenant has its own purse. Each call
+//! of a [`Farm`] answers and changes the purse as the step of its tenant does (`specs/Step`), and
+//! leaves all others as they were. The laws follow from these steps: each purse is alone, and each
+//! reply about a job is true of its plan. A [`Turn`] is a job's search lent to a worker. `give`
+//! takes it back, or returns it as a [`Stranger`] if it is of no job that is out.
 //!
-//! - `name`, `config`: names of tenants, and what a farm is made for, with its limits.
-//! - `entry`: what the journal keeps.
-//! - `reply`: what the farm answers.
+//! - `name`, `config`: tenants' names, and configurations with their limits.
+//! - `entry`, `reply`: the journal's entries, and the replies.
 //! - `purses`: who shares a purse, and how purses are numbered.
-//! - `account`: what is kept of each tenant beside its jobs.
-//! - `farm`: `Farm`: its making, and its readers.
-//! - `jobs`: how a job in the table changes.
-//! - `effect`: what a command does, and the one step that makes it and writes it down.
-//! - `commands`: submit, fund, status, result, cancel, forget, ledger.
-//! - `command`: what a tenant asks for as a value, and one call for all seven.
-//! - `turn`: turns, and how they are taken and given back.
+//! - `account`: a tenant's numbers, and its purse's ledger.
+//! - `farm`: `Farm`, how it is made, and its readers. In its folder: `commands`, submit to ledger;
+//!   `effect`, what a command does, and `commit`, which does it; `jobs`, how a job in the table
+//!   changes.
+//! - `command`: a command as a value, and one call for all seven.
+//! - `turn`: turns, taken and given back.
 //! - `laws`: the theorems, as contracts of functions that do nothing.
 #![tactic(auto)]
 
 mod account;
 mod command;
-mod commands;
 mod config;
-mod effect;
 mod entry;
 mod farm;
-mod jobs;
 pub mod laws;
 mod name;
 mod purses;

@@ -8,8 +8,8 @@ use std::marker::Model;
 /// The most bytes of a name.
 pub const MOST_NAME: usize = 32;
 
-/// A tenant's name: 1 to 32 bytes of `a` to `z`, `0` to `9`, `_` and `-`, the first a letter.
-/// Contracts see its bytes. Names of different tags differ, so most are told apart at once.
+/// A `Name` is a tenant's name: 1 to 32 bytes of `a` to `z`, `0` to `9`, `_` and `-`, the first a
+/// letter. Contracts see its bytes. Names of different tags differ, which is seen at once.
 #[derive(Debug, Drop)]
 pub struct Name {
     bytes: [u8; MOST_NAME],
@@ -31,14 +31,12 @@ impl Model for Name {
         × (n.tag ≡ tag_of (take n.len n.bytes)) };
 }
 
-/// Whether a byte may stand in a name.
 fn is_mark(byte: u8) -> bool
     ensures { result ≡ is_mark byte }
 {
     matches!(byte, b'a'..=b'z' | b'0'..=b'9' | b'_' | b'-')
 }
 
-/// Whether a name begins like this.
 fn begins_well(bytes: &[u8]) -> bool
     ensures { result ≡ begins_well bytes.now }
 {
@@ -48,7 +46,6 @@ fn begins_well(bytes: &[u8]) -> bool
     }
 }
 
-/// Whether each of these bytes may stand in a name.
 fn are_marks(bytes: &[u8]) -> bool
     ensures { result ≡ list_all is_mark bytes.now }
 {
@@ -72,7 +69,6 @@ fn tag_of(name: &[u8]) -> u32
     (before * 256 + last) * 256 + len as u32
 }
 
-/// Whether these are the same bytes.
 #[tactic(auto, using(crate::proofs::NameLemmas::same_bytes_is))]
 fn are_same(one: &[u8], other: &[u8]) -> bool
     ensures value { result ≡ same_bytes one.now other.now }
@@ -82,7 +78,7 @@ fn are_same(one: &[u8], other: &[u8]) -> bool
 }
 
 impl Name {
-    /// The name of these bytes, or `None` where it is ill formed.
+    /// The name of `bytes`, or `None` if they are none.
     #[tactic(auto, unfolding(crate::specs::Name::is_name))]
     pub fn new(given: &[u8]) -> Option<Name>
         ensures { result ≡ (if is_name given.now then Some given.now else None) }
@@ -97,7 +93,6 @@ impl Name {
         Some(Name { bytes, len, tag })
     }
 
-    /// Its bytes.
     pub fn as_bytes(&self) -> &[u8]
         ensures bytes { result.now ≡ self.now }
         ensures name { IsTrue (is_name self.now) }
@@ -105,7 +100,7 @@ impl Name {
         &self.bytes[..self.len]
     }
 
-    /// The same name once more. Takes no memory.
+    /// Takes no memory.
     pub fn copy(&self) -> Name
         ensures { result ≡ self.now }
     {
@@ -116,7 +111,6 @@ impl Name {
         }
     }
 
-    /// Whether it is the same name.
     pub fn is_same(&self, other: &Name) -> bool
         ensures value { result ≡ same_bytes self.now other.now }
         ensures same { IsTrue result ↔ (self.now ≡ other.now) }

@@ -6,7 +6,6 @@ ghost use Rattle.farm_core.specs.Purses.{is_shared, first_member, AreNumbered};
 
 use crate::{MOST_QUANTA, MOST_TENANTS, Name, TenantLine};
 
-/// Whether both name a purse, and the same one.
 fn is_shared(one: &Option<Name>, other: &Option<Name>) -> bool
     ensures { result ≡ is_shared one.now other.now }
 {
@@ -16,7 +15,6 @@ fn is_shared(one: &Option<Name>, other: &Option<Name>) -> bool
     }
 }
 
-/// The first member of a tenant's purse.
 #[tactic(auto, unfolding(crate::specs::Purses::first_member))]
 fn first_member(lines: &[TenantLine], tenant: usize) -> usize
     requires known { tenant < length lines.now }
@@ -31,7 +29,7 @@ fn first_member(lines: &[TenantLine], tenant: usize) -> usize
     tenant
 }
 
-/// The number of each tenant's purse, and how many purses there are.
+/// The number of each tenant's purse, and the number of purses.
 #[derive(Clone, Copy, Debug)]
 pub(crate) struct Purses {
     numbers: [u32; MOST_TENANTS],
@@ -39,7 +37,6 @@ pub(crate) struct Purses {
 }
 
 impl Purses {
-    /// The numbers of the purses of these tenants.
     pub(crate) fn of(lines: &[TenantLine]) -> Purses
         requires few { length lines.now ≤ MOST_TENANTS }
         ensures { AreNumbered (purse_names lines.now) result.numbers result.count }
@@ -58,7 +55,6 @@ impl Purses {
         Purses { numbers, count }
     }
 
-    /// The number of a tenant's purse.
     pub(crate) fn number(&self, tenant: usize) -> u32
         requires { tenant < MOST_TENANTS }
         ensures { result ≡ slice_index self.now.numbers tenant }
@@ -66,7 +62,6 @@ impl Purses {
         self.numbers[tenant]
     }
 
-    /// How many purses there are.
     pub(crate) fn count(&self) -> u32
         ensures { result ≡ self.now.count }
     {
@@ -74,7 +69,6 @@ impl Purses {
     }
 }
 
-/// What a purse's members' lines grant together.
 pub(crate) fn granted_to(lines: &[TenantLine], purses: &Purses, purse: u32) -> u64
     requires numbered { AreNumbered (purse_names lines.now) purses.now.numbers purses.now.count }
     requires few { length lines.now ≤ MOST_TENANTS }
@@ -90,7 +84,6 @@ pub(crate) fn granted_to(lines: &[TenantLine], purses: &Purses, purse: u32) -> u
     granted
 }
 
-/// Whether no purse was granted more than 10^12 quanta.
 pub(crate) fn are_purses(lines: &[TenantLine], purses: &Purses) -> bool
     requires numbered { AreNumbered (purse_names lines.now) purses.now.numbers purses.now.count }
     requires few { length lines.now ≤ MOST_TENANTS }

@@ -1,4 +1,4 @@
-//! What the farm answers.
+//! The replies of the farm.
 ghost use Rattle.std.specs.Prelude.{Some};
 ghost use Rattle.farm_core.specs.NoTurnText.{no_turn_text};
 
@@ -9,62 +9,59 @@ use std::fmt;
 use strategy::Verdict;
 use tenant_book::Book;
 
-/// What is told of a job.
+/// A `Line` is what a reply says of a job.
 #[derive(Clone, Copy, Debug)]
 pub struct Line {
-    /// Its number.
     pub seq: u64,
-    /// Where it stands.
     pub phase: Phase,
-    /// How many nodes were run and paid.
+    /// The nodes that were run and paid.
     pub nodes: u64,
-    /// How many quanta it holds.
+    /// The quanta that it holds.
     pub left: u64,
-    /// The makespan of its best schedule, in periods.
+    /// The makespan of the best schedule, in periods.
     pub best: Option<u32>,
-    /// What its search has shown.
     pub verdict: Verdict,
 }
 
-/// The answer to a command, or to a turn that was given back.
+/// A `Reply` is the answer to a command, or to a turn that was given back.
 #[derive(Debug, Drop)]
 pub enum Reply {
-    /// A job of this number was made.
+    /// The number of a new job.
     Job(u64),
-    /// What is known of a job.
     Line(Line),
-    /// A turn ran so many nodes, and what is known of its job then.
+    /// The nodes of a turn, and its job's line afterwards.
     Ran(u64, Line),
-    /// A job's number, its best schedule and that schedule's makespan, and its verdict.
+    /// A job's number, its best schedule, that schedule's makespan, and the verdict.
     Best(u64, Option<Schedule>, Option<u32>, Verdict),
-    /// The job of this number is kept no longer.
+    /// The job of this number was removed.
     Forgotten(u64),
-    /// The tenant's ledger.
+    /// The ledger of the tenant's purse.
     Ledger(Book),
-    /// The tenant has no entry of the journal free.
+    /// No entry of the journal is left to the tenant.
     NoRoom,
     /// The tenant has no job of that number.
     NoUnknown,
-    /// The job is out, or not yet at its end.
+    /// The job is out, or has not ended yet.
     NoBusy,
-    /// The job is at its end, or, for a cancel, was cancelled while its turn is out.
+    /// The job has ended. For a cancel: or it is leaving.
     NoOver,
-    /// No such amount can be given: 0, or more than 10^12.
+    /// The amount is 0, or more than 10^12.
     NoAmount,
-    /// As many jobs are kept for the tenant as may be.
+    /// The tenant keeps as many jobs as it may.
     NoJobs,
-    /// Fewer quanta are free: this many.
+    /// Fewer quanta are free than the amount: this number.
     NoShort(u64),
-    /// A growth was refused; nothing has changed.
+    /// There is no memory. Nothing has changed.
     NoMemory,
 }
 
-/// Why there is no turn.
+/// A `NoTurn` is why no turn was taken.
 #[derive(Clone, Copy, Debug, PartialEq, Eq)]
 pub enum NoTurn {
-    /// The job is unknown or is not waiting, the slice is not 1 to 1,000,000, or too few entries of the journal are free.
+    /// The job is unknown or does not wait, the slice is not 1 to 1,000,000, or fewer than two
+    /// entries are left to the tenant.
     None,
-    /// A growth was refused; nothing has changed.
+    /// There is no memory. Nothing has changed.
     NoMemory,
 }
 

@@ -1,4 +1,4 @@
-//! Turns: a job's search in the hands of a worker, for a while.
+//! Turns: how a job's search is lent to a worker, and comes back.
 ghost use Rattle.std.specs.Prelude.{◌≡◌, ◌≢◌, ℕ, ◌<◌, ◌≤◌, ◌+◌, ◌-◌, ◌&&◌, min, true, false, Some, length, IsTrue, IfSome, IfNone, IfOk, IfErr, OnErr, OnOk};
 ghost use Rattle.job_table.specs.Job.{IsStrange};
 ghost use Rattle.job_table.specs.Table.{JobData, find_row, is_waiting};
@@ -10,14 +10,15 @@ ghost use Rattle.strategy.specs.Search.{nodes_within, ran_on};
 ghost use Rattle.farm_core.specs.Farm.{ArePassed, IsNext};
 ghost use Rattle.farm_core.specs.Turn.{IsTurn, IsTaken, IsNotTaken, IsGiven, IsIdle, IsReady, IsFirstReady};
 
+use crate::farm::jobs::{send, take_back};
 use crate::farm::{keep_room, line_of};
-use crate::jobs::{send, take_back};
 use crate::{Event, Farm, Line, MOST_ENTRIES, MOST_SLICE, NoTurn, Reply};
 use job_table::JobTable;
 use std::marker::Model;
 use strategy::Strategy;
 
-/// A job's search in the hands of a worker, for at most so many nodes. It is given back to its farm, or abandoned.
+/// A `Turn` is a job's search lent to a worker for at most `slice` nodes. It is given back to its
+/// farm, or abandoned.
 pub struct Turn<J> {
     pub(crate) tenant: u32,
     pub(crate) seq: u64,
@@ -36,14 +37,14 @@ impl<J> Model for Turn<J> {
     ghost inverse = { λ t. record { tenant = t.tenant; seq = t.seq; slice = t.slice; ran = t.ran; search = t.search } };
 }
 
-/// The job whose turn is next, where there is one, and up to which all are passed.
+/// The job whose turn is next, and the last that is skipped.
 #[derive(Clone, Copy)]
 struct Next {
     ready: Option<(u32, u64)>,
     passed: Option<(u32, u64)>,
 }
 
-/// A turn that is of no job of the farm.
+/// A `Stranger` is a turn that is of no job of the farm that is out.
 pub struct Stranger<J>(pub Turn<J>);
 
 /// 1 to 1,000,000 nodes.
@@ -53,7 +54,7 @@ fn is_slice(slice: u64) -> bool
     0 < slice && slice <= MOST_SLICE
 }
 
-/// What is told of a tenant's job of that number now, or what was told of it where there is none.
+/// The line of job `seq`, or `before` if there is none.
 fn told_of<J>(jobs: &JobTable<J>, tenant: u32, seq: u64, before: Line) -> Line
     ensures { (job : JobData) → find_row tenant seq jobs.now.rows ≡ Some job → result ≡ line_of job }
 {
@@ -64,7 +65,7 @@ fn told_of<J>(jobs: &JobTable<J>, tenant: u32, seq: u64, before: Line) -> Line
 }
 
 impl<J: Strategy> Turn<J> {
-    /// The number of the tenant whose job it is.
+    /// The number of the job's tenant.
     pub fn tenant(&self) -> u32
         ensures { result ≡ self.now.tenant }
     {
@@ -78,8 +79,8 @@ impl<J: Strategy> Turn<J> {
         self.seq
     }
 
-    /// Runs as many nodes as the turn and the job's quanta allow, or until the search is over, and tells
-    /// how many. The search's lease pays for these and for nothing else. A second call runs none.
+    /// Runs as many nodes as the slice and the job's quanta allow, or until the search is over.
+    /// Returns their number, which the search's lease pays. A second call runs none.
     pub fn run(&mut self) -> u64
         requires { IsTurn self.old.slice self.old.ran (J.meaning self.old.search) }
         ensures first { self.old.ran ≡ 0 → result ≡ nodes_within self.old.slice (J.meaning self.old.search) }
@@ -99,7 +100,7 @@ impl<J: Strategy> Turn<J> {
         self.ran
     }
 
-    /// Drops the turn with its search. The farm goes on to wait for it.
+    /// Drops the turn with its search. Its job stays out.
     pub fn abandon(self) {
         let Turn {
             tenant: _,
@@ -113,7 +114,6 @@ impl<J: Strategy> Turn<J> {
 }
 
 impl<J: Strategy> Farm<J> {
-    /// Whether a turn of at most so many nodes may be taken of a job of which this is told.
     fn may_take(&self, tenant: u32, line: Line, slice: u64) -> bool
         requires { tenant < length self.now.config.tenants }
         ensures exact { result ≡ (is_waiting line.phase && is_slice slice && has_room 2 (view tenant self.now)) }
@@ -122,8 +122,8 @@ impl<J: Strategy> Farm<J> {
         line.phase.is_waiting() && is_slice(slice) && self.has_room(tenant, 2)
     }
 
-    /// Takes a turn of a waiting job for at most so many nodes, 1 to 1,000,000, and keeps an entry of the journal for its
-    /// give. Only where one could be taken is there `NoMemory`.
+    /// Takes a turn of job `seq`, which waits, for `slice` nodes, 1 to 1,000,000. Keeps an entry of
+    /// the journal for the give. Fails with `NoMemory` only if the turn could be taken.
     #[tactic(auto, using(crate::proofs::GiveLemmas::take_unknown, crate::proofs::GiveLemmas::take_refused))]
     pub fn take(&mut self, tenant: u32, seq: u64, slice: u64) -> Result<Turn<J>, NoTurn>
         requires { tenant < length self.old.config.tenants }
@@ -164,8 +164,8 @@ impl<J: Strategy> Farm<J> {
         })
     }
 
-    /// Takes a turn back, run or unrun, where it is of a job that is out. Any other turn is handed back, and nothing has
-    /// changed. A job that waits again stands behind all others that wait. Takes no memory.
+    /// Takes back the turn of a job that is out. A job that waits again waits behind all others.
+    /// Returns any other turn, and then nothing has changed. Takes no memory.
     pub fn give(&mut self, turn: Turn<J>) -> Result<Reply, Stranger<J>>
         requires known { turn.tenant < length self.old.config.tenants }
         requires turn { IsTurn turn.slice turn.ran (J.meaning turn.search) }
@@ -208,7 +208,7 @@ impl<J: Strategy> Farm<J> {
         Ok(Reply::Ran(ran, line))
     }
 
-    /// The first of the waiting jobs that are not known to be passed.
+    /// The first waiting job behind `passed`.
     fn first_unpassed(&self) -> Option<(u32, u64)>
         ensures { IsNext self.now 0 result }
     {
@@ -218,8 +218,8 @@ impl<J: Strategy> Farm<J> {
         }
     }
 
-    /// The first job of which a turn of at most so many nodes can be taken, in the order of their turns. Goes over those that
-    /// are not known to be passed yet.
+    /// The first job in the queue of which a turn of `slice` nodes can be taken. Looks behind
+    /// `passed` alone.
     fn next_ready(&self, slice: u64) -> Next
         ensures first { IfSome result.ready (λ key. IsFirstReady self.now key.0 key.1 slice) }
         ensures idle { IfNone result.ready (IsIdle self.now slice) }
@@ -252,9 +252,9 @@ impl<J: Strategy> Farm<J> {
         }
     }
 
-    /// Takes a turn of the first waiting job whose tenant has entries for it, in the order of their turns: a job that comes
-    /// back stands behind those that wait. Only where there is one is there `NoMemory`. Goes over a waiting job of a tenant
-    /// without entries once, and over all of these again where such a tenant cancels or forgets a job, which it can do once.
+    /// Takes a turn of the first waiting job whose tenant has entries for it. Fails with `NoMemory`
+    /// only if there is such a job. A job whose tenant has none is looked at once, and again after
+    /// such a tenant cancels or forgets a job, which it can do once.
     pub fn take_next(&mut self, slice: u64) -> Result<Turn<J>, NoTurn>
         ensures taken { IfOk result
             (λ turn. IsTaken self.old turn.tenant turn.seq slice (J.meaning turn.search) self.new) }

@@ -1,4 +1,4 @@
-//! Decide, then commit: a command's effect is decided while nothing changes, and then made and written down at once.
+//! A command decides its effect while nothing changes. `commit` then makes it in one step.
 ghost use Rattle.std.specs.Prelude.{◌≡◌, ◌+◌, ◌*◌, ◌<◌, ◌≤◌, ◌^◌, true, false, length, None, IfOk, OnOk, OnErr};
 ghost use Rattle.std.specs.Vec.{vec_capacity};
 ghost use Rattle.farm_core.specs.declared.reply.Reply.{Reply};
@@ -9,8 +9,8 @@ ghost use Rattle.farm_core.specs.Truth.{IsPlanned};
 ghost use Rattle.farm_core.specs.Command.{WaitsThen};
 ghost use Rattle.farm_core.specs.Decided.{IsDecided, Fits, IsMade, takes_memory, may_leave};
 
-use crate::farm::keep_room;
-use crate::{Account, Entry, Event, Farm, Line, Reply, jobs};
+use crate::farm::{jobs, keep_room};
+use crate::{Account, Entry, Event, Farm, Line, Reply};
 use job_table::{Job, JobTable};
 use std::alloc::AllocError;
 use strategy::Strategy;
@@ -24,7 +24,7 @@ pub(crate) enum Change {
     GiveUp,
 }
 
-/// What a command does, as in `specs/Step`. An `Account` has the purse's ledger after it.
+/// What a command does, as in `specs/Step`. An `Account` has the purse's ledger afterwards.
 #[derive(Drop)]
 pub(crate) enum Effect<J> {
     /// No change.
@@ -33,15 +33,15 @@ pub(crate) enum Effect<J> {
     Notes(Reply),
     /// An entry and a new job.
     Adds(Job<J>, Account),
-    /// An entry, and the job is then as this line tells.
+    /// An entry, and the job changes. The line is the job's afterwards.
     Changes(Line, Account, Change),
     /// An entry, and the job of this number is removed.
     Drops(u64),
 }
 
 impl<J: Strategy> Effect<J> {
-    /// Makes it in the jobs and in the account, with space in the journal for its entry, and returns its reply. No job has
-    /// changed after an error.
+    /// Changes `jobs` and `account`, and reserves space for the entry. After an error no job has
+    /// changed.
     fn make(
         self,
         tenant: u32,
@@ -115,8 +115,8 @@ impl<J: Strategy> Farm<J> {
         }
     }
 
-    /// Makes the effect that was decided for a command, and writes the entry. `NoMemory` if there is no memory for one of
-    /// them; then nothing has changed.
+    /// Makes `effect` and writes the entry. Replies `NoMemory` if there is no memory for them. Then
+    /// nothing has changed.
     pub(crate) fn commit(&mut self, tenant: u32, event: Event, effect: Effect<J>) -> Reply
         requires known { tenant < length self.old.config.tenants }
         requires decided { IsDecided (view tenant self.old) event effect }

@@ -11,7 +11,7 @@ ghost use Rattle.farm_core.specs.World.{World, view, KeepsTurns};
 ghost use Rattle.farm_core.specs.Farm.{IsReply};
 ghost use Rattle.farm_core.specs.Decided.{IsDecided};
 
-use crate::effect::{Change, Effect};
+use crate::farm::effect::{Change, Effect};
 use crate::farm::line_of;
 use crate::{Event, Farm, Line, MOST_QUANTA, NotedPlan, Reply};
 use job_table::{Job, Phase};
@@ -26,7 +26,6 @@ fn is_amount(quanta: u64) -> bool
     0 < quanta && quanta <= MOST_QUANTA
 }
 
-/// The same schedule once more, where there is one, or an error where there is no memory for it.
 fn clone_best(alloc: Global, best: Option<&Schedule>) -> Result<Option<Schedule>, AllocError>
     ensures { IfOk result (λ copy. copy ≡ option_copied best.entry) }
 {
@@ -39,17 +38,17 @@ fn clone_best(alloc: Global, best: Option<&Schedule>) -> Result<Option<Schedule>
     }))
 }
 
-/// What a tenant asks for with a plan, or an error where there is no memory for it. A plan's project is one.
+/// The event of a submit, with a copy of `plan`.
 fn submission(alloc: Global, plan: &Plan, quanta: u64) -> Result<Event, AllocError>
     ensures event { IfOk result (λ event. event ≡ Event.Submit plan.now quanta) }
     ensures planned { IsTrue (is_project plan.now.project) }
 {
-    // (each of a project's readers tells so)
+    // (the contract of this reader says that a project is one)
     plan.project.activities();
     Ok(Event::Submit(NotedPlan::of(alloc, plan)?, quanta))
 }
 
-/// What is told of a job once it is given up, where it is not at its end.
+/// The job's line after a cancel, or `None` if the job has ended or is leaving.
 #[tactic(auto, unfolding(crate::specs::Tenant::line_of))]
 fn given_up(line: Line) -> Option<Line>
     ensures { (job : JobData) → line ≡ line_of job → result ≡ option_map line_of (given_up job job.phase) }
@@ -69,7 +68,6 @@ fn given_up(line: Line) -> Option<Line>
 }
 
 impl<J: Strategy> Farm<J> {
-    /// Whether a tenant keeps fewer jobs than it may.
     #[tactic(auto, unfolding(crate::specs::World::view, crate::specs::World::member))]
     fn may_keep_more(&self, tenant: u32) -> bool
         requires { tenant < length self.now.config.tenants }
@@ -89,7 +87,7 @@ impl<J: Strategy> Farm<J> {
         Effect::Notes(Reply::Ledger(self.book(tenant)))
     }
 
-    /// Tells a tenant's ledger. Refused: `NoRoom`; `NoMemory` in place of the ledger.
+    /// Replies the ledger of the tenant's purse. Refused: `NoRoom`, `NoMemory`.
     pub fn ledger(&mut self, tenant: u32) -> Reply
         requires { tenant < length self.old.config.tenants }
         ensures { IsReply self.old tenant Event.Ledger result self.new }
@@ -111,7 +109,8 @@ impl<J: Strategy> Farm<J> {
         Effect::Notes(Reply::Line(line_of(job)))
     }
 
-    /// Tells where a job stands. Refused, the first of: `NoRoom`, `NoUnknown`; `NoMemory` in place of any answer but `NoRoom`.
+    /// Replies the line of job `seq`. Refused, the first of: `NoRoom`, `NoUnknown`; `NoMemory` in
+    /// place of any reply but `NoRoom`.
     pub fn status(&mut self, tenant: u32, seq: u64) -> Reply
         requires { tenant < length self.old.config.tenants }
         ensures { IsReply self.old tenant (Event.Status seq) result self.new }
@@ -120,7 +119,7 @@ impl<J: Strategy> Farm<J> {
         self.commit(tenant, Event::Status(seq), effect)
     }
 
-    /// The journal has room: `submit` looks before it copies the plan. The only memory taken is the job's.
+    /// Takes memory for the job alone. `submit` has seen that the journal has room.
     #[tactic(auto, unfolding(crate::specs::Step::to_submit))]
     fn decide_submit(
         &self,
@@ -148,9 +147,9 @@ impl<J: Strategy> Farm<J> {
         Ok(Effect::Adds(job, account))
     }
 
-    /// Takes in a job for a plan, with so many quanta and its search, which has run nothing, holds nothing and is of this tenant
-    /// and plan. Where the job is refused, the search is dropped. A job that is taken in stands behind all others that wait.
-    /// Refused, the first of: `NoRoom`, `NoAmount`, `NoJobs`, `NoShort`; `NoMemory` in place of any answer but `NoRoom`.
+    /// Adds a job for `plan` that holds `quanta`. It waits behind all others. `search` is fresh: of
+    /// this tenant and plan, it has run no node. A refused submit drops it. Refused, the first of:
+    /// `NoRoom`, `NoAmount`, `NoJobs`, `NoShort`; `NoMemory` in place of any reply but `NoRoom`.
     pub fn submit(&mut self, tenant: u32, plan: Plan, quanta: u64, search: J) -> Reply
         requires known { tenant < length self.old.config.tenants }
         requires fresh { J.meaning search ≡ fresh_search tenant plan }
@@ -169,7 +168,7 @@ impl<J: Strategy> Farm<J> {
         self.commit(tenant, event, effect)
     }
 
-    /// Takes memory for the copy of the schedule alone.
+    /// Takes memory for a copy of the schedule alone.
     #[tactic(auto, unfolding(crate::specs::Step::to_fetch))]
     fn decide_result(&self, tenant: u32, seq: u64) -> Result<Effect<J>, AllocError>
         requires { tenant < length self.now.config.tenants }
@@ -190,8 +189,9 @@ impl<J: Strategy> Farm<J> {
         Ok(Effect::Notes(reply))
     }
 
-    /// Hands out a job's best schedule with its makespan and verdict. Refused, the first of: `NoRoom`, `NoUnknown`, `NoBusy`;
-    /// `NoMemory` in place of any answer but `NoRoom`.
+    /// Replies the best schedule of job `seq`, its makespan in periods, and the verdict. Refused,
+    /// the first of: `NoRoom`, `NoUnknown`, `NoBusy`; `NoMemory` in place of any reply but
+    /// `NoRoom`.
     pub fn result(&mut self, tenant: u32, seq: u64) -> Reply
         requires { tenant < length self.old.config.tenants }
         ensures { IsReply self.old tenant (Event.Fetch seq) result self.new }
@@ -234,9 +234,9 @@ impl<J: Strategy> Farm<J> {
         Effect::Changes(line, account, Change::Fund(quanta))
     }
 
-    /// Gives a job so many quanta more of those that are free, and it waits: behind all others where it was dry, and else at its
-    /// place. Refused, the first of: `NoRoom`, `NoUnknown`, `NoBusy`, `NoOver`, `NoAmount`, `NoShort`; `NoMemory` in place of any
-    /// answer but `NoRoom`.
+    /// Gives job `seq` `quanta` more of those that are free. It waits at its place, or behind all
+    /// others if it was dry. Refused, the first of: `NoRoom`, `NoUnknown`, `NoBusy`, `NoOver`,
+    /// `NoAmount`, `NoShort`; `NoMemory` in place of any reply but `NoRoom`.
     pub fn fund(&mut self, tenant: u32, seq: u64, quanta: u64) -> Reply
         requires { tenant < length self.old.config.tenants }
         ensures follows { IsReply self.old tenant (Event.Fund seq quanta) result self.new }
@@ -265,9 +265,9 @@ impl<J: Strategy> Farm<J> {
         Effect::Changes(line, account, Change::GiveUp)
     }
 
-    /// Gives a job up that is not at its end: while a worker holds its turn it is leaving, and else it is cancelled and
-    /// what it held is free. Takes no memory where it does. Refused, the first of: `NoRoom`, `NoUnknown`, `NoOver`; `NoMemory`
-    /// in place of the last two.
+    /// Cancels job `seq`, and frees the quanta that it held. While its turn is out it is leaving
+    /// instead. A cancel that is not refused takes no memory. Refused, the first of: `NoRoom`,
+    /// `NoUnknown`, `NoOver`; `NoMemory` in place of the last two.
     pub fn cancel(&mut self, tenant: u32, seq: u64) -> Reply
         requires { tenant < length self.old.config.tenants }
         ensures follows { IsReply self.old tenant (Event.Cancel seq) result self.new }
@@ -297,8 +297,8 @@ impl<J: Strategy> Farm<J> {
         Effect::Drops(job.seq())
     }
 
-    /// Keeps a job no longer that has come to its end. Refused, the first of: `NoRoom`, `NoUnknown`, `NoBusy`; `NoMemory` in
-    /// place of any answer but `NoRoom`.
+    /// Removes job `seq`, which has ended. Refused, the first of: `NoRoom`, `NoUnknown`, `NoBusy`;
+    /// `NoMemory` in place of any reply but `NoRoom`.
     pub fn forget(&mut self, tenant: u32, seq: u64) -> Reply
         requires { tenant < length self.old.config.tenants }
         ensures { IsReply self.old tenant (Event.Forget seq) result self.new }

@@ -2,7 +2,7 @@ use Rattle.std.proofs.Common.{◌≡◌, sym, ap, ◌∙◌}
 use Rattle.job_table.specs.Lent.{with_work, change_found}
 use Rattle.job_table.proofs.LentLemmas.{own_work}
 use Rattle.farm_core.proofs.JobsLemmas.{funded_so, is_put}
-use Rattle.farm_core.proofs.jobs.fund.Goals as goal
+use Rattle.farm_core.proofs.farm.jobs.fund.Goals as goal
 
 pub returns-then-not-fund-clause-kept : goal.returns-then-not-fund-clause-kept
 returns-then-not-fund-clause-kept g c did =

@@ -4,7 +4,7 @@ use Rattle.job_table.specs.Lent.{with_work, change_found}
 use Rattle.job_table.specs.declared.phase.Phase.TheVariants.{Waiting}
 use Rattle.job_table.proofs.LentLemmas.{own_work}
 use Rattle.farm_core.proofs.JobsLemmas.{sent_out}
-use Rattle.farm_core.proofs.jobs.send.Goals as goal
+use Rattle.farm_core.proofs.farm.jobs.send.Goals as goal
 
 pub returns-in_default-send-clause-kept : goal.returns-in_default-send-clause-kept
 returns-in_default-send-clause-kept g c =

@@ -2,7 +2,7 @@ use Rattle.std.proofs.Common.{◌≡◌, true, arith, sym, ◌∙◌}
 use Rattle.job_table.specs.Job.{is_here}
 use Rattle.job_table.specs.Lent.{with_work, change_found}
 use Rattle.farm_core.proofs.JobsLemmas.{dropped_so, is_put}
-use Rattle.farm_core.proofs.jobs.cancel.Goals as goal
+use Rattle.farm_core.proofs.farm.jobs.cancel.Goals as goal
 
 pub returns-in-Some-find_mut-clause-given_up : goal.returns-in-Some-find_mut-clause-given_up
 returns-in-Some-find_mut-clause-given_up g c did =

@@ -5,7 +5,7 @@ use Rattle.job_table.specs.Table.{find_row}
 use Rattle.job_table.specs.Job.{phase_after}
 use Rattle.job_table.specs.Lent.{with_work, change_found}
 use Rattle.farm_core.proofs.JobsLemmas.{back_so}
-use Rattle.farm_core.proofs.jobs.take_back.Goals as goal
+use Rattle.farm_core.proofs.farm.jobs.take_back.Goals as goal
 
 pub returns-clause-back : goal.returns-clause-back
 returns-clause-back g c =

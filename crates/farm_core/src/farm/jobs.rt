@@ -1,5 +1,5 @@
-//! The four ways in which a job in the table changes: `send`, `take_back`, `fund`, `cancel`.
-//! Each changes the job's work through `find_mut`, and then its phase by `set_phase`.
+//! The four changes of a job in the table: `send`, `take_back`, `fund`, `cancel`. Each changes the
+//! job's work by `find_mut`, and then its phase by `set_phase`.
 ghost use Rattle.std.specs.Prelude.{◌≡◌, ◌+◌, ◌≤◌, IsTrue, IsFalse, true, false, Some, None, IfSome, IfNone, IfErr, OnOk, OnErr, option_map};
 ghost use Rattle.job_table.specs.Table.{find_row};
 ghost use Rattle.job_table.specs.Job.{given_up, IsSent, IsBack, IsStrange, IsFunded, IsGivenUp};
@@ -17,8 +17,8 @@ fn phase_of<J>(jobs: &JobTable<J>, tenant: u32, seq: u64) -> Option<Phase>
     }
 }
 
-/// Hands the search of a waiting job out, for a turn of at most `slice` nodes.
-/// `None` if the job is unknown, does not wait, or holds another search than its own.
+/// Takes the search of a waiting job out, for a turn of at most `slice` nodes. `None` if the job is
+/// unknown, does not wait, or holds another search than its own.
 pub(crate) fn send<J: Strategy>(
     jobs: &mut JobTable<J>,
     tenant: u32,
@@ -41,8 +41,8 @@ pub(crate) fn send<J: Strategy>(
     Some(search)
 }
 
-/// Takes a search back after a turn of `ran` nodes, if it is that of a job whose turn is out; otherwise returns it.
-/// A job that waits again stands last. Takes no memory.
+/// Takes the search of a job that is out back, after a turn of `ran` nodes. Returns any other
+/// search. A job that waits again waits behind all others. Takes no memory.
 pub(crate) fn take_back<J: Strategy>(
     jobs: &mut JobTable<J>,
     tenant: u32,
@@ -72,8 +72,8 @@ pub(crate) fn take_back<J: Strategy>(
     Ok(())
 }
 
-/// Draws more quanta for a job that waits or is dry, and it waits. Takes no memory.
-/// False if the job is unknown or in another phase, or holds another search than its own.
+/// Gives more quanta to a job that waits or is dry, and it waits. False if the job is unknown or in
+/// another phase, or holds another search than its own. Takes no memory.
 pub(crate) fn fund<J: Strategy>(jobs: &mut JobTable<J>, tenant: u32, seq: u64, quanta: u64) -> bool
     requires { IfSome (find_row tenant seq jobs.old.rows) (λ job. job.nodes + job.left + quanta ≤ LEASE_LIMIT) }
     ensures funded { IsTrue result → IsFunded jobs.old tenant seq quanta jobs.new }
@@ -94,7 +94,7 @@ pub(crate) fn fund<J: Strategy>(jobs: &mut JobTable<J>, tenant: u32, seq: u64, q
     jobs.set_phase(tenant, seq, Phase::Waiting)
 }
 
-/// Gives a job up that is not at its end, and drops its search unless that is out. Takes no memory.
+/// Gives up a job that has not ended, and drops its search unless that is out. Takes no memory.
 pub(crate) fn cancel<J: Strategy>(jobs: &mut JobTable<J>, tenant: u32, seq: u64) -> bool
     ensures given_up { IsTrue result → IsGivenUp jobs.old tenant seq jobs.new }
     ensures refused { IsFalse result
