@@ -1,12 +1,13 @@
 //! Certificates: a schedule is optimal if the clauses of a shorter makespan cannot all be true.
-ghost use Rattle.std.specs.Prelude.{◌≡◌, ◌≤◌, IfOk, IfErr};
+ghost use Rattle.std.specs.Prelude.{◌≡◌, ◌≤◌, IfOk, IfErr, Some, None};
 ghost use Rattle.mrcpsp.specs.Schedule.{IsOptimal, IsInfeasible, makespan};
+ghost use Rattle.schedule_clauses.specs.Encoding.{AreGood};
 ghost use Rattle.schedule_clauses.specs.Fault.{IsOfClauses, IsOfBound, IsOfStocks, IsOfSchedule};
 ghost use Rattle.schedule_clauses.specs.Size.{start_clauses};
 ghost use Rattle.schedule_clauses.specs.Satisfied.{SatisfiedByShort, SatisfiedByFeasible, EachExceeds};
 
-use crate::builder::{encode, encode_stocks};
 use crate::formula::Formula;
+use crate::sections::{encode, encode_stocks};
 use crate::size::{MOST_START_CLAUSES, start_clauses_of};
 use clause_proof::{ProofFault, refute};
 use mrcpsp::{Breach, Project, Schedule, check};
@@ -47,6 +48,8 @@ impl From<AllocError> for CertificateFault {
 #[tactic(auto, using(crate::proofs::EncodingLemmas::short_rules))]
 pub fn clauses(alloc: Global, project: &Project, bound: u32) -> Result<Formula, CertificateFault>
     ensures clauses { IfOk result (λ formula. SatisfiedByShort project.now bound formula.clauses.items) }
+    ensures meanings { IfOk result (λ formula.
+        AreGood project.now (Some bound) formula.meanings.items formula.clauses.items) }
     ensures few { IfOk result (λ _. start_clauses project.now bound ≤ MOST_START_CLAUSES) }
     ensures fault { IfErr result (λ fault. IsOfClauses project.now bound fault) }
 {
@@ -66,6 +69,8 @@ pub fn clauses(alloc: Global, project: &Project, bound: u32) -> Result<Formula, 
 #[tactic(auto, using(crate::proofs::EncodingLemmas::feasible_rules))]
 pub fn stock_clauses(alloc: Global, project: &Project) -> Result<Formula, CertificateFault>
     ensures clauses { IfOk result (λ formula. SatisfiedByFeasible project.now formula.clauses.items) }
+    ensures meanings { IfOk result (λ formula.
+        AreGood project.now None formula.meanings.items formula.clauses.items) }
     ensures fault { IfErr result (λ fault. fault ≡ CertificateFault.NoMemory) }
 {
     let encoding = encode_stocks(alloc, project)?;

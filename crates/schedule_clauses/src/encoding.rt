@@ -1,5 +1,5 @@
 //! Clauses over variables whose meanings are kept.
-ghost use Rattle.std.specs.Prelude.{◌≡◌, ◌+◌, ◌*◌, ◌<◌, ◌≤◌, ◌/◌, ◌%◌, ◌==◌, ◌++◌, ℕ, IfOk, IfSome, List, [], Some, slice_get};
+ghost use Rattle.std.specs.Prelude.{◌≡◌, ◌+◌, ◌*◌, ◌<◌, ◌≤◌, ◌/◌, ◌%◌, ◌==◌, ◌++◌, ℕ, IfOk, IfSome, List, ◌∷◌, [], Some, slice_get};
 ghost use Rattle.schedule_clauses.specs.Meaning.{IsValid};
 ghost use Rattle.schedule_clauses.specs.Encoding.{AllGood, Extends};
 
@@ -234,6 +234,8 @@ impl Encoding {
     }
 
     pub(crate) fn leave_out(&mut self, row: CapacityRow) -> Result<(), AllocError>
+        ensures left_out { IfOk result (λ _.
+            self.new.formula.left_out.items ≡ self.old.formula.left_out.items ++ row ∷ []) }
         ensures meanings { self.new.formula.meanings ≡ self.old.formula.meanings }
         ensures clauses { self.new.formula.clauses ≡ self.old.formula.clauses }
     {

@@ -8,33 +8,25 @@
 //! a period more is optimal ([`certify`]). That the clauses suffice for a proof is only tested.
 //!
 //! - `meaning`, `encoding`: the meanings of variables; clauses, and of which schedules they hold.
-//! - `mode_forms`, `start_forms`, `amount_forms`, `weight_forms`: the forms of clauses.
+//! - `forms`: the forms of clauses, of modes, starts, amounts and weights.
 //! - `windows`, `size`: when an activity can start (hints); how many clauses on starts to expect.
 //! - `activities`, `chains`: sets of activities; chains, one of which runs at a time (hints).
-//! - `diagram`, `rows`, `surrogate`: diagrams of capacity rows, their clauses, and weights (hints).
-//! - `capacity_sections`, `start_sections`, `surrogate_section`, `builder`: all clauses.
-//! - `formula`: the clauses, section by section.
+//! - `diagram`, `surrogate`: diagrams of capacity rows and their clauses; weights (hints).
+//! - `sections`: all clauses, section by section; `formula` is what they make.
 //! - `certificate`: `clauses`, `stock_clauses`, and the three checks of proofs.
 #![tactic(auto)]
 
 mod activities;
-mod amount_forms;
-mod builder;
-mod capacity_sections;
 mod certificate;
 mod chains;
 mod diagram;
 mod encoding;
+mod forms;
 mod formula;
 mod meaning;
-mod mode_forms;
-mod rows;
+mod sections;
 mod size;
-mod start_forms;
-mod start_sections;
 mod surrogate;
-mod surrogate_section;
-mod weight_forms;
 mod windows;
 
 pub use activities::Activities;

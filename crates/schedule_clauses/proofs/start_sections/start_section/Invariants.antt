@@ -1,5 +1,0 @@
-use Rattle.schedule_clauses.specs.Encoding.{AllGood}
-use Rattle.schedule_clauses.proofs.start_sections.start_section.Given as goal
-
-abbrev pub invariant-loop-activity : goal.invariant-loop-activity
-invariant-loop-activity l = AllGood l.scope.project.now l.scope.limit l.encoding

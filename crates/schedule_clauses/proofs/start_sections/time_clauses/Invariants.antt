@@ -1,5 +1,0 @@
-use Rattle.schedule_clauses.specs.Encoding.{AllGood}
-use Rattle.schedule_clauses.proofs.start_sections.time_clauses.Given as goal
-
-abbrev pub invariant-loop-mode : goal.invariant-loop-mode
-invariant-loop-mode l = AllGood l.scope.project.now l.scope.limit l.encoding

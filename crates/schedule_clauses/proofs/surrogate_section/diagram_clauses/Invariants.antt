@@ -1,5 +1,0 @@
-use Rattle.schedule_clauses.specs.Encoding.{AllGood}
-use Rattle.schedule_clauses.proofs.surrogate_section.diagram_clauses.Given as goal
-
-abbrev pub invariant-loop-level : goal.invariant-loop-level
-invariant-loop-level l = AllGood l.scope.project.now l.scope.limit l.encoding

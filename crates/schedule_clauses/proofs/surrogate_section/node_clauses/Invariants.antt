@@ -1,5 +1,0 @@
-use Rattle.schedule_clauses.specs.Encoding.{AllGood}
-use Rattle.schedule_clauses.proofs.surrogate_section.node_clauses.Given as goal
-
-abbrev pub invariant-loop-demand : goal.invariant-loop-demand
-invariant-loop-demand l = AllGood l.scope.project.now l.scope.limit l.encoding

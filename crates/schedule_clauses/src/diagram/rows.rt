@@ -1,0 +1,180 @@
+//! The clauses of a capacity row, by its diagram.
+ghost use Rattle.std.specs.Prelude.{IfOk};
+ghost use Rattle.schedule_clauses.specs.Encoding.{AllGood};
+
+use crate::diagram::{Demand, Diagram, Level, in_order};
+use crate::encoding::{Encoding, Scope};
+use crate::forms::amounts::{Descent, all, fewer, take};
+use crate::formula::CapacityRow;
+use std::alloc::AllocError;
+
+/// The most clauses of all rows together: half a gigabyte of them.
+const MOST_ROW_CLAUSES: usize = 8_000_000;
+
+#[derive(Clone, Copy)]
+struct RowLevel<'a> {
+    row: CapacityRow,
+    diagram: &'a Diagram,
+    level: Level,
+}
+
+fn demand_clauses(
+    encoding: &mut Encoding,
+    scope: Scope<'_>,
+    place: RowLevel<'_>,
+    demand: Demand,
+    amount: u32,
+    below: &mut Vec<u32>,
+) -> Result<(), AllocError>
+    requires good { AllGood scope.project.now scope.limit encoding.old }
+    ensures { IfOk result (λ _. AllGood scope.entry.project.now scope.entry.limit encoding.new) }
+{
+    let RowLevel {
+        row,
+        diagram,
+        level,
+    } = place;
+    let from = level.up_to(amount);
+    if amount < demand.amount {
+        return take(encoding, scope, row, demand, Descent { from, to: None });
+    }
+    let Some(most) = diagram.greatest(level.place, amount - demand.amount) else {
+        return Ok(());
+    };
+    below.push(most)?;
+    let to = Some(level.under(most));
+    take(encoding, scope, row, demand, Descent { from, to })
+}
+
+/// The activities up to a level take no less than those below it.
+fn skip_clauses(
+    encoding: &mut Encoding,
+    scope: Scope<'_>,
+    place: RowLevel<'_>,
+    amount: u32,
+    below: &mut Vec<u32>,
+) -> Result<(), AllocError>
+    requires good { AllGood scope.project.now scope.limit encoding.old }
+    ensures { IfOk result (λ _. AllGood scope.entry.project.now scope.entry.limit encoding.new) }
+{
+    let RowLevel {
+        row,
+        diagram,
+        level,
+    } = place;
+    let Some(most) = diagram.greatest(level.place, amount) else {
+        return Ok(());
+    };
+    below.push(most)?;
+    fewer(encoding, scope, row, level.up_to(amount), level.under(most))
+}
+
+/// `amount` is left for the activities up to this level. What it leaves to the levels below goes to
+/// `below`.
+fn node_clauses(
+    encoding: &mut Encoding,
+    scope: Scope<'_>,
+    place: RowLevel<'_>,
+    amount: u32,
+    below: &mut Vec<u32>,
+) -> Result<(), AllocError>
+    requires good { AllGood scope.project.now scope.limit encoding.old }
+    ensures { IfOk result (λ _. AllGood scope.entry.project.now scope.entry.limit encoding.new) }
+{
+    skip_clauses(encoding, scope, place, amount, below)?;
+    for demand in place.diagram.demands_of(place.level) {
+        demand_clauses(encoding, scope, place, *demand, amount, below)?;
+    }
+    Ok(())
+}
+
+/// Returns the nodes of the level below.
+fn level_clauses(
+    encoding: &mut Encoding,
+    scope: Scope<'_>,
+    place: RowLevel<'_>,
+    amounts: &[u32],
+) -> Result<Vec<u32>, AllocError>
+    requires good { AllGood scope.project.now scope.limit encoding.old }
+    ensures { IfOk result (λ _. AllGood scope.entry.project.now scope.entry.limit encoding.new) }
+{
+    let mut below = Vec::new(encoding.alloc);
+    for amount in amounts {
+        node_clauses(encoding, scope, place, *amount, &mut below)?;
+    }
+    in_order(encoding.alloc, below)
+}
+
+/// The clauses that all rows to come may have, and each of them.
+#[derive(Drop)]
+pub(crate) struct Room {
+    left: usize,
+    each: usize,
+}
+
+impl Room {
+    /// Each row may have four times its equal share, since most rows are smaller.
+    pub(crate) fn of(rows: usize) -> Room {
+        let shares = rows.max(1);
+        Room {
+            left: MOST_ROW_CLAUSES,
+            each: MOST_ROW_CLAUSES.saturating_mul(4) / shares,
+        }
+    }
+
+    pub(crate) fn most(&self) -> usize {
+        self.each.min(self.left)
+    }
+
+    fn take(&mut self, clauses: usize) {
+        self.left = self.left.saturating_sub(clauses);
+    }
+}
+
+fn diagram_clauses(
+    encoding: &mut Encoding,
+    scope: Scope<'_>,
+    row: CapacityRow,
+    diagram: &Diagram,
+) -> Result<(), AllocError>
+    requires good { AllGood scope.project.now scope.limit encoding.old }
+    ensures { IfOk result (λ _. AllGood scope.entry.project.now scope.entry.limit encoding.new) }
+{
+    let levels = diagram.levels.len();
+    let (Some(most), Some(last)) = (
+        diagram.greatest(levels, diagram.capacity),
+        diagram.levels.last(),
+    ) else {
+        return Ok(());
+    };
+    all(encoding, scope, row, last.up_to(most))?;
+    let mut amounts = Vec::new(encoding.alloc);
+    amounts.push(most)?;
+    for level in diagram.levels.iter().rev() {
+        let place = RowLevel {
+            row,
+            diagram,
+            level: *level,
+        };
+        amounts = level_clauses(encoding, scope, place, &amounts)?;
+    }
+    Ok(())
+}
+
+/// A row that is too large, or larger than the room that is left, is left out.
+pub(crate) fn row_clauses(
+    encoding: &mut Encoding,
+    scope: Scope<'_>,
+    row: CapacityRow,
+    diagram: &Diagram,
+    room: &mut Room,
+) -> Result<(), AllocError>
+    requires good { AllGood scope.project.now scope.limit encoding.old }
+    ensures { IfOk result (λ _. AllGood scope.entry.project.now scope.entry.limit encoding.new) }
+{
+    if diagram.is_too_large || diagram.most_clauses > room.most() {
+        return encoding.leave_out(row);
+    }
+    room.take(diagram.most_clauses);
+    diagram_clauses(encoding, scope, row, diagram)
+}
