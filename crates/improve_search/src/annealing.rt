@@ -259,6 +259,7 @@ impl Annealing {
     pub(crate) fn step(&mut self, budget: &mut Budget) -> bool
         requires { budget.old.spent + 3 ≤ budget.old.most }
         ensures spent { budget.old.spent < budget.new.spent }
+        ensures few { budget.new.spent ≤ budget.old.spent + 3 }
         ensures most { budget.new.most ≡ budget.old.most }
     {
         self.candidate.copy(&self.current);

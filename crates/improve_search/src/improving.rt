@@ -148,6 +148,7 @@ impl Improving {
         requires { self.old.spent + MOST_OF_STEP ≤ self.old.most }
         ensures project { self.new.project ≡ self.old.project }
         ensures spent { self.old.spent < self.new.spent }
+        ensures few { self.new.spent ≤ self.old.spent + MOST_OF_STEP }
         ensures most { self.new.most ≡ self.old.most }
         ensures best { self.new.best ≡ self.old.best }
     {
@@ -169,6 +170,7 @@ impl Improving {
         requires { self.old.spent + MOST_OF_STEP ≤ self.old.most }
         ensures project { self.new.project ≡ self.old.project }
         ensures spent { self.old.spent < self.new.spent }
+        ensures few { self.new.spent ≤ self.old.spent + MOST_OF_STEP }
         ensures most { self.new.most ≡ self.old.most }
         ensures no_longer { IsNoLonger self.old.project self.old.best self.new.best }
     {
@@ -183,6 +185,7 @@ impl Improving {
     pub fn run(&mut self, schedules: u64) -> bool
         ensures project { self.new.project ≡ self.old.project }
         ensures spent { self.old.spent ≤ self.new.spent }
+        ensures few { self.new.spent ≤ self.old.spent + schedules + 2 }
         ensures most { self.new.most ≡ self.old.most }
         ensures no_longer { IsNoLonger self.old.project self.old.best self.new.best }
         ensures going { IsTrue result → self.old.spent < self.new.spent }

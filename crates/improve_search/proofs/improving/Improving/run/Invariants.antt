@@ -1,5 +1,5 @@
 -- The project and the most schedules stay, the best gets no longer, and what was generated only grows.
-use Rattle.std.proofs.Common.{◌≡◌, ◌≤◌}
+use Rattle.std.proofs.Common.{◌≡◌, ◌+◌, ◌≤◌}
 use Rattle.improve_search.specs.Improving.{IsNoLonger}
 use Rattle.improve_search.proofs.improving.Improving.run.Given as goal
 
@@ -9,4 +9,5 @@ invariant-loop l = record {
   most : l.self.most ≡ l.fn.self.most;
   no_longer : IsNoLonger l.fn.self.project l.fn.self.best l.self.best;
   spent : l.fn.self.spent ≤ l.self.spent;
+  few : l.self.spent ≤ l.fn.self.spent + l.schedules + 2;
 }
