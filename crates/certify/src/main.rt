@@ -29,7 +29,7 @@ fn command<'a>(alloc: Global) -> Result<Command<'a>, AllocError> {
         .arg(needed(
             alloc,
             "SCHEDULE",
-            "What solve prints, as lines or as JSON, or words J:MODE:START",
+            "What solve prints, as lines or as JSON, or words J:MODE:START, or lines J,MODE,START",
         ))?
         .arg(Arg::new(alloc, "PROOF").help(
             "A DRAT proof of the clauses of one period less; none where the longest chain alone decides",

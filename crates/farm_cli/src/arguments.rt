@@ -86,7 +86,7 @@ fn with_serve<'a>(alloc: Global, command: Command<'a>) -> Result<Command<'a>, Al
         alloc,
         "sessions",
         "K",
-        "How many connections are answered",
+        "How many connections are answered, 1 to 64",
         1,
         MOST_SESSIONS,
     );

@@ -197,8 +197,10 @@ const DRAW_HELP: &str = "\
 A bar for each activity with its number and its mode, and under them what is used of each renewable
 resource against its capacity. With --order start the rows are in the order of the starts. The critical
 chain leads from the end back to the beginning: each of its activities begins when the one before it ends,
-a predecessor of it or one that uses a resource of it. A verdict in the heading is the one that the
-schedule's text tells. A schedule that is not feasible is not drawn; it ends as in verify.
+a predecessor of it or one that uses a resource of it. The heading says 'optimal by the longest chain'
+only if the makespan is the length of the longest chain of activities by shortest durations, and
+otherwise tells that length. No verdict is taken from the schedule's text. A schedule that is not
+feasible is not drawn; it ends as in verify.
 
 Example:
 
