@@ -120,13 +120,6 @@ fn has_digit(line: &[u8]) -> bool {
     line.iter().any(|b| b.is_ascii_digit())
 }
 
-fn has_rows(text: &[u8]) -> bool {
-    match text.split(|b| *b == b'\n').find(|line| has_digit(line)) {
-        Some(line) => line.contains(&b','),
-        None => false,
-    }
-}
-
 /// The activity of a row `J,MODE,START`.
 fn row_of(line: &[u8]) -> Option<u64> {
     let mut parts = line.split(|b| *b == b',');
@@ -138,6 +131,21 @@ fn row_of(line: &[u8]) -> Option<u64> {
     } else {
         Some(activity)
     }
+}
+
+fn begins_with_commas(text: &[u8]) -> bool {
+    match text.split(|b| *b == b'\n').find(|line| has_digit(line)) {
+        Some(line) => line.contains(&b','),
+        None => false,
+    }
+}
+
+/// A title above the rows may have a digit: then it is at fault.
+fn has_rows(text: &[u8]) -> bool {
+    begins_with_commas(text)
+        || text
+            .split(|b| *b == b'\n')
+            .any(|line| row_of(line).is_some())
 }
 
 /// `numbers` is the activities of all rows, in rising order.

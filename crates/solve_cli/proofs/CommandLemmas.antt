@@ -6,7 +6,7 @@ use Rattle.psplib_mm.specs.Reading.{reading}
 use Rattle.solve_cli.specs.Commands.{OfBoth, IsReported, IsSolved, told_text}
 use Rattle.solve_cli.specs.Several.{IsFoundByEach}
 use Rattle.solve_cli.specs.Verified.{IsVerified}
-use Rattle.solve_cli.specs.declared.ending.TheConstants.{MOST_TEXT}
+use Rattle.explain.specs.declared.inputs.TheConstants.{MOST_TEXT}
 use Rattle.solve_cli.specs.declared.search_kinds.SearchKind.{SearchKind}
 use Rattle.solve_cli.specs.declared.searching.SearchResult.{SearchResult}
 use Rattle.solve_cli.specs.declared.verifying.Verified.{Verified}

@@ -5,7 +5,7 @@ use Rattle.mrcpsp.specs.Project.{ProjectData, is_project}
 use Rattle.strategy.specs.declared.kind.Kind.{Kind}
 use Rattle.psplib_mm.specs.declared.reading.TheConstants as file
 use Rattle.schedule_files.specs.declared.reading.TheConstants as schedule
-use Rattle.solve_cli.specs.declared.ending.TheConstants.{MOST_TEXT}
+use Rattle.explain.specs.declared.inputs.TheConstants.{MOST_TEXT}
 use Rattle.solve_cli.specs.Found.{IsFound}
 use Rattle.solve_cli.specs.Several.{IsFoundByEach, IsTrueOf}
 use Rattle.solve_cli.specs.declared.search_kinds.SearchKind.{SearchKind}

@@ -1,5 +1,4 @@
 pub mod Commands
-pub mod Counts
 pub mod Found
 pub mod FoundText
 pub mod Improved

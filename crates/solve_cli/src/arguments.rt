@@ -1,13 +1,13 @@
 //! The words of a command line.
-use crate::ending::Paths;
 use crate::searching::MOST_NODES;
 use clap::builder::ValueParser;
 use clap::{Arg, ArgAction, ArgMatches, Command};
+use explain::Paths;
 use schedule_files::Order;
 use std::alloc::{AllocError, Global};
 
 #[derive(Clone, Copy, Debug, PartialEq, Eq)]
-pub(crate) enum Task<'a> {
+pub(crate) enum ProjectTask<'a> {
     Verify(Paths<'a>, Listing),
     Solve(Solving<'a>),
     Draw(Paths<'a>, Order),
@@ -136,21 +136,27 @@ fn order_of(word: Option<&str>) -> Order {
     }
 }
 
-pub(crate) fn task_of<'a>(matches: &ArgMatches<'a>) -> Option<Task<'a>> {
+fn paths_of<'a>(chosen: &ArgMatches<'a>) -> Option<Paths<'a>> {
+    let file = chosen.get_str("FILE")?;
+    Some(Paths {
+        file,
+        text: chosen.get_str("SCHEDULE")?,
+        proof: file,
+    })
+}
+
+pub(crate) fn task_of<'a>(matches: &ArgMatches<'a>) -> Option<ProjectTask<'a>> {
     match matches.subcommand() {
         Some(("verify", chosen)) => {
-            let paths = Paths {
-                file: chosen.get_str("FILE")?,
-                text: chosen.get_str("SCHEDULE")?,
-            };
+            let paths = paths_of(chosen)?;
             let told = if chosen.get_flag("all") {
                 Listing::All
             } else {
                 Listing::First
             };
-            Some(Task::Verify(paths, told))
+            Some(ProjectTask::Verify(paths, told))
         }
-        Some(("solve", chosen)) => Some(Task::Solve(Solving {
+        Some(("solve", chosen)) => Some(ProjectTask::Solve(Solving {
             file: chosen.get_str("FILE")?,
             search: chosen.get_str("search")?,
             nodes: chosen.get_str("nodes")?,
@@ -160,11 +166,8 @@ pub(crate) fn task_of<'a>(matches: &ArgMatches<'a>) -> Option<Task<'a>> {
             is_improving: chosen.get_flag("improvements"),
         })),
         Some(("draw", chosen)) => {
-            let paths = Paths {
-                file: chosen.get_str("FILE")?,
-                text: chosen.get_str("SCHEDULE")?,
-            };
-            Some(Task::Draw(paths, order_of(chosen.get_str("order"))))
+            let paths = paths_of(chosen)?;
+            Some(ProjectTask::Draw(paths, order_of(chosen.get_str("order"))))
         }
         _ => None,
     }

@@ -1,8 +1,6 @@
-//! Why a schedule is not feasible, and why a command writes nothing.
 use mrcpsp::Breach;
 use psplib_mm::MmFault;
 use std::alloc::AllocError;
-use std::io::ErrorKind;
 use thiserror::Error;
 
 /// A `VerifyFault` is why a text has no feasible schedule. Its text is as in `breach Mode(3)`.
@@ -27,22 +25,4 @@ impl From<AllocError> for VerifyFault {
     fn from(_: AllocError) -> VerifyFault {
         VerifyFault::NoMemory
     }
-}
-
-/// An `InputFault` is why nothing is made of a project's file and a schedule's text.
-#[derive(Clone, Copy, Debug, PartialEq, Eq)]
-pub enum InputFault {
-    /// The project's file could not be read, or there was no memory for it.
-    File(ErrorKind),
-    /// The schedule's text could not be read, or there was no memory for it.
-    Text(ErrorKind),
-    Verify(VerifyFault),
-}
-
-/// A `CommandFault` is why a command does not end with its text.
-#[derive(Clone, Copy, Debug, PartialEq, Eq)]
-pub enum CommandFault {
-    Input(InputFault),
-    NoMemory,
-    Write,
 }

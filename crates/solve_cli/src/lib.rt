@@ -9,14 +9,13 @@
 //! - `verifying`, `searching`, `local`, `several`: `verify`; `solve`; `improve`; `solve_each`.
 //! - `search_kinds`, `kinds`: the kinds of search, and their words.
 //! - `telling`, `improvements`, `progress`: what a search has found, at its end and before.
-//! - `showing`, `solving`, `watches`: the commands over any readers and writer.
-//! - `fault`, `ending`, `explaining`: why a command writes nothing, and how it ends.
+//! - `showing`, `solving`: the commands over any readers and writer.
+//! - `fault`, `explaining`: why a schedule is not feasible; the second line on how a command ends.
 //! - `arguments`, `program`: the words of a command line, and the commands on files.
 //! - `laws`: why what is written is true, and the limits in figures.
 #![tactic(auto)]
 
 mod arguments;
-mod ending;
 mod explaining;
 mod fault;
 mod improvements;
@@ -32,10 +31,8 @@ mod showing;
 mod solving;
 mod telling;
 mod verifying;
-mod watches;
 
-pub use ending::{MOST_TEXT, Paths};
-pub use fault::{CommandFault, InputFault, VerifyFault};
+pub use fault::VerifyFault;
 pub use kinds::{SearchFault, kinds_of};
 pub use local::improve;
 pub use program::{COMMANDS_HELP, asks_for_help, is_command, run_command};
@@ -46,4 +43,3 @@ pub use showing::{draw_read, draw_to, verify_read, verify_to};
 pub use solving::{SolveOptions, solve_read, solve_to};
 pub use telling::{put_best, tell, tell_better, tell_better_json, tell_json, verdict_word};
 pub use verifying::{Verified, verify};
-pub use watches::SolveWatches;

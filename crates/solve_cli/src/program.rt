@@ -3,8 +3,7 @@ ghost use Rattle.std.specs.Prelude.{◌≡◌, ◌≤◌, IfOk, IfErr, vec_len};
 ghost use Rattle.std.specs.Process.{exit_status};
 ghost use Rattle.mrcpsp.specs.Schedule.{IsFeasible};
 
-use crate::arguments::{Listing, Solving, Task, solve_commands, task_of};
-use crate::ending::Paths;
+use crate::arguments::{Listing, ProjectTask, Solving, solve_commands, task_of};
 use crate::explaining::chain_of;
 use crate::improvements::{Improvements, Style};
 use crate::kinds::{SearchFault, kinds_of};
@@ -15,8 +14,7 @@ use crate::several::MOST_SEARCHES;
 use crate::showing::{draw_to, verify_to};
 use crate::solving::{SolveOptions, solve_to};
 use crate::verifying::Verified;
-use crate::watches::SolveWatches;
-use explain::{why_no_search, why_words};
+use explain::{CommandWatches, Paths, end_no_memory, open_path, why_no_search, why_words};
 use schedule_files::{Heading, Order, draw};
 use std::alloc::{AllocError, Global};
 use std::env::Env;
@@ -24,7 +22,7 @@ use std::io;
 use std::io::Eprint;
 use std::process::ExitCode;
 use std::rt::Runtime;
-use watched_io::{Source, explains, open, reason, tell_unread, tell_why};
+use watched_io::{explains, tell_why};
 
 /// The help on the commands that need no configuration.
 pub const COMMANDS_HELP: &str = "\
@@ -72,7 +70,7 @@ pub fn run_command<R: Runtime + AllocGlobal>(rt: &R, words: &[String]) -> ExitCo
     ensures { exit_status result ≤ 2 }
 {
     let Ok(command) = solve_commands(rt.alloc()) else {
-        return failure(rt, "no memory");
+        return end_no_memory(rt);
     };
     match command.try_get_matches_from(words) {
         Ok(matches) => match task_of(&matches) {
@@ -113,32 +111,15 @@ fn picture(alloc: Global, verified: &Verified, order: Order) -> Result<String, A
     draw(alloc, &verified.project, &verified.schedule, heading, order)
 }
 
-fn run_task<R: Runtime + AllocGlobal>(rt: &R, task: Task<'_>) -> ExitCode
+fn run_task<R: Runtime + AllocGlobal>(rt: &R, task: ProjectTask<'_>) -> ExitCode
     ensures { exit_status result ≤ 2 }
 {
     match task {
-        Task::Verify(paths, _) if are_one(paths) => refuse_one(rt),
-        Task::Draw(paths, _) if are_one(paths) => refuse_one(rt),
-        Task::Verify(paths, told) => run_verify(rt, paths, told),
-        Task::Solve(solving) => run_solve(rt, solving),
-        Task::Draw(paths, order) => run_draw(rt, paths, order),
-    }
-}
-
-fn failure<R: Eprint>(rt: &R, why: &str) -> ExitCode
-    ensures { exit_status result ≡ 1 }
-{
-    let _ = eprintln!(rt; "farm: {why}");
-    ExitCode::FAILURE
-}
-
-fn open_path<R: Runtime>(rt: &R, path: &str) -> Option<Source<R::Reader, R::File>> {
-    match open(rt, path) {
-        Ok(source) => Some(source),
-        Err(error) => {
-            tell_unread(rt, path, reason(error.kind()));
-            None
-        }
+        ProjectTask::Verify(paths, _) if are_one(paths) => refuse_one(rt),
+        ProjectTask::Draw(paths, _) if are_one(paths) => refuse_one(rt),
+        ProjectTask::Verify(paths, told) => run_verify(rt, paths, told),
+        ProjectTask::Solve(solving) => run_solve(rt, solving),
+        ProjectTask::Draw(paths, order) => run_draw(rt, paths, order),
     }
 }
 
@@ -151,7 +132,7 @@ fn run_verify<R: Runtime + AllocGlobal>(rt: &R, paths: Paths<'_>, told: Listing)
     let Some(text) = open_path(rt, paths.text) else {
         return ExitCode::FAILURE;
     };
-    let mut watches = SolveWatches::new();
+    let mut watches = CommandWatches::new();
     watches.lists_all = told == Listing::All;
     verify_to(rt, paths, file, text, &mut io::writer(rt), &mut watches)
 }
@@ -166,7 +147,7 @@ fn run_draw<R: Runtime + AllocGlobal>(rt: &R, paths: Paths<'_>, order: Order) ->
         return ExitCode::FAILURE;
     };
     let alloc = rt.alloc();
-    let mut watches = SolveWatches::new();
+    let mut watches = CommandWatches::new();
     draw_to(
         rt,
         paths,
@@ -188,7 +169,7 @@ fn kinds_asked<R: Env + Eprint + AllocGlobal>(
 {
     match kinds_of(rt.alloc(), search) {
         Ok(kinds) => Ok(kinds),
-        Err(SearchFault::NoMemory) => Err(failure(rt, "no memory")),
+        Err(SearchFault::NoMemory) => Err(end_no_memory(rt)),
         Err(fault) => {
             let _ = eprintln!(rt; "farm: {fault}");
             if let SearchFault::Unknown(word) = fault {
@@ -230,7 +211,7 @@ fn run_solve<R: Runtime + AllocGlobal>(rt: &R, solving: Solving<'_>) -> ExitCode
         most: each.min(MOST_NODES),
         is_json: solving.is_json,
     };
-    let mut watches = SolveWatches::new();
+    let mut watches = CommandWatches::new();
     solve_to(
         rt,
         solving.file,

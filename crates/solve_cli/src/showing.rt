@@ -1,16 +1,16 @@
 //! A schedule verified, and a feasible one drawn, over any readers and writer.
-ghost use Rattle.std.specs.Prelude.{◌≡◌, ◌<◌, IfOk, IfErr, OnOk};
+ghost use Rattle.std.specs.Prelude.{◌≡◌, ◌<◌, ℕ, List, Option, IfOk, IfErr, OnOk};
 ghost use Rattle.std.specs.Process.{exit_status};
 ghost use Rattle.mrcpsp.specs.Schedule.{IsFeasible};
 ghost use Rattle.solve_cli.specs.Verified.{IsVerified};
-ghost use Rattle.solve_cli.specs.Counts.{AreReadWell};
-ghost use Rattle.solve_cli.specs.Commands.{OfBoth, IsUnverified, IsShowOf, Ends, TellsMakespan, GivesText};
+ghost use Rattle.explain.specs.Counts.{AreReadWell};
+ghost use Rattle.explain.specs.Ending.{Ends};
+ghost use Rattle.solve_cli.specs.Commands.{OfBoth, IsUnverified, IsShowOf, TellsMakespan, GivesText};
 
-use crate::ending::{MOST_TEXT, Paths, end_command};
 use crate::explaining::{list_of, why_unverified};
-use crate::fault::{CommandFault, InputFault, VerifyFault};
+use crate::fault::VerifyFault;
 use crate::verifying::{Verified, verify};
-use crate::watches::SolveWatches;
+use explain::{CommandFault, CommandWatches, MOST_TEXT, Paths, end_command};
 use schedule_files::MOST_BYTES;
 use std::alloc::{AllocError, Global};
 use std::env::Env;
@@ -36,30 +36,30 @@ fn read_verified<S: Read + Drop, T: Read + Drop, W>(
     alloc: Global,
     file: S,
     text: T,
-    watches: &mut SolveWatches<S, T, W>,
-) -> Result<Verified, InputFault>
+    watches: &mut CommandWatches<S, T, (), W>,
+) -> Result<Verified, CommandFault<VerifyFault>>
     ensures verified { IfOk result (λ verified.
         OfBoth (S.remaining file) (T.remaining text) (λ bytes words. IsVerified bytes words verified)) }
     ensures longer { MOST_BYTES < MOST_TEXT }
     ensures feasible { IfOk result (λ verified. IsFeasible verified.project verified.schedule) }
     ensures read { OnOk result (AreReadWell watches.old watches.new) }
     ensures kept { watches.new.output ≡ watches.old.output }
-    ensures fault { IfErr result (λ fault. IsUnverified fault watches.old watches.new (S.remaining file) (T.remaining text)) }
+    ensures fault { IfErr result (λ fault. (out : Option (List ℕ)) → IsUnverified fault watches.old watches.new (S.remaining file) (T.remaining text) out out) }
 {
     let bytes = match watches.file.read_front(alloc, file, MOST_TEXT) {
         Ok(bytes) => bytes,
-        Err(error) => return Err(InputFault::File(error.kind())),
+        Err(error) => return Err(CommandFault::File(error.kind())),
     };
     let words = match watches.text.read_front(alloc, text, MOST_TEXT) {
         Ok(words) => words,
-        Err(error) => return Err(InputFault::Text(error.kind())),
+        Err(error) => return Err(CommandFault::Text(error.kind())),
     };
     match verify(alloc, &bytes, &words) {
         Ok(verified) => Ok(verified),
         Err(fault) => {
             watches.why = why_unverified(alloc, &bytes, &words, fault);
             watches.list = list_if(alloc, watches.lists_all, &bytes, &words, fault);
-            Err(InputFault::Verify(fault))
+            Err(CommandFault::Refused(fault))
         }
     }
 }
@@ -71,15 +71,15 @@ pub fn verify_read<S: Read + Drop, T: Read + Drop, W: Write>(
     file: S,
     text: T,
     writer: &mut W,
-    watches: &mut SolveWatches<S, T, W>,
-) -> Result<(), CommandFault>
+    watches: &mut CommandWatches<S, T, (), W>,
+) -> Result<(), CommandFault<VerifyFault>>
     ensures { IsShowOf TellsMakespan result watches.old watches.new (S.remaining file) (T.remaining text)
         (W.contents writer.old)
         (W.contents writer.new) }
 {
     let makespan = match read_verified(alloc, file, text, watches) {
         Ok(verified) => verified.makespan,
-        Err(fault) => return Err(CommandFault::Input(fault)),
+        Err(fault) => return Err(fault),
     };
     let line = format_args!("feasible makespan {makespan}\n");
     let Ok(()) = watches.output.write_text(writer, line) else {
@@ -100,9 +100,9 @@ pub fn draw_read<
     file: S,
     text: T,
     writer: &mut W,
-    watches: &mut SolveWatches<S, T, W>,
+    watches: &mut CommandWatches<S, T, (), W>,
     draw: D,
-) -> Result<(), CommandFault>
+) -> Result<(), CommandFault<VerifyFault>>
     requires { (verified : Verified) → IsFeasible verified.project verified.schedule → D.pre draw verified }
     ensures { IsShowOf (GivesText (D.post draw)) result watches.old watches.new (S.remaining file) (T.remaining text)
         (W.contents writer.old)
@@ -110,11 +110,11 @@ pub fn draw_read<
 {
     let verified = match read_verified(alloc, file, text, watches) {
         Ok(verified) => verified,
-        Err(fault) => return Err(CommandFault::Input(fault)),
+        Err(fault) => return Err(fault),
     };
     let picture = match draw(verified) {
         Ok(picture) => picture,
-        Err(_) => return Err(CommandFault::NoMemory),
+        Err(_) => return Err(CommandFault::Refused(VerifyFault::NoMemory)),
     };
     let Ok(()) = watches.output.write_text(writer, picture) else {
         return Err(CommandFault::Write);
@@ -129,7 +129,7 @@ pub fn verify_to<R: AllocGlobal + Env + Eprint, S: Read + Drop, T: Read + Drop, 
     file: S,
     text: T,
     writer: &mut W,
-    watches: &mut SolveWatches<S, T, W>,
+    watches: &mut CommandWatches<S, T, (), W>,
 ) -> ExitCode
     ensures { Ends
         (λ ended. IsShowOf TellsMakespan ended watches.old watches.new (S.remaining file) (T.remaining text)
@@ -154,7 +154,7 @@ pub fn draw_to<
     file: S,
     text: T,
     writer: &mut W,
-    watches: &mut SolveWatches<S, T, W>,
+    watches: &mut CommandWatches<S, T, (), W>,
     draw: D,
 ) -> ExitCode
     requires { (verified : Verified) → IsFeasible verified.project verified.schedule → D.pre draw verified }

@@ -1,19 +1,18 @@
 //! A project searched, over any reader and writer.
-ghost use Rattle.std.specs.Prelude.{◌≡◌, ◌≤◌, length, IfOk, IfErr, IfSome, OnOk, Ok, take, string_bytes};
+ghost use Rattle.std.specs.Prelude.{◌≡◌, ◌≤◌, ℕ, List, length, Option, IfOk, IfErr, IfSome, OnOk, Ok, take, string_bytes};
 ghost use Rattle.std.specs.Process.{exit_status};
 ghost use Rattle.psplib_mm.specs.Reading.{reading};
-ghost use Rattle.solve_cli.specs.Counts.{AreReadWell};
-ghost use Rattle.solve_cli.specs.Commands.{IsUnsolved, IsSolveOf, Ends, told_text};
+ghost use Rattle.explain.specs.Counts.{AreReadWell};
+ghost use Rattle.explain.specs.Ending.{Ends};
+ghost use Rattle.solve_cli.specs.Commands.{IsUnsolved, IsSolveOf, told_text};
 
-use crate::ending::{MOST_TEXT, Paths, end_command};
 use crate::explaining::next_step;
-use crate::fault::{CommandFault, InputFault, VerifyFault};
+use crate::fault::VerifyFault;
 use crate::search_kinds::SearchKind;
 use crate::searching::{MOST_NODES, Observer, SearchResult};
 use crate::several::{MOST_SEARCHES, solve_each};
 use crate::telling::{tell, tell_json};
-use crate::watches::SolveWatches;
-use explain::why_file;
+use explain::{CommandFault, CommandWatches, MOST_TEXT, Paths, end_command, why_file};
 use mrcpsp::Project;
 use psplib_mm::read;
 use std::alloc::{AllocError, Global};
@@ -34,23 +33,23 @@ pub struct SolveOptions<'a> {
 fn read_project<S: Read + Drop, W>(
     alloc: Global,
     file: S,
-    watches: &mut SolveWatches<S, (), W>,
-) -> Result<Project, InputFault>
+    watches: &mut CommandWatches<S, (), (), W>,
+) -> Result<Project, CommandFault<VerifyFault>>
     ensures project { IfOk result (λ project.
         IfSome (S.remaining file) (λ all. reading (take MOST_TEXT all) ≡ Ok project)) }
     ensures read { OnOk result (AreReadWell watches.old watches.new) }
     ensures kept { watches.new.output ≡ watches.old.output }
-    ensures fault { IfErr result (λ fault. IsUnsolved fault watches.old watches.new (S.remaining file)) }
+    ensures fault { IfErr result (λ fault. (out : Option (List ℕ)) → IsUnsolved fault watches.old watches.new (S.remaining file) out out) }
 {
     let bytes = match watches.file.read_front(alloc, file, MOST_TEXT) {
         Ok(bytes) => bytes,
-        Err(error) => return Err(InputFault::File(error.kind())),
+        Err(error) => return Err(CommandFault::File(error.kind())),
     };
     match read(alloc, &bytes) {
         Ok(project) => Ok(project),
         Err(fault) => {
             watches.why = why_file(alloc, &bytes, fault);
-            Err(InputFault::Verify(VerifyFault::File(fault)))
+            Err(CommandFault::Refused(VerifyFault::File(fault)))
         }
     }
 }
@@ -73,8 +72,8 @@ pub fn solve_read<S: Read + Drop, W: Write, L: Observer>(
     asked: SolveOptions<'_>,
     looks: &mut L,
     writer: &mut W,
-    watches: &mut SolveWatches<S, (), W>,
-) -> Result<(), CommandFault>
+    watches: &mut CommandWatches<S, (), (), W>,
+) -> Result<(), CommandFault<VerifyFault>>
     requires few { asked.most ≤ MOST_NODES }
     requires short { length asked.kinds.now ≤ MOST_SEARCHES }
     ensures { IsSolveOf asked.entry.is_json asked.entry.kinds.now asked.entry.most result watches.old watches.new
@@ -84,15 +83,15 @@ pub fn solve_read<S: Read + Drop, W: Write, L: Observer>(
 {
     let project = match read_project(alloc, file, watches) {
         Ok(project) => project,
-        Err(fault) => return Err(CommandFault::Input(fault)),
+        Err(fault) => return Err(fault),
     };
     let found = match solve_each(alloc, &project, asked.kinds, asked.most, looks) {
         Ok(found) => found,
-        Err(_) => return Err(CommandFault::NoMemory),
+        Err(_) => return Err(CommandFault::Refused(VerifyFault::NoMemory)),
     };
     let text = match told(alloc, asked.is_json, &found) {
         Ok(text) => text,
-        Err(_) => return Err(CommandFault::NoMemory),
+        Err(_) => return Err(CommandFault::Refused(VerifyFault::NoMemory)),
     };
     match watches.output.write_text(writer, text) {
         Ok(()) => {
@@ -111,7 +110,7 @@ pub fn solve_to<R: AllocGlobal + Env + Eprint, S: Read + Drop, W: Write, L: Obse
     asked: SolveOptions<'_>,
     looks: &mut L,
     writer: &mut W,
-    watches: &mut SolveWatches<S, (), W>,
+    watches: &mut CommandWatches<S, (), (), W>,
 ) -> ExitCode
     requires few { asked.most ≤ MOST_NODES }
     requires short { length asked.kinds.now ≤ MOST_SEARCHES }
@@ -123,9 +122,5 @@ pub fn solve_to<R: AllocGlobal + Env + Eprint, S: Read + Drop, W: Write, L: Obse
         (exit_status result) }
 {
     let ended = solve_read(rt.alloc(), file, asked, looks, writer, watches);
-    let paths = Paths {
-        file: path,
-        text: path,
-    };
-    end_command(rt, paths, ended, watches)
+    end_command(rt, Paths::of(path), ended, watches)
 }
