@@ -2,7 +2,7 @@
 use Rattle.std.proofs.Common.{◌≡◌, ℕ, List, take, Option, Some, None, IfSome, Err, ◌∙◌, subst}
 use Rattle.watched_io.specs.Failure.{HasFailed}
 use Rattle.certify_cli.specs.Commands.{IsLineNoted, IsStopped}
-use Rattle.certify_cli.specs.declared.ending.TheConstants.{MOST_TEXT}
+use Rattle.explain.specs.declared.inputs.TheConstants.{MOST_TEXT}
 use Rattle.certify_cli.specs.declared.fault.CertifyFault.{CertifyFault}
 
 -- what holds of the front that was read of one,

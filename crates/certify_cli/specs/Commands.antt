@@ -9,13 +9,13 @@ use Rattle.schedule_files.specs.declared.reading.TheConstants.{MOST_BYTES}
 use Rattle.schedule_clauses.specs.declared.certificate.CertificateFault.{CertificateFault}
 use Rattle.schedule_clauses.specs.Fault.{IsOfBound, IsOfStocks, IsOfSchedule}
 use Rattle.watched_io.specs.Failure.{HasFailed}
-use Rattle.certify_cli.specs.Counts.{Counts, AreReadWell, AreKept}
+use Rattle.explain.specs.Counts.{CommandCounts}
+use Rattle.explain.specs.Ending.{IsEndOf, file_alone, file_and_proof, all_inputs}
+use Rattle.explain.specs.declared.ending.CommandFault.{CommandFault}
+use Rattle.explain.specs.declared.inputs.TheConstants.{MOST_TEXT}
 use Rattle.certify_cli.specs.Certified.{CertifiesOptimal, CertifiesInfeasible, CertifiesBound, CertifiesChain}
-use Rattle.certify_cli.specs.declared.ending.TheConstants.{MOST_TEXT}
 use Rattle.certify_cli.specs.declared.fault.CertifyFault.{CertifyFault}
 use Rattle.certify_cli.specs.declared.fault.CertifyFault.TheVariants as why
-use Rattle.certify_cli.specs.declared.fault.CommandFault.{CommandFault}
-use Rattle.certify_cli.specs.declared.fault.CommandFault.TheVariants.{File, Text, Proof, Certify}
 
 -- the file is a project
 pub record IsFile (file : List ℕ) : Type 0 where
@@ -72,42 +72,24 @@ abbrev pub IsLineNoted : Result ⊤ CertifyFault → ℕ → ℕ → Type 0
 IsLineNoted (Err why.Write) old new = HasFailed old new
 IsLineNoted ended old new = new ≡ old
 
--- how a command ends: its line was written, an input could not be read, or nothing is certified.
--- `from` and `seen` are the counts of its watches before and after
-abbrev pub IsEndOf : Type 0 → Result ⊤ CommandFault → Counts → Counts → Option (List ℕ) → Option (List ℕ) → Option (List ℕ) → Type 0
-IsEndOf written (Ok done) from seen file before after = AreKept from seen × written
-IsEndOf written (Err (File kind)) from seen file before after = (after ≡ before) × HasFailed from.file seen.file × (seen.output ≡ from.output)
-IsEndOf written (Err (Text kind)) from seen file before after = (after ≡ before) × HasFailed from.text seen.text × (seen.output ≡ from.output)
-IsEndOf written (Err (Proof kind)) from seen file before after = (after ≡ before) × HasFailed from.proof seen.proof × (seen.output ≡ from.output)
-IsEndOf written (Err (Certify fault)) from seen file before after =
-    AreReadWell from seen × IsLineNoted (Err fault) from.output seen.output
-    × IfSome file (λ bytes. IsOfFile fault (take MOST_TEXT bytes)) × IsStopped fault (HasFailed from.output seen.output) before after
+-- nothing is certified: the fault is that of the file, and nothing was written, or a write failed.
+-- `from` and `seen` are the counts of the command's watches before and after
+abbrev pub IsRefusal : CertifyFault → CommandCounts → CommandCounts → Option (List ℕ) → Option (List ℕ) → Option (List ℕ) → Type 0
+IsRefusal fault from seen file before after =
+    IsLineNoted (Err fault) from.output seen.output × IfSome file (λ bytes. IsOfFile fault (take MOST_TEXT bytes)) × IsStopped fault (HasFailed from.output seen.output) before after
 
--- the certificate's fault is that of the text's schedule
-abbrev pub IsJudged : Result ⊤ CommandFault → Option (List ℕ) → Option (List ℕ) → Type 0
-IsJudged (Ok done) file text = ⊤
-IsJudged (Err (File kind)) file text = ⊤
-IsJudged (Err (Text kind)) file text = ⊤
-IsJudged (Err (Proof kind)) file text = ⊤
-IsJudged (Err (Certify fault)) file text = IfSome file (λ bytes. IfSome text (λ words. IsOfText fault (take MOST_TEXT bytes) (take MOST_TEXT words)))
-
--- the end of a command with a schedule: of its file and of its text `MOST_TEXT` bytes are read
-abbrev pub IsCertifyOf : Result ⊤ CommandFault → Counts → Counts → Option (List ℕ) → Option (List ℕ) → Option (List ℕ) → Option (List ℕ) → Type 0
+-- the end of a command with a schedule: of its file and of its text `MOST_TEXT` bytes are read. A
+-- fault of the certificate is that of the text's schedule
+abbrev pub IsCertifyOf : Result ⊤ (CommandFault CertifyFault) → CommandCounts → CommandCounts → Option (List ℕ) → Option (List ℕ) → Option (List ℕ) → Option (List ℕ) → Type 0
 IsCertifyOf ended from seen file text before after =
-    IsEndOf (IfSome file (λ bytes. IfSome text (λ words. CertifiesOptimal (take MOST_TEXT bytes) (take MOST_TEXT words) before after))) ended from seen file before after × IsJudged ended file text
-
--- without a schedule, no fault is that of a text
-abbrev pub IsJudgedAlone : Result ⊤ CommandFault → Type 0
-IsJudgedAlone (Ok done) = ⊤
-IsJudgedAlone (Err (File kind)) = ⊤
-IsJudgedAlone (Err (Text kind)) = ⊥
-IsJudgedAlone (Err (Proof kind)) = ⊤
-IsJudgedAlone (Err (Certify fault)) = IsOfProofAlone fault
+    IsEndOf all_inputs (IfSome file (λ bytes. IfSome text (λ words. CertifiesOptimal (take MOST_TEXT bytes) (take MOST_TEXT words) before after)))
+    (λ fault. IsRefusal fault from seen file before after × IfSome file (λ bytes. IfSome text (λ words. IsOfText fault (take MOST_TEXT bytes) (take MOST_TEXT words)))) ended from seen before after
 
 -- the end of a command that certifies infeasibility
-abbrev pub IsInfeasibleOf : Result ⊤ CommandFault → Counts → Counts → Option (List ℕ) → Option (List ℕ) → Option (List ℕ) → Type 0
+abbrev pub IsInfeasibleOf : Result ⊤ (CommandFault CertifyFault) → CommandCounts → CommandCounts → Option (List ℕ) → Option (List ℕ) → Option (List ℕ) → Type 0
 IsInfeasibleOf ended from seen file before after =
-    IsEndOf (IfSome file (λ bytes. CertifiesInfeasible (take MOST_TEXT bytes) before after)) ended from seen file before after × IsJudgedAlone ended
+    IsEndOf file_and_proof (IfSome file (λ bytes. CertifiesInfeasible (take MOST_TEXT bytes) before after))
+    (λ fault. IsRefusal fault from seen file before after × IsOfProofAlone fault) ended from seen before after
 
 -- why no proof shows that each feasible schedule of the file's project takes `periods` periods
 pub record IsUnbounded (file : List ℕ) (periods : ℕ) (fault : CertificateFault) : Type 0 where
@@ -124,34 +106,16 @@ IsOfPeriods (why.Certificate fault) file periods = IsUnbounded file periods faul
 IsOfPeriods why.NoMemory file periods = ⊤
 IsOfPeriods why.Write file periods = ⊤
 
--- with a bound, no fault is that of a text
-abbrev pub IsJudgedBound : Result ⊤ CommandFault → Option (List ℕ) → ℕ → Type 0
-IsJudgedBound (Ok done) file periods = ⊤
-IsJudgedBound (Err (File kind)) file periods = ⊤
-IsJudgedBound (Err (Text kind)) file periods = ⊥
-IsJudgedBound (Err (Proof kind)) file periods = ⊤
-IsJudgedBound (Err (Certify fault)) file periods = IfSome file (λ bytes. IsOfPeriods fault (take MOST_TEXT bytes) periods)
-
 -- the end of a command that certifies a bound
-abbrev pub IsBoundOf : Result ⊤ CommandFault → ℕ → Counts → Counts → Option (List ℕ) → Option (List ℕ) → Option (List ℕ) → Type 0
+abbrev pub IsBoundOf : Result ⊤ (CommandFault CertifyFault) → ℕ → CommandCounts → CommandCounts → Option (List ℕ) → Option (List ℕ) → Option (List ℕ) → Type 0
 IsBoundOf ended periods from seen file before after =
-    IsEndOf (IfSome file (λ bytes. CertifiesBound (take MOST_TEXT bytes) periods before after)) ended from seen file before after × IsJudgedBound ended file periods
+    IsEndOf file_and_proof (IfSome file (λ bytes. CertifiesBound (take MOST_TEXT bytes) periods before after))
+    (λ fault. IsRefusal fault from seen file before after × IfSome file (λ bytes. IsOfPeriods fault (take MOST_TEXT bytes) periods)) ended from seen before after
 
 -- the end of a command that certifies the critical path: only the file can be at fault
-abbrev pub IsChainOf : Result ⊤ CommandFault → Counts → Counts → Option (List ℕ) → Option (List ℕ) → Option (List ℕ) → Type 0
+abbrev pub IsChainOf : Result ⊤ (CommandFault CertifyFault) → CommandCounts → CommandCounts → Option (List ℕ) → Option (List ℕ) → Option (List ℕ) → Type 0
 IsChainOf ended from seen file before after =
-    IsEndOf (IfSome file (λ bytes. CertifiesChain (take MOST_TEXT bytes) before after)) ended from seen file before after
-
--- the exit status of a command: 1 for a fault
-abbrev pub command_status : Result ⊤ CommandFault → ℕ
-command_status (Ok done) = 0
-command_status (Err fault) = 1
-
--- the status is that of a command with such an end
-pub record Ends (IsSo : Result ⊤ CommandFault → Type 0) (status : ℕ) : Type 0 where
-  pub ended : Result ⊤ CommandFault
-  pub is : IsSo ended
-  pub ends : status ≡ command_status ended
+    IsEndOf file_alone (IfSome file (λ bytes. CertifiesChain (take MOST_TEXT bytes) before after)) (λ fault. IsRefusal fault from seen file before after) ended from seen before after
 
 -- the exit status of a command that writes clauses: 1 for a fault
 abbrev pub clauses_status : Result ⊤ CertifyFault → ℕ

@@ -1,3 +1,2 @@
 pub mod Certified
 pub mod Commands
-pub mod Counts

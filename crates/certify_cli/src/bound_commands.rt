@@ -1,12 +1,13 @@
 //! Bounds over any readers and writer, with a status.
 ghost use Rattle.std.specs.Process.{exit_status};
-ghost use Rattle.certify_cli.specs.Commands.{Ends, IsBoundOf, IsChainOf};
+ghost use Rattle.explain.specs.Ending.{Ends};
+ghost use Rattle.certify_cli.specs.Commands.{IsBoundOf, IsChainOf};
 
 use crate::bounding::{certify_bound, certify_chain};
-use crate::ending::{MOST_PROOF, MOST_TEXT, Paths, end_command};
+use crate::commands::MOST_PROOF;
 use crate::explaining::why_uncertified;
-use crate::fault::CommandFault;
-use crate::watches::CertifyWatches;
+use crate::fault::CertifyFault;
+use explain::{CommandFault, CommandWatches, MOST_TEXT, Paths, end_command};
 use std::alloc::Global;
 use std::env::Env;
 use std::io::{Eprint, Read, Write};
@@ -19,8 +20,8 @@ pub fn bound_read<S: Read + Drop, P: Read + Drop, W: Write>(
     periods: u32,
     proof: P,
     writer: &mut W,
-    watches: &mut CertifyWatches<S, (), P, W>,
-) -> Result<(), CommandFault>
+    watches: &mut CommandWatches<S, (), P, W>,
+) -> Result<(), CommandFault<CertifyFault>>
     ensures { IsBoundOf result periods watches.old watches.new (S.remaining file) (W.contents writer.old) (W.contents writer.new) }
 {
     let bytes = match watches.file.read_front(alloc, file, MOST_TEXT) {
@@ -35,7 +36,7 @@ pub fn bound_read<S: Read + Drop, P: Read + Drop, W: Write>(
         Ok(()) => Ok(()),
         Err(fault) => {
             watches.why = why_uncertified(alloc, &bytes, &[], fault);
-            Err(CommandFault::Certify(fault))
+            Err(CommandFault::Refused(fault))
         }
     }
 }
@@ -45,8 +46,8 @@ pub fn chain_read<S: Read + Drop, W: Write>(
     alloc: Global,
     file: S,
     writer: &mut W,
-    watches: &mut CertifyWatches<S, (), (), W>,
-) -> Result<(), CommandFault>
+    watches: &mut CommandWatches<S, (), (), W>,
+) -> Result<(), CommandFault<CertifyFault>>
     ensures { IsChainOf result watches.old watches.new (S.remaining file) (W.contents writer.old) (W.contents writer.new) }
 {
     let bytes = match watches.file.read_front(alloc, file, MOST_TEXT) {
@@ -57,7 +58,7 @@ pub fn chain_read<S: Read + Drop, W: Write>(
         Ok(()) => Ok(()),
         Err(fault) => {
             watches.why = why_uncertified(alloc, &bytes, &[], fault);
-            Err(CommandFault::Certify(fault))
+            Err(CommandFault::Refused(fault))
         }
     }
 }
@@ -70,14 +71,14 @@ pub fn bound_to<R: AllocGlobal + Env + Eprint, S: Read + Drop, P: Read + Drop, W
     periods: u32,
     proof: P,
     writer: &mut W,
-    watches: &mut CertifyWatches<S, (), P, W>,
+    watches: &mut CommandWatches<S, (), P, W>,
 ) -> ExitCode
     ensures { Ends
         (λ ended. IsBoundOf ended periods watches.old watches.new (S.remaining file) (W.contents writer.old) (W.contents writer.new))
         (exit_status result) }
 {
     let ended = bound_read(rt.alloc(), file, periods, proof, writer, watches);
-    end_command(rt, paths, ended, &watches.why)
+    end_command(rt, paths, ended, watches)
 }
 
 /// Is `chain_read` with a status: 0, or 1 with the fault on standard error.
@@ -86,12 +87,12 @@ pub fn chain_to<R: AllocGlobal + Env + Eprint, S: Read + Drop, W: Write>(
     paths: Paths<'_>,
     file: S,
     writer: &mut W,
-    watches: &mut CertifyWatches<S, (), (), W>,
+    watches: &mut CommandWatches<S, (), (), W>,
 ) -> ExitCode
     ensures { Ends
         (λ ended. IsChainOf ended watches.old watches.new (S.remaining file) (W.contents writer.old) (W.contents writer.new))
         (exit_status result) }
 {
     let ended = chain_read(rt.alloc(), file, writer, watches);
-    end_command(rt, paths, ended, &watches.why)
+    end_command(rt, paths, ended, watches)
 }

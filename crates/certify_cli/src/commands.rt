@@ -1,18 +1,21 @@
 //! The checks of proofs over any readers and writer, with a status.
 ghost use Rattle.std.specs.Prelude.{◌≡◌, ◌<◌};
 ghost use Rattle.std.specs.Process.{exit_status};
-ghost use Rattle.certify_cli.specs.Commands.{Ends, IsCertifyOf, IsInfeasibleOf};
+ghost use Rattle.explain.specs.Ending.{Ends};
+ghost use Rattle.certify_cli.specs.Commands.{IsCertifyOf, IsInfeasibleOf};
 
 use crate::certifying::{certify, certify_infeasible};
-use crate::ending::{MOST_PROOF, MOST_TEXT, Paths, end_command};
 use crate::explaining::{why_not_infeasible, why_uncertified};
-use crate::fault::CommandFault;
-use crate::watches::CertifyWatches;
+use crate::fault::CertifyFault;
+use explain::{CommandFault, CommandWatches, MOST_TEXT, Paths, end_command};
 use schedule_files::MOST_BYTES;
 use std::alloc::Global;
 use std::env::Env;
 use std::io::{Eprint, Read, Write};
 use std::process::ExitCode;
+
+/// The most bytes that are read of a proof.
+pub const MOST_PROOF: u64 = 4_000_000_000;
 
 /// Is `certify` of what the readers give. Of `text` one byte more is read than a schedule may have,
 /// so that excess is seen.
@@ -22,8 +25,8 @@ pub fn certify_read<S: Read + Drop, T: Read + Drop, P: Read + Drop, W: Write>(
     text: T,
     proof: P,
     writer: &mut W,
-    watches: &mut CertifyWatches<S, T, P, W>,
-) -> Result<(), CommandFault>
+    watches: &mut CommandWatches<S, T, P, W>,
+) -> Result<(), CommandFault<CertifyFault>>
     ensures longer { MOST_BYTES < MOST_TEXT }
     ensures ended { IsCertifyOf result watches.old watches.new (S.remaining file) (T.remaining text)
         (W.contents writer.old)
@@ -45,7 +48,7 @@ pub fn certify_read<S: Read + Drop, T: Read + Drop, P: Read + Drop, W: Write>(
         Ok(()) => Ok(()),
         Err(fault) => {
             watches.why = why_uncertified(alloc, &bytes, &words, fault);
-            Err(CommandFault::Certify(fault))
+            Err(CommandFault::Refused(fault))
         }
     }
 }
@@ -56,8 +59,8 @@ pub fn infeasible_read<S: Read + Drop, P: Read + Drop, W: Write>(
     file: S,
     proof: P,
     writer: &mut W,
-    watches: &mut CertifyWatches<S, (), P, W>,
-) -> Result<(), CommandFault>
+    watches: &mut CommandWatches<S, (), P, W>,
+) -> Result<(), CommandFault<CertifyFault>>
     ensures { IsInfeasibleOf result watches.old watches.new (S.remaining file) (W.contents writer.old) (W.contents writer.new) }
 {
     let bytes = match watches.file.read_front(alloc, file, MOST_TEXT) {
@@ -72,7 +75,7 @@ pub fn infeasible_read<S: Read + Drop, P: Read + Drop, W: Write>(
         Ok(()) => Ok(()),
         Err(fault) => {
             watches.why = why_not_infeasible(alloc, &bytes, fault);
-            Err(CommandFault::Certify(fault))
+            Err(CommandFault::Refused(fault))
         }
     }
 }
@@ -91,7 +94,7 @@ pub fn certify_to<
     text: T,
     proof: P,
     writer: &mut W,
-    watches: &mut CertifyWatches<S, T, P, W>,
+    watches: &mut CommandWatches<S, T, P, W>,
 ) -> ExitCode
     ensures { Ends
         (λ ended. IsCertifyOf ended watches.old watches.new (S.remaining file) (T.remaining text)
@@ -100,7 +103,7 @@ pub fn certify_to<
         (exit_status result) }
 {
     let ended = certify_read(rt.alloc(), file, text, proof, writer, watches);
-    end_command(rt, paths, ended, &watches.why)
+    end_command(rt, paths, ended, watches)
 }
 
 /// Is `infeasible_read` with a status: 0, or 1 with the fault on standard error.
@@ -110,12 +113,12 @@ pub fn infeasible_to<R: AllocGlobal + Env + Eprint, S: Read + Drop, P: Read + Dr
     file: S,
     proof: P,
     writer: &mut W,
-    watches: &mut CertifyWatches<S, (), P, W>,
+    watches: &mut CommandWatches<S, (), P, W>,
 ) -> ExitCode
     ensures { Ends
         (λ ended. IsInfeasibleOf ended watches.old watches.new (S.remaining file) (W.contents writer.old) (W.contents writer.new))
         (exit_status result) }
 {
     let ended = infeasible_read(rt.alloc(), file, proof, writer, watches);
-    end_command(rt, paths, ended, &watches.why)
+    end_command(rt, paths, ended, watches)
 }

@@ -1,7 +1,6 @@
 use psplib_mm::MmFault;
 use schedule_clauses::CertificateFault;
 use std::alloc::AllocError;
-use std::io::ErrorKind;
 use thiserror::Error;
 
 /// A `CertifyFault` is why nothing is certified. Its text is as in `no proof Unproved(17)`.
@@ -28,14 +27,4 @@ impl From<AllocError> for CertifyFault {
     fn from(_: AllocError) -> CertifyFault {
         CertifyFault::NoMemory
     }
-}
-
-/// A `CommandFault` is why a command does not end with its line: an input that could not be read or
-/// for which there was no memory, or a `CertifyFault`.
-#[derive(Clone, Copy, Debug, PartialEq, Eq)]
-pub enum CommandFault {
-    File(ErrorKind),
-    Text(ErrorKind),
-    Proof(ErrorKind),
-    Certify(CertifyFault),
 }

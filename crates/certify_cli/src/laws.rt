@@ -1,7 +1,8 @@
 //! Limits in figures. All other contracts cite the constants, and would hold of any other number.
 ghost use Rattle.std.specs.Prelude.{◌≡◌};
 
-use crate::ending::{MOST_PROOF, MOST_TEXT};
+use crate::commands::MOST_PROOF;
+use explain::MOST_TEXT;
 use schedule_clauses::MOST_START_CLAUSES;
 
 /// The most bytes of a file or a text, and of a proof.

@@ -8,8 +8,8 @@
 //! (`specs/Commands`).
 //!
 //! - `certifying`, `bounding`: checks of proofs, and `write_clauses`.
-//! - `commands`, `bound_commands`, `watches`: these over any readers and writer.
-//! - `fault`, `ending`, `explaining`: why nothing is certified, and how a command ends.
+//! - `commands`, `bound_commands`: these over any readers and writer.
+//! - `fault`, `explaining`: why nothing is certified.
 //! - `dimacs`, `program`: clauses in DIMACS form; the commands on files.
 //! - `laws`: the limits of what is read, in figures.
 #![tactic(auto)]
@@ -19,18 +19,14 @@ mod bounding;
 mod certifying;
 mod commands;
 mod dimacs;
-mod ending;
 mod explaining;
 mod fault;
 pub mod laws;
 mod program;
-mod watches;
 
 pub use bound_commands::{bound_read, bound_to, chain_read, chain_to};
 pub use bounding::{certify_bound, certify_chain};
 pub use certifying::{certify, certify_infeasible, write_clauses};
-pub use commands::{certify_read, certify_to, infeasible_read, infeasible_to};
-pub use ending::{MOST_PROOF, MOST_TEXT, Paths};
-pub use fault::{CertifyFault, CommandFault};
+pub use commands::{MOST_PROOF, certify_read, certify_to, infeasible_read, infeasible_to};
+pub use fault::CertifyFault;
 pub use program::{run_bound, run_certify, run_clauses, run_infeasible};
-pub use watches::CertifyWatches;

@@ -6,16 +6,15 @@ ghost use Rattle.certify_cli.specs.Commands.{clauses_status};
 use crate::bound_commands::{bound_to, chain_to};
 use crate::certifying::write_clauses;
 use crate::commands::{certify_to, infeasible_to};
-use crate::ending::{MOST_TEXT, Paths};
 use crate::explaining::why_uncertified;
 use crate::fault::CertifyFault;
-use crate::watches::CertifyWatches;
+use explain::{CommandWatches, MOST_TEXT, Paths, open_path, told};
 use std::env::Env;
 use std::io;
 use std::io::{BufWriter, Eprint, Write};
 use std::process::ExitCode;
 use std::rt::Runtime;
-use watched_io::{Source, Watch, explains, open, reason, tell_unread, tell_why};
+use watched_io::{Source, Watch, explains, tell_why};
 
 fn end<R: Eprint>(rt: &R, ended: Result<(), CertifyFault>) -> ExitCode
     ensures exact { exit_status result ≡ clauses_status ended }
@@ -38,21 +37,6 @@ fn end_unbounded<R: Env + Eprint>(rt: &R, bound: &str, wanted: &str) -> ExitCode
         let _ = eprintln!(rt; "farm: why: {wanted}");
     }
     ExitCode::FAILURE
-}
-
-/// On `None` the reason is on standard error.
-fn told<R: Env + Eprint, T: Drop>(rt: &R, path: &str, got: io::Result<T>) -> Option<T> {
-    match got {
-        Ok(value) => Some(value),
-        Err(error) => {
-            tell_unread(rt, path, reason(error.kind()));
-            None
-        }
-    }
-}
-
-fn open_path<R: Runtime>(rt: &R, path: &str) -> Option<Source<R::Reader, R::File>> {
-    told(rt, path, open(rt, path))
 }
 
 /// Without a path the proof is empty.
@@ -88,7 +72,7 @@ pub fn run_certify<R: Runtime + AllocGlobal>(
         return ExitCode::FAILURE;
     };
     let mut output = io::writer(rt);
-    let mut watches = CertifyWatches::new();
+    let mut watches = CommandWatches::new();
     certify_to(rt, paths, project, text, steps, &mut output, &mut watches)
 }
 
@@ -108,24 +92,19 @@ pub fn run_infeasible<R: Runtime + AllocGlobal>(rt: &R, file: &str, proof: &str)
         return ExitCode::FAILURE;
     };
     let mut output = io::writer(rt);
-    let mut watches = CertifyWatches::new();
+    let mut watches = CommandWatches::new();
     infeasible_to(rt, paths, project, steps, &mut output, &mut watches)
 }
 
 fn run_chain<R: Runtime + AllocGlobal>(rt: &R, file: &str) -> ExitCode
     ensures { exit_status result ≤ 1 }
 {
-    let paths = Paths {
-        file,
-        text: file,
-        proof: file,
-    };
     let Some(project) = open_path(rt, file) else {
         return ExitCode::FAILURE;
     };
     let mut output = io::writer(rt);
-    let mut watches = CertifyWatches::new();
-    chain_to(rt, paths, project, &mut output, &mut watches)
+    let mut watches = CommandWatches::new();
+    chain_to(rt, Paths::of(file), project, &mut output, &mut watches)
 }
 
 /// Prints `at least L` if `proof` shows that no schedule of `file` takes fewer than `bound`
@@ -156,7 +135,7 @@ pub fn run_bound<R: Runtime + AllocGlobal>(
         return ExitCode::FAILURE;
     };
     let mut output = io::writer(rt);
-    let mut watches = CertifyWatches::new();
+    let mut watches = CommandWatches::new();
     bound_to(
         rt,
         paths,

@@ -6,22 +6,21 @@ use Rattle.certify_cli.proofs.commands.infeasible_read.Goals as goal
 
 pub returns-in-Ok-certify_infeasible : goal.returns-in-Ok-certify_infeasible
 returns-in-Ok-certify_infeasible g c = (
-  (
-    ((c.in-Ok.ensures.noted ∙ ap (λ v. v.file) c.watches.view_is, ap (λ v. v.text) c.watches.view_is, c.in-Ok-read_front.ensures.noted ∙ ap (λ v. v.proof) c.watches.view_is), c.in-Ok-certify_infeasible.ensures.noted ∙ ap (λ v. v.output) c.watches.view_is),
-    one (g.S.Read.remaining c.args.file) c.in-Ok.bytes.items _ (λ bytes. CertifiesInfeasible bytes (g.W.Write.contents c.args.writer.now) (g.W.Write.contents c.certify_infeasible.new.writer))
-        c.in-Ok.ensures.front c.deref.ensures.value c.in-Ok-certify_infeasible.ensures.ok,
-  ),
-  tt,
+  ((c.in-Ok.ensures.noted ∙ ap (λ v. v.file) c.watches.view_is, ap (λ v. v.text) c.watches.view_is, c.in-Ok-read_front.ensures.noted ∙ ap (λ v. v.proof) c.watches.view_is), c.in-Ok-certify_infeasible.ensures.noted ∙ ap (λ v. v.output) c.watches.view_is),
+  one (g.S.Read.remaining c.args.file) c.in-Ok.bytes.items _ (λ bytes. CertifiesInfeasible bytes (g.W.Write.contents c.args.writer.now) (g.W.Write.contents c.certify_infeasible.new.writer))
+      c.in-Ok.ensures.front c.deref.ensures.value c.in-Ok-certify_infeasible.ensures.ok,
 )
 
 pub returns : goal.returns
 returns g c = (
+  (c.in-Ok.ensures.noted ∙ ap (λ v. v.file) c.watches.view_is, ap (λ v. v.text) c.watches.view_is, c.in-Ok-read_front.ensures.noted ∙ ap (λ v. v.proof) c.watches.view_is),
   (
-    (c.in-Ok.ensures.noted ∙ ap (λ v. v.file) c.watches.view_is, ap (λ v. v.text) c.watches.view_is, c.in-Ok-read_front.ensures.noted ∙ ap (λ v. v.proof) c.watches.view_is),
-    noted c.in-Err-certify_infeasible.fault c.watches.inside.output c.args.watches.now.output c.certify_infeasible.new.watch (ap (λ v. v.output) c.watches.view_is) c.in-Err-certify_infeasible.ensures.noted,
-    one (g.S.Read.remaining c.args.file) c.in-Ok.bytes.items _ (λ bytes. IsOfFile c.in-Err-certify_infeasible.fault bytes) c.in-Ok.ensures.front c.deref.ensures.value c.in-Err-certify_infeasible.ensures.fault.0,
-    stopped c.in-Err-certify_infeasible.fault c.watches.inside.output c.args.watches.now.output c.certify_infeasible.new.watch (g.W.Write.contents c.args.writer.now) (g.W.Write.contents c.certify_infeasible.new.writer)
-        (ap (λ v. v.output) c.watches.view_is) c.in-Err-certify_infeasible.ensures.fault.1,
+    (
+      noted c.in-Err-certify_infeasible.fault c.watches.inside.output c.args.watches.now.output c.certify_infeasible.new.watch (ap (λ v. v.output) c.watches.view_is) c.in-Err-certify_infeasible.ensures.noted,
+      one (g.S.Read.remaining c.args.file) c.in-Ok.bytes.items _ (λ bytes. IsOfFile c.in-Err-certify_infeasible.fault bytes) c.in-Ok.ensures.front c.deref.ensures.value c.in-Err-certify_infeasible.ensures.fault.0,
+      stopped c.in-Err-certify_infeasible.fault c.watches.inside.output c.args.watches.now.output c.certify_infeasible.new.watch (g.W.Write.contents c.args.writer.now) (g.W.Write.contents c.certify_infeasible.new.writer)
+          (ap (λ v. v.output) c.watches.view_is) c.in-Err-certify_infeasible.ensures.fault.1,
+    ),
+    c.in-Err-certify_infeasible.ensures.judged,
   ),
-  c.in-Err-certify_infeasible.ensures.judged,
 )
