@@ -39,7 +39,7 @@ use Rattle.session_lines.specs.declared.request.What.{What}
 use Rattle.session_lines.specs.declared.request.What.TheVariants as what
 use Rattle.session_lines.specs.declared.said.Said.{Said}
 use Rattle.session_lines.specs.declared.said.Said.TheVariants as said
-use Rattle.farm_session.specs.Command.{event_in}
+use Rattle.farm_session.specs.Command.{event_in, IsSubmit}
 use Rattle.farm_replay.specs.Output.{Answered, said_for, told_by, told_to, told_under, given_back, turned, request_may_need}
 use Rattle.farm_replay.specs.Floor.{is_turn_of, has_turn, AreApart, IsFloor, IsTold, untaken}
 
@@ -268,6 +268,11 @@ unanswered old t what known may = record {
   others = λ p other. refl;
   config = refl;
 }
+
+-- a submit for whose search there is no memory
+pub unmade : (w : World) (t : ℕ) (what : What) → t < length w.config.tenants → IsSubmit what → IsTold w t what (said.Reply reply.NoMemory) w
+unmade w t (what.Submit kind quanta project) known submits = unanswered w t (what.Submit kind quanta project) known refl
+unmade w t what known submits = absurd submits
 
 -- after a call
 called : (old new : World) (t : ℕ) (e : Event) (answer : Answer) → Follows old t e answer new

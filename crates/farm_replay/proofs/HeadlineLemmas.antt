@@ -6,6 +6,7 @@ use Rattle.farm_replay.specs.declared.script.ReplayFault.{ReplayFault}
 use Rattle.farm_replay.specs.Output.{Marked, IsWritten}
 use Rattle.farm_replay.specs.Bytes.{OutputsAreIsolated}
 use Rattle.farm_replay.specs.Truth.{EachLineIsTrue}
+use Rattle.farm_replay.proofs.IsolationLemmas.{parts_are_isolated}
 use Rattle.farm_replay.specs.Headline.{IsIsolated, IsTruthful, HasWritten}
 
 whole : (P : List Marked → Type 0) (config : ConfigData) (a b old new : Option (List ℕ)) (refuses : Bool) (result : Result ⊤ ReplayFault) → a ≡ b
@@ -15,14 +16,17 @@ whole P config a b old new refuses result same holds written = subst (λ r. OnOk
   where
     known : (a : Option (List ℕ)) (result : Result ⊤ ReplayFault) → OnOk result (IfSome a (λ xs. IsWritten config xs refuses old new)) → OnOk result (IfSome a (λ xs. HasWritten P config xs old new))
     known None (Ok u) it = tt
-    known (Some xs) (Ok u) it = record { requests = it.requests; all = it.all; written = it.written; holds = holds xs it }
+    known (Some xs) (Ok u) it = record { requests = it.requests; all = it.all; marks = it.marks; written = it.written; holds = holds xs it }
     known a (Err why) it = tt
 
 pub written_isolated : OutputsAreIsolated → (config : ConfigData) (a b old new : Option (List ℕ)) (refuses : Bool) (result : Result ⊤ ReplayFault) → a ≡ b
     → OnOk result (IfSome a (λ xs. IsWritten config xs refuses old new)) → OnOk result (IfSome b (λ xs. HasWritten (IsIsolated config) config xs old new))
 written_isolated isolated config a b old new refuses result same =
     whole (IsIsolated config) config a b old new refuses result same
-    (λ xs it elsewhere other others all p q names here there alike. isolated config elsewhere xs other it.requests others it.all all p q names here there alike.begins alike.members alike.asks)
+    (λ xs it elsewhere other others all p q names here there alike. (
+      isolated config elsewhere xs other it.requests others it.all all p q names here there alike.begins alike.members alike.asks,
+      parts_are_isolated config elsewhere it.requests others p q alike.begins alike.members alike.asks,
+    ))
 
 pub written_truthful : EachLineIsTrue → (config : ConfigData) (a b old new : Option (List ℕ)) (refuses : Bool) (result : Result ⊤ ReplayFault) → a ≡ b
     → OnOk result (IfSome a (λ xs. IsWritten config xs refuses old new)) → OnOk result (IfSome b (λ xs. HasWritten (IsTruthful config) config xs old new))

@@ -9,7 +9,7 @@ use Rattle.farm_core.specs.Name.{same_bytes}
 use Rattle.farm_core.proofs.NameLemmas.{same_bytes_is}
 use Rattle.farm_core.proofs.SharingLemmas.{apart}
 use Rattle.farm_core.specs.Tenant.{Purse, seat, with_seat}
-use Rattle.farm_core.specs.World.{terms_in, purse_in, place_in}
+use Rattle.farm_core.specs.World.{terms_in, purse_in, place_in, opened_purse}
 use Rattle.farm_core.specs.Laws.{IsLone}
 use Rattle.farm_core.specs.declared.reply.Reply.TheVariants as reply
 use Rattle.session_lines.specs.declared.request.Request.{Request}
@@ -19,7 +19,7 @@ use Rattle.session_lines.specs.declared.request.LineFault.TheVariants.{Eof, Read
 use Rattle.session_lines.specs.declared.said.Said.{Said}
 use Rattle.session_lines.specs.declared.said.Said.TheVariants as said
 use Rattle.farm_session.specs.Heard.{is_line_of, tenant_number, heard_for, heard_of}
-use Rattle.farm_replay.specs.Output.{Answered, told_under, Parts, opening, part_of, Saying, Next, says, answered, who_in, Marked, is_unread, next, lines_for}
+use Rattle.farm_replay.specs.Output.{Answered, told_under, Parts, opening, part_of, Saying, Next, says, answered, who_in, Marked, is_unread, next, lines_for, parts_after}
 use Rattle.farm_replay.specs.Isolation.{whose, is_of, place_if, seat_of, is_members, own_lines, own_requests, EachReplaysAlone, ReplaysAreIsolated, EachLoneReplaysAlone}
 
 -- ---- names
@@ -180,6 +180,26 @@ replays_are_isolated config elsewhere requests others p q begins seats own =
     own_by config elsewhere (opening config) (opening elsewhere) p q seats requests begins
     ∙ ap (lines_for elsewhere (opening elsewhere)) own
     ∙ sym (each_replays_alone elsewhere others q)
+
+-- ---- the purse at the end
+
+parts_by : (config elsewhere : ConfigData) (one other : Parts) (p q : ℕ) → SameSeats config elsewhere p q → (requests : List Marked) → one p ≡ other q
+    → parts_after config one requests p ≡ parts_after elsewhere other (own_requests config p requests) q
+parts_by config elsewhere one other p q seats [] h = h
+parts_by config elsewhere one other p q seats (m ∷ ms) h =
+    elim (is_members config p (whose m)) as (λ b. is_members config p (whose m) ≡ b
+    → parts_after config (next config one m).parts ms p ≡ parts_after elsewhere other (cond b (m ∷ own_requests config p ms) (own_requests config p ms)) q) [
+      | true ↦ λ own. parts_by config elsewhere (next config one m).parts (next elsewhere other m).parts p q seats ms (same_next config elsewhere one other p q seats m own h).agree
+      | false ↦ λ apart. parts_by config elsewhere (next config one m).parts other p q seats ms (apart_next config one p m apart ∙ h)
+    ] refl
+
+-- a purse is left alike by two replays that are alike for it
+pub parts_are_isolated : (config elsewhere : ConfigData) (requests others : List Marked) (p q : ℕ) → opened_purse config p ≡ opened_purse elsewhere q → SameSeats config elsewhere p q
+    → own_requests config p requests ≡ own_requests elsewhere q others → parts_after config (opening config) requests p ≡ parts_after elsewhere (opening elsewhere) others q
+parts_are_isolated config elsewhere requests others p q begins seats own =
+    parts_by config elsewhere (opening config) (opening elsewhere) p q seats requests begins
+    ∙ ap (λ ms. parts_after elsewhere (opening elsewhere) ms q) own
+    ∙ sym (parts_by elsewhere elsewhere (opening elsewhere) (opening elsewhere) q q (λ who. refl) others refl)
 
 -- ---- a tenant that has its purse for itself
 

@@ -30,7 +30,7 @@ use Rattle.session_lines.specs.Script.{Item, lines_of, first, first_request, req
 use Rattle.farm_replay.specs.declared.script.ReplayFault.{ReplayFault}
 use Rattle.farm_replay.specs.declared.script.ReplayFault.TheVariants as fault
 use Rattle.farm_session.specs.declared.heard.Heard.TheVariants as heard
-use Rattle.farm_replay.specs.Output.{Answered, request_may_need, told_to, told_under, Parts, opening, part_of, with_tenant, Saying, Next, says, answered, who_in, Marked, next, lines_for, parts_after, line_text, output_of, items_of, has_refusal, IsWritten, lines_past, IsLongNext, IsCutBy, IsCutOff}
+use Rattle.farm_replay.specs.Output.{Answered, request_may_need, told_to, told_under, Parts, opening, part_of, with_tenant, Saying, Next, says, answered, who_in, Marked, next, lines_for, parts_after, AreTrueMarks, line_text, output_of, items_of, has_refusal, IsWritten, lines_past, IsLongNext, IsCutBy, IsCutOff}
 use Rattle.farm_session.specs.Heard.{tenant_number, heard_for, heard_of}
 use Rattle.farm_replay.specs.Refusal.{is_refusal}
 use Rattle.farm_replay.specs.Replay.{GoesOn, end_of}
@@ -93,6 +93,15 @@ pub parts_more : (config : ConfigData) (parts : Parts) (ms : List Marked) (m : M
 parts_more config parts [] m = refl
 parts_more config parts (n ∷ ms) m = parts_more config (next config parts n).parts ms m
 
+-- the mark of a request is true of its line
+abbrev IsTrueMark : Bool → Said → Type 0
+IsTrueMark refused words = refused ≡ true → words ≡ said.Reply reply.NoMemory
+
+marks_more : (config : ConfigData) (parts : Parts) (ms : List Marked) (m : Marked) → AreTrueMarks config parts ms → IsTrueMark m.refused (next config (parts_after config parts ms) m).line.said
+    → AreTrueMarks config parts (ms ++ m ∷ [])
+marks_more config parts [] m all last = (last, tt)
+marks_more config parts (n ∷ ms) m all last = (all.0, marks_more config (next config parts n).parts ms m all.1 last)
+
 items_more : (ms : List Marked) (m : Marked) (rest : List Item) → items_of ms ++ m.item ∷ rest ≡ items_of (ms ++ m ∷ []) ++ rest
 items_more [] m rest = refl
 items_more (n ∷ ms) m rest = ap (λ l. n.item ∷ l) (items_more ms m rest)
@@ -120,6 +129,7 @@ refusal_more config ms m =
 -- these were the first requests of the script, ys are left of it, their lines were written, and the farm is where they lead
 pub record IsPlayed (config : ConfigData) (xs ys : List ℕ) (old new : Option (List ℕ)) (count : ℕ) (noted : Bool) (w : World) : Type 0 where
   pub requests : List Marked
+  pub marks : AreTrueMarks config (opening config) requests
   pub number : length requests ≡ count
   pub of_config : w.config ≡ config
   pub parts : (p : ℕ) → purse p w ≡ parts_after config (opening config) requests p
@@ -138,6 +148,7 @@ reads_next turns m ys zs it = turns ys ∙ ap from_first it.cut
 -- its line is this, and the farm is where it leads
 pub record IsAnsweredBy (config : ConfigData) (parts : Parts) (m : Marked) (line : Saying) (w : World) : Type 0 where
   pub says : (next config parts m).line ≡ line
+  pub marks : IsTrueMark m.refused line.said
   pub of_config : w.config ≡ config
   pub leads : (p : ℕ) → purse p w ≡ (next config parts m).parts p
 
@@ -145,6 +156,7 @@ play_on : EachInTurn → (config : ConfigData) (xs ys zs : List ℕ) (old mid ne
     → IsNext m ys zs → IsAnsweredBy config (parts_after config (opening config) it.requests) m line w' → Appends mid new (line_text line) → noted' ≡ (noted || is_refusal line.said) → IsPlayed config xs zs old new (count + 1) noted' w'
 play_on turns config xs ys zs old mid new count noted noted' w w' line it m n by written refusal = record {
   requests = it.requests ++ m ∷ [];
+  marks = marks_more config (opening config) it.requests m it.marks (λ marked. ap (λ (l : Saying). l.said) by.says ∙ by.marks marked);
   number = omega (arith, it.number, length-append it.requests (m ∷ []));
   of_config = by.of_config;
   parts = λ p. by.leads p ∙ ap (λ (parts : Parts). parts p) (sym (parts_more config (opening config) it.requests m));
@@ -205,6 +217,7 @@ played_whole : (config : ConfigData) (xs ys : List ℕ) (old new : Option (List 
 played_whole config xs ys old new count noted w most none it = record {
   requests = it.requests;
   all = sym (it.reads ∙ ap (λ l. items_of it.requests ++ l) none ∙ append-nil (items_of it.requests));
+  marks = it.marks;
   few = omega (arith, it.number);
   written = it.written;
   refusal = it.refusal;
@@ -228,6 +241,7 @@ file_answers item who file.NoMemory h = absurd h
 -- a request that the farm is not asked for
 pub record IsSettled (config : ConfigData) (line : Saying) (ys zs : List ℕ) : Type 0 where
   pub request : Marked
+  pub marks : IsTrueMark request.refused line.said
   pub cut : IsNext request ys zs
   pub next_is : (parts : Parts) → next config parts request ≡ record { line = line; parts = parts }
 
@@ -243,6 +257,7 @@ settled_by : (config : ConfigData) (most : ℕ) (answer : Result Request LineFau
     → (ys zs : List ℕ) (it : Cuts most (first None (lines_of ys)) answer ys zs) → it.item.answer ≡ answer → IsSettled config (record { who = who; said = words }) ys zs
 settled_by config most answer who words is ys zs it same = record {
   request = record { item = it.item; refused = false };
+  marks = λ marked. absurd (cc);
   cut = record { cut = it.cut };
   next_is = λ parts. ap (λ a. answered config false parts (heard_of config a)) same ∙ ap (answered config false parts) (sym is);
 }
@@ -263,6 +278,7 @@ unread_settled : EachInTurn → (config : ConfigData) (most : ℕ) (w : List ℕ
     → (ys zs : List ℕ) → Cuts most (first None (lines_of ys)) (Err (NoMemory w)) ys zs → IsSettled config (record { who = who; said = words }) ys zs
 unread_settled turns config most w who words is ys zs it = record {
   request = record { item = it.item; refused = true };
+  marks = λ marked. cc;
   cut = record { cut = it.cut };
   next_is = λ parts. next_unread config parts it.item (Some w) (ap (λ (submits : Option (List ℕ)). is_some submits) it.answers) (own_text turns ys it.item (lines_of zs) w it.cut it.answers)
       ∙ ap (answered config true parts) (sym is);
@@ -335,20 +351,20 @@ Played config first now old new count noted w = Goes first now (λ xs ys. IsPlay
 
 pub play_begins : (config : ConfigData) (a old : Option (List ℕ)) (w : World) → w.config ≡ config → ((p : ℕ) → purse p w ≡ opening config p) → Played config a a old old 0 false w
 play_begins config a old w is parts =
-    goes_same a (λ xs ys. IsPlayed config xs ys old old 0 false w) (λ xs. record { requests = []; number = refl; of_config = is; parts = parts; written = appends_none old; refusal = refl; reads = refl; left = refl })
+    goes_same a (λ xs ys. IsPlayed config xs ys old old 0 false w) (λ xs. record { requests = []; marks = tt; number = refl; of_config = is; parts = parts; written = appends_none old; refusal = refl; reads = refl; left = refl })
 
 -- what was written is sent on its way, and the same bytes are left to be read
 pub played_sent : (config : ConfigData) (a b c old mid new : Option (List ℕ)) (count : ℕ) (noted : Bool) (w : World) → c ≡ b → Keeps mid new → Played config a b old mid count noted w → Played config a c old new count noted w
 played_sent config a b c old mid new count noted w same kept played =
     subst (λ r. Played config a r old new count noted w) (sym same)
     (goes_to a b (λ xs ys. IsPlayed config xs ys old mid count noted w) (λ xs ys. IsPlayed config xs ys old new count noted w) played
-    (λ xs ys it. record { requests = it.requests; number = it.number; of_config = it.of_config; parts = it.parts; written = appends_kept old mid new (output_of config it.requests) it.written kept; refusal = it.refusal; reads = it.reads; left = it.left }))
+    (λ xs ys it. record { requests = it.requests; marks = it.marks; number = it.number; of_config = it.of_config; parts = it.parts; written = appends_kept old mid new (output_of config it.requests) it.written kept; refusal = it.refusal; reads = it.reads; left = it.left }))
 
 answered_settled : (config : ConfigData) (xs ys zs : List ℕ) (old mid : Option (List ℕ)) (count : ℕ) (noted : Bool) (w : World) (line : Saying) (it : IsPlayed config xs ys old mid count noted w) (s : IsSettled config line ys zs)
     → IsAnsweredBy config (parts_after config (opening config) it.requests) s.request line w
 answered_settled config xs ys zs old mid count noted w line it s =
     let is = s.next_is (parts_after config (opening config) it.requests) in
-    record { says = ap (λ (n : Next). n.line) is; of_config = it.of_config; leads = λ p. it.parts p ∙ ap (λ (n : Next). n.parts p) (sym is) }
+    record { says = ap (λ (n : Next). n.line) is; marks = s.marks; of_config = it.of_config; leads = λ p. it.parts p ∙ ap (λ (n : Next). n.parts p) (sym is) }
 
 pub settled_on : EachInTurn → (config : ConfigData) (a b c old mid new : Option (List ℕ)) (count : ℕ) (noted noted' : Bool) (w : World) (answer : Result Request LineFault) (who : Option (List ℕ)) (words : Said)
     → heard.Told who words ≡ heard_of config answer → Takes 100000000 None b c answer → Played config a b old mid count noted w → Appends mid new (reply_line who words) → noted' ≡ (noted || is_refusal words) → Played config a c old new (count + 1) noted' w
@@ -370,15 +386,17 @@ settled_cut turns config a b c old mid new count noted w answer who words is tak
 -- the line of tenant t's request, where this is told to it
 record IsLed (config : ConfigData) (parts : Parts) (item : Item) (t : ℕ) (who : List ℕ) (told : Answered) (refused : Bool) : Type 0 where
   line : (next config parts (record { item = item; refused = refused })).line ≡ record { who = Some who; said = told.said }
+  marks : IsTrueMark refused told.said
   leads : (q : ℕ) → (next config parts (record { item = item; refused = refused })).parts q ≡ with_tenant config parts t told.after q
 
 led_asked : (config : ConfigData) (parts : Parts) (item : Item) (t : ℕ) (who : List ℕ) (what : What) (refused : Bool) → item.answer ≡ Ok (record { who = who; what = what }) → tenant_number who config ≡ Some t
-    → (refused && is_some item.submits) ≡ false → IsLed config parts item t who (told_under refused (part_of config parts t) what) refused
-led_asked config parts item t who what refused is at text =
+    → (refused && is_some item.submits) ≡ false → IsTrueMark refused (told_under refused (part_of config parts t) what).said
+    → IsLed config parts item t who (told_under refused (part_of config parts t) what) refused
+led_asked config parts item t who what refused is at text marks =
     let same : next config parts (record { item = item; refused = refused }) ≡ answered config refused parts (heard.Asked t who what) =
     ap (λ b. if b then says (who_in item.answer) (said.Reply reply.NoMemory) parts else answered config refused parts (heard_of config item.answer)) text
     ∙ ap (λ a. answered config refused parts (heard_of config a)) is ∙ ap (λ n. answered config refused parts (heard_for who what n)) at in
-    record { line = ap (λ (n : Next). n.line) same; leads = λ q. ap (λ (n : Next). n.parts q) same }
+    record { line = ap (λ (n : Next). n.line) same; marks = marks; leads = λ q. ap (λ (n : Next). n.parts q) same }
 
 -- a tenant that stands as it did
 stays : (config : ConfigData) (parts : Parts) (t q : ℕ) → parts q ≡ with_tenant config parts t (part_of config parts t) q
@@ -392,23 +410,31 @@ stays config parts t q =
 abbrev told_if : Bool → Tenant → What → Answered
 told_if silent t what = cond silent (record { said = said.Reply reply.NoMemory; after = t }) (told_to t what)
 
+unmarked : (words : Said) → IsTrueMark false words
+unmarked words h = absurd (cc)
+
 -- whatever is told to it, there is a mark that leads there: memory that is refused for a submit refuses its text
 marked : (config : ConfigData) (parts : Parts) (item : Item) (t : ℕ) (who : List ℕ) (what : What) (refused : Bool) → item.answer ≡ Ok (record { who = who; what = what }) → tenant_number who config ≡ Some t
     → (mark : Bool) × IsLed config parts item t who (told_under refused (part_of config parts t) what) mark
-marked config parts item t who what false is at = (false, led_asked config parts item t who what false is at refl)
+marked config parts item t who what false is at =
+    (false, led_asked config parts item t who what false is at refl (unmarked (told_to (part_of config parts t) what).said))
 marked config parts item t who what true is at = by (is_some item.submits) refl (request_may_need (part_of config parts t) what) refl
   where
     by : (text : Bool) → is_some item.submits ≡ text → (need : Bool) → request_may_need (part_of config parts t) what ≡ need
         → (mark : Bool) × IsLed config parts item t who (told_if (request_may_need (part_of config parts t) what) (part_of config parts t) what) mark
-    by false text need is_needed = (true, led_asked config parts item t who what true is at text)
+    by false text true is_needed =
+        (true, led_asked config parts item t who what true is at text (λ _. ap (λ b. (told_if b (part_of config parts t) what).said) is_needed))
     by true text true is_needed =
         let silent = next_unread config parts item (Some who) text (ap who_in is) in (
           true,
           subst (λ b. IsLed config parts item t who (told_if b (part_of config parts t) what) true) (sym is_needed)
-              (record { line = ap (λ (n : Next). n.line) silent; leads = λ q. ap (λ (n : Next). n.parts q) silent ∙ stays config parts t q }),
+              (record { line = ap (λ (n : Next). n.line) silent; marks = λ _. refl; leads = λ q. ap (λ (n : Next). n.parts q) silent ∙ stays config parts t q }),
         )
-    by true text false is_needed =
-        (false, subst (λ b. IsLed config parts item t who (told_if b (part_of config parts t) what) false) (sym is_needed) (led_asked config parts item t who what false is at refl))
+    by all text false is_needed = (
+      false,
+      subst (λ b. IsLed config parts item t who (told_if b (part_of config parts t) what) false) (sym is_needed)
+          (led_asked config parts item t who what false is at refl (unmarked (told_to (part_of config parts t) what).said)),
+    )
 
 not_same : (u t : ℕ) → u ≢ t → (u == t) ≡ false
 not_same u t d = elim (u == t) as (λ b. (u == t) ≡ b → b ≡ false) [ true ↦ λ e. absurd (d (eqb-true u t e)) | false ↦ λ _. refl ] refl
@@ -446,6 +472,7 @@ answered_asked config xs ys zs old mid count noted w w' t who what words it s h 
       led.0,
       record {
         says = led.1.line ∙ ap (λ v. let l : Saying = record { who = Some who; said = v } in l) (sym (h.said ∙ ap (λ (x : Answered). x.said) same));
+        marks = λ marked. h.said ∙ ap (λ (x : Answered). x.said) same ∙ led.1.marks marked;
         of_config = h.config ∙ it.of_config;
         leads = λ q. leads_to config parts w w' t (told_under h.refused (view t w) what).after it.of_config h.own h.others it.parts q
             ∙ ap (λ (x : Answered). with_tenant config parts t x.after q) same ∙ sym (led.1.leads q);

@@ -10,7 +10,7 @@ use Rattle.session_lines.specs.declared.request.What.{What}
 use Rattle.session_lines.specs.declared.said.Said.{Said}
 use Rattle.session_lines.specs.declared.said.Said.TheVariants as said
 use Rattle.session_lines.specs.Script.{requests_of}
-use Rattle.farm_replay.specs.Output.{Marked, items_of, output_of}
+use Rattle.farm_replay.specs.Output.{Marked, items_of, opening, parts_after, AreTrueMarks, output_of}
 use Rattle.farm_replay.specs.Isolation.{seat_of, own_requests}
 use Rattle.farm_replay.specs.Bytes.{AreNamesOf, lines_beginning}
 use Rattle.farm_replay.specs.Truth.{WasTold, WasSubmitted, IsTrueSaid}
@@ -22,12 +22,13 @@ pub record IsAlike (config elsewhere : ConfigData) (p q : ℕ) (requests others 
   pub members : (who : List ℕ) → seat_of config p who ≡ seat_of elsewhere q who
   pub asks : own_requests config p requests ≡ own_requests elsewhere q others
 
--- each purse's lines are equal to its lines in the output of any replay that is alike for it,
--- whatever its script and configuration
+-- each purse's lines, and its jobs and ledger at the end, are equal to those of any replay that is
+-- alike for it, whatever its script and configuration
 abbrev pub IsIsolated : ConfigData → List Marked → Type 0
 IsIsolated config requests = (elsewhere : ConfigData) (script : List ℕ) (others : List Marked) → items_of others ≡ requests_of script →
     (p q : ℕ) (names : List (List ℕ)) → AreNamesOf config p names → AreNamesOf elsewhere q names → IsAlike config elsewhere p q requests others →
-    lines_beginning names (output_of config requests) ≡ lines_beginning names (output_of elsewhere others)
+    (lines_beginning names (output_of config requests) ≡ lines_beginning names (output_of elsewhere others))
+    × (parts_after config (opening config) requests p ≡ parts_after elsewhere (opening elsewhere) others q)
 
 -- each reply about a job is true of the one plan that its tenant submitted under its number before.
 -- A schedule is feasible and has its makespan. With 'optimal' no feasible one is shorter, and with
@@ -37,9 +38,11 @@ pub record IsTruthful (config : ConfigData) (requests : List Marked) : Type 0 wh
   pub one : (t s : ℕ) (what other : What) → (here : WasTold config requests t what (said.Reply (reply.Job s))) →
       (there : WasTold config requests t other (said.Reply (reply.Job s))) → length here.before ≡ length there.before
 
--- the output of the script's requests was written, and P holds of these
+-- the output of the script's requests was written, and P holds of these. A request is marked only
+-- if its line is *no memory*
 pub record HasWritten (P : List Marked → Type 0) (config : ConfigData) (script : List ℕ) (old new : Option (List ℕ)) : Type 0 where
   pub requests : List Marked
   pub all : items_of requests ≡ requests_of script
+  pub marks : AreTrueMarks config (opening config) requests
   pub written : Appends old new (output_of config requests)
   pub holds : P requests

@@ -1,7 +1,8 @@
 -- What a replay writes: one line for each request of its script, given by the farm's steps.
-use Rattle.std.specs.Prelude.{◌≡◌, ◌≢◌, ◌⊎◌, ℕ, zero, suc, Bool, true, false, not, cond, ◌&&◌, ◌==◌, ◌≤◌, List, [], ◌∷◌, ◌++◌, if◌then◌else◌, Option, Some, None, is_some, Result, Ok, Err, length, map}
+use Rattle.std.specs.Prelude.{◌≡◌, ◌≢◌, ◌⊎◌, ⊤, ℕ, zero, suc, Bool, true, false, not, cond, ◌&&◌, ◌==◌, ◌≤◌, List, [], ◌∷◌, ◌++◌, if◌then◌else◌, Option, Some, None, is_some, Result, Ok, Err, length, map}
 use Rattle.std.specs.Io.KnownBytes.{Appends}
 use Rattle.std.specs.List.{flat_map, list_any}
+use Rattle.farm_core.specs.declared.entry.Event.{Event}
 use Rattle.farm_core.specs.declared.entry.Event.TheVariants as event
 use Rattle.farm_core.specs.declared.reply.Reply.TheVariants as reply
 use Rattle.farm_core.specs.Config.{ConfigData}
@@ -23,6 +24,7 @@ use Rattle.session_lines.specs.declared.said.Said.TheVariants as said
 use Rattle.session_lines.specs.ReplyText.{reply_line}
 use Rattle.session_lines.specs.Cause.{lines_after, IsPast}
 use Rattle.session_lines.specs.Script.{Item, lines_of, first, requests_of}
+use Rattle.farm_session.specs.Command.{event_in}
 use Rattle.farm_session.specs.declared.heard.Heard.{Heard}
 use Rattle.farm_session.specs.declared.heard.Heard.TheVariants as heard
 use Rattle.farm_session.specs.Heard.{heard_of}
@@ -58,18 +60,17 @@ abbrev pub turned : Answer → Tenant → ℕ → Answered
 turned (Sent line) t s = given_back t s
 turned answer t s = record { said = said_for answer; after = t }
 
+-- the reply to a call, and to what is no request
+abbrev pub told_for : Tenant → Option Event → Answered
+told_for t (Some e) = told_by (step t e)
+told_for t None = record { said = said.Syntax; after = t }
+
 -- a tenant's request is a call of the farm; a whole turn is two calls
 abbrev pub told_to : Tenant → What → Answered
-told_to t (Submit kind quanta project) = told_by (step t (event.Submit (record { project = project; kind = kind }) quanta))
-told_to t (Fund s quanta) = told_by (step t (event.Fund s quanta))
-told_to t (Status s) = told_by (step t (event.Status s))
-told_to t (Fetch s) = told_by (step t (event.Fetch s))
-told_to t (Cancel s) = told_by (step t (event.Cancel s))
-told_to t (Forget s) = told_by (step t (event.Forget s))
-told_to t Ledger = told_by (step t event.Ledger)
 told_to t (Take s slice) = told_by (step t (event.Take s slice))
 told_to t (Give s) = given_back t s
 told_to t (Turn s slice) = turned (step t (event.Take s slice)).answer (step t (event.Take s slice)).after s
+told_to t what = told_for t (event_in what)
 
 -- whether a request may need memory: a submit and a request for a turn do, a give does not; another
 -- request does if the journal has room for its entry, but for an accepted cancel
@@ -165,6 +166,12 @@ abbrev pub parts_after : ConfigData → Parts → List Marked → Parts
 parts_after config parts [] = parts
 parts_after config parts (m ∷ ms) = parts_after config (next config parts m).parts ms
 
+-- a request is marked only if its line is *no memory*
+abbrev pub AreTrueMarks : ConfigData → Parts → List Marked → Type 0
+AreTrueMarks config parts [] = ⊤
+AreTrueMarks config parts (m ∷ ms) =
+    (m.refused ≡ true → (next config parts m).line.said ≡ said.Reply reply.NoMemory) × AreTrueMarks config (next config parts m).parts ms
+
 -- the bytes of a line
 abbrev pub line_text : Saying → List ℕ
 line_text line = reply_line line.who line.said
@@ -186,6 +193,7 @@ has_refusal lines = list_any (λ (line : Saying). is_refusal line.said) lines
 pub record IsWritten (config : ConfigData) (script : List ℕ) (refuses : Bool) (old new : Option (List ℕ)) : Type 0 where
   pub requests : List Marked
   pub all : items_of requests ≡ requests_of script
+  pub marks : AreTrueMarks config (opening config) requests
   pub few : length requests ≤ MOST_REQUESTS
   pub written : Appends old new (output_of config requests)
   pub refusal : refuses ≡ has_refusal (lines_for config (opening config) requests)

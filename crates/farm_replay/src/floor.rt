@@ -1,22 +1,22 @@
 //! The farm of a script, and the turns that the script holds.
-ghost use Rattle.std.specs.Prelude.{◌≡◌, ◌≢◌, ℕ, ◌<◌, ◌-◌, [], length, position, false, IfOk, IfErr};
-ghost use Rattle.quanta_till.specs.Lease.{empty_lease};
+ghost use Rattle.std.specs.Prelude.{◌≡◌, ◌≢◌, ℕ, ◌<◌, ◌-◌, [], length, position, None, false, IfOk, IfErr};
 ghost use Rattle.farm_core.specs.Tenant.{find_job};
 ghost use Rattle.farm_core.specs.World.{opened, view, Follows};
 ghost use Rattle.farm_core.specs.Step.{Sent};
 ghost use Rattle.farm_core.specs.Turn.{IsNotTaken};
 ghost use Rattle.farm_core.specs.Held.{is_out_of};
 ghost use Rattle.session_lines.specs.declared.request.What.TheVariants as what;
-ghost use Rattle.farm_core.specs.Tills.{AreTillsOf, IsTillOf};
-ghost use Rattle.farm_session.specs.Branch.{tills_of, HasLeased, HasLeasedFor};
+ghost use Rattle.farm_core.specs.Tills.{AreTillsOf};
+ghost use Rattle.farm_session.specs.Branch.{tills_of, HasLeasedFor};
+ghost use Rattle.farm_session.specs.Command.{event_in};
 ghost use Rattle.farm_session.specs.Ready.{MakesFresh};
 ghost use Rattle.farm_replay.specs.Floor.{IsFloor, IsTold, is_turn_of, untaken};
 
 use farm_core::{Config, Event, Farm, Line, NoTurn, Reply, Stranger, Turn};
-use farm_session::{Branch, Ready, command_of, search_of};
+use farm_session::{Branch, Errand, Ready, Workshop, errand_of};
 use session_lines::{Said, What};
 use std::alloc::{AllocError, Global};
-use strategy::{Plan, Strategy};
+use strategy::Strategy;
 
 pub(crate) struct Floor<J> {
     pub(crate) farm: Farm<J>,
@@ -50,32 +50,6 @@ impl<J: Strategy> Floor<J> {
             farm,
             held: Vec::new(alloc),
         })
-    }
-
-    fn submit<M: Fn(Ready) -> Option<J>>(
-        &mut self,
-        alloc: Global,
-        branch: &mut Branch<'_>,
-        tenant: u32,
-        plan: Plan,
-        quanta: u64,
-        make: &M,
-    ) -> Said
-        requires known { tenant < length self.old.farm.config.tenants }
-        requires till { IsTillOf self.old.farm.config tenant branch.old.till }
-        requires make { M.IsAlwaysCallable make.now }
-        requires fresh { MakesFresh J.meaning (M.post make.now) }
-        requires floor { IsFloor J.meaning self.old.farm self.old.held.items }
-        ensures leased { (search : _) × HasLeased (M.post make.now) branch.old
-            (record { plan = plan; lease = empty_lease branch.old.till tenant })
-            search branch.new }
-        ensures told { IsTold self.old.farm tenant (what.Submit plan.kind quanta plan.project) result self.new.farm }
-        ensures floor { IsFloor J.meaning self.new.farm self.new.held.items }
-    {
-        let Some(search) = search_of(alloc, branch, tenant, &plan, make) else {
-            return Said::Reply(Reply::NoMemory);
-        };
-        Said::Reply(self.farm.submit(tenant, plan, quanta, search))
     }
 
     /// Reserves memory first, so that no turn is taken that cannot be held.
@@ -142,42 +116,43 @@ impl<J: Strategy> Floor<J> {
         }
     }
 
-    pub(crate) fn answer<M: Fn(Ready) -> Option<J>>(
-        &mut self,
-        alloc: Global,
-        branches: &mut [Branch<'_>],
-        tenant: u32,
-        asked: What,
-        make: &M,
-    ) -> Said
+    fn play_turn(&mut self, tenant: u32, asked: What) -> Said
         requires known { tenant < length self.old.farm.config.tenants }
-        requires tills { AreTillsOf self.old.farm.config (tills_of branches.old) }
-        requires make { M.IsAlwaysCallable make.now }
-        requires fresh { MakesFresh J.meaning (M.post make.now) }
+        requires scripted { event_in asked ≡ None }
         requires floor { IsFloor J.meaning self.old.farm self.old.held.items }
-        ensures leased { HasLeasedFor (M.post make.now)
-            self.old.farm.config tenant asked branches.old branches.new }
         ensures told { IsTold self.old.farm tenant asked result self.new.farm }
         ensures floor { IsFloor J.meaning self.new.farm self.new.held.items }
     {
-        if let Some(command) = command_of(&asked) {
-            return Said::Reply(self.farm.command(tenant, command));
-        }
         match asked {
-            What::Submit {
-                kind,
-                quanta,
-                project,
-            } => {
-                let purse = self.farm.purse_of(tenant);
-                let branch = &mut branches[purse as usize];
-                let plan = Plan { project, kind };
-                self.submit(alloc, branch, tenant, plan, quanta, make)
-            }
             What::Take { seq, slice } => self.take(tenant, seq, slice),
             What::Give(seq) => self.give(tenant, seq),
             What::Turn { seq, slice } => self.turn(tenant, seq, slice),
             _ => unreachable!(),
+        }
+    }
+
+    pub(crate) fn answer<M: Fn(Ready) -> Option<J>>(
+        &mut self,
+        shop: &Workshop<'_, M>,
+        branches: &mut [Branch<'_>],
+        tenant: u32,
+        asked: What,
+    ) -> Said
+        requires config { self.old.farm.config ≡ shop.now.config.now }
+        requires known { tenant < length shop.now.config.now.tenants }
+        requires tills { AreTillsOf shop.now.config.now (tills_of branches.old) }
+        requires make { M.IsAlwaysCallable shop.now.make.now }
+        requires fresh { MakesFresh J.meaning (M.post shop.now.make.now) }
+        requires floor { IsFloor J.meaning self.old.farm self.old.held.items }
+        ensures leased { HasLeasedFor (M.post shop.now.make.now)
+            shop.now.config.now tenant asked branches.old branches.new }
+        ensures told { IsTold self.old.farm tenant asked result self.new.farm }
+        ensures floor { IsFloor J.meaning self.new.farm self.new.held.items }
+    {
+        match errand_of(shop, branches, tenant, asked) {
+            Errand::Call(command) => Said::Reply(self.farm.command(tenant, command)),
+            Errand::NoMemory => Said::Reply(Reply::NoMemory),
+            Errand::Scripted(asked) => self.play_turn(tenant, asked),
         }
     }
 

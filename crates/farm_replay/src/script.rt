@@ -25,7 +25,7 @@ use crate::sending::{send_before_nodes, send_before_wait};
 use crate::watches::ReplayWatches;
 use farm_core::laws::farms_are_replayed;
 use farm_core::{Config, Name};
-use farm_session::{Branch, Heard, Ready, branches, hear, open_tills};
+use farm_session::{Branch, Heard, Ready, Workshop, branches, hear, open_tills};
 use session_lines::laws::requests_come_in_turn;
 use session_lines::{LineFault, Request, Said, read_request, write_reply};
 use std::alloc::Global;
@@ -92,29 +92,27 @@ fn end<R: BufRead>(alloc: Global, script: &mut R, watch: &mut Watch<R>) -> Resul
 }
 
 fn play<J: Strategy, R: Read, W: Write, M: Fn(Ready) -> Option<J>>(
-    alloc: Global,
-    config: &Config,
+    shop: &Workshop<'_, M>,
     floor: &mut Floor<J>,
     branches: &mut [Branch<'_>],
     script: &mut Script<R>,
     writer: &mut W,
     watches: &mut ReplayWatches<R, W>,
     notes: &mut Notes,
-    make: &M,
 ) -> Result<(), ReplayFault>
-    requires farm { floor.old.farm ≡ opened config.now }
-    requires tills { AreTillsOf config.now (tills_of branches.old) }
-    requires make { M.IsAlwaysCallable make.now }
-    requires fresh { MakesFresh J.meaning (M.post make.now) }
+    requires farm { floor.old.farm ≡ opened shop.now.config.now }
+    requires tills { AreTillsOf shop.now.config.now (tills_of branches.old) }
+    requires make { M.IsAlwaysCallable shop.now.make.now }
+    requires fresh { MakesFresh J.meaning (M.post shop.now.make.now) }
     requires floor { IsFloor J.meaning floor.old.farm floor.old.held.items }
     requires notes { is_some notes.old.refused ≡ false }
     ensures written { OnOk result (IfSome (script_rest R.remaining script.old) (λ bytes.
-        IsWritten config.now bytes (is_some notes.new.refused) (W.contents writer.old) (W.contents writer.new))) }
+        IsWritten shop.now.config.now bytes (is_some notes.new.refused) (W.contents writer.old) (W.contents writer.new))) }
     ensures cut_off { IfErr result (λ fault. IfSome (script_rest R.remaining script.old) (λ bytes.
-        IsCutOff config.now fault watches.old watches.new bytes (W.contents writer.old) (W.contents writer.new))) }
+        IsCutOff shop.now.config.now fault watches.old watches.new bytes (W.contents writer.old) (W.contents writer.new))) }
     ensures noted { AreNoted result watches.old watches.new }
     ensures floor { IsFloor J.meaning floor.new.farm floor.new.held.items }
-    ensures leased { AreLeasesOf config.now (M.post make.now)
+    ensures leased { AreLeasesOf shop.now.config.now (M.post shop.now.make.now)
         (script_rest R.remaining script.old) branches.old branches.new }
 {
     requests_come_in_turn();
@@ -122,7 +120,10 @@ fn play<J: Strategy, R: Read, W: Write, M: Fn(Ready) -> Option<J>>(
     for _answered in 0..MOST_REQUESTS {
         send_before_wait(script, writer);
         script.begin();
-        match hear(config, read_request(alloc, script, &mut watches.reads)) {
+        match hear(
+            shop.config,
+            read_request(shop.alloc, script, &mut watches.reads),
+        ) {
             Heard::Over => return Ok(()),
             Heard::Broken => return Err(ReplayFault::Read),
             Heard::Told(who, said) => {
@@ -135,7 +136,7 @@ fn play<J: Strategy, R: Read, W: Write, M: Fn(Ready) -> Option<J>>(
                 if let Err(fault) = send_before_nodes(&asked, writer, &mut watches.writes) {
                     return Err(fault);
                 }
-                let said = floor.answer(alloc, branches, tenant, asked, make);
+                let said = floor.answer(shop, branches, tenant, asked);
                 notes.add(script.line(), script.is_doubtful(), &said);
                 if let Err(fault) = tell(writer, &mut watches.writes, Some(who), said) {
                     return Err(fault);
@@ -143,7 +144,7 @@ fn play<J: Strategy, R: Read, W: Write, M: Fn(Ready) -> Option<J>>(
             }
         }
     }
-    end(alloc, script, &mut watches.reads)
+    end(shop.alloc, script, &mut watches.reads)
 }
 
 /// Runs the requests of `reader` on a new farm of `config`, and writes one reply line for each.
@@ -201,16 +202,19 @@ pub fn replay<R: Read + Drop, W: Write>(
             }
         }
     };
-    let ended = play(
+    let shop = Workshop {
         alloc,
         config,
+        make: &make,
+    };
+    let ended = play(
+        &shop,
         &mut floor,
         &mut branches,
         &mut script,
         writer,
         watches,
         notes,
-        &make,
     );
     drop(floor.close());
     ended

@@ -1,3 +1,4 @@
 pub mod KnownLemmas
 pub mod SessionLemmas
 pub mod AskedLemmas
+pub mod SettledLemmas

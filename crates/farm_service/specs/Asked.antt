@@ -1,26 +1,18 @@
 -- The answer to a request.
-use Rattle.std.specs.Prelude.{◌≡◌, ◌⊎◌, Option, Some, None}
+use Rattle.std.specs.Prelude.{◌≡◌, ◌⊎◌, ⊤, Option, Some, None}
 use Rattle.farm_core.specs.declared.entry.Event.{Event}
 use Rattle.farm_core.specs.declared.entry.Event.TheVariants as event
 use Rattle.farm_core.specs.declared.reply.Reply.{Reply}
 use Rattle.farm_core.specs.declared.reply.Reply.TheVariants as reply
-use Rattle.session_lines.specs.declared.request.What.{What}
-use Rattle.session_lines.specs.declared.request.What.TheVariants.{Submit}
 use Rattle.session_lines.specs.declared.said.Said.{Said}
 use Rattle.session_lines.specs.declared.said.Said.TheVariants as said
-use Rattle.farm_session.specs.Command.{event_in, IsNoSubmit}
 
--- the reply to the call of an event
-abbrev pub IsAnswerTo : {T : Type 0} → (Event → Reply → T → Type 0) → Option Event → Reply → T → Type 0
-IsAnswerTo tells (Some e) reply new = tells e reply new
-IsAnswerTo tells None reply new = ⊥
-
--- a request other than a submit has the reply to its call. A submit, and a request without a call,
--- have none here, and nothing changed
-abbrev pub IsAsked : {T : Type 0} → (Event → Reply → T → Type 0) → T → What → Option Reply → T → Type 0
-IsAsked tells old what (Some reply) new = IsNoSubmit what × IsAnswerTo tells (event_in what) reply new
-IsAsked tells old (Submit kind quanta project) None new = new ≡ old
-IsAsked tells old what None new = (event_in what ≡ None) × (new ≡ old)
+-- a call that needs no search
+abbrev pub IsSearchless : Event → Type 0
+IsSearchless (event.Submit plan quanta) = ⊥
+IsSearchless (event.Take seq slice) = ⊥
+IsSearchless (event.Give seq ran) = ⊥
+IsSearchless e = ⊤
 
 -- a submit was answered; or there was no memory for its search, and no call was made
 abbrev pub IsSubmitted : {T : Type 0} → (Event → Reply → T → Type 0) → T → Event → Reply → T → Type 0

@@ -1,27 +1,24 @@
 //! One connection: its requests are read, called and answered in their order.
-ghost use Rattle.std.specs.Prelude.{◌≡◌, ◌<◌, length, Some};
+ghost use Rattle.std.specs.Prelude.{◌≡◌, ◌<◌, length};
 ghost use Rattle.watched_io.specs.Failure.{IsNoted};
-ghost use Rattle.quanta_till.specs.Lease.{empty_lease};
-ghost use Rattle.farm_core.specs.declared.entry.Event.TheVariants as event;
-ghost use Rattle.farm_session.specs.Branch.{tills_of, HasLeased, HasLeasedFor, HasLeasedBy};
+ghost use Rattle.farm_core.specs.Command.{event_of, IsFresh};
+ghost use Rattle.farm_session.specs.Branch.{tills_of, HasLeasedFor, HasLeasedBy};
 ghost use Rattle.farm_session.specs.Ready.{MakesFresh};
 ghost use Rattle.farm_session.specs.Command.{event_in};
-ghost use Rattle.farm_service.specs.Asked.{IsSaidTo, IsSubmitted};
+ghost use Rattle.farm_service.specs.Asked.{IsSaidTo};
 ghost use Rattle.farm_service.specs.Known.{IsKnown};
 ghost use Rattle.farm_session.specs.declared.heard.Heard.{Heard};
 ghost use Rattle.farm_service.specs.Session.{stand, HasAnswered, IsSession};
 ghost use Rattle.farm_service.specs.Told.{heard_in, IsToldOf};
-ghost use Rattle.farm_core.specs.Tills.{AreTillsOf, IsTillOf};
+ghost use Rattle.farm_core.specs.Tills.{AreTillsOf};
 
 use crate::lobby::Lobby;
 use crate::shared::Shared;
-use farm_core::{Config, Reply};
-use farm_session::{Branch, Heard, Ready, hear, search_of};
+use farm_core::{Command, Config, Event, Reply};
+use farm_session::{Branch, Errand, Heard, Ready, Workshop, errand_of, hear};
 use session_lines::{LineFault, Request, Said, What, WriteFault, read_request, write_reply};
-use std::alloc::Global;
 use std::io::{BufRead, Write};
 use std::sync::Wait;
-use strategy::Plan;
 use watched_io::Watch;
 
 /// A request that only a script may make is a `Syntax` fault here.
@@ -56,94 +53,85 @@ impl<I, O> ConnectionWatches<I, O> {
     }
 }
 
-/// An `Office` is what each connection needs: the pool, the lobby of its workers, and `make`.
+/// An `Office` is what each connection needs: the pool, the lobby of its workers, and the workshop.
 #[derive(Drop)]
-pub(crate) struct Office<'a, R, D, M> {
+pub(crate) struct Office<'a, 'c, R, D, M> {
     pub(crate) rt: &'a R,
-    pub(crate) alloc: Global,
-    pub(crate) config: &'a Config,
     pub(crate) shared: &'a D,
     pub(crate) lobby: &'a Lobby,
-    pub(crate) make: &'a M,
+    pub(crate) shop: Workshop<'c, M>,
 }
 
-/// Rings the lobby's bell, since the job may wait. Replies `NoMemory` if no search is made.
-fn submit<D: Shared, R: Wait, M: Fn(Ready) -> Option<D::Search>>(
-    office: &Office<'_, R, D, M>,
+/// Rings the lobby's bell after a submit or a fund, since a job may wait then.
+fn call<D: Shared, R: Wait, M>(
+    office: &Office<'_, '_, R, D, M>,
     token: &mut D::Token,
-    branch: &mut Branch<'_>,
     tenant: u32,
-    plan: Plan,
-    quanta: u64,
+    command: Command<D::Search>,
 ) -> Reply
     requires own { D.owns office.now.shared.now token.old }
     requires known { tenant < length (D.config office.now.shared.now).tenants }
-    requires till { IsTillOf (D.config office.now.shared.now) tenant branch.old.till }
-    requires make { M.IsAlwaysCallable office.now.make.now }
-    requires fresh { MakesFresh D.means (M.post office.now.make.now) }
+    requires fresh { IsFresh D.means tenant command }
     ensures own { D.owns office.now.shared.now token.new }
-    ensures told { IsSubmitted (D.tells office.now.shared.now token.old tenant)
-        token.old (event.Submit plan quanta) result token.new }
-    ensures leased { (search : _) × HasLeased (M.post office.now.make.now) branch.old
-        (record { plan = plan; lease = empty_lease branch.old.till tenant })
-        search branch.new }
+    ensures told { D.tells office.now.shared.now
+        token.old tenant (event_of command) result token.new }
 {
-    match search_of(office.alloc, branch, tenant, &plan, office.make) {
-        Some(search) => {
-            let reply = office
-                .shared
-                .submit(office.rt, token, tenant, plan, quanta, search);
-            office.lobby.ring(office.rt);
+    let (rt, shared) = (office.rt, office.shared);
+    match command {
+        Command::Submit {
+            plan,
+            quanta,
+            search,
+        } => {
+            let reply = shared.submit(rt, token, tenant, plan, quanta, search);
+            office.lobby.ring(rt);
             reply
         }
-        None => Reply::NoMemory,
+        Command::Fund { seq, quanta } => {
+            let reply = shared.ask(rt, token, tenant, Event::Fund(seq, quanta));
+            office.lobby.ring(rt);
+            reply
+        }
+        Command::Status(seq) => shared.ask(rt, token, tenant, Event::Status(seq)),
+        Command::Fetch(seq) => shared.ask(rt, token, tenant, Event::Fetch(seq)),
+        Command::Cancel(seq) => shared.ask(rt, token, tenant, Event::Cancel(seq)),
+        Command::Forget(seq) => shared.ask(rt, token, tenant, Event::Forget(seq)),
+        Command::Ledger => shared.ask(rt, token, tenant, Event::Ledger),
     }
 }
 
-/// Rings the lobby's bell if a job may wait after the call.
 fn answer<D: Shared, R: Wait, M: Fn(Ready) -> Option<D::Search>>(
-    office: &Office<'_, R, D, M>,
+    office: &Office<'_, '_, R, D, M>,
     token: &mut D::Token,
     branches: &mut [Branch<'_>],
     tenant: u32,
     asked: What,
 ) -> Said
     requires own { D.owns office.now.shared.now token.old }
-    requires config { D.config office.now.shared.now ≡ office.now.config.now }
-    requires known { tenant < length office.now.config.now.tenants }
-    requires tills { AreTillsOf office.now.config.now (tills_of branches.old) }
-    requires make { M.IsAlwaysCallable office.now.make.now }
-    requires fresh { MakesFresh D.means (M.post office.now.make.now) }
+    requires config { D.config office.now.shared.now ≡ office.now.shop.config.now }
+    requires known { tenant < length office.now.shop.config.now.tenants }
+    requires tills { AreTillsOf office.now.shop.config.now (tills_of branches.old) }
+    requires make { M.IsAlwaysCallable office.now.shop.make.now }
+    requires fresh { MakesFresh D.means (M.post office.now.shop.make.now) }
     ensures own { D.owns office.now.shared.now token.new }
     ensures said { IsSaidTo (D.tells office.now.shared.now token.old tenant)
         token.old (event_in asked) result token.new }
-    ensures leased { HasLeasedFor (M.post office.now.make.now)
-        office.now.config.now tenant asked branches.old branches.new }
+    ensures leased { HasLeasedFor (M.post office.now.shop.make.now)
+        office.now.shop.config.now tenant asked branches.old branches.new }
 {
-    if let Some(reply) = office.shared.ask(office.rt, token, tenant, &asked) {
-        if matches!(&asked, What::Fund { .. }) {
-            office.lobby.ring(office.rt);
+    match errand_of(&office.shop, branches, tenant, asked) {
+        Errand::Call(command) => Said::Reply(call(office, token, tenant, command)),
+        Errand::NoMemory => Said::Reply(Reply::NoMemory),
+        Errand::Scripted(asked) => {
+            drop(asked);
+            Said::Syntax
         }
-        return Said::Reply(reply);
-    }
-    match asked {
-        What::Submit {
-            kind,
-            quanta,
-            project,
-        } => {
-            let purse = office.config.purse_of(tenant);
-            let branch = &mut branches[purse as usize];
-            let plan = Plan { project, kind };
-            Said::Reply(submit(office, token, branch, tenant, plan, quanta))
-        }
-        _ => Said::Syntax,
     }
 }
 
 /// Writes nothing if the input is over or cannot be read.
 fn reply<D: Shared, R: Wait, W: Write, M: Fn(Ready) -> Option<D::Search>>(
-    office: &Office<'_, R, D, M>,
+    office: &Office<'_, '_, R, D, M>,
     token: &mut D::Token,
     branches: &mut [Branch<'_>],
     writer: &mut W,
@@ -151,18 +139,18 @@ fn reply<D: Shared, R: Wait, W: Write, M: Fn(Ready) -> Option<D::Search>>(
     heard: Heard,
 ) -> Result<(), WriteFault>
     requires own { D.owns office.now.shared.now token.old }
-    requires config { D.config office.now.shared.now ≡ office.now.config.now }
-    requires tills { AreTillsOf office.now.config.now (tills_of branches.old) }
-    requires known { IsKnown office.now.config.now heard }
-    requires make { M.IsAlwaysCallable office.now.make.now }
-    requires fresh { MakesFresh D.means (M.post office.now.make.now) }
+    requires config { D.config office.now.shared.now ≡ office.now.shop.config.now }
+    requires tills { AreTillsOf office.now.shop.config.now (tills_of branches.old) }
+    requires known { IsKnown office.now.shop.config.now heard }
+    requires make { M.IsAlwaysCallable office.now.shop.make.now }
+    requires fresh { MakesFresh D.means (M.post office.now.shop.make.now) }
     ensures own { D.owns office.now.shared.now token.new }
     ensures told { IsToldOf (D.tells office.now.shared.now) token.old heard result
         (W.contents writer.old)
         (W.contents writer.new)
         token.new }
-    ensures leased { HasLeasedBy (M.post office.now.make.now)
-        office.now.config.now heard branches.old branches.new }
+    ensures leased { HasLeasedBy (M.post office.now.shop.make.now)
+        office.now.shop.config.now heard branches.old branches.new }
     ensures noted { IsNoted result watch.old watch.new }
 {
     match heard {
@@ -177,7 +165,7 @@ fn reply<D: Shared, R: Wait, W: Write, M: Fn(Ready) -> Option<D::Search>>(
 
 /// Whether the session goes on: it ends with the input, or if a read or a write fails.
 fn serve_next<D: Shared, R: Wait, I: BufRead, O: Write, M: Fn(Ready) -> Option<D::Search>>(
-    office: &Office<'_, R, D, M>,
+    office: &Office<'_, '_, R, D, M>,
     token: &mut D::Token,
     branches: &mut [Branch<'_>],
     reader: &mut I,
@@ -185,22 +173,22 @@ fn serve_next<D: Shared, R: Wait, I: BufRead, O: Write, M: Fn(Ready) -> Option<D
     watches: &mut ConnectionWatches<I, O>,
 ) -> bool
     requires own { D.owns office.now.shared.now token.old }
-    requires config { D.config office.now.shared.now ≡ office.now.config.now }
-    requires tills { AreTillsOf office.now.config.now (tills_of branches.old) }
-    requires make { M.IsAlwaysCallable office.now.make.now }
-    requires fresh { MakesFresh D.means (M.post office.now.make.now) }
+    requires config { D.config office.now.shared.now ≡ office.now.shop.config.now }
+    requires tills { AreTillsOf office.now.shop.config.now (tills_of branches.old) }
+    requires make { M.IsAlwaysCallable office.now.shop.make.now }
+    requires fresh { MakesFresh D.means (M.post office.now.shop.make.now) }
     ensures own { D.owns office.now.shared.now token.new }
-    ensures tills { AreTillsOf office.now.config.now (tills_of branches.new) }
-    ensures answered { (heard : Heard) × HasAnswered office.now.config.now
+    ensures tills { AreTillsOf office.now.shop.config.now (tills_of branches.new) }
+    ensures answered { (heard : Heard) × HasAnswered office.now.shop.config.now
         (D.tells office.now.shared.now)
-        (M.post office.now.make.now)
+        (M.post office.now.shop.make.now)
         (stand token.old branches.old (I.remaining reader.old) (O.contents writer.old))
         heard
         (stand token.new branches.new (I.remaining reader.new) (O.contents writer.new)) }
 {
     let heard = heard(
-        office.config,
-        read_request(office.alloc, reader, &mut watches.reads),
+        office.shop.config,
+        read_request(office.shop.alloc, reader, &mut watches.reads),
     );
     let is_over = matches!(&heard, Heard::Over | Heard::Broken);
     let told = reply(office, token, branches, writer, &mut watches.writes, heard);
@@ -209,21 +197,21 @@ fn serve_next<D: Shared, R: Wait, I: BufRead, O: Write, M: Fn(Ready) -> Option<D
 
 /// Answers requests until the input ends, or until a read or a write fails.
 pub(crate) fn session<D: Shared, R: Wait, I: BufRead, O: Write, M: Fn(Ready) -> Option<D::Search>>(
-    office: &Office<'_, R, D, M>,
+    office: &Office<'_, '_, R, D, M>,
     token: &mut D::Token,
     branches: &mut [Branch<'_>],
     reader: &mut I,
     writer: &mut O,
 )
     requires own { D.owns office.now.shared.now token.old }
-    requires config { D.config office.now.shared.now ≡ office.now.config.now }
-    requires tills { AreTillsOf office.now.config.now (tills_of branches.old) }
-    requires make { M.IsAlwaysCallable office.now.make.now }
-    requires fresh { MakesFresh D.means (M.post office.now.make.now) }
+    requires config { D.config office.now.shared.now ≡ office.now.shop.config.now }
+    requires tills { AreTillsOf office.now.shop.config.now (tills_of branches.old) }
+    requires make { M.IsAlwaysCallable office.now.shop.make.now }
+    requires fresh { MakesFresh D.means (M.post office.now.shop.make.now) }
     ensures own { D.owns office.now.shared.now token.new }
-    ensures served { IsSession office.now.config.now
+    ensures served { IsSession office.now.shop.config.now
         (D.tells office.now.shared.now)
-        (M.post office.now.make.now)
+        (M.post office.now.shop.make.now)
         (stand token.old branches.old (I.remaining reader.old) (O.contents writer.old))
         (stand token.new branches.new (I.remaining reader.new) (O.contents writer.new)) }
 {

@@ -13,11 +13,11 @@ ghost use Rattle.farm_service.specs.Tills.{IsSettled};
 use crate::connection::{Office, session};
 use crate::lobby::{Lobby, Nobody, Seat};
 use crate::places::places;
-use crate::shared::{Shared, keep, promise_of, take_in};
+use crate::shared::{OfShared, Shared, keep, promise_of, take_in};
 use crate::wire::{Incoming, Outgoing};
 use farm_core::{Config, Farm};
 use farm_pool::{Pool, Settled, finish};
-use farm_session::{Branch, Ready, open_tills};
+use farm_session::{Branch, Ready, Workshop, open_tills};
 use quanta_till::{Desk, Till};
 use std::alloc::Global;
 use std::cell::RefCell;
@@ -25,7 +25,7 @@ use std::io::{BufReader, BufWriter, Write};
 use std::net::{TcpListener, TcpStream};
 use std::sync::Wait;
 use std::thread;
-use std::thread::Threads;
+use std::thread::{PromisedHandle, Scope, Threads};
 use std::time::Clock;
 use strategy::{Kind, Strategy};
 
@@ -51,27 +51,27 @@ enum Role<'a> {
 
 /// Without memory for its buffers a client is not answered.
 fn welcome<D: Shared, R: Wait, M: Fn(Ready) -> Option<D::Search>>(
-    office: &Office<'_, R, D, M>,
+    office: &Office<'_, '_, R, D, M>,
     token: &mut D::Token,
     own: &mut [Branch<'_>],
     stream: &TcpStream,
 )
     requires own { D.owns office.now.shared.now token.old }
-    requires config { D.config office.now.shared.now ≡ office.now.config.now }
-    requires tills { AreTillsOf office.now.config.now (tills_of own.old) }
-    requires make { M.IsAlwaysCallable office.now.make.now }
-    requires fresh { MakesFresh D.means (M.post office.now.make.now) }
+    requires config { D.config office.now.shared.now ≡ office.now.shop.config.now }
+    requires tills { AreTillsOf office.now.shop.config.now (tills_of own.old) }
+    requires make { M.IsAlwaysCallable office.now.shop.make.now }
+    requires fresh { MakesFresh D.means (M.post office.now.shop.make.now) }
     ensures own { D.owns office.now.shared.now token.new }
-    ensures served { IsClientServed office.now.config.now
+    ensures served { IsClientServed office.now.shop.config.now
         (D.tells office.now.shared.now)
-        (M.post office.now.make.now)
+        (M.post office.now.shop.make.now)
         token.old own.old token.new own.new }
 {
     let _ = stream.set_nodelay(true);
-    let Ok(input) = BufReader::new(office.alloc, stream) else {
+    let Ok(input) = BufReader::new(office.shop.alloc, stream) else {
         return;
     };
-    let Ok(output) = BufWriter::new(office.alloc, stream) else {
+    let Ok(output) = BufWriter::new(office.shop.alloc, stream) else {
         return;
     };
     let told = RefCell::new(output);
@@ -82,19 +82,19 @@ fn welcome<D: Shared, R: Wait, M: Fn(Ready) -> Option<D::Search>>(
 }
 
 fn play_role<'a, D: Shared, R: Wait + Clock, M: Fn(Ready) -> Option<D::Search>>(
-    office: &Office<'_, R, D, M>,
+    office: &Office<'_, '_, R, D, M>,
     token: D::Token,
     role: Role<'a>,
 ) -> (D::Token, Role<'a>)
     requires own { D.owns office.now.shared.now token }
-    requires config { D.config office.now.shared.now ≡ office.now.config.now }
-    requires tills { IsAtTills office.now.config.now role }
-    requires make { M.IsAlwaysCallable office.now.make.now }
-    requires fresh { MakesFresh D.means (M.post office.now.make.now) }
+    requires config { D.config office.now.shared.now ≡ office.now.shop.config.now }
+    requires tills { IsAtTills office.now.shop.config.now role }
+    requires make { M.IsAlwaysCallable office.now.shop.make.now }
+    requires fresh { MakesFresh D.means (M.post office.now.shop.make.now) }
     ensures own { D.owns office.now.shared.now result.0 }
-    ensures role { HasPlayedRole office.now.config.now
+    ensures role { HasPlayedRole office.now.shop.config.now
         (D.tells office.now.shared.now)
-        (M.post office.now.make.now)
+        (M.post office.now.shop.make.now)
         (D.works office.now.shared.now)
         role.entry token result.1 result.0 }
 {
@@ -132,6 +132,89 @@ fn next_role<'a>(
     }
 }
 
+/// Starts a thread for `role`, with a token of its own, and keeps its handle.
+fn hire<
+    's,
+    'e: 's,
+    D: Shared<Token: Send + Drop + 'static> + Sync,
+    R: Threads + Wait + Clock + Sync,
+    M: Fn(Ready) -> Option<D::Search> + Sync,
+>(
+    scope: &Scope<'s, &'e ()>,
+    office: &'e Office<'e, 'e, R, D, M>,
+    token: &mut D::Token,
+    handles: &mut Vec<PromisedHandle<D::Token, OfShared<D>>>,
+    role: Role<'e>,
+) -> Result<(), ServeFault>
+    requires own { D.owns office.now.shared.now token.old }
+    requires config { D.config office.now.shared.now ≡ office.now.shop.config.now }
+    requires tills { IsAtTills office.now.shop.config.now role }
+    requires make { M.IsAlwaysCallable office.now.shop.make.now }
+    requires fresh { MakesFresh D.means (M.post office.now.shop.make.now) }
+    requires all { All (λ h. h.promise.0.value ≡ office.now.shared.now) handles.old.items }
+    ensures own { D.owns office.now.shared.now token.new }
+    ensures all { All (λ h. h.promise.0.value ≡ office.now.shared.now) handles.new.items }
+{
+    if handles.reserve(1).is_err() {
+        return Err(ServeFault::NoMemory);
+    }
+    let theirs = office.shared.split(token);
+    let spawned = scope.spawn_with(
+        promise_of(office.shared),
+        move || -> D::Token
+            requires { D.owns office.now.shared.now theirs
+                × (D.config office.now.shared.now ≡ office.now.shop.config.now)
+                × IsAtTills office.now.shop.config.now role
+                × M.IsAlwaysCallable office.now.shop.make.now
+                × MakesFresh D.means (M.post office.now.shop.make.now) }
+            ensures { D.owns office.entry.now.shared.now result }
+        { play_role(office, theirs, role).0 },
+    );
+    let Ok(handle) = spawned else {
+        return Err(ServeFault::Listen);
+    };
+    keep(office.shared, handles, handle);
+    Ok(())
+}
+
+/// Starts the workers, then a thread for each of `places` and its connection. After a fault it
+/// starts no more.
+fn hire_all<
+    's,
+    'e: 's,
+    D: Shared<Token: Send + Drop + 'static> + Sync,
+    R: Threads + Wait + Clock + Sync,
+    M: Fn(Ready) -> Option<D::Search> + Sync,
+>(
+    scope: &Scope<'s, &'e ()>,
+    office: &'e Office<'e, 'e, R, D, M>,
+    listener: &TcpListener,
+    places: Vec<Vec<Branch<'e>>>,
+    token: &mut D::Token,
+    handles: &mut Vec<PromisedHandle<D::Token, OfShared<D>>>,
+) -> Option<ServeFault>
+    requires own { D.owns office.now.shared.now token.old }
+    requires config { D.config office.now.shared.now ≡ office.now.shop.config.now }
+    requires tills { All (λ own. AreTillsOf office.now.shop.config.now (tills_of own.items)) places.items }
+    requires make { M.IsAlwaysCallable office.now.shop.make.now }
+    requires fresh { MakesFresh D.means (M.post office.now.shop.make.now) }
+    requires all { All (λ h. h.promise.0.value ≡ office.now.shared.now) handles.old.items }
+    ensures own { D.owns office.now.shared.now token.new }
+    ensures all { All (λ h. h.promise.0.value ≡ office.now.shared.now) handles.new.items }
+{
+    let mut places = places;
+    let workers = office.shop.config.workers();
+    for i in 0..workers.saturating_add(places.len() as u64) {
+        let Ok(role) = next_role(listener, i < workers, &mut places) else {
+            return Some(ServeFault::Listen);
+        };
+        if let Err(why) = hire(scope, office, token, handles, role) {
+            return Some(why);
+        }
+    }
+    None
+}
+
 /// Answers a connection for each of `places` in a thread of its own, while workers take turns.
 /// After a fault it accepts no more connections.
 fn attend<
@@ -139,84 +222,42 @@ fn attend<
     R: Threads + Wait + Clock + Sync,
     M: Fn(Ready) -> Option<D::Search> + Sync,
 >(
-    rt: &R,
-    alloc: Global,
-    config: &Config,
+    office: &Office<'_, '_, R, D, M>,
     listener: TcpListener,
-    shared: &D,
     token: &mut D::Token,
     places: Vec<Vec<Branch<'_>>>,
-    make: &M,
 ) -> Option<ServeFault>
-    requires own { D.owns shared.now token.old }
-    requires config { D.config shared.now ≡ config.now }
-    requires tills { All (λ own. AreTillsOf config.now (tills_of own.items)) places.items }
-    requires make { M.IsAlwaysCallable make.now }
-    requires fresh { MakesFresh D.means (M.post make.now) }
-    ensures { D.owns shared.now token.new }
+    requires own { D.owns office.now.shared.now token.old }
+    requires config { D.config office.now.shared.now ≡ office.now.shop.config.now }
+    requires tills { All (λ own. AreTillsOf office.now.shop.config.now (tills_of own.items)) places.items }
+    requires make { M.IsAlwaysCallable office.now.shop.make.now }
+    requires fresh { MakesFresh D.means (M.post office.now.shop.make.now) }
+    ensures { D.owns office.now.shared.now token.new }
 {
-    let lobby = Lobby::new(places.len() as u64);
-    let lobby = &lobby;
-    let mine = shared.split(token);
-    let workers = config.workers();
-    let total = workers.saturating_add(places.len() as u64);
+    let mine = office.shared.split(token);
     let (back, fault) = thread::scope(
         thread::scope_env(),
-        rt,
+        office.rt,
         move |scope| -> (D::Token, Option<ServeFault>)
-            requires { D.owns shared.now mine
-                × (D.config shared.now ≡ config.now)
-                × All (λ own. AreTillsOf config.now (tills_of own.items)) places.items
-                × M.IsAlwaysCallable make.now
-                × MakesFresh D.means (M.post make.now) }
-            ensures { D.owns shared.entry.now result.0 }
+            requires { D.owns office.now.shared.now mine
+                × (D.config office.now.shared.now ≡ office.now.shop.config.now)
+                × All (λ own. AreTillsOf office.now.shop.config.now (tills_of own.items)) places.items
+                × M.IsAlwaysCallable office.now.shop.make.now
+                × MakesFresh D.means (M.post office.now.shop.make.now) }
+            ensures { D.owns office.entry.now.shared.now result.0 }
         {
-            let (mut mine, mut places) = (mine, places);
-            let mut handles = Vec::new(alloc);
-            let mut fault = None;
-            for i in 0..total {
-                let Ok(role) = next_role(&listener, i < workers, &mut places) else {
-                    fault = Some(ServeFault::Listen);
-                    break;
-                };
-                if handles.reserve(1).is_err() {
-                    fault = Some(ServeFault::NoMemory);
-                    break;
-                }
-                let theirs = shared.split(&mut mine);
-                let spawned = scope.spawn_with(
-                    promise_of(shared),
-                    move || -> D::Token
-                        requires { D.owns shared.now theirs
-                            × (D.config shared.now ≡ config.now)
-                            × IsAtTills config.now role
-                            × M.IsAlwaysCallable make.now
-                            × MakesFresh D.means (M.post make.now) }
-                        ensures { D.owns shared.entry.now result }
-                    {
-                        let office = Office {
-                            rt,
-                            alloc,
-                            config,
-                            shared,
-                            lobby,
-                            make,
-                        };
-                        play_role(&office, theirs, role).0
-                    },
-                );
-                let Ok(handle) = spawned else {
-                    fault = Some(ServeFault::Listen);
-                    break;
-                };
-                keep(shared, &mut handles, handle);
-            }
+            let mut mine = mine;
+            let workers = office.shop.config.workers();
+            let total = workers.saturating_add(places.len() as u64);
+            let mut handles = Vec::new(office.shop.alloc);
+            let fault = hire_all(scope, office, &listener, places, &mut mine, &mut handles);
             drop(listener);
-            lobby.leave(rt, total.saturating_sub(handles.len() as u64));
-            (take_in(rt, shared, mine, handles), fault)
+            let unmade = total.saturating_sub(handles.len() as u64);
+            office.lobby.leave(office.rt, unmade);
+            (take_in(office.rt, office.shared, mine, handles), fault)
         },
     );
-    shared.join(token, back);
+    office.shared.join(token, back);
     fault
 }
 
@@ -230,7 +271,7 @@ pub fn serve<R: Threads + Wait + Clock + Sync>(
     listener: TcpListener,
     sessions: u64,
 ) -> Result<Settled, ServeFault>
-    ensures { OnOk result (IsSettled config.now) }
+    ensures { OnOk result (IsSettled config.now sessions) }
 {
     let Ok((pool, mut pass)) = Pool::new(alloc, config) else {
         return Err(ServeFault::NoMemory);
@@ -242,6 +283,7 @@ pub fn serve<R: Threads + Wait + Clock + Sync>(
     let Ok(places) = places(alloc, tills, desks, sessions) else {
         return Err(ServeFault::NoMemory);
     };
+    let lobby = Lobby::new(places.len() as u64);
     let make = |ready: Ready| -> Option<Box<dyn Strategy>>
         ensures { IfSome result (λ search.
             (Strategy-box search).meaning search.value ≡ fresh_search ready.lease.tenant ready.plan) }
@@ -261,7 +303,17 @@ pub fn serve<R: Threads + Wait + Clock + Sync>(
             }
         }
     };
-    if let Some(fault) = attend(rt, alloc, config, listener, &pool, &mut pass, places, &make) {
+    let office = Office {
+        rt,
+        shared: &pool,
+        lobby: &lobby,
+        shop: Workshop {
+            alloc,
+            config,
+            make: &make,
+        },
+    };
+    if let Some(fault) = attend(&office, listener, &mut pass, places) {
         return Err(fault);
     }
     pool.work(rt, &mut pass, &Nobody);

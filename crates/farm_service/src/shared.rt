@@ -10,12 +10,10 @@ ghost use Rattle.farm_core.specs.Config.{ConfigData};
 ghost use Rattle.farm_core.specs.declared.entry.Event.{Event};
 ghost use Rattle.farm_core.specs.declared.entry.Event.TheVariants as event;
 ghost use Rattle.farm_core.specs.declared.reply.Reply.{Reply};
-ghost use Rattle.farm_service.specs.Asked.{IsAsked};
+ghost use Rattle.farm_service.specs.Asked.{IsSearchless};
 
-use farm_core::Reply;
+use farm_core::{Event, Reply};
 use farm_pool::{Command, Gate, Pool, PoolPass};
-use farm_session::command_of;
-use session_lines::What;
 use std::snapshot::Snapshot;
 use std::sync::Wait;
 use std::thread::{Promise, PromisedHandle, Threads};
@@ -52,18 +50,13 @@ pub(crate) trait Shared {
         ensures own { owns self.now token.new }
         ensures told { tells self.now token.old tenant (event.Submit plan quanta) result token.new };
 
-    /// `None` if the request asks for a submit, or for no call at all.
-    fn ask<R: Wait>(
-        &self,
-        rt: &R,
-        token: &mut Self::Token,
-        tenant: u32,
-        asked: &What,
-    ) -> Option<Reply>
+    /// Makes the call of an event without a search.
+    fn ask<R: Wait>(&self, rt: &R, token: &mut Self::Token, tenant: u32, asked: Event) -> Reply
         requires own { owns self.now token.old }
         requires known { tenant < length (config self.now).tenants }
+        requires searchless { IsSearchless asked }
         ensures own { owns self.now token.new }
-        ensures told { IsAsked (tells self.now token.old tenant) token.old asked.now result token.new };
+        ensures told { tells self.now token.old tenant asked result token.new };
 
     fn work<R: Wait, G: Gate>(&self, rt: &R, token: &mut Self::Token, gate: &G)
         requires { owns self.now token.old }
@@ -122,16 +115,17 @@ impl Shared for Pool {
         self.call(rt, token, tenant, command)
     }
 
-    fn ask<R: Wait>(
-        &self,
-        rt: &R,
-        token: &mut PoolPass,
-        tenant: u32,
-        asked: &What,
-    ) -> Option<Reply> {
-        match command_of(asked) {
-            Some(command) => Some(self.call(rt, token, tenant, command)),
-            None => None,
+    fn ask<R: Wait>(&self, rt: &R, token: &mut PoolPass, tenant: u32, asked: Event) -> Reply {
+        match asked {
+            Event::Fund(seq, quanta) => {
+                self.call(rt, token, tenant, Command::Fund { seq, quanta })
+            }
+            Event::Status(seq) => self.call(rt, token, tenant, Command::Status(seq)),
+            Event::Fetch(seq) => self.call(rt, token, tenant, Command::Fetch(seq)),
+            Event::Cancel(seq) => self.call(rt, token, tenant, Command::Cancel(seq)),
+            Event::Forget(seq) => self.call(rt, token, tenant, Command::Forget(seq)),
+            Event::Ledger => self.call(rt, token, tenant, Command::Ledger),
+            Event::Submit(..) | Event::Take(..) | Event::Give(..) => unreachable!(),
         }
     }
 

@@ -16,7 +16,6 @@ use Rattle.strategy.specs.declared.kind.Kind.{Kind}
 use Rattle.session_lines.specs.declared.request.What.{What}
 use Rattle.session_lines.specs.declared.request.What.TheVariants.{Submit}
 use Rattle.farm_session.specs.Branch.{BranchValue, new_branch, tills_of, first_desk, HasLeased, HasLeasedFor, HasLeasedBy}
-use Rattle.farm_session.specs.Command.{IsNoSubmit}
 use Rattle.farm_session.specs.Ready.{ReadyData}
 use Rattle.farm_session.specs.declared.heard.Heard.{Heard}
 use Rattle.farm_session.specs.declared.heard.Heard.TheVariants.{Asked}
@@ -94,12 +93,6 @@ desks_on purse granted tills new desks then till desk made is before pushed also
     is ∙ ap (λ n. new_desk till.id 0 n granted) (sym made.0) ∙ ap (new_desk till.id 0 till.purse) (sym made.1) in
     also ∙ ap (λ (ds : List DeskValue). ds ++ desk ∷ []) before ∙ ap (λ (d : DeskValue). map first_desk tills ++ d ∷ []) first
     ∙ sym (map-append first_desk tills (till ∷ [])) ∙ sym (ap (map first_desk) pushed)
-
--- a request that submits no job has no lease made
-pub none_leased : {J : Type 0} (made : ReadyData → Option J → Type 0) (config : ConfigData) (t : ℕ) (what : What) (bs : List BranchValue)
-    → IsNoSubmit what → HasLeasedFor made config t what bs bs
-none_leased made config t (Submit kind quanta project) bs other = absurd other
-none_leased made config t what bs other = refl
 
 set_found : (bs : List BranchValue) (p : ℕ) (d : BranchValue) → p < length bs → slice_get bs p ≡ Some (get_or bs p d)
 set_found [] p d few = absurd (omega arith)

@@ -1,11 +1,13 @@
 -- What a tenant's request asks of the farm.
-use Rattle.std.specs.Prelude.{◌≡◌, ⊤, Option, Some, None}
-use Rattle.farm_core.specs.declared.command.Command.{Command}
+use Rattle.std.specs.Prelude.{◌≡◌, ⊤, ℕ, Option, Some, None}
+use Rattle.strategy.specs.Search.{Meaning}
 use Rattle.farm_core.specs.declared.entry.Event.{Event}
 use Rattle.farm_core.specs.declared.entry.Event.TheVariants as event
-use Rattle.farm_core.specs.Command.{event_of}
+use Rattle.farm_core.specs.Command.{event_of, IsFresh}
 use Rattle.session_lines.specs.declared.request.What.{What}
 use Rattle.session_lines.specs.declared.request.What.TheVariants.{Submit, Fund, Status, Fetch, Cancel, Forget, Ledger, Take, Give, Turn}
+use Rattle.farm_session.specs.declared.errand.Errand.{Errand}
+use Rattle.farm_session.specs.declared.errand.Errand.TheVariants.{Call, NoMemory, Scripted}
 
 -- the event of a tenant's request; a turn is no request of a tenant
 abbrev pub event_in : What → Option Event
@@ -20,14 +22,19 @@ event_in (Take seq slice) = None
 event_in (Give seq) = None
 event_in (Turn seq slice) = None
 
--- a request that submits no job
-abbrev pub IsNoSubmit : What → Type 0
-IsNoSubmit (Submit kind quanta project) = ⊥
-IsNoSubmit request = ⊤
+-- a request that submits a job
+abbrev pub IsSubmit : What → Type 0
+IsSubmit (Submit kind quanta project) = ⊤
+IsSubmit request = ⊥
 
--- the command of a request is that of its event; a submit has none here, since its search is made
--- first
-abbrev pub IsCommandOf : {J : Type 0} → What → Option (Command J) → Type 0
-IsCommandOf request (Some command) = (event_in request ≡ Some (event_of command)) × IsNoSubmit request
-IsCommandOf (Submit kind quanta project) None = ⊤
-IsCommandOf request None = event_in request ≡ None
+-- the errand of a request: the command of its event, or nothing if there is no memory for a
+-- submit's search; a request without an event is left to a script
+abbrev pub IsErrandOf : {J : Type 0} → What → Errand J → Type 0
+IsErrandOf request (Call command) = event_in request ≡ Some (event_of command)
+IsErrandOf request NoMemory = IsSubmit request
+IsErrandOf request (Scripted same) = (same ≡ request) × (event_in request ≡ None)
+
+-- if the errand is a submit, its search is fresh
+abbrev pub HasFreshSearch : {J : Type 0} → (J → Meaning) → ℕ → Errand J → Type 0
+HasFreshSearch meaning t (Call command) = IsFresh meaning t command
+HasFreshSearch meaning t errand = ⊤

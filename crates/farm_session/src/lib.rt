@@ -1,16 +1,17 @@
 //! What scripts and connections share on the way of a request to the farm.
 //!
-//! - `heard`, `command`: whose a request is, and its command.
+//! - `heard`: whose a request is.
+//! - `errand`: what is to be done for it: the farm's call, with the search of a submit.
 //! - `ready`: a plan with an empty lease, and the searches that are made of it.
 //! - `tills`: a till for each purse, and the desks at which leases are made.
 #![tactic(auto)]
 
-mod command;
+mod errand;
 mod heard;
 mod ready;
 mod tills;
 
-pub use command::command_of;
+pub use errand::{Errand, Workshop, errand_of};
 pub use heard::{Heard, hear};
-pub use ready::{Ready, search_of};
+pub use ready::Ready;
 pub use tills::{Branch, branches, open_tills};

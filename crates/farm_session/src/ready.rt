@@ -94,7 +94,7 @@ impl Ready {
 }
 
 /// Makes a search of a copy of `plan` with a new lease. `None` if there is no memory for it.
-pub fn search_of<J, M: Fn(Ready) -> Option<J>>(
+pub(crate) fn search_of<J, M: Fn(Ready) -> Option<J>>(
     alloc: Global,
     branch: &mut Branch<'_>,
     tenant: u32,

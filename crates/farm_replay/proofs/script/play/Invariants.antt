@@ -11,7 +11,7 @@ use Rattle.farm_replay.proofs.script.play.Given as goal
 -- so many requests are answered, the farm is where they lead and holds their turns, it is noted whether one was refused, and nothing has failed
 abbrev pub invariant-loop-answered : goal.invariant-loop-answered
 invariant-loop-answered g l =
-    (l.floor.farm.config ≡ l.config) × AreTillsOf l.config (tills_of l.branches) × IsFloor g.J.Strategy.meaning l.floor.farm l.floor.held.items
-    × Played l.config (script_rest g.R.Read.remaining l.fn.script) (script_rest g.R.Read.remaining l.script) (g.W.Write.contents l.fn.writer) (g.W.Write.contents l.writer) l._answered (is_some l.notes.refused) l.floor.farm
-    × LeasedTo l.config (goal.M-post g l.make) (script_rest g.R.Read.remaining l.fn.script) l.fn.branches (script_rest g.R.Read.remaining l.script) l.branches
+    (l.floor.farm.config ≡ l.shop.config.now) × AreTillsOf l.shop.config.now (tills_of l.branches) × IsFloor g.J.Strategy.meaning l.floor.farm l.floor.held.items
+    × Played l.shop.config.now (script_rest g.R.Read.remaining l.fn.script) (script_rest g.R.Read.remaining l.script) (g.W.Write.contents l.fn.writer) (g.W.Write.contents l.writer) l._answered (is_some l.notes.refused) l.floor.farm
+    × LeasedTo l.shop.config.now (goal.M-post g l.shop.make.now) (script_rest g.R.Read.remaining l.fn.script) l.fn.branches (script_rest g.R.Read.remaining l.script) l.branches
     × (l.watches-inside.reads ≡ l.fn.watches.reads) × (l.watches-inside.writes ≡ l.fn.watches.writes)

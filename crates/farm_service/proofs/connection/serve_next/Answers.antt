@@ -6,14 +6,14 @@ use Rattle.farm_service.proofs.connection.serve_next.Goals as goal
 pub returns-then-not-is_over-clause-tills : goal.returns-then-not-is_over-clause-tills
 returns-then-not-is_over-clause-tills g c =
     ap (map opening_of)
-    (tills_kept_by (goal.M-post g c.args.office.now.make.now) c.args.office.now.config.now c.heard-heard.result c.args.branches.now c.reply-told.new.branches
+    (tills_kept_by (goal.M-post g c.args.office.now.shop.make.now) c.args.office.now.shop.config.now c.heard-heard.result c.args.branches.now c.reply-told.new.branches
     c.reply-told.ensures.leased)
     ∙ c.requires.tills
 
 pub returns-else-not-is_over-clause-tills : goal.returns-else-not-is_over-clause-tills
 returns-else-not-is_over-clause-tills g c =
     ap (map opening_of)
-    (tills_kept_by (goal.M-post g c.args.office.now.make.now) c.args.office.now.config.now c.heard-heard.result c.args.branches.now c.reply-told.new.branches
+    (tills_kept_by (goal.M-post g c.args.office.now.shop.make.now) c.args.office.now.shop.config.now c.heard-heard.result c.args.branches.now c.reply-told.new.branches
     c.reply-told.ensures.leased)
     ∙ c.requires.tills
 

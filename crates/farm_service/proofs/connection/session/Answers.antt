@@ -7,7 +7,7 @@ loop-init g c = record {
   own = c.requires.own;
   tills = c.requires.tills;
   served =
-      session_begins c.args.office.now.config.now (g.D.Shared.tells c.args.office.now.shared.now) (goal.M-post g c.args.office.now.make.now)
+      session_begins c.args.office.now.shop.config.now (g.D.Shared.tells c.args.office.now.shared.now) (goal.M-post g c.args.office.now.shop.make.now)
       (stand c.args.token.now c.args.branches.now (g.I.Read.remaining c.args.reader.now) (g.O.Write.contents c.args.writer.now));
 }
 
@@ -16,7 +16,7 @@ loop-preserved g c = record {
   own = c.serve_next.ensures.own;
   tills = c.serve_next.ensures.tills;
   served =
-      session_on c.args.office.now.config.now (g.D.Shared.tells c.args.office.now.shared.now) (goal.M-post g c.args.office.now.make.now)
+      session_on c.args.office.now.shop.config.now (g.D.Shared.tells c.args.office.now.shared.now) (goal.M-post g c.args.office.now.shop.make.now)
       (stand c.args.token.now c.args.branches.now (g.I.Read.remaining c.args.reader.now) (g.O.Write.contents c.args.writer.now))
       (stand c.loop.token c.loop.branches (g.I.Read.remaining c.loop.reader) (g.O.Write.contents c.loop.writer))
       (stand c.serve_next.new.token c.serve_next.new.branches (g.I.Read.remaining c.serve_next.new.reader) (g.O.Write.contents c.serve_next.new.writer))
@@ -25,7 +25,7 @@ loop-preserved g c = record {
 
 pub returns-then-not-serve_next-clause-served : goal.returns-then-not-serve_next-clause-served
 returns-then-not-serve_next-clause-served g c =
-    session_on c.args.office.now.config.now (g.D.Shared.tells c.args.office.now.shared.now) (goal.M-post g c.args.office.now.make.now)
+    session_on c.args.office.now.shop.config.now (g.D.Shared.tells c.args.office.now.shared.now) (goal.M-post g c.args.office.now.shop.make.now)
     (stand c.args.token.now c.args.branches.now (g.I.Read.remaining c.args.reader.now) (g.O.Write.contents c.args.writer.now))
     (stand c.loop.token c.loop.branches (g.I.Read.remaining c.loop.reader) (g.O.Write.contents c.loop.writer))
     (stand c.serve_next.new.token c.serve_next.new.branches (g.I.Read.remaining c.serve_next.new.reader) (g.O.Write.contents c.serve_next.new.writer))

@@ -3,15 +3,15 @@ use Rattle.farm_service.proofs.service.welcome.Goals as goal
 
 pub returns-in_default-clause-served : goal.returns-in_default-clause-served
 returns-in_default-clause-served g c =
-    client_left c.args.office.now.config.now (g.D.Shared.tells c.args.office.now.shared.now) (goal.M-post g c.args.office.now.make.now) c.args.token.now
+    client_left c.args.office.now.shop.config.now (g.D.Shared.tells c.args.office.now.shared.now) (goal.M-post g c.args.office.now.shop.make.now) c.args.token.now
     c.args.own.now
 
 pub returns-in_default-new-clause-served : goal.returns-in_default-new-clause-served
 returns-in_default-new-clause-served g c =
-    client_left c.args.office.now.config.now (g.D.Shared.tells c.args.office.now.shared.now) (goal.M-post g c.args.office.now.make.now) c.args.token.now
+    client_left c.args.office.now.shop.config.now (g.D.Shared.tells c.args.office.now.shared.now) (goal.M-post g c.args.office.now.shop.make.now) c.args.token.now
     c.args.own.now
 
 pub returns-clause-served : goal.returns-clause-served
 returns-clause-served g c =
-    client_served c.args.office.now.config.now (g.D.Shared.tells c.args.office.now.shared.now) (goal.M-post g c.args.office.now.make.now) c.args.token.now
+    client_served c.args.office.now.shop.config.now (g.D.Shared.tells c.args.office.now.shared.now) (goal.M-post g c.args.office.now.shop.make.now) c.args.token.now
     c.session.new.token c.args.own.now c.session.new.branches _ _ _ _ c.session.ensures.served

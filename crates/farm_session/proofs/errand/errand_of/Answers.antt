@@ -1,0 +1,36 @@
+use Rattle.std.proofs.Common.{◌<◌, length, get_or, ap, arith}
+use Rattle.std.proofs.lemmas.List.{length-map}
+use Rattle.farm_core.proofs.TillLemmas.{tills_length}
+use Rattle.farm_session.specs.Branch.{BranchValue, tills_of}
+use Rattle.farm_session.proofs.TillLemmas.{submit_leased}
+use Rattle.farm_session.proofs.errand.errand_of.Goals as goal
+
+pub bounds-branches-purse : goal.bounds-branches-purse
+bounds-branches-purse g c =
+    let count = tills_length c.args.shop.now.config.now (tills_of c.args.branches.now) c.requires.tills in
+    let same = length-map c.args.branches.now (λ (b : BranchValue). b.till) in
+    omega (arith, count, same, c.purse_of-purse.ensures.known)
+
+pub returns-in-Some-clause-leased : goal.returns-in-Some-clause-leased
+returns-in-Some-clause-leased g c =
+    let branches = c.args.branches.now in
+    let purse = c.purse_of-purse.result in
+    let count = tills_length c.args.shop.now.config.now (tills_of branches) c.requires.tills in
+    let same = length-map branches (λ (b : BranchValue). b.till) in
+    let few : purse < length branches = omega (arith, count, same, c.purse_of-purse.ensures.known) in
+    rw c.in-Submit.is
+    (submit_leased (goal.M-post g c.args.shop.now.make.now) c.args.shop.now.config.now c.args.tenant c.in-Submit.quanta purse c.in-Submit.kind c.in-Submit.project
+    branches (get_or branches purse c.index-branches-purse.result) c.search_of.new.branch c.purse_of-purse.ensures.exact few
+    (ap (get_or branches purse) c.index-branches-purse.is) (c.search_of.result, c.search_of.ensures))
+
+pub returns-in-None-clause-leased : goal.returns-in-None-clause-leased
+returns-in-None-clause-leased g c =
+    let branches = c.args.branches.now in
+    let purse = c.purse_of-purse.result in
+    let count = tills_length c.args.shop.now.config.now (tills_of branches) c.requires.tills in
+    let same = length-map branches (λ (b : BranchValue). b.till) in
+    let few : purse < length branches = omega (arith, count, same, c.purse_of-purse.ensures.known) in
+    rw c.in-Submit.is
+    (submit_leased (goal.M-post g c.args.shop.now.make.now) c.args.shop.now.config.now c.args.tenant c.in-Submit.quanta purse c.in-Submit.kind c.in-Submit.project
+    branches (get_or branches purse c.index-branches-purse.result) c.search_of.new.branch c.purse_of-purse.ensures.exact few
+    (ap (get_or branches purse) c.index-branches-purse.is) (c.search_of.result, c.search_of.ensures))
