@@ -1,5 +1,5 @@
 -- The failures that the watches of a replay note.
-use Rattle.std.specs.Prelude.{◌≡◌, ℕ, ⊤, Result, Ok, Err}
+use Rattle.std.specs.Prelude.{◌≡◌, ℕ, ⊤, Result, Err}
 use Rattle.watched_io.specs.Failure.{HasFailed, FailsAtMostOnce}
 use Rattle.farm_replay.specs.Counts.{Counts}
 use Rattle.farm_replay.specs.declared.script.ReplayFault.{ReplayFault}

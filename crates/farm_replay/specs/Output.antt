@@ -15,7 +15,7 @@ use Rattle.farm_core.specs.Held.{nodes_out}
 use Rattle.watched_io.specs.Failure.{HasFailed}
 use Rattle.session_lines.specs.declared.request.Request.{Request}
 use Rattle.session_lines.specs.declared.request.What.{What}
-use Rattle.session_lines.specs.declared.request.What.TheVariants.{Submit, Fund, Status, Fetch, Cancel, Forget, Ledger, Take, Give, Turn}
+use Rattle.session_lines.specs.declared.request.What.TheVariants.{Submit, Cancel, Take, Give, Turn}
 use Rattle.session_lines.specs.declared.request.LineFault.{LineFault}
 use Rattle.session_lines.specs.declared.request.LineFault.TheVariants.{TooLong, Syntax, File, NoMemory}
 use Rattle.session_lines.specs.declared.reading.TheConstants.{MOST_REQUEST_BYTES}

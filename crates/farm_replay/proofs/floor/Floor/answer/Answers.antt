@@ -1,4 +1,4 @@
-use Rattle.std.proofs.Common.{◌<◌, length, refl, sym, subst}
+use Rattle.std.proofs.Common.{◌<◌, length, sym, subst}
 use Rattle.farm_core.specs.Command.{event_of}
 use Rattle.farm_core.specs.Config.{ConfigData}
 use Rattle.farm_replay.proofs.FloorLemmas.{commanded, floor_commanded, unmade}
