@@ -3,4 +3,5 @@ pub mod CommandLine
 pub mod Strict
 pub mod Checked
 pub mod Replayed
+pub mod Entries
 pub mod Limits

@@ -1,17 +1,22 @@
+ghost use Rattle.std.specs.Prelude.{◌≡◌, ◌/◌, max};
+ghost use Rattle.farm_cli.specs.Entries.{entries_for};
+
 use farm_core::{Config, TenantLine};
 use std::env::Env;
 use std::io::Eprint;
 use std::str;
 use watched_io::explains;
 
-/// All turns of `quanta`, with two entries each.
-fn entries_of_turns(quanta: u64, slice: u64) -> u64 {
-    quanta.div_ceil(slice.max(1)).saturating_mul(2)
+/// The entries of one job that runs `quanta` nodes, and of a request for its result.
+fn entries_of_job(quanta: u64, slice: u64) -> u128
+    ensures { result ≡ entries_for (quanta / max slice 1) 1 1 }
+{
+    u128::from(quanta / slice.max(1)) * 2 + 4
 }
 
 fn tell_scarce<R: Eprint>(rt: &R, line: &TenantLine, quanta: u64, slice: u64) {
-    let (needed, entries) = (entries_of_turns(quanta, slice), line.entries);
-    if needed <= entries {
+    let (needed, entries) = (entries_of_job(quanta, slice), line.entries);
+    if quanta == 0 || needed <= u128::from(entries) {
         return;
     }
     let whose = if quanta == line.quanta {
@@ -21,7 +26,7 @@ fn tell_scarce<R: Eprint>(rt: &R, line: &TenantLine, quanta: u64, slice: u64) {
     };
     if let Ok(name) = str::from_utf8(line.name.as_bytes()) {
         let _ = eprintln!(rt;
-            "farm: tenant {name}: its {entries} entries do not last for its {whose}{quanta} quanta: turns of {slice} nodes use {needed} entries, two each, and a result needs one more"
+            "farm: tenant {name}: its {entries} entries do not last for its {whose}{quanta} quanta: one job and its result need {needed}, two for each {slice} nodes, three for a submit or fund and one for any other request"
         );
     }
 }
