@@ -2,15 +2,11 @@
 //! `-` is standard input.
 #![tactic(auto)]
 
-ghost use Rattle.std.specs.Prelude.{◌≤◌};
-ghost use Rattle.std.specs.Process.{exit_status};
-
 use clap::{Arg, ArgMatches, Command};
+use explain::{end_no_memory, words_of};
 use std::alloc::{AllocError, Global};
-use std::io::ErrorKind;
 use std::process::ExitCode;
 use std::rt::Runtime;
-use std::{env, io};
 
 fn needed<'a>(alloc: Global, name: &'a str, help: &'a str) -> Arg<'a> {
     Arg::new(alloc, name).help(help).required(true)
@@ -90,30 +86,13 @@ fn run_chosen<R: Runtime + AllocGlobal>(rt: &R, matches: &ArgMatches<'_>) -> Exi
     }
 }
 
-/// Fails if a word is not UTF-8, or for want of memory.
-fn words_of<R: Runtime + AllocGlobal>(rt: &R) -> io::Result<Vec<String>> {
-    Ok(env::args(rt)?.collect::<Vec<String>>(rt.alloc())?)
-}
-
-fn unread_words<R: Runtime>(rt: &R, kind: ErrorKind) -> ExitCode
-    ensures { exit_status result ≤ 2 }
-{
-    if kind == ErrorKind::OutOfMemory {
-        let _ = eprintln!(rt; "farm: no memory");
-        return ExitCode::FAILURE;
-    }
-    let _ = eprintln!(rt; "farm: cannot read the command line");
-    ExitCode::from(2)
-}
-
 fn main(rt: HostRuntime) -> ExitCode {
     let words = match words_of(&rt) {
         Ok(words) => words,
-        Err(error) => return unread_words(&rt, error.kind()),
+        Err(status) => return status,
     };
     let Ok(command) = command(rt.alloc()) else {
-        let _ = eprintln!(rt; "farm: no memory");
-        return ExitCode::FAILURE;
+        return end_no_memory(&rt);
     };
     match command.try_get_matches_from(words.as_slice()) {
         Ok(matches) => run_chosen(&rt, &matches),

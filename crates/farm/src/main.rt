@@ -4,10 +4,9 @@
 ghost use Rattle.std.specs.Prelude.{◌≤◌};
 ghost use Rattle.std.specs.Process.{exit_status};
 
-use std::io::ErrorKind;
+use explain::{end_no_memory, words_of};
 use std::process::ExitCode;
 use std::rt::Runtime;
-use std::{env, io};
 
 /// The version, and the logic in which the program was proved, which several kits share.
 const VERSION: &str = "farm 0.2.0 (logic dac8208d650f15bf)";
@@ -32,17 +31,11 @@ fn print_version<R: Runtime>(rt: &R) -> ExitCode
     }
 }
 
-/// Fails if a word is not UTF-8, or for want of memory.
-fn words_of<R: Runtime + AllocGlobal>(rt: &R) -> io::Result<Vec<String>> {
-    Ok(env::args(rt)?.collect::<Vec<String>>(rt.alloc())?)
-}
-
 fn print_help<R: Runtime + AllocGlobal>(rt: &R, words: &[String]) -> ExitCode
     ensures { exit_status result ≤ 2 }
 {
     let Ok(command) = farm_cli::farm_command(rt.alloc()) else {
-        let _ = eprintln!(rt; "farm: no memory");
-        return ExitCode::FAILURE;
+        return end_no_memory(rt);
     };
     match command
         .about(ABOUT)
@@ -62,21 +55,10 @@ fn print_help<R: Runtime + AllocGlobal>(rt: &R, words: &[String]) -> ExitCode
     }
 }
 
-fn unread_words<R: Runtime>(rt: &R, kind: ErrorKind) -> ExitCode
-    ensures { exit_status result ≤ 2 }
-{
-    if kind == ErrorKind::OutOfMemory {
-        let _ = eprintln!(rt; "farm: no memory");
-        return ExitCode::FAILURE;
-    }
-    let _ = eprintln!(rt; "farm: cannot read the command line");
-    ExitCode::from(2)
-}
-
 fn main(rt: HostRuntime) -> ExitCode {
     let words = match words_of(&rt) {
         Ok(words) => words,
-        Err(error) => return unread_words(&rt, error.kind()),
+        Err(status) => return status,
     };
     if asks_for_version(words.as_slice()) {
         print_version(&rt)
