@@ -18,7 +18,7 @@ use Rattle.farm_replay.specs.Output.{IsWritten, IsCutBy, Marked}
 use Rattle.farm_replay.specs.declared.script.ReplayFault.TheVariants as fault
 use Rattle.farm_replay.specs.Counts.{Counts}
 use Rattle.farm_cli.specs.declared.arguments.TheConstants.{MOST_SESSIONS}
-use Rattle.farm_cli.specs.declared.input.TheConstants.{MOST_READ}
+use Rattle.explain.specs.declared.inputs.TheConstants.{MOST_TEXT}
 
 -- the limits of a project, its schedules and its file
 pub record ProblemLimits : Type 0 where
@@ -87,6 +87,6 @@ pub record ScriptLimits : Type 0 where
 -- the most that a command reads or answers
 pub record CommandLimits : Type 0 where
   -- 1,048,577 bytes of an input are read, one more than a file may have
-  pub bytes : MOST_READ ≡ 1048577
+  pub bytes : MOST_TEXT ≡ 1048577
   -- at most 64 connections are answered
   pub sessions : MOST_SESSIONS ≡ 64

@@ -1,110 +1,59 @@
 //! The line of a file's project, over any reader and writer.
-ghost use Rattle.std.specs.Prelude.{◌≡◌};
 ghost use Rattle.std.specs.Process.{exit_status};
-ghost use Rattle.farm_cli.specs.Checked.{IsCheckOf, IsChecked, check_status};
+ghost use Rattle.explain.specs.Ending.{Ends};
+ghost use Rattle.farm_cli.specs.Checked.{IsCheckOf};
 
-use crate::input::MOST_READ;
 use crate::summary::summarize;
-use explain::why_file;
+use explain::{CommandFault, CommandWatches, MOST_TEXT, Paths, end_command, why_file};
 use psplib_mm::{MmFault, read};
 use std::alloc::Global;
 use std::env::Env;
-use std::io::{Eprint, ErrorKind, Read, Write};
-use std::marker::Model;
+use std::fmt;
+use std::io::{Eprint, Read, Write};
 use std::process::ExitCode;
-use watched_io::{Watch, reason, tell_unread, tell_why};
 
-/// A `CheckFault` is why a check wrote no line.
+/// A `CheckFault` is why a file has no project. Its text is as in `no file TooLong`.
 #[derive(Clone, Copy, Debug, PartialEq, Eq)]
-pub enum CheckFault {
-    /// The reader failed, or there was no memory for its bytes.
-    Read(ErrorKind),
-    File(MmFault),
-    Write,
+pub struct CheckFault {
+    pub fault: MmFault,
 }
 
-/// A `CheckWatches` is a watch of the file's reader `S`, and one of the line's writer `W`.
-/// Contracts see what each has counted.
-#[derive(Drop)]
-pub struct CheckWatches<S, W> {
-    pub(crate) reads: Watch<S>,
-    pub(crate) writes: Watch<W>,
-    /// The second line on standard error about a fault of the file.
-    pub(crate) why: Option<String>,
-}
-
-impl<S, W> Model for CheckWatches<S, W> {
-    ghost use Rattle.farm_replay.specs.Counts.{Counts};
-
-    ghost Value = { Counts };
-
-    ghost view = { λ w. record { reads = w.reads; writes = w.writes } };
-}
-
-impl<S, W> CheckWatches<S, W> {
-    /// Returns watches through which nothing has failed.
-    pub fn new() -> CheckWatches<S, W>
-        ensures reads { result.reads ≡ 0 }
-        ensures writes { result.writes ≡ 0 }
-    {
-        CheckWatches {
-            reads: Watch::new(),
-            writes: Watch::new(),
-            why: None,
-        }
+impl fmt::Display for CheckFault {
+    fn fmt<W: fmt::Write>(&self, f: &mut fmt::Formatter<W>) -> fmt::Result {
+        write!(f, "no file {}", self.fault)
     }
 }
 
-/// Writes the line of the project that `reader` gives. It reads at most `MOST_READ` bytes; a longer
+/// Writes the line of the project that `reader` gives. It reads at most `MOST_TEXT` bytes; a longer
 /// input is a fault of the file. On any error except `Write`, nothing was written.
 pub fn check<S: Read + Drop, W: Write>(
     alloc: Global,
     reader: S,
     writer: &mut W,
-    watches: &mut CheckWatches<S, W>,
-) -> Result<(), CheckFault>
+    watches: &mut CommandWatches<S, (), (), W>,
+) -> Result<(), CommandFault<CheckFault>>
     ensures { IsCheckOf result watches.old watches.new (S.remaining reader) (W.contents writer.old) (W.contents writer.new) }
 {
-    let text = match watches.reads.read_front(alloc, reader, MOST_READ) {
+    let text = match watches.file.read_front(alloc, reader, MOST_TEXT) {
         Ok(text) => text,
-        Err(error) => return Err(CheckFault::Read(error.kind())),
+        Err(error) => return Err(CommandFault::File(error.kind())),
     };
     match read(alloc, &text) {
         Ok(project) => {
             let summary = summarize(&project);
             match watches
-                .writes
+                .output
                 .write_text(writer, format_args!("{summary}\n"))
             {
                 Ok(()) => Ok(()),
-                Err(_) => Err(CheckFault::Write),
+                Err(_) => Err(CommandFault::Write),
             }
         }
         Err(fault) => {
             watches.why = why_file(alloc, &text, fault);
-            Err(CheckFault::File(fault))
+            Err(CommandFault::Refused(CheckFault { fault }))
         }
     }
-}
-
-fn end_check<R: Env + Eprint>(
-    rt: &R,
-    path: &str,
-    ended: Result<(), CheckFault>,
-    why: &Option<String>,
-) -> ExitCode
-    ensures { exit_status result ≡ check_status ended }
-{
-    match ended {
-        Ok(()) => return ExitCode::SUCCESS,
-        Err(CheckFault::Read(kind)) => tell_unread(rt, path, reason(kind)),
-        Err(CheckFault::File(fault)) => {
-            let _ = eprintln!(rt; "farm: no file {fault}");
-            tell_why(rt, why);
-        }
-        Err(CheckFault::Write) => {}
-    }
-    ExitCode::FAILURE
 }
 
 /// Is `check` with a status, 0 or 1. Standard error has each fault but `Write`, and names `path` if
@@ -114,12 +63,12 @@ pub fn check_to<R: AllocGlobal + Env + Eprint, S: Read + Drop, W: Write>(
     path: &str,
     reader: S,
     writer: &mut W,
-    watches: &mut CheckWatches<S, W>,
+    watches: &mut CommandWatches<S, (), (), W>,
 ) -> ExitCode
-    ensures { IsChecked (exit_status result) watches.old watches.new (S.remaining reader)
-        (W.contents writer.old)
-        (W.contents writer.new) }
+    ensures { Ends
+        (λ ended. IsCheckOf ended watches.old watches.new (S.remaining reader) (W.contents writer.old) (W.contents writer.new))
+        (exit_status result) }
 {
     let ended = check(rt.alloc(), reader, writer, watches);
-    end_check(rt, path, ended, &watches.why)
+    end_command(rt, Paths::of(path), ended, watches)
 }

@@ -6,7 +6,7 @@
 //! contract.
 //!
 //! - `arguments`, `help`: the words of a command line, and the ends of help texts.
-//! - `input`, `summary`: a bounded front of an input; what a project holds, in one line.
+//! - `input`, `summary`: the whole of an input; what a project holds, in one line.
 //! - `checking`, `replaying`: the commands over any reader and writer.
 //! - `entries`: which tenants have too few entries of the journal for their quanta.
 //! - `program`: what each task does with files and standard output.
@@ -24,11 +24,11 @@ mod replaying;
 mod summary;
 
 pub use arguments::{Task, farm_command, parse_words};
-pub use checking::{CheckFault, CheckWatches, check, check_to};
+pub use checking::{CheckFault, check, check_to};
 pub use farm_config::{ConfigFault, Key, read_config};
 pub use farm_replay::{Notes, ReplayFault, ReplayWatches, replay};
 pub use farm_service::{ServeFault, serve};
-pub use input::{MOST_READ, read_front, read_whole};
+pub use input::read_whole;
 pub use program::{run_words, tell_refused};
-pub use replaying::{ReplayStop, replay_text, replay_to};
+pub use replaying::{ReplayLog, ReplayStop, replay_text, replay_to};
 pub use summary::{Summary, summarize};

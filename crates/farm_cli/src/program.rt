@@ -2,11 +2,11 @@ ghost use Rattle.std.specs.Prelude.{◌≡◌, ◌≤◌, OnOk, OnErr};
 ghost use Rattle.std.specs.Process.{exit_status};
 
 use crate::arguments::{Task, parse_words};
-use crate::checking::{CheckWatches, check_to};
+use crate::checking::check_to;
 use crate::entries::tell_scarce_entries;
 use crate::input::read_whole;
-use crate::replaying::{replay_to, tell_config_fault};
-use explain::{why_no_port, why_words};
+use crate::replaying::{ReplayLog, replay_to, tell_config_fault};
+use explain::{CommandWatches, open_path, told, why_no_port, why_words};
 use farm_config::read_config;
 use farm_core::Config;
 use farm_pool::Settled;
@@ -20,7 +20,7 @@ use std::rt::{Files, Runtime};
 use std::sync::Wait;
 use std::thread::Threads;
 use std::{fs, io};
-use watched_io::{Watch, explains, reason, tell_unread, tell_why};
+use watched_io::{Watch, explains, tell_unread, tell_why};
 
 /// Runs the program on `words`, the first of which is its name. The status is 0, or 2 for help and
 /// for a refused command line, or 1 for any fault.
@@ -81,33 +81,21 @@ fn bytes_at<R: Files + AllocGlobal + Env + Eprint>(rt: &R, path: &str) -> Option
         Ok(file) => read_whole(rt.alloc(), file),
         Err(error) => Err(error),
     };
-    match read {
-        Ok(Some(bytes)) => Some(bytes),
-        Ok(None) => {
-            tell_unread(rt, path, "it has more than 1048576 bytes");
-            None
-        }
-        Err(error) => {
-            tell_unread(rt, path, reason(error.kind()));
-            None
-        }
+    let bytes = told(rt, path, read)?;
+    if bytes.is_none() {
+        tell_unread(rt, path, "it has more than 1048576 bytes");
     }
+    bytes
 }
 
 fn run_check<R: Runtime + AllocGlobal>(rt: &R, path: &str) -> ExitCode
     ensures { exit_status result ≤ 1 }
 {
+    let Some(file) = open_path(rt, path) else {
+        return ExitCode::FAILURE;
+    };
     let mut output = io::writer(rt);
-    if path == "-" {
-        return check_to(rt, path, rt.reader(), &mut output, &mut CheckWatches::new());
-    }
-    match fs::open(rt, path) {
-        Ok(file) => check_to(rt, path, file, &mut output, &mut CheckWatches::new()),
-        Err(error) => {
-            tell_unread(rt, path, reason(error.kind()));
-            ExitCode::FAILURE
-        }
-    }
+    check_to(rt, path, file, &mut output, &mut CommandWatches::new())
 }
 
 fn run_replay<R: Runtime + AllocGlobal>(
@@ -129,15 +117,9 @@ fn run_replay<R: Runtime + AllocGlobal>(
             return ExitCode::FAILURE;
         }
     }
-    if script == "-" {
-        return print_replay(rt, &text, rt.reader(), is_strict);
-    }
-    match fs::open(rt, script) {
-        Ok(file) => print_replay(rt, &text, file, is_strict),
-        Err(error) => {
-            tell_unread(rt, script, reason(error.kind()));
-            ExitCode::FAILURE
-        }
+    match open_path(rt, script) {
+        Some(source) => print_replay(rt, &text, source, is_strict),
+        None => ExitCode::FAILURE,
     }
 }
 
@@ -153,19 +135,12 @@ fn print_replay<R: Runtime + AllocGlobal, S: Read + Drop>(
         let _ = eprintln!(rt; "farm: replay NoMemory");
         return ExitCode::FAILURE;
     };
-    let mut watches = ReplayWatches::new();
-    let mut sends = Watch::new();
-    let mut notes = Notes::default();
-    replay_to(
-        rt,
-        text,
-        script,
-        is_strict,
-        &mut output,
-        &mut watches,
-        &mut sends,
-        &mut notes,
-    )
+    let mut log = ReplayLog {
+        watches: ReplayWatches::new(),
+        sends: Watch::new(),
+        notes: Notes::default(),
+    };
+    replay_to(rt, text, script, is_strict, &mut output, &mut log)
 }
 
 fn config_at<R: Files + AllocGlobal + Env + Eprint>(rt: &R, path: &str) -> Option<Config> {

@@ -21,6 +21,15 @@ pub enum ReplayStop {
     Unsent,
 }
 
+/// A `ReplayLog` is what a replay counts and notes: the failures of the script's reader `S` and
+/// of the buffered replies, those of the sends to the writer `W`, and which lines stand out.
+#[derive(Drop)]
+pub struct ReplayLog<S, W: Write + Drop> {
+    pub watches: ReplayWatches<S, BufWriter<W>>,
+    pub sends: Watch<BufWriter<W>>,
+    pub notes: Notes,
+}
+
 /// Replays `script` on a farm of the configuration that `text` spells. The gathered replies are
 /// written out at the end and after a fault; `Unsent` comes only if that fails.
 pub fn replay_text<S: Read + Drop, W: Write + Drop>(
@@ -28,12 +37,10 @@ pub fn replay_text<S: Read + Drop, W: Write + Drop>(
     text: &[u8],
     script: S,
     output: &mut BufWriter<W>,
-    watches: &mut ReplayWatches<S, BufWriter<W>>,
-    sends: &mut Watch<BufWriter<W>>,
-    notes: &mut Notes,
+    log: &mut ReplayLog<S, W>,
 ) -> Result<(), ReplayStop>
     requires { writer_buffer output.old ≡ [] }
-    ensures { IsReplayOf result text.now watches.old watches.new (is_some notes.new.refused) sends.old sends.new
+    ensures { IsReplayOf result text.now log.old.watches log.new.watches (is_some log.new.notes.refused) log.old.sends log.new.sends
         (S.remaining script)
         (W.contents (writer_inner output.old))
         (W.contents (writer_inner output.new)) }
@@ -42,8 +49,10 @@ pub fn replay_text<S: Read + Drop, W: Write + Drop>(
         Ok(config) => config,
         Err(fault) => return Err(ReplayStop::Config(fault)),
     };
+    let watches = &mut log.watches;
+    let notes = &mut log.notes;
     let ended = replay(alloc, &config, script, output, watches, notes);
-    match sends.send_all(output) {
+    match log.sends.send_all(output) {
         Ok(()) => match ended {
             Ok(()) => Ok(()),
             Err(fault) => Err(ReplayStop::Fault(fault)),
@@ -115,18 +124,16 @@ pub fn replay_to<R: AllocGlobal + Env + Eprint, S: Read + Drop, W: Write + Drop>
     script: S,
     is_strict: bool,
     output: &mut BufWriter<W>,
-    watches: &mut ReplayWatches<S, BufWriter<W>>,
-    sends: &mut Watch<BufWriter<W>>,
-    notes: &mut Notes,
+    log: &mut ReplayLog<S, W>,
 ) -> ExitCode
     requires { writer_buffer output.old ≡ [] }
-    ensures { IsReplayed (exit_status result) is_strict (is_some notes.new.refused) text.now watches.old watches.new
-        sends.old
-        sends.new
+    ensures { IsReplayed (exit_status result) is_strict (is_some log.new.notes.refused) text.now log.old.watches log.new.watches
+        log.old.sends
+        log.new.sends
         (S.remaining script)
         (W.contents (writer_inner output.old))
         (W.contents (writer_inner output.new)) }
 {
-    let ended = replay_text(rt.alloc(), text, script, output, watches, sends, notes);
-    end_replay(rt, text, ended, *notes, is_strict)
+    let ended = replay_text(rt.alloc(), text, script, output, log);
+    end_replay(rt, text, ended, log.notes, is_strict)
 }

@@ -9,10 +9,10 @@ returns-in-Ok-send_all g c =
     let held = writer_contents g.W.Write.contents c.replay-ended.new.writer in
     let out = writer_contents g.W.Write.contents c.send_all.new.output in (
       c.in-Ok-send_all.ensures.noted,
-      sent (Err c.in-Err-ended.fault) c.args.text.now c.args.watches.now c.replay-ended.new.watches (is_some c.replay-ended.new.notes.refused) (g.S.Read.remaining c.args.script)
+      sent (Err c.in-Err-ended.fault) c.args.text.now c.args.log.now.watches c.replay-ended.new.watches (is_some c.replay-ended.new.notes.refused) (g.S.Read.remaining c.args.script)
           (g.W.Write.contents (writer_inner c.args.output.now)) (g.W.Write.contents (writer_inner c.send_all.new.output)) (writer_buffer c.send_all.new.output)
           c.in-Ok-send_all.ensures.sent
-          (gathered (Err c.in-Err-ended.fault) c.args.text.now c.in-Ok.config c.args.watches.now c.replay-ended.new.watches (is_some c.replay-ended.new.notes.refused) (g.S.Read.remaining c.args.script)
+          (gathered (Err c.in-Err-ended.fault) c.args.text.now c.in-Ok.config c.args.log.now.watches c.replay-ended.new.watches (is_some c.replay-ended.new.notes.refused) (g.S.Read.remaining c.args.script)
           (g.W.Write.contents (writer_inner c.args.output.now)) held out (writer_buffer c.args.output.now)
           c.in-Err-ended.ensures.noted c.in-Ok.ensures.ok c.requires c.in-Err-ended.ensures.written c.in-Err-ended.ensures.cut_off c.in-Ok-send_all.ensures.bytes),
     )
@@ -22,9 +22,9 @@ returns g c =
     let held = writer_contents g.W.Write.contents c.replay-ended.new.writer in
     let out = writer_contents g.W.Write.contents c.send_all.new.output in (
       c.in-Err-send_all.ensures.noted,
-      unsent c.replay-ended.result c.args.text.now c.args.watches.now c.replay-ended.new.watches (is_some c.replay-ended.new.notes.refused) (g.S.Read.remaining c.args.script)
+      unsent c.replay-ended.result c.args.text.now c.args.log.now.watches c.replay-ended.new.watches (is_some c.replay-ended.new.notes.refused) (g.S.Read.remaining c.args.script)
           (g.W.Write.contents (writer_inner c.args.output.now)) (g.W.Write.contents (writer_inner c.send_all.new.output)) (writer_buffer c.send_all.new.output)
-          (gathered c.replay-ended.result c.args.text.now c.in-Ok.config c.args.watches.now c.replay-ended.new.watches (is_some c.replay-ended.new.notes.refused) (g.S.Read.remaining c.args.script)
+          (gathered c.replay-ended.result c.args.text.now c.in-Ok.config c.args.log.now.watches c.replay-ended.new.watches (is_some c.replay-ended.new.notes.refused) (g.S.Read.remaining c.args.script)
           (g.W.Write.contents (writer_inner c.args.output.now)) held out (writer_buffer c.args.output.now)
           c.replay-ended.ensures.noted c.in-Ok.ensures.ok c.requires c.replay-ended.ensures.written c.replay-ended.ensures.cut_off c.in-Err-send_all.ensures.bytes),
     )
