@@ -21,7 +21,7 @@ appends_kept (Some xs) (Some ys) (Some zs) bytes h k = k ∙ h
 plays_kept : (ended : Result ⊤ ReplayFault) (config : ConfigData) (from seen : Counts) (refuses : Bool) (script : List ℕ) (a b c : Option (List ℕ)) →
     Plays ended config from seen refuses script a b → Keeps b c → Plays ended config from seen refuses script a c
 plays_kept (Ok done) config from seen refuses script a b c h k =
-    record { requests = h.requests; all = h.all; few = h.few; written = appends_kept a b c _ h.written k; refusal = h.refusal }
+    record { requests = h.requests; all = h.all; marks = h.marks; few = h.few; written = appends_kept a b c _ h.written k; refusal = h.refusal }
 plays_kept (Err fault) config from seen refuses script a b c h k = record {
   requests = h.requests;
   rest = h.rest;
