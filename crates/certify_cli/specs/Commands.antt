@@ -112,10 +112,19 @@ IsBoundOf ended periods from seen file before after =
     IsEndOf file_and_proof (IfSome file (λ bytes. CertifiesBound (take MOST_TEXT bytes) periods before after))
     (λ fault. IsRefusal fault from seen file before after × IfSome file (λ bytes. IsOfPeriods fault (take MOST_TEXT bytes) periods)) ended from seen before after
 
--- the end of a command that certifies the critical path: only the file can be at fault
+-- with neither a schedule nor a proof, only the file can be at fault
+abbrev pub IsOfFileAlone : CertifyFault → Type 0
+IsOfFileAlone (why.File fault) = ⊤
+IsOfFileAlone why.Words = ⊥
+IsOfFileAlone why.TooLong = ⊥
+IsOfFileAlone (why.Certificate fault) = ⊥
+IsOfFileAlone why.NoMemory = ⊤
+IsOfFileAlone why.Write = ⊤
+
+-- the end of a command that certifies the critical path
 abbrev pub IsChainOf : Result ⊤ (CommandFault CertifyFault) → CommandCounts → CommandCounts → Option (List ℕ) → Option (List ℕ) → Option (List ℕ) → Type 0
 IsChainOf ended from seen file before after =
-    IsEndOf file_alone (IfSome file (λ bytes. CertifiesChain (take MOST_TEXT bytes) before after)) (λ fault. IsRefusal fault from seen file before after) ended from seen before after
+    IsEndOf file_alone (IfSome file (λ bytes. CertifiesChain (take MOST_TEXT bytes) before after)) (λ fault. IsRefusal fault from seen file before after × IsOfFileAlone fault) ended from seen before after
 
 -- the exit status of a command that writes clauses: 1 for a fault
 abbrev pub clauses_status : Result ⊤ CertifyFault → ℕ

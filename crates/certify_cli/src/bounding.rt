@@ -3,7 +3,7 @@ ghost use Rattle.std.specs.Prelude.{◌-◌, IfOk, IfErr};
 ghost use Rattle.schedule_clauses.specs.Fault.{IsOfBound};
 ghost use Rattle.watched_io.specs.Failure.{HasFailed};
 ghost use Rattle.certify_cli.specs.Certified.{CertifiesBound, CertifiesChain, TakesAtLeast};
-ghost use Rattle.certify_cli.specs.Commands.{IsLineNoted, IsStopped, IsOfFile, IsOfPeriods};
+ghost use Rattle.certify_cli.specs.Commands.{IsLineNoted, IsStopped, IsOfFile, IsOfFileAlone, IsOfPeriods};
 
 use crate::fault::CertifyFault;
 use measures::Measures;
@@ -67,6 +67,7 @@ pub fn certify_chain<W: Write>(
     watch: &mut Watch<W>,
 ) -> Result<(), CertifyFault>
     ensures ok { IfOk result (λ _. CertifiesChain file.now (W.contents writer.old) (W.contents writer.new)) }
+    ensures judged { IfErr result (λ fault. IsOfFileAlone fault) }
     ensures fault { IfErr result (λ fault.
         IsOfFile fault file.now × IsStopped fault (HasFailed watch.old watch.new) (W.contents writer.old) (W.contents writer.new)) }
     ensures noted { IsLineNoted result watch.old watch.new }

@@ -38,6 +38,7 @@ impl<'a> Paths<'a> {
 }
 
 /// On `None` it is on standard error that `path` cannot be read, and why.
+#[inline(always)]
 pub fn told<R: Env + Eprint, T: Drop>(rt: &R, path: &str, got: io::Result<T>) -> Option<T> {
     match got {
         Ok(value) => Some(value),
@@ -49,7 +50,8 @@ pub fn told<R: Env + Eprint, T: Drop>(rt: &R, path: &str, got: io::Result<T>) ->
 }
 
 /// Opens the file at `path`, or standard input if that is `-`. On `None` the reason is on standard
-/// error.
+/// error. Inlined, since a source holds its buffer, and each return would copy that.
+#[inline(always)]
 pub fn open_path<R: Input + Files + Env + Eprint>(
     rt: &R,
     path: &str,
@@ -64,7 +66,8 @@ fn read_words<R: Runtime + AllocGlobal>(rt: &R) -> io::Result<Vec<String>> {
 /// The words of the command line, or the status for a word that is not UTF-8 or for want of memory.
 /// Which it is, is on standard error.
 pub fn words_of<R: Runtime + AllocGlobal>(rt: &R) -> Result<Vec<String>, ExitCode>
-    ensures { IfErr result (λ status. exit_status status ≤ 2) }
+    ensures failed { IfErr result (λ status. 1 ≤ exit_status status) }
+    ensures few { IfErr result (λ status. exit_status status ≤ 2) }
 {
     match read_words(rt) {
         Ok(words) => Ok(words),

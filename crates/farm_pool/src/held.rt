@@ -99,26 +99,29 @@ fn back_to<J: Strategy>(farm: &mut Farm<J>, turn: Turn<J>) -> FarmAnswer<J>
     }
 }
 
-fn answer_on<J: Strategy>(farm: &mut Farm<J>, call: FarmCall<J>) -> FarmAnswer<J>
-    requires { MayAsk J.meaning farm.old.config call }
-    ensures { AnswersOn J.meaning farm.old call result farm.new }
-{
-    farm.journal();
-    match call {
-        FarmCall::Asked(tenant, command) => FarmAnswer::Replied(farm.command(tenant, command)),
-        FarmCall::Next(slice) => next_of(farm, slice),
-        FarmCall::Back(turn) => back_to(farm, turn),
-    }
-}
-
 /// Makes `call`. The farm is reachable before and after it: `journal` shows that to the prover.
 pub(crate) fn serve_on<J: Strategy>(farm: &mut Farm<J>, call: FarmCall<J>) -> FarmAnswer<J>
     requires { MayAsk J.meaning farm.old.config call }
     ensures { DoesOn J.meaning farm.old call result farm.new }
 {
-    let given = answer_on(farm, call);
     farm.journal();
-    given
+    match call {
+        FarmCall::Asked(tenant, command) => {
+            let reply = farm.command(tenant, command);
+            farm.journal();
+            FarmAnswer::Replied(reply)
+        }
+        FarmCall::Next(slice) => {
+            let given = next_of(farm, slice);
+            farm.journal();
+            given
+        }
+        FarmCall::Back(turn) => {
+            let given = back_to(farm, turn);
+            farm.journal();
+            given
+        }
+    }
 }
 
 impl Runs for Held<Box<dyn Strategy>> {

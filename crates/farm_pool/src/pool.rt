@@ -5,7 +5,6 @@ ghost use Rattle.turn_lock.specs.Values.{IsPassOf};
 ghost use Rattle.farm_core.specs.Command.{event_of, IsFresh};
 ghost use Rattle.farm_pool.specs.declared.image.AnswerImage.TheVariants as told;
 ghost use Rattle.farm_pool.specs.declared.image.CallImage.TheVariants as said;
-ghost use Rattle.farm_pool.specs.Calls.{call_image, answer_image, MayAsk};
 ghost use Rattle.farm_pool.specs.Served.{Served};
 ghost use Rattle.farm_pool.specs.Worked.{IsClosed};
 
@@ -59,21 +58,6 @@ impl<J> Promise<Pass<Held<J>>> for OfLock<J> {
     ghost kept_by = { λ lock pass. IsPassOf lock pass };
 }
 
-pub(crate) fn ask<R: Wait>(
-    rt: &R,
-    lock: &FarmLock,
-    pass: &mut PoolPass,
-    call: FarmCall<Box<dyn Strategy>>,
-) -> FarmAnswer<Box<dyn Strategy>>
-    requires own { IsPassOf lock.now pass.old }
-    requires may { MayAsk (λ b. meaning b) lock.now.opening call }
-    ensures own { IsPassOf lock.now pass.new }
-    ensures called { Called Served pass.old.view
-        (call_image (λ b. meaning b) call) (answer_image (λ b. meaning b) result) pass.new.view }
-{
-    lock.with_turn(rt, pass, call)
-}
-
 impl Pool {
     /// Opens a pool on an empty farm, with its first pass. Turns have the slice of `config`.
     pub fn new(alloc: Global, config: &Config) -> Result<(Pool, PoolPass), AllocError>
@@ -113,7 +97,10 @@ impl Pool {
         ensures called { Called Served pass.old.view
             (said.Asked tenant (event_of command)) (told.Replied result) pass.new.view }
     {
-        match ask(rt, &self.lock, pass, FarmCall::Asked(tenant, command)) {
+        match self
+            .lock
+            .with_turn(rt, pass, FarmCall::Asked(tenant, command))
+        {
             FarmAnswer::Replied(reply) => reply,
             _ => unreachable!(),
         }

@@ -11,7 +11,7 @@ use Rattle.psplib_mm.specs.declared.fault.MmFault.{MmFault}
 use Rattle.strategy.specs.declared.kind.Kind.{Kind}
 use Rattle.farm_core.specs.Config.{ConfigData}
 use Rattle.farm_core.specs.Name.{is_letter, is_mark, begins_well, is_name, same_bytes}
-use Rattle.session_lines.specs.declared.line.Head.{Head}
+use Rattle.session_lines.specs.declared.line.SubmitLine.{SubmitLine}
 use Rattle.session_lines.specs.declared.line.LineMeaning.{LineMeaning}
 use Rattle.session_lines.specs.declared.line.LineMeaning.TheVariants.{Blank, Whole, Opens, Long, Bad}
 use Rattle.session_lines.specs.declared.request.What.{What}
@@ -129,7 +129,7 @@ judged_named line =
     (one_named (is_wordless line) Blank Long tt tt)
     (words_named (words_of (shown line)))
 
-submitted_who : (head : Head) (read : Result ProjectData MmFault) → who_in (submitted head read) ≡ Some head.who
+submitted_who : (head : SubmitLine) (read : Result ProjectData MmFault) → who_in (submitted head read) ≡ Some head.who
 submitted_who head (Ok project) = refl
 submitted_who head (Err why) = refl
 
@@ -161,7 +161,7 @@ lines_named (Some text) [] h = (cut_named text h, tt)
 lines_named None (line ∷ lines) h =
     go (judged line) (judged_named line) (lines_named None lines tt) (λ head named. lines_named (Some (opened_text head)) lines named)
   where
-    go : (meaning : LineMeaning) → IsNamedMeaning meaning → AreNamed (requests None lines) → ((head : Head) → is_name head.who ≡ true → AreNamed (requests (Some (opened_text head)) lines))
+    go : (meaning : LineMeaning) → IsNamedMeaning meaning → AreNamed (requests None lines) → ((head : SubmitLine) → is_name head.who ≡ true → AreNamed (requests (Some (opened_text head)) lines))
         → AreNamed (before (outside_text meaning).whole (requests (outside_text meaning).text lines))
     go Blank h later inside = later
     go (Whole request) h later inside = ((h, tt), later)

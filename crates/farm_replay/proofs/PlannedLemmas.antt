@@ -7,7 +7,7 @@ use Rattle.psplib_mm.specs.Reading.{reading}
 use Rattle.psplib_mm.specs.Text.{words_of, is_same}
 use Rattle.psplib_mm.specs.declared.fault.MmFault.{MmFault}
 use Rattle.strategy.specs.declared.kind.Kind.{Kind}
-use Rattle.session_lines.specs.declared.line.Head.{Head}
+use Rattle.session_lines.specs.declared.line.SubmitLine.{SubmitLine}
 use Rattle.session_lines.specs.declared.line.LineMeaning.{LineMeaning}
 use Rattle.session_lines.specs.declared.line.LineMeaning.TheVariants.{Blank, Whole, Opens, Long, Bad}
 use Rattle.session_lines.specs.declared.request.Request.{Request}
@@ -110,7 +110,7 @@ judged_planned line =
 
 -- ---- texts spell projects
 
-read_planned : ReadingGivesProjects → (head : Head) (text : List ℕ) (read : Result ProjectData MmFault) → reading text ≡ read → IsPlannedRequest (submitted head read)
+read_planned : ReadingGivesProjects → (head : SubmitLine) (text : List ℕ) (read : Result ProjectData MmFault) → reading text ≡ read → IsPlannedRequest (submitted head read)
 read_planned projects head text (Ok project) is = projects text project is
 read_planned projects head text (Err why) is = tt
 
@@ -134,7 +134,7 @@ lines_planned projects (Some text) [] = (cut_planned text, tt)
 lines_planned projects None (line ∷ lines) =
     go (judged line) (judged_planned line) (lines_planned projects None lines) (λ head. lines_planned projects (Some (opened_text head)) lines)
   where
-    go : (meaning : LineMeaning) → IsPlannedMeaning meaning → AreItemsPlanned (requests None lines) → ((head : Head) → AreItemsPlanned (requests (Some (opened_text head)) lines))
+    go : (meaning : LineMeaning) → IsPlannedMeaning meaning → AreItemsPlanned (requests None lines) → ((head : SubmitLine) → AreItemsPlanned (requests (Some (opened_text head)) lines))
         → AreItemsPlanned (before (outside_text meaning).whole (requests (outside_text meaning).text lines))
     go Blank h later inside = later
     go (Whole request) h later inside = (h, later)

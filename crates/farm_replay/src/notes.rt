@@ -1,5 +1,5 @@
 ghost use Rattle.std.specs.Prelude.{◌≡◌, ◌||◌, is_some};
-ghost use Rattle.farm_replay.specs.Refusal.{is_refusal};
+ghost use Rattle.farm_replay.specs.Refusal.{is_refusal, first_line};
 
 use farm_core::Reply;
 use session_lines::Said;
@@ -33,7 +33,9 @@ pub fn is_refused(said: &Said) -> bool
 
 impl Notes {
     pub(crate) fn add(&mut self, line: u64, is_doubtful: bool, said: &Said)
-        ensures { is_some self.new.refused ≡ (is_some self.old.refused || is_refusal said.now) }
+        ensures refused { self.new.refused ≡ first_line self.old.refused (is_refusal said.now) line }
+        ensures doubtful { self.new.doubtful ≡ first_line self.old.doubtful is_doubtful line }
+        ensures any { is_some self.new.refused ≡ (is_some self.old.refused || is_refusal said.now) }
     {
         if self.refused.is_none() && is_refused(said) {
             self.refused = Some(line);

@@ -1,6 +1,6 @@
 -- What a session does for its requests: the calls that it makes, the leases that it has made, and
 -- the lines that it writes.
-use Rattle.std.specs.Prelude.{◌≡◌, ℕ, ⊤, List, [], ◌∷◌, Option, None, Result}
+use Rattle.std.specs.Prelude.{◌≡◌, ℕ, ⊤, ◌⊎◌, Bool, true, false, not, ◌&&◌, is_ok, List, [], ◌∷◌, Option, None, Result}
 use Rattle.farm_core.specs.declared.entry.Event.{Event}
 use Rattle.farm_core.specs.declared.reply.Reply.{Reply}
 use Rattle.farm_core.specs.Config.{ConfigData}
@@ -10,6 +10,7 @@ use Rattle.session_lines.specs.declared.reading.TheConstants.{MOST_REQUEST_BYTES
 use Rattle.session_lines.specs.declared.put.WriteFault.{WriteFault}
 use Rattle.session_lines.specs.Script.{Takes}
 use Rattle.farm_session.specs.declared.heard.Heard.{Heard}
+use Rattle.farm_session.specs.declared.heard.Heard.TheVariants.{Over, Broken}
 use Rattle.farm_session.specs.Branch.{BranchValue, HasLeasedBy}
 use Rattle.farm_session.specs.Ready.{ReadyData}
 use Rattle.farm_service.specs.declared.service.Role.{Role}
@@ -28,31 +29,41 @@ pub record Stand (T : Type 0) : Type 0 where
 abbrev pub stand : {T : Type 0} → T → List BranchValue → Option (List ℕ) → Option (List ℕ) → Stand T
 stand token branches left written = record { token = token; branches = branches; left = left; written = written }
 
+-- there is no further request, or it cannot be read
+abbrev pub is_end : Heard → Bool
+is_end Over = true
+is_end Broken = true
+is_end heard = false
+
 module _ {T J : Type 0} (config : ConfigData) (tells : T → ℕ → Event → Reply → T → Type 0) (made : ReadyData → Option J → Type 0) where
   -- one request was read and answered: its call was made, the lease that it needs, and its line was
-  -- written; nothing else was done
-  pub record HasAnswered (old : Stand T) (heard : Heard) (new : Stand T) : Type 0 where
+  -- written; nothing else was done. The session goes on unless its input has ended, or a read or a
+  -- write has failed
+  pub record HasAnswered (old : Stand T) (heard : Heard) (goes_on : Bool) (new : Stand T) : Type 0 where
     pub read : Result Request LineFault
     pub result : Result ⊤ WriteFault
     pub takes : Takes MOST_REQUEST_BYTES None old.left new.left read
     pub is : heard ≡ heard_in config read
     pub told : IsToldOf tells old.token heard result old.written new.written new.token
     pub leased : HasLeasedBy made config heard old.branches new.branches
+    pub goes : goes_on ≡ (not (is_end heard) && is_ok result)
 
-  -- requests one after another, the last one first
+  -- requests one after another, the last one first; the session goes on after each
   abbrev pub HasServed : Stand T → List Heard → Stand T → Type 0
   HasServed old [] new = new ≡ old
-  HasServed old (h ∷ heard) new = (mid : Stand T) × HasServed old heard mid × HasAnswered mid h new
+  HasServed old (h ∷ heard) new = (mid : Stand T) × HasServed old heard mid × HasAnswered mid h true new
 
-  -- a session: some requests were answered, and nothing else was done
+  -- a session: requests were answered until one ended it, and nothing else was done
   abbrev pub IsSession : Stand T → Stand T → Type 0
-  IsSession old new = (heard : List Heard) × HasServed old heard new
+  IsSession old new = (mid : Stand T) × (heard : List Heard) × HasServed old heard mid × (last : Heard) × HasAnswered mid last false new
 
-  -- a client was served, whatever its connection sends, and no lease was made before or after
+  -- a client was served, whatever its connection sends, and no lease was made before or after; or
+  -- there was no memory for a session, and nothing was done
   abbrev pub IsClientServed : T → List BranchValue → T → List BranchValue → Type 0
   IsClientServed old branches new then =
-      (left : Option (List ℕ)) × (written : Option (List ℕ)) × (rest : Option (List ℕ)) × (told : Option (List ℕ))
-      × IsSession (stand old branches left written) (stand new then rest told)
+      ((left : Option (List ℕ)) × (written : Option (List ℕ)) × (rest : Option (List ℕ)) × (told : Option (List ℕ))
+      × IsSession (stand old branches left written) (stand new then rest told))
+      ⊎ ((new ≡ old) × (then ≡ branches))
 
   -- what a thread of a service did: a worker took turns, and a client's thread was a session
   abbrev pub HasPlayedRole : (T → T → Type 0) → Role → T → Role → T → Type 0

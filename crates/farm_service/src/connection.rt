@@ -8,7 +8,7 @@ ghost use Rattle.farm_session.specs.Command.{event_in};
 ghost use Rattle.farm_service.specs.Asked.{IsSaidTo};
 ghost use Rattle.farm_service.specs.Known.{IsKnown};
 ghost use Rattle.farm_session.specs.declared.heard.Heard.{Heard};
-ghost use Rattle.farm_service.specs.Session.{stand, HasAnswered, IsSession};
+ghost use Rattle.farm_service.specs.Session.{stand, is_end, HasAnswered, IsSession};
 ghost use Rattle.farm_service.specs.Told.{heard_in, IsToldOf};
 ghost use Rattle.farm_core.specs.Tills.{AreTillsOf};
 
@@ -163,6 +163,12 @@ fn reply<D: Shared, R: Wait, W: Write, M: Fn(Ready) -> Option<D::Search>>(
     }
 }
 
+fn is_end(heard: &Heard) -> bool
+    ensures { result ≡ is_end heard.now }
+{
+    matches!(heard, Heard::Over | Heard::Broken)
+}
+
 /// Whether the session goes on: it ends with the input, or if a read or a write fails.
 fn serve_next<D: Shared, R: Wait, I: BufRead, O: Write, M: Fn(Ready) -> Option<D::Search>>(
     office: &Office<'_, '_, R, D, M>,
@@ -184,15 +190,16 @@ fn serve_next<D: Shared, R: Wait, I: BufRead, O: Write, M: Fn(Ready) -> Option<D
         (M.post office.now.shop.make.now)
         (stand token.old branches.old (I.remaining reader.old) (O.contents writer.old))
         heard
+        result
         (stand token.new branches.new (I.remaining reader.new) (O.contents writer.new)) }
 {
     let heard = heard(
         office.shop.config,
         read_request(office.shop.alloc, reader, &mut watches.reads),
     );
-    let is_over = matches!(&heard, Heard::Over | Heard::Broken);
+    let is_end = is_end(&heard);
     let told = reply(office, token, branches, writer, &mut watches.writes, heard);
-    !is_over && told.is_ok()
+    !is_end && told.is_ok()
 }
 
 /// Answers requests until the input ends, or until a read or a write fails.
@@ -216,9 +223,10 @@ pub(crate) fn session<D: Shared, R: Wait, I: BufRead, O: Write, M: Fn(Ready) -> 
         (stand token.new branches.new (I.remaining reader.new) (O.contents writer.new)) }
 {
     let mut watches = ConnectionWatches::new();
-    for _ in 0..u64::MAX {
+    for _ in office.rt.forever() {
         if !serve_next(office, token, branches, reader, writer, &mut watches) {
-            break;
+            return;
         }
     }
+    unreachable!()
 }

@@ -1,5 +1,5 @@
 //! The desks of a service's connections.
-ghost use Rattle.std.specs.Prelude.{◌≡◌, map, All, IfOk, OnOk};
+ghost use Rattle.std.specs.Prelude.{◌≡◌, length, map, All, IfOk, OnOk};
 ghost use Rattle.farm_core.specs.Tills.{AreSeated};
 ghost use Rattle.farm_session.specs.Branch.{new_branch, HaveSeated};
 
@@ -16,6 +16,7 @@ pub(crate) fn places<'a>(
     requires { AreSeated tills.now desks.old }
     ensures seated { AreSeated tills.entry.now desks.new }
     ensures unused { IfOk result (λ places. All (λ own. own.items ≡ map new_branch tills.entry.now) places.items) }
+    ensures count { IfOk result (λ places. length places.items ≡ count) }
     ensures each { OnOk result (HaveSeated count desks.old desks.new) }
 {
     let mut places = Vec::new(alloc);

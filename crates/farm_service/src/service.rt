@@ -1,5 +1,5 @@
 //! The threads of a service, and its end.
-ghost use Rattle.std.specs.Prelude.{◌≡◌, All, map, None, IfOk, IfSome, OnOk};
+ghost use Rattle.std.specs.Prelude.{◌≡◌, All, map, true, None, IfOk, IfSome, OnOk, OnErr, is_some};
 ghost use Rattle.job_table.specs.Job.{fresh_search};
 ghost use Rattle.farm_core.specs.Config.{ConfigData};
 ghost use Rattle.farm_core.specs.Tills.{AreSeated, AreTillsOf};
@@ -332,6 +332,7 @@ fn settle<J: Strategy>(
     requires seated { AreSeated tills.now desks.old }
     ensures loaded { AreLoaded desks.old desks.new }
     ensures settled { OnOk result (first_unsettled (books_of farm) (map words_at desks.new) ≡ None) }
+    ensures unsettled { OnErr result (is_some (first_unsettled (books_of farm) (map words_at desks.new)) ≡ true) }
 {
     match finish(farm, tills, desks) {
         Ok(settled) => Ok(settled),

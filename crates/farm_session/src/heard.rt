@@ -1,5 +1,5 @@
 ghost use Rattle.std.specs.Prelude.{◌≡◌, ◌<◌, length, position, IfSome};
-ghost use Rattle.farm_session.specs.Heard.{is_line_of, tenant_number, heard_of};
+ghost use Rattle.farm_session.specs.Heard.{is_line_of, heard_of};
 
 use farm_core::{Config, Name, Reply, TenantLine};
 use session_lines::{LineFault, Request, Said, What};
@@ -23,19 +23,10 @@ fn is_line_of(line: &TenantLine, name: &Name) -> bool
 }
 
 fn place_of(lines: &[TenantLine], name: &Name) -> Option<usize>
-    ensures { result ≡ position (is_line_of name.now) lines.now }
+    ensures exact { result ≡ position (is_line_of name.now) lines.now }
+    ensures known { IfSome result (λ place. place < length lines.now) }
 {
     lines.iter().position(|line| is_line_of(line, name))
-}
-
-fn tenant_number(config: &Config, name: &Name) -> Option<u32>
-    ensures exact { result ≡ tenant_number name.now config.now }
-    ensures known { IfSome result (λ tenant. tenant < length config.now.tenants) }
-{
-    match place_of(config.tenants(), name) {
-        Some(place) => Some(place as u32),
-        None => None,
-    }
 }
 
 /// The request that was read with its tenant's number, or the reply to a fault.
@@ -44,8 +35,8 @@ pub fn hear(config: &Config, read: Result<Request, LineFault>) -> Heard
 {
     let fault = match read {
         Ok(Request { who, what }) => {
-            return match tenant_number(config, &who) {
-                Some(tenant) => Heard::Asked(tenant, who, what),
+            return match place_of(config.tenants(), &who) {
+                Some(place) => Heard::Asked(place as u32, who, what),
                 None => Heard::Told(Some(who), Said::NoTenant),
             };
         }

@@ -44,15 +44,6 @@ impl Ready {
         Ready { plan, lease }
     }
 
-    /// A `Ready` with a copy of `plan`, or `None` if there is no memory for it.
-    pub fn of(alloc: Global, lease: Lease, plan: &Plan) -> Option<Ready>
-        requires { IsEmpty lease }
-        ensures { IfSome result (λ ready. ready ≡ record { plan = plan.now; lease = lease }) }
-    {
-        let plan = plan.clone_in(alloc).ok()?;
-        Some(Ready::new(plan, lease))
-    }
-
     pub fn kind(&self) -> Kind
         ensures { result ≡ self.now.plan.kind }
     {

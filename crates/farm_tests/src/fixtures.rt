@@ -152,7 +152,7 @@ fn plan_of(alloc: Global, text: Text, kind: Kind) -> Option<Plan> {
 fn search_of(alloc: Global, plan: &Plan, lease: Lease) -> Option<Box<dyn Strategy>>
     requires { IsEmpty lease }
 {
-    let ready = Ready::of(alloc, lease, plan)?;
+    let ready = Ready::new(plan.clone_in(alloc).ok()?, lease);
     match ready.kind() {
         Kind::Tree => {
             let search: Box<dyn Strategy> = ready.tree(alloc)?;

@@ -1,7 +1,7 @@
 -- The laws of scripts.
 use Rattle.std.proofs.Common.{◌≡◌, ℕ, Bool, true, false, cond, ◌==◌, List, [], ◌∷◌, Option, Some, None, refl, ap, ◌∙◌}
 use Rattle.std.specs.List.{flat_map}
-use Rattle.session_lines.specs.declared.line.Head.{Head}
+use Rattle.session_lines.specs.declared.line.SubmitLine.{SubmitLine}
 use Rattle.session_lines.specs.declared.line.LineMeaning.{LineMeaning}
 use Rattle.session_lines.specs.declared.line.LineMeaning.TheVariants.{Blank, Whole, Opens, Long, Bad}
 use Rattle.session_lines.specs.Script.{TextData, onto, lines_of, judged, opened_text, with_line, outside_text, first_or, first, before, requests}
@@ -14,7 +14,7 @@ requests_first (Some text) [] = refl
 requests_first None (line ∷ lines) = go (judged line) (requests_first None lines) (λ head. requests_first (Some (opened_text head)) lines)
   where
     go : (m : LineMeaning) → requests None lines ≡ from_first (first None lines)
-        → ((head : Head) → requests (Some (opened_text head)) lines ≡ from_first (first (Some (opened_text head)) lines))
+        → ((head : SubmitLine) → requests (Some (opened_text head)) lines ≡ from_first (first (Some (opened_text head)) lines))
         → before (outside_text m).whole (requests (outside_text m).text lines)
         ≡ from_first (first_or (outside_text m).whole lines (first (outside_text m).text lines))
     go Blank later inside = later

@@ -9,7 +9,7 @@ use Rattle.std.specs.List.{list_all}
 use Rattle.std.specs.Io.BufRead.{strip_last, ends_with_byte}
 use Rattle.psplib_mm.specs.Text.{is_blank}
 use Rattle.session_lines.specs.Taken.{Reads, IsFront, Extends}
-use Rattle.session_lines.specs.declared.bytes.Line.{Line}
+use Rattle.session_lines.specs.declared.bytes.GatheredLine.{GatheredLine}
 
 -- ---- the first bytes
 
@@ -96,10 +96,10 @@ Reads-end kept blank returns raw r = record { front = r.front; wordless = r.word
 
 -- ---- bytes that are added
 
-pub Extends-start : (line : Line) → Extends [] line line
+pub Extends-start : (line : GatheredLine) → Extends [] line line
 Extends-start line = record { inside = All-nil (λ x. x ≢ 10); reads = λ raw r. rw (append-nil raw) r }
 
-pub Extends-more : (bytes : List ℕ) (b : ℕ) (old mid new : Line) → b ≢ 10 → Extends bytes old mid
+pub Extends-more : (bytes : List ℕ) (b : ℕ) (old mid new : GatheredLine) → b ≢ 10 → Extends bytes old mid
     → new.kept.items ≡ take 4099 (mid.kept.items ++ b ∷ []) → new.is_blank ≡ ((mid.is_blank && not mid.returns) && ((b == 13) || is_blank b)) → new.returns ≡ (b == 13)
     → Extends (bytes ++ b ∷ []) old new
 Extends-more bytes b old mid new other e kept blank returns = record {

@@ -1,14 +1,14 @@
 -- The one pass over a script's lines is what two recursions were: the first request, and all requests.
 use Rattle.std.proofs.Common.{◌≡◌, ℕ, Bool, true, false, ◌==◌, List, [], ◌∷◌, Option, Some, None, if◌then◌else◌, Ok, Err, refl, ap}
 use Rattle.session_lines.specs.declared.request.LineFault.TheVariants.{TooLong, Syntax}
-use Rattle.session_lines.specs.declared.line.Head.{Head}
+use Rattle.session_lines.specs.declared.line.SubmitLine.{SubmitLine}
 use Rattle.session_lines.specs.declared.line.LineMeaning.{LineMeaning}
 use Rattle.session_lines.specs.declared.line.LineMeaning.TheVariants.{Blank, Whole, Opens, Long, Bad}
 use Rattle.session_lines.specs.Script.{TextData, Item, Found, found, plain, judged, opened_text, with_line, whole_text, cut_text, outside_text, first_or, first, before, requests}
 use Rattle.session_lines.proofs.ReadLemmas.{grown}
 
 -- what a line outside a text begins: blank lines belong to the request after them
-abbrev begins : LineMeaning → List (List ℕ) → Option Found → (Head → Option Found) → Option Found
+abbrev begins : LineMeaning → List (List ℕ) → Option Found → (SubmitLine → Option Found) → Option Found
 begins Blank lines later text = later
 begins (Whole request) lines later text = found (plain (Ok request)) lines
 begins (Opens head) lines later text = text head
@@ -24,7 +24,7 @@ old_first (Some text) (line ∷ lines) =
     if more.left == 0 then found (whole_text more) lines else old_first (Some more) lines
 
 -- what a line outside a text begins, in the list of all requests
-abbrev heads : LineMeaning → List Item → (Head → List Item) → List Item
+abbrev heads : LineMeaning → List Item → (SubmitLine → List Item) → List Item
 heads Blank later text = later
 heads (Whole request) later text = plain (Ok request) ∷ later
 heads (Opens head) later text = text head
@@ -45,7 +45,7 @@ requests_agree (Some text) [] = refl
 requests_agree None (line ∷ lines) = go (judged line) (requests_agree None lines) (λ head. requests_agree (Some (opened_text head)) lines)
   where
     go : (m : LineMeaning) → requests None lines ≡ old_requests None lines
-        → ((head : Head) → requests (Some (opened_text head)) lines ≡ old_requests (Some (opened_text head)) lines)
+        → ((head : SubmitLine) → requests (Some (opened_text head)) lines ≡ old_requests (Some (opened_text head)) lines)
         → before (outside_text m).whole (requests (outside_text m).text lines) ≡ heads m (old_requests None lines) (λ head. old_requests (Some (opened_text head)) lines)
     go Blank later inside = later
     go (Whole request) later inside = ap (λ l. plain (Ok request) ∷ l) later
@@ -66,7 +66,7 @@ firsts_agree (Some text) [] = refl
 firsts_agree None (line ∷ lines) = go (judged line) (firsts_agree None lines) (λ head. firsts_agree (Some (opened_text head)) lines)
   where
     go : (m : LineMeaning) → first None lines ≡ old_first None lines
-        → ((head : Head) → first (Some (opened_text head)) lines ≡ old_first (Some (opened_text head)) lines)
+        → ((head : SubmitLine) → first (Some (opened_text head)) lines ≡ old_first (Some (opened_text head)) lines)
         → first_or (outside_text m).whole lines (first (outside_text m).text lines) ≡ begins m lines (old_first None lines) (λ head. old_first (Some (opened_text head)) lines)
     go Blank later inside = later
     go (Whole request) later inside = refl

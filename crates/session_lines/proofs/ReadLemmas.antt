@@ -5,7 +5,7 @@ use Rattle.std.specs.Io.BufRead.{strip_last, ends_with_byte, take_through, drop_
 use Rattle.session_lines.specs.declared.request.Request.{Request}
 use Rattle.session_lines.specs.declared.request.LineFault.{LineFault}
 use Rattle.session_lines.specs.declared.request.LineFault.TheVariants.{Eof, Read, TooLong, Syntax, File, NoMemory}
-use Rattle.session_lines.specs.declared.line.Head.{Head}
+use Rattle.session_lines.specs.declared.line.SubmitLine.{SubmitLine}
 use Rattle.session_lines.specs.declared.line.LineMeaning.{LineMeaning}
 use Rattle.session_lines.specs.declared.line.LineMeaning.TheVariants.{Blank, Whole, Opens, Long, Bad}
 use Rattle.session_lines.specs.declared.text.Text.{Text}
@@ -85,7 +85,7 @@ after_line a b d m before mid after so_far line =
 pub after_blank : (a d : Option (List ℕ)) (before after : ℕ) → Goes a d (Begins Blank before after) → Goes a d (GoesOn None before after)
 after_blank a d before after = Goes-map a d _ _ (λ xs ys b. record { same = b.same; paid = b.paid })
 
-pub after_head : (a d : Option (List ℕ)) (head : Head) (before after : ℕ) → Goes a d (Begins (Opens head) before after) → Goes a d (GoesOn (Some (opened_text head)) before after)
+pub after_head : (a d : Option (List ℕ)) (head : SubmitLine) (before after : ℕ) → Goes a d (Begins (Opens head) before after) → Goes a d (GoesOn (Some (opened_text head)) before after)
 after_head a d head before after = Goes-map a d _ _ (λ xs ys b. record { same = b.same; paid = b.paid })
 
 -- a line that is a request, or stands in place of one
@@ -115,7 +115,7 @@ pub record InText (text : Option TextData) (kept : Text) (before after : ℕ) (x
   pub same : first text (lines_of xs) ≡ first (Some said) (lines_of ys)
   pub paid : length xs + after ≡ length ys + before
 
-pub InText-start : (a : Option (List ℕ)) (head : Head) (kept : Text) (n : ℕ) → IsText kept (opened_text head) → Goes a a (InText (Some (opened_text head)) kept n n)
+pub InText-start : (a : Option (List ℕ)) (head : SubmitLine) (kept : Text) (n : ℕ) → IsText kept (opened_text head) → Goes a a (InText (Some (opened_text head)) kept n n)
 InText-start None head kept n t = tt
 InText-start (Some xs) head kept n t = record { said = opened_text head; is = t; same = refl; paid = refl }
 

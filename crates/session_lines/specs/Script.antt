@@ -11,7 +11,7 @@ use Rattle.session_lines.specs.declared.request.Request.{Request}
 use Rattle.session_lines.specs.declared.request.What.TheVariants.{Submit}
 use Rattle.session_lines.specs.declared.request.LineFault.{LineFault}
 use Rattle.session_lines.specs.declared.request.LineFault.TheVariants.{Eof, Read, TooLong, Syntax, File, NoMemory}
-use Rattle.session_lines.specs.declared.line.Head.{Head}
+use Rattle.session_lines.specs.declared.line.SubmitLine.{SubmitLine}
 use Rattle.session_lines.specs.declared.line.LineMeaning.{LineMeaning}
 use Rattle.session_lines.specs.declared.line.LineMeaning.TheVariants.{Blank, Whole, Opens, Long, Bad}
 use Rattle.session_lines.specs.declared.text.TheConstants.{LONGEST}
@@ -51,13 +51,13 @@ judged line = if is_long line then (if is_wordless line then Blank else Long) el
 -- a submit's text: its first line, the lines that are missing, whether one so far is long, and the
 -- bytes so far
 pub record TextData : Type 0 where
-  pub head : Head
+  pub head : SubmitLine
   pub left : ℕ
   pub is_long : Bool
   pub bytes : List ℕ
 
 -- the text of a submit before its first line
-abbrev pub opened_text : Head → TextData
+abbrev pub opened_text : SubmitLine → TextData
 opened_text head = record { head = head; left = head.lines; is_long = false; bytes = [] }
 
 -- the text with one more line
@@ -77,7 +77,7 @@ abbrev pub plain : Result Request LineFault → Item
 plain answer = record { submits = None; answer = answer }
 
 -- the answer of a submit, by what its text spells
-abbrev pub submitted : Head → Result ProjectData MmFault → Result Request LineFault
+abbrev pub submitted : SubmitLine → Result ProjectData MmFault → Result Request LineFault
 submitted head (Ok project) = Ok (record { who = head.who; what = Submit head.kind head.quanta project })
 submitted head (Err fault) = Err (File head.who fault)
 

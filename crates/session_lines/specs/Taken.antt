@@ -7,7 +7,7 @@ use Rattle.psplib_mm.specs.Text.{is_blank}
 use Rattle.psplib_mm.specs.declared.fault.MmFault.{MmFault}
 use Rattle.psplib_mm.specs.declared.fault.MmFault.TheVariants as fault
 use Rattle.session_lines.specs.declared.bytes.TheConstants.{KEPT_OF_LINE}
-use Rattle.session_lines.specs.declared.bytes.Line.{Line}
+use Rattle.session_lines.specs.declared.bytes.GatheredLine.{GatheredLine}
 use Rattle.session_lines.specs.declared.bytes.Piece.{Piece}
 use Rattle.session_lines.specs.declared.bytes.Piece.TheVariants.{End, Inside, Last}
 use Rattle.session_lines.specs.declared.request.LineFault.{LineFault}
@@ -29,7 +29,7 @@ pub record Reads (kept : List ℕ) (blank returns : Bool) (raw : List ℕ) : Typ
   pub inside : ends_with_byte 10 raw ≡ false
 
 -- bytes without a line feed were added to a line
-pub record Extends (bytes : List ℕ) (old new : Line) : Type 0 where
+pub record Extends (bytes : List ℕ) (old new : GatheredLine) : Type 0 where
   pub inside : All (λ x. x ≢ 10) bytes
   pub reads : (raw : List ℕ) → Reads old.kept.items old.is_blank old.returns raw → Reads new.kept.items new.is_blank new.returns (raw ++ bytes)
 
@@ -52,7 +52,7 @@ pub record TakesNone (xs ys : List ℕ) : Type 0 where
 
 -- what was taken of a line: nothing at the end of the input, bytes of its inside, or bytes and its
 -- line feed. `before` and `after` are the bytes that the request may still have
-abbrev pub TakesPiece : Piece → Line → Line → ℕ → ℕ → Option (List ℕ) → Option (List ℕ) → Type 0
+abbrev pub TakesPiece : Piece → GatheredLine → GatheredLine → ℕ → ℕ → Option (List ℕ) → Option (List ℕ) → Type 0
 TakesPiece End line new before after a b = Goes a b TakesNone × (new ≡ line) × (after ≡ before)
 TakesPiece Inside line new before after a b = (bytes : List ℕ) × Consumes a b bytes × Extends bytes line new × (length bytes + after ≡ before) × (0 < length bytes)
 TakesPiece Last line new before after a b = (bytes : List ℕ) × Consumes a b (bytes ++ 10 ∷ []) × Extends bytes line new × (length bytes + 1 + after ≡ before)

@@ -20,9 +20,9 @@ pub struct ReadFault;
 /// two.
 pub const KEPT_OF_LINE: usize = LONGEST + 3;
 
-/// A `Line` is a line that is gathered: its first bytes, with its end if that is among them.
+/// A `GatheredLine` is a line that is gathered: its first bytes, with its end if that is among them.
 #[derive(Debug, Drop)]
-pub struct Line {
+pub struct GatheredLine {
     pub kept: ArrayVec<u8, KEPT_OF_LINE>,
     /// Whether the line, without its end, has no byte of a word.
     pub is_blank: bool,
@@ -30,13 +30,13 @@ pub struct Line {
     returns: bool,
 }
 
-impl Line {
-    pub fn new() -> Line
+impl GatheredLine {
+    pub fn new() -> GatheredLine
         ensures kept { result.kept.items ≡ [] }
         ensures blank { result.is_blank ≡ true }
         ensures returns { result.returns ≡ false }
     {
-        Line {
+        GatheredLine {
             kept: ArrayVec::new(),
             is_blank: true,
             returns: false,
@@ -94,7 +94,7 @@ fn take_piece<R: BufRead>(
     reader: &mut R,
     watch: &mut Watch<R>,
     left: &mut u64,
-    line: &mut Line,
+    line: &mut GatheredLine,
 ) -> Result<Piece, ReadFault>
     ensures taken { IfOk result (λ piece. TakesPiece piece line.old line.new left.old left.new
         (R.remaining reader.old) (R.remaining reader.new)) }
@@ -133,7 +133,7 @@ pub fn gather_line<R: BufRead>(
     reader: &mut R,
     watch: &mut Watch<R>,
     left: &mut u64,
-    line: &mut Line,
+    line: &mut GatheredLine,
 ) -> Result<bool, ReadFault>
     requires kept { line.old.kept.items ≡ [] }
     requires blank { line.old.is_blank ≡ true }

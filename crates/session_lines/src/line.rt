@@ -9,9 +9,9 @@ use strategy::{Kind, number};
 
 const MOST_LINES: u64 = 20_000;
 
-/// A `Head` is the line that begins a submit. Its text follows.
+/// A `SubmitLine` is the line that begins a submit. Its text follows.
 #[derive(Debug, Drop)]
-pub struct Head {
+pub struct SubmitLine {
     pub who: Name,
     pub kind: Kind,
     pub quanta: u64,
@@ -24,7 +24,7 @@ pub struct Head {
 pub enum LineMeaning {
     Blank,
     Whole(Request),
-    Opens(Head),
+    Opens(SubmitLine),
     /// It has more than 4,096 bytes, and a word.
     Long,
     /// No request. With the tenant's name if the line begins with `@` and a name.
@@ -104,7 +104,7 @@ fn own_line(who: Name, mut words: LineWords<'_>) -> LineMeaning
     };
     if is(verb, b"submit") {
         return match submit_of(words) {
-            Some((kind, quanta, lines)) => LineMeaning::Opens(Head {
+            Some((kind, quanta, lines)) => LineMeaning::Opens(SubmitLine {
                 who,
                 kind,
                 quanta,

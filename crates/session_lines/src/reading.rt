@@ -5,8 +5,8 @@ ghost use Rattle.session_lines.specs.Cause.{HasCause, IsLonger, IsReadGivenUp, H
 ghost use Rattle.session_lines.specs.Script.{Takes, opened_text, is_wordless, judged};
 ghost use Rattle.session_lines.specs.Taken.{TakesIf, TakesMeaning, Adds, judged_by};
 
-use crate::bytes::{Line, ReadFault, feed_place, gather_line};
-use crate::line::{Head, LineMeaning, read_line};
+use crate::bytes::{GatheredLine, ReadFault, feed_place, gather_line};
+use crate::line::{LineMeaning, SubmitLine, read_line};
 use crate::request::{LineFault, Request};
 use crate::text::{Text, is_long, shown};
 use crate::words::is_blank;
@@ -36,7 +36,7 @@ fn judge(line: &[u8]) -> LineMeaning
     }
 }
 
-fn judge_gathered(line: &Line) -> LineMeaning
+fn judge_gathered(line: &GatheredLine) -> LineMeaning
     ensures { result ≡ judged_by line.now.kept.items line.now.is_blank }
 {
     let kept = line.kept.as_slice();
@@ -63,7 +63,7 @@ fn gather_meaning<R: BufRead>(
     ensures cause { OnErr result (HasCause (HasFailed watch.old watch.new) (R.remaining reader.old)
         (IsLonger left.old)) }
 {
-    let mut line = Line::new();
+    let mut line = GatheredLine::new();
     match gather_line(reader, watch, left, &mut line) {
         Err(fault) => Err(fault),
         Ok(false) => Ok(None),
@@ -118,7 +118,7 @@ fn gather_text_line<R: BufRead>(
     ensures cause { OnErr result (HasCause (HasFailed watch.old watch.new) (R.remaining reader.old)
         (IsLonger left.old)) }
 {
-    let mut line = Line::new();
+    let mut line = GatheredLine::new();
     match gather_line(reader, watch, left, &mut line) {
         Err(fault) => Err(fault),
         Ok(false) => Ok(false),
@@ -168,7 +168,7 @@ fn read_text<R: BufRead>(
     reader: &mut R,
     watch: &mut Watch<R>,
     left: &mut u64,
-    head: Head,
+    head: SubmitLine,
 ) -> Result<Request, LineFault>
     ensures takes { Takes left.old (Some (opened_text head)) (R.remaining reader.old) (R.remaining reader.new)
         result }
@@ -192,7 +192,7 @@ fn read_text<R: BufRead>(
 }
 
 /// Is `read_request` with `most` bytes for a request.
-pub fn read_within<R: BufRead>(
+fn read_within<R: BufRead>(
     alloc: Global,
     reader: &mut R,
     watch: &mut Watch<R>,

@@ -3,7 +3,7 @@ ghost use Rattle.std.specs.Prelude.{◌≡◌, ◌≢◌, ◌-◌, ◌==◌, ◌
 ghost use Rattle.session_lines.specs.Script.{TextData, opened_text, whole_text, cut_text, IsAnswerFor, is_long, shown};
 ghost use Rattle.session_lines.specs.Taken.{IsText, unread};
 
-use crate::line::Head;
+use crate::line::SubmitLine;
 use crate::request::{LineFault, Request, What};
 use farm_core::Name;
 use psplib_mm::{MOST_BYTES, MmFault, read};
@@ -18,7 +18,7 @@ const KEPT_OF_TEXT: usize = MOST_BYTES + 1;
 /// A `Text` is the text of a submit, while its lines come.
 #[derive(Debug, Drop)]
 pub struct Text {
-    head: Head,
+    head: SubmitLine,
     /// The lines that are missing.
     left: u64,
     /// Whether a line has been too long.
@@ -68,7 +68,7 @@ fn unread(who: Name, fault: MmFault) -> LineFault
 }
 
 impl Text {
-    pub fn new(alloc: Global, head: Head) -> Text
+    pub fn new(alloc: Global, head: SubmitLine) -> Text
         ensures { IsText result (opened_text head) }
     {
         let left = head.lines;
@@ -118,7 +118,7 @@ impl Text {
             is_refused,
             bytes,
         } = self;
-        let Head {
+        let SubmitLine {
             who,
             kind,
             quanta,

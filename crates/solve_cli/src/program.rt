@@ -165,7 +165,8 @@ fn kinds_asked<R: Env + Eprint + AllocGlobal>(
     search: &str,
 ) -> Result<Vec<SearchKind>, ExitCode>
     ensures kinds { IfOk result (λ kinds. vec_len kinds ≤ MOST_SEARCHES) }
-    ensures status { IfErr result (λ status. exit_status status ≤ 2) }
+    ensures failed { IfErr result (λ status. 1 ≤ exit_status status) }
+    ensures few { IfErr result (λ status. exit_status status ≤ 2) }
 {
     match kinds_of(rt.alloc(), search) {
         Ok(kinds) => Ok(kinds),

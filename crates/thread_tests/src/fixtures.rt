@@ -68,7 +68,8 @@ fn search_of(alloc: Global, plan: &Plan, lease: Lease) -> Option<Box<dyn Strateg
     requires kind { plan.now.kind ≡ Tree }
     requires lease { IsEmpty lease }
 {
-    let search: Box<dyn Strategy> = Ready::of(alloc, lease, plan)?.tree(alloc)?;
+    let ready = Ready::new(plan.clone_in(alloc).ok()?, lease);
+    let search: Box<dyn Strategy> = ready.tree(alloc)?;
     Some(search)
 }
 

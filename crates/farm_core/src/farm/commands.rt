@@ -77,6 +77,7 @@ impl<J: Strategy> Farm<J> {
         (self.jobs.count_of(tenant) as u64) < line.jobs
     }
 
+    #[inline(always)]
     fn decide_ledger(&self, tenant: u32) -> Effect<J>
         requires { tenant < length self.now.config.tenants }
         ensures { IsDecided (view tenant self.now) Event.Ledger result }
@@ -96,6 +97,7 @@ impl<J: Strategy> Farm<J> {
         self.commit(tenant, Event::Ledger, effect)
     }
 
+    #[inline(always)]
     fn decide_status(&self, tenant: u32, seq: u64) -> Effect<J>
         requires { tenant < length self.now.config.tenants }
         ensures { IsDecided (view tenant self.now) (Event.Status seq) result }
@@ -121,6 +123,7 @@ impl<J: Strategy> Farm<J> {
 
     /// Takes memory for the job alone. `submit` has seen that the journal has room.
     #[tactic(auto, unfolding(crate::specs::Step::to_submit))]
+    #[inline(always)]
     fn decide_submit(
         &self,
         tenant: u32,
@@ -170,6 +173,7 @@ impl<J: Strategy> Farm<J> {
 
     /// Takes memory for a copy of the schedule alone.
     #[tactic(auto, unfolding(crate::specs::Step::to_fetch))]
+    #[inline(always)]
     fn decide_result(&self, tenant: u32, seq: u64) -> Result<Effect<J>, AllocError>
         requires { tenant < length self.now.config.tenants }
         ensures decided { IfOk result (λ effect. IsDecided (view tenant self.now) (Event.Fetch seq) effect) }
@@ -203,6 +207,7 @@ impl<J: Strategy> Farm<J> {
     }
 
     #[tactic(auto, unfolding(crate::specs::Step::to_fund))]
+    #[inline(always)]
     fn decide_fund(&self, tenant: u32, seq: u64, quanta: u64) -> Effect<J>
         requires { tenant < length self.now.config.tenants }
         ensures { IsDecided (view tenant self.now) (Event.Fund seq quanta) result }
@@ -247,6 +252,7 @@ impl<J: Strategy> Farm<J> {
     }
 
     #[tactic(auto, unfolding(crate::specs::Step::to_cancel))]
+    #[inline(always)]
     fn decide_cancel(&self, tenant: u32, seq: u64) -> Effect<J>
         requires { tenant < length self.now.config.tenants }
         ensures { IsDecided (view tenant self.now) (Event.Cancel seq) result }
@@ -281,6 +287,7 @@ impl<J: Strategy> Farm<J> {
     }
 
     #[tactic(auto, unfolding(crate::specs::Step::to_forget))]
+    #[inline(always)]
     fn decide_forget(&self, tenant: u32, seq: u64) -> Effect<J>
         requires { tenant < length self.now.config.tenants }
         ensures { IsDecided (view tenant self.now) (Event.Forget seq) result }

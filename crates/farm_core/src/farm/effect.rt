@@ -1,6 +1,7 @@
 //! A command decides its effect while nothing changes. `commit` then makes it in one step.
 ghost use Rattle.std.specs.Prelude.{◌≡◌, ◌+◌, ◌*◌, ◌<◌, ◌≤◌, ◌^◌, true, false, length, None, IfOk, OnOk, OnErr};
 ghost use Rattle.std.specs.Vec.{vec_capacity};
+ghost use Rattle.job_table.specs.Table.{find_row, add_job};
 ghost use Rattle.farm_core.specs.declared.reply.Reply.{Reply};
 ghost use Rattle.farm_core.specs.Step.{has_room};
 ghost use Rattle.farm_core.specs.World.{World, view};
@@ -39,9 +40,41 @@ pub(crate) enum Effect<J> {
     Drops(u64),
 }
 
+// Never inlined, since it has space on the stack for the job, which other commands do not need.
+#[inline(never)]
+fn add<J: Strategy>(
+    tenant: u32,
+    job: Job<J>,
+    after: Account,
+    jobs: &mut JobTable<J>,
+    journal: &mut Vec<Entry>,
+    account: &mut Account,
+) -> Result<Reply, AllocError>
+    requires free { find_row tenant job.seq jobs.old.rows ≡ None }
+    requires few { account.old.next < 2 ^ 63 }
+    ensures added { IfOk result (λ reply. jobs.new ≡ add_job tenant job jobs.old) }
+    ensures account { IfOk result (λ reply. account.new
+        ≡ record account.old { book = after.book; next = account.old.next + 1 }) }
+    ensures reply { IfOk result (λ reply. reply ≡ Reply.Job job.seq) }
+    ensures kept { OnErr result (jobs.new ≡ jobs.old) }
+    ensures room { OnOk result (length journal.old.items + 2 * length jobs.old.rows + 3 ≤ vec_capacity journal.new) }
+    ensures journal { journal.new.items ≡ journal.old.items }
+    ensures capacity { vec_capacity journal.old ≤ vec_capacity journal.new }
+{
+    keep_room(journal, jobs.len())?;
+    let seq = job.seq();
+    let Ok(()) = jobs.insert(tenant, job) else {
+        return Err(AllocError);
+    };
+    account.book = after.book;
+    account.next += 1;
+    Ok(Reply::Job(seq))
+}
+
 impl<J: Strategy> Effect<J> {
     /// Changes `jobs` and `account`, and reserves space for the entry. After an error no job has
     /// changed.
+    #[inline(always)]
     fn make(
         self,
         tenant: u32,
@@ -65,16 +98,7 @@ impl<J: Strategy> Effect<J> {
                 keep_room(journal, jobs.len())?;
                 Ok(reply)
             }
-            Effect::Adds(job, after) => {
-                keep_room(journal, jobs.len())?;
-                let seq = job.seq();
-                let Ok(()) = jobs.insert(tenant, job) else {
-                    return Err(AllocError);
-                };
-                account.book = after.book;
-                account.next += 1;
-                Ok(Reply::Job(seq))
-            }
+            Effect::Adds(job, after) => add(tenant, job, after, jobs, journal, account),
             Effect::Changes(line, after, change) => match change {
                 Change::Fund(quanta) => {
                     keep_room(journal, jobs.len())?;
@@ -102,6 +126,7 @@ impl<J: Strategy> Effect<J> {
 
 impl<J: Strategy> Farm<J> {
     /// Up to which job all are passed once the effect is made.
+    #[inline(always)]
     fn passed_after(&self, tenant: u32, effect: &Effect<J>) -> Option<(u32, u64)>
         requires { tenant < length self.now.config.tenants }
         ensures passed { ArePassed self.now result }
@@ -116,7 +141,9 @@ impl<J: Strategy> Farm<J> {
     }
 
     /// Makes `effect` and writes the entry. Replies `NoMemory` if there is no memory for them. Then
-    /// nothing has changed.
+    /// nothing has changed. Inlined, as `decide_ledger` and its like are: each command then has the
+    /// code of its own effects alone.
+    #[inline(always)]
     pub(crate) fn commit(&mut self, tenant: u32, event: Event, effect: Effect<J>) -> Reply
         requires known { tenant < length self.old.config.tenants }
         requires decided { IsDecided (view tenant self.old) event effect }

@@ -80,7 +80,7 @@ loop-answered-preserved g c =
             (g.W.Write.contents c.args.writer.now) (g.W.Write.contents c.send_before_wait.new.writer) (g.W.Write.contents w.tell.new.writer) c.loop-answered._answered (is_some c.loop-answered.notes.refused) (is_some w.add.new.self.refused) c.loop-answered.floor.farm c.read_request.result
             w.in-Told.who w.in-Told.said (cc (w.in-Told.is, c.hear.ensures)) c.read_request.ensures.takes (played_sent c.args.shop.now.config.now (script_rest g.R.Read.remaining c.args.script.now) (script_rest g.R.Read.remaining c.loop-answered.script) (script_rest g.R.Read.remaining c.begin.new.self)
             (g.W.Write.contents c.args.writer.now) (g.W.Write.contents c.loop-answered.writer) (g.W.Write.contents c.send_before_wait.new.writer) c.loop-answered._answered (is_some c.loop-answered.notes.refused) c.loop-answered.floor.farm c.begin.ensures
-            c.send_before_wait.ensures c.loop-answered.invariant.3) w.in_default.ensures.writes.ok w.add.ensures),
+            c.send_before_wait.ensures c.loop-answered.invariant.3) w.in_default.ensures.writes.ok w.add.ensures.any),
         leases_told c.args.shop.now.config.now (goal.M-post g c.args.shop.now.make.now) (script_rest g.R.Read.remaining c.args.script.now) (script_rest g.R.Read.remaining c.loop-answered.script) (script_rest g.R.Read.remaining c.begin.new.self)
             (script_rest g.R.Read.remaining c.read_request.new.reader) c.args.branches.now c.loop-answered.branches _ c.read_request.result w.in-Told.who w.in-Told.said
             (cc (w.in-Told.is, c.hear.ensures)) c.begin.ensures c.read_request.ensures.takes w.branches-is inv.4,
@@ -104,7 +104,7 @@ loop-answered-preserved g c =
             (g.W.Write.contents c.args.writer.now) (g.W.Write.contents c.send_before_wait.new.writer) (g.W.Write.contents w.send_before_nodes.new.writer) c.loop-answered._answered (is_some c.loop-answered.notes.refused) c.loop-answered.floor.farm refl
             w.send_before_nodes.ensures.kept (played_sent c.args.shop.now.config.now (script_rest g.R.Read.remaining c.args.script.now) (script_rest g.R.Read.remaining c.loop-answered.script) (script_rest g.R.Read.remaining c.begin.new.self)
             (g.W.Write.contents c.args.writer.now) (g.W.Write.contents c.loop-answered.writer) (g.W.Write.contents c.send_before_wait.new.writer) c.loop-answered._answered (is_some c.loop-answered.notes.refused) c.loop-answered.floor.farm c.begin.ensures
-            c.send_before_wait.ensures c.loop-answered.invariant.3)) w.in_default-tell.ensures.writes.ok w.add-in-Asked.ensures),
+            c.send_before_wait.ensures c.loop-answered.invariant.3)) w.in_default-tell.ensures.writes.ok w.add-in-Asked.ensures.any),
         subst (LeasedTo c.args.shop.now.config.now (goal.M-post g c.args.shop.now.make.now) (script_rest g.R.Read.remaining c.args.script.now) c.args.branches.now (script_rest g.R.Read.remaining c.read_request.new.reader)) (sym w.branches-is)
             (leases_asked c.args.shop.now.config.now (goal.M-post g c.args.shop.now.make.now) (script_rest g.R.Read.remaining c.args.script.now) (script_rest g.R.Read.remaining c.loop-answered.script) (script_rest g.R.Read.remaining c.begin.new.self)
             (script_rest g.R.Read.remaining c.read_request.new.reader) c.args.branches.now c.loop-answered.branches w.answer-said.new.branches c.read_request.result w.in-Asked.tenant w.in-Asked.who w.in-Asked.asked

@@ -1,24 +1,25 @@
-use Rattle.std.proofs.Common.{◌∙◌, map, ap}
+use Rattle.std.specs.Prelude.{is_ok}
+use Rattle.std.proofs.Common.{◌≡◌, Bool, not, ◌&&◌, ◌∙◌, map, ap, subst}
 use Rattle.farm_core.specs.Tills.{opening_of}
 use Rattle.farm_session.proofs.TillLemmas.{tills_kept_by}
 use Rattle.farm_service.proofs.connection.serve_next.Goals as goal
 
-pub returns-then-not-is_over-clause-tills : goal.returns-then-not-is_over-clause-tills
-returns-then-not-is_over-clause-tills g c =
+pub returns-then-not-is_end-clause-tills : goal.returns-then-not-is_end-clause-tills
+returns-then-not-is_end-clause-tills g c =
     ap (map opening_of)
     (tills_kept_by (goal.M-post g c.args.office.now.shop.make.now) c.args.office.now.shop.config.now c.heard-heard.result c.args.branches.now c.reply-told.new.branches
     c.reply-told.ensures.leased)
     ∙ c.requires.tills
 
-pub returns-else-not-is_over-clause-tills : goal.returns-else-not-is_over-clause-tills
-returns-else-not-is_over-clause-tills g c =
+pub returns-else-not-is_end-clause-tills : goal.returns-else-not-is_end-clause-tills
+returns-else-not-is_end-clause-tills g c =
     ap (map opening_of)
     (tills_kept_by (goal.M-post g c.args.office.now.shop.make.now) c.args.office.now.shop.config.now c.heard-heard.result c.args.branches.now c.reply-told.new.branches
     c.reply-told.ensures.leased)
     ∙ c.requires.tills
 
-pub returns-then-not-is_over-clause-answered : goal.returns-then-not-is_over-clause-answered
-returns-then-not-is_over-clause-answered g c = (
+pub returns-then-not-is_end-clause-answered : goal.returns-then-not-is_end-clause-answered
+returns-then-not-is_end-clause-answered g c = (
   c.heard-heard.result,
   record {
     read = c.read_request.result;
@@ -27,11 +28,13 @@ returns-then-not-is_over-clause-answered g c = (
     is = c.heard-heard.ensures.exact;
     told = c.reply-told.ensures.told;
     leased = c.reply-told.ensures.leased;
+    goes =
+        subst (λ (b : Bool). c.is_ok.result ≡ (not b && is_ok c.reply-told.result)) c.if-not-is_end.ensures c.is_ok.ensures.value;
   },
 )
 
-pub returns-else-not-is_over-clause-answered : goal.returns-else-not-is_over-clause-answered
-returns-else-not-is_over-clause-answered g c = (
+pub returns-else-not-is_end-clause-answered : goal.returns-else-not-is_end-clause-answered
+returns-else-not-is_end-clause-answered g c = (
   c.heard-heard.result,
   record {
     read = c.read_request.result;
@@ -40,5 +43,7 @@ returns-else-not-is_over-clause-answered g c = (
     is = c.heard-heard.ensures.exact;
     told = c.reply-told.ensures.told;
     leased = c.reply-told.ensures.leased;
+    goes =
+        subst (λ (b : Bool). not c.is_end-is_end.result ≡ (not b && is_ok c.reply-told.result)) c.if-not-is_end.ensures (ap not c.if-not-is_end.false);
   },
 )

@@ -1,5 +1,5 @@
 use Rattle.farm_service.specs.Session.{stand}
-use Rattle.farm_service.proofs.SessionLemmas.{session_begins, session_on}
+use Rattle.farm_service.proofs.SessionLemmas.{session_begins, session_on, session_ends}
 use Rattle.farm_service.proofs.connection.session.Goals as goal
 
 pub loop-init : goal.loop-init
@@ -20,13 +20,13 @@ loop-preserved g c = record {
       (stand c.args.token.now c.args.branches.now (g.I.Read.remaining c.args.reader.now) (g.O.Write.contents c.args.writer.now))
       (stand c.loop.token c.loop.branches (g.I.Read.remaining c.loop.reader) (g.O.Write.contents c.loop.writer))
       (stand c.serve_next.new.token c.serve_next.new.branches (g.I.Read.remaining c.serve_next.new.reader) (g.O.Write.contents c.serve_next.new.writer))
-      c.loop.invariant.served c.serve_next.ensures.answered;
+      c.serve_next.result c.if-not-serve_next.false c.loop.invariant.served c.serve_next.ensures.answered;
 }
 
 pub returns-then-not-serve_next-clause-served : goal.returns-then-not-serve_next-clause-served
 returns-then-not-serve_next-clause-served g c =
-    session_on c.args.office.now.shop.config.now (g.D.Shared.tells c.args.office.now.shared.now) (goal.M-post g c.args.office.now.shop.make.now)
+    session_ends c.args.office.now.shop.config.now (g.D.Shared.tells c.args.office.now.shared.now) (goal.M-post g c.args.office.now.shop.make.now)
     (stand c.args.token.now c.args.branches.now (g.I.Read.remaining c.args.reader.now) (g.O.Write.contents c.args.writer.now))
     (stand c.loop.token c.loop.branches (g.I.Read.remaining c.loop.reader) (g.O.Write.contents c.loop.writer))
     (stand c.serve_next.new.token c.serve_next.new.branches (g.I.Read.remaining c.serve_next.new.reader) (g.O.Write.contents c.serve_next.new.writer))
-    c.loop.invariant.served c.serve_next.ensures.answered
+    c.serve_next.result c.if-not-serve_next.true c.loop.invariant.served c.serve_next.ensures.answered

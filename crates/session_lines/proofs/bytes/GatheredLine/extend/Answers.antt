@@ -1,7 +1,7 @@
 use Rattle.std.proofs.Common.{get_or, take}
 use Rattle.std.proofs.lemmas.List.{take_more}
 use Rattle.session_lines.proofs.LineLemmas.{Extends-more}
-use Rattle.session_lines.proofs.bytes.Line.extend.Goals as goal
+use Rattle.session_lines.proofs.bytes.GatheredLine.extend.Goals as goal
 
 pub loop-byte-preserved : goal.loop-byte-preserved
 loop-byte-preserved c = λ none.

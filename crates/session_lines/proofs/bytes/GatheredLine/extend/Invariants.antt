@@ -1,6 +1,6 @@
 use Rattle.std.proofs.Common.{◌≢◌, All, take}
 use Rattle.session_lines.specs.Taken.{Extends}
-use Rattle.session_lines.proofs.bytes.Line.extend.Given as goal
+use Rattle.session_lines.proofs.bytes.GatheredLine.extend.Given as goal
 
 -- the bytes before this one were added
 abbrev pub invariant-loop-byte : goal.invariant-loop-byte

@@ -1,6 +1,6 @@
 use Rattle.std.proofs.Common.{◌∙◌, ◌≡◌, ◌<◌, length, arith}
 use Rattle.session_lines.proofs.LineLemmas.{keep_room, keep_full}
-use Rattle.session_lines.proofs.bytes.Line.keep.Goals as goal
+use Rattle.session_lines.proofs.bytes.GatheredLine.keep.Goals as goal
 
 pub returns-then-len-lt-KEPT_OF_LINE-clause-kept : goal.returns-then-len-lt-KEPT_OF_LINE-clause-kept
 returns-then-len-lt-KEPT_OF_LINE-clause-kept c =
