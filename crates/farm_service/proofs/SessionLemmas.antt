@@ -1,5 +1,5 @@
 -- Sessions, request by request.
-use Rattle.std.proofs.Common.{◌≡◌, ℕ, Bool, true, false, List, [], ◌∷◌, Option, refl, subst, inl, inr}
+use Rattle.std.proofs.Common.{◌≡◌, ℕ, Bool, true, false, List, [], ◌∷◌, Option, refl, ap, ◌∙◌, subst, inl, inr}
 use Rattle.farm_core.specs.declared.entry.Event.{Event}
 use Rattle.farm_core.specs.declared.reply.Reply.{Reply}
 use Rattle.farm_core.specs.Config.{ConfigData}
@@ -12,8 +12,11 @@ module _ {T J : Type 0} (config : ConfigData) (tells : T → ℕ → Event → R
   abbrev pub IsBegun : Stand T → Stand T → Type 0
   IsBegun old new = (heard : List Heard) × HasServed config tells made old heard new
 
-  pub session_begins : (at : Stand T) → IsBegun at at
-  session_begins at = ([], refl)
+  -- no failure was counted before
+  pub session_begins : (token : T) (branches : List BranchValue) (left written : Option (List ℕ)) (reads writes : ℕ) → reads ≡ 0 → writes ≡ 0
+      → IsBegun (stand token branches left written 0 0) (stand token branches left written reads writes)
+  session_begins token branches left written reads writes none unwritten =
+      ([], ap (λ (n : ℕ). stand token branches left written n writes) none ∙ ap (λ (n : ℕ). stand token branches left written 0 n) unwritten)
 
   -- one request more
   pub session_on : (start mid new : Stand T) (goes : Bool) → goes ≡ true → IsBegun start mid → (heard : Heard) × HasAnswered config tells made mid heard goes new
@@ -33,5 +36,6 @@ module _ {T J : Type 0} (config : ConfigData) (tells : T → ℕ → Event → R
 
   -- a client that was told what its session told it
   pub client_served : (old new : T) (branches then : List BranchValue) (left read written told : Option (List ℕ))
-      → IsSession config tells made (stand old branches left written) (stand new then read told) → IsClientServed config tells made old branches new then
-  client_served old new branches then left read written told so = inl (left, written, read, told, so)
+      → (reads : ℕ) × (writes : ℕ) × IsSession config tells made (stand old branches left written 0 0) (stand new then read told reads writes)
+      → IsClientServed config tells made old branches new then
+  client_served old new branches then left read written told so = inl (left, written, read, told, so.0, so.1, so.2)

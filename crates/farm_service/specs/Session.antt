@@ -1,6 +1,7 @@
 -- What a session does for its requests: the calls that it makes, the leases that it has made, and
 -- the lines that it writes.
 use Rattle.std.specs.Prelude.{◌≡◌, ℕ, ⊤, ◌⊎◌, Bool, true, false, not, ◌&&◌, is_ok, List, [], ◌∷◌, Option, None, Result}
+use Rattle.watched_io.specs.Failure.{HasFailed, IsNoted}
 use Rattle.farm_core.specs.declared.entry.Event.{Event}
 use Rattle.farm_core.specs.declared.reply.Reply.{Reply}
 use Rattle.farm_core.specs.Config.{ConfigData}
@@ -9,6 +10,7 @@ use Rattle.session_lines.specs.declared.request.LineFault.{LineFault}
 use Rattle.session_lines.specs.declared.reading.TheConstants.{MOST_REQUEST_BYTES}
 use Rattle.session_lines.specs.declared.put.WriteFault.{WriteFault}
 use Rattle.session_lines.specs.Script.{Takes}
+use Rattle.session_lines.specs.Cause.{IsReadGivenUp, HasReadWell}
 use Rattle.farm_session.specs.declared.heard.Heard.{Heard}
 use Rattle.farm_session.specs.declared.heard.Heard.TheVariants.{Over, Broken}
 use Rattle.farm_session.specs.Branch.{BranchValue, HasLeasedBy}
@@ -17,17 +19,20 @@ use Rattle.farm_service.specs.declared.service.Role.{Role}
 use Rattle.farm_service.specs.declared.service.Role.TheVariants.{Worker, Client}
 use Rattle.farm_service.specs.Told.{heard_in, IsToldOf}
 
--- the state of a session: its token of the pool, its branches, and, if known, the bytes left to
--- read and the written bytes
+-- the state of a session: its token of the pool, its branches, if known the bytes left to read and
+-- the written bytes, and how many reads and writes have failed
 pub record Stand (T : Type 0) : Type 0 where
   pub token : T
   pub branches : List BranchValue
   pub left : Option (List ℕ)
   pub written : Option (List ℕ)
+  pub reads : ℕ
+  pub writes : ℕ
 
 -- the state of these parts
-abbrev pub stand : {T : Type 0} → T → List BranchValue → Option (List ℕ) → Option (List ℕ) → Stand T
-stand token branches left written = record { token = token; branches = branches; left = left; written = written }
+abbrev pub stand : {T : Type 0} → T → List BranchValue → Option (List ℕ) → Option (List ℕ) → ℕ → ℕ → Stand T
+stand token branches left written reads writes =
+    record { token = token; branches = branches; left = left; written = written; reads = reads; writes = writes }
 
 -- there is no further request, or it cannot be read
 abbrev pub is_end : Heard → Bool
@@ -37,15 +42,18 @@ is_end heard = false
 
 module _ {T J : Type 0} (config : ConfigData) (tells : T → ℕ → Event → Reply → T → Type 0) (made : ReadyData → Option J → Type 0) where
   -- one request was read and answered: its call was made, the lease that it needs, and its line was
-  -- written; nothing else was done. The session goes on unless its input has ended, or a read or a
-  -- write has failed
+  -- written; nothing else was done. The session goes on unless its input has ended, a read or a
+  -- write has failed, or a request is too long
   pub record HasAnswered (old : Stand T) (heard : Heard) (goes_on : Bool) (new : Stand T) : Type 0 where
     pub read : Result Request LineFault
     pub result : Result ⊤ WriteFault
     pub takes : Takes MOST_REQUEST_BYTES None old.left new.left read
+    pub cause : IsReadGivenUp MOST_REQUEST_BYTES None (HasFailed old.reads new.reads) old.left read
+    pub counted : HasReadWell read old.reads new.reads
     pub is : heard ≡ heard_in config read
     pub told : IsToldOf tells old.token heard result old.written new.written new.token
     pub leased : HasLeasedBy made config heard old.branches new.branches
+    pub noted : IsNoted result old.writes new.writes
     pub goes : goes_on ≡ (not (is_end heard) && is_ok result)
 
   -- requests one after another, the last one first; the session goes on after each
@@ -61,8 +69,8 @@ module _ {T J : Type 0} (config : ConfigData) (tells : T → ℕ → Event → R
   -- there was no memory for a session, and nothing was done
   abbrev pub IsClientServed : T → List BranchValue → T → List BranchValue → Type 0
   IsClientServed old branches new then =
-      ((left : Option (List ℕ)) × (written : Option (List ℕ)) × (rest : Option (List ℕ)) × (told : Option (List ℕ))
-      × IsSession (stand old branches left written) (stand new then rest told))
+      ((left : Option (List ℕ)) × (written : Option (List ℕ)) × (rest : Option (List ℕ)) × (told : Option (List ℕ)) × (reads : ℕ) × (writes : ℕ)
+      × IsSession (stand old branches left written 0 0) (stand new then rest told reads writes))
       ⊎ ((new ≡ old) × (then ≡ branches))
 
   -- what a thread of a service did: a worker took turns, and a client's thread was a session

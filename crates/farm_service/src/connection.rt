@@ -1,5 +1,5 @@
 //! One connection: its requests are read, called and answered in their order.
-ghost use Rattle.std.specs.Prelude.{◌≡◌, ◌<◌, length};
+ghost use Rattle.std.specs.Prelude.{◌≡◌, ◌<◌, ℕ, length};
 ghost use Rattle.watched_io.specs.Failure.{IsNoted};
 ghost use Rattle.farm_core.specs.Command.{event_of, IsFresh};
 ghost use Rattle.farm_session.specs.Branch.{tills_of, HasLeasedFor, HasLeasedBy};
@@ -45,7 +45,10 @@ struct ConnectionWatches<I, O> {
 }
 
 impl<I, O> ConnectionWatches<I, O> {
-    fn new() -> ConnectionWatches<I, O> {
+    fn new() -> ConnectionWatches<I, O>
+        ensures reads { result.reads ≡ 0 }
+        ensures writes { result.writes ≡ 0 }
+    {
         ConnectionWatches {
             reads: Watch::new(),
             writes: Watch::new(),
@@ -188,10 +191,14 @@ fn serve_next<D: Shared, R: Wait, I: BufRead, O: Write, M: Fn(Ready) -> Option<D
     ensures answered { (heard : Heard) × HasAnswered office.now.shop.config.now
         (D.tells office.now.shared.now)
         (M.post office.now.shop.make.now)
-        (stand token.old branches.old (I.remaining reader.old) (O.contents writer.old))
+        (stand token.old branches.old
+        (I.remaining reader.old) (O.contents writer.old)
+        watches.old.reads watches.old.writes)
         heard
         result
-        (stand token.new branches.new (I.remaining reader.new) (O.contents writer.new)) }
+        (stand token.new branches.new
+        (I.remaining reader.new) (O.contents writer.new)
+        watches.new.reads watches.new.writes) }
 {
     let heard = heard(
         office.shop.config,
@@ -216,11 +223,12 @@ pub(crate) fn session<D: Shared, R: Wait, I: BufRead, O: Write, M: Fn(Ready) -> 
     requires make { M.IsAlwaysCallable office.now.shop.make.now }
     requires fresh { MakesFresh D.means (M.post office.now.shop.make.now) }
     ensures own { D.owns office.now.shared.now token.new }
-    ensures served { IsSession office.now.shop.config.now
+    ensures served { (reads : ℕ) × (writes : ℕ) × IsSession office.now.shop.config.now
         (D.tells office.now.shared.now)
         (M.post office.now.shop.make.now)
-        (stand token.old branches.old (I.remaining reader.old) (O.contents writer.old))
-        (stand token.new branches.new (I.remaining reader.new) (O.contents writer.new)) }
+        (stand token.old branches.old (I.remaining reader.old) (O.contents writer.old) 0 0)
+        (stand token.new branches.new
+        (I.remaining reader.new) (O.contents writer.new) reads writes) }
 {
     let mut watches = ConnectionWatches::new();
     for _ in office.rt.forever() {

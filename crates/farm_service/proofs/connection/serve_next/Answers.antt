@@ -25,9 +25,12 @@ returns-then-not-is_end-clause-answered g c = (
     read = c.read_request.result;
     result = c.reply-told.result;
     takes = c.read_request.ensures.takes;
+    cause = c.read_request.ensures.cause;
+    counted = c.read_request.ensures.kept;
     is = c.heard-heard.ensures.exact;
     told = c.reply-told.ensures.told;
     leased = c.reply-told.ensures.leased;
+    noted = c.reply-told.ensures.noted;
     goes =
         subst (λ (b : Bool). c.is_ok.result ≡ (not b && is_ok c.reply-told.result)) c.if-not-is_end.ensures c.is_ok.ensures.value;
   },
@@ -40,9 +43,12 @@ returns-else-not-is_end-clause-answered g c = (
     read = c.read_request.result;
     result = c.reply-told.result;
     takes = c.read_request.ensures.takes;
+    cause = c.read_request.ensures.cause;
+    counted = c.read_request.ensures.kept;
     is = c.heard-heard.ensures.exact;
     told = c.reply-told.ensures.told;
     leased = c.reply-told.ensures.leased;
+    noted = c.reply-told.ensures.noted;
     goes =
         subst (λ (b : Bool). not c.is_end-is_end.result ≡ (not b && is_ok c.reply-told.result)) c.if-not-is_end.ensures (ap not c.if-not-is_end.false);
   },

@@ -8,7 +8,8 @@ loop-init g c = record {
   tills = c.requires.tills;
   served =
       session_begins c.args.office.now.shop.config.now (g.D.Shared.tells c.args.office.now.shared.now) (goal.M-post g c.args.office.now.shop.make.now)
-      (stand c.args.token.now c.args.branches.now (g.I.Read.remaining c.args.reader.now) (g.O.Write.contents c.args.writer.now));
+      c.args.token.now c.args.branches.now (g.I.Read.remaining c.args.reader.now) (g.O.Write.contents c.args.writer.now)
+      c.new-watches.result.reads c.new-watches.result.writes c.new-watches.ensures.reads c.new-watches.ensures.writes;
 }
 
 pub loop-preserved : goal.loop-preserved
@@ -17,16 +18,21 @@ loop-preserved g c = record {
   tills = c.serve_next.ensures.tills;
   served =
       session_on c.args.office.now.shop.config.now (g.D.Shared.tells c.args.office.now.shared.now) (goal.M-post g c.args.office.now.shop.make.now)
-      (stand c.args.token.now c.args.branches.now (g.I.Read.remaining c.args.reader.now) (g.O.Write.contents c.args.writer.now))
-      (stand c.loop.token c.loop.branches (g.I.Read.remaining c.loop.reader) (g.O.Write.contents c.loop.writer))
-      (stand c.serve_next.new.token c.serve_next.new.branches (g.I.Read.remaining c.serve_next.new.reader) (g.O.Write.contents c.serve_next.new.writer))
+      (stand c.args.token.now c.args.branches.now (g.I.Read.remaining c.args.reader.now) (g.O.Write.contents c.args.writer.now) 0 0)
+      (stand c.loop.token c.loop.branches (g.I.Read.remaining c.loop.reader) (g.O.Write.contents c.loop.writer) c.loop.watches.reads c.loop.watches.writes)
+      (stand c.serve_next.new.token c.serve_next.new.branches (g.I.Read.remaining c.serve_next.new.reader) (g.O.Write.contents c.serve_next.new.writer)
+      c.serve_next.new.watches.reads c.serve_next.new.watches.writes)
       c.serve_next.result c.if-not-serve_next.false c.loop.invariant.served c.serve_next.ensures.answered;
 }
 
 pub returns-then-not-serve_next-clause-served : goal.returns-then-not-serve_next-clause-served
-returns-then-not-serve_next-clause-served g c =
-    session_ends c.args.office.now.shop.config.now (g.D.Shared.tells c.args.office.now.shared.now) (goal.M-post g c.args.office.now.shop.make.now)
-    (stand c.args.token.now c.args.branches.now (g.I.Read.remaining c.args.reader.now) (g.O.Write.contents c.args.writer.now))
-    (stand c.loop.token c.loop.branches (g.I.Read.remaining c.loop.reader) (g.O.Write.contents c.loop.writer))
-    (stand c.serve_next.new.token c.serve_next.new.branches (g.I.Read.remaining c.serve_next.new.reader) (g.O.Write.contents c.serve_next.new.writer))
-    c.serve_next.result c.if-not-serve_next.true c.loop.invariant.served c.serve_next.ensures.answered
+returns-then-not-serve_next-clause-served g c = (
+  c.serve_next.new.watches.reads,
+  c.serve_next.new.watches.writes,
+  session_ends c.args.office.now.shop.config.now (g.D.Shared.tells c.args.office.now.shared.now) (goal.M-post g c.args.office.now.shop.make.now)
+      (stand c.args.token.now c.args.branches.now (g.I.Read.remaining c.args.reader.now) (g.O.Write.contents c.args.writer.now) 0 0)
+      (stand c.loop.token c.loop.branches (g.I.Read.remaining c.loop.reader) (g.O.Write.contents c.loop.writer) c.loop.watches.reads c.loop.watches.writes)
+      (stand c.serve_next.new.token c.serve_next.new.branches (g.I.Read.remaining c.serve_next.new.reader) (g.O.Write.contents c.serve_next.new.writer)
+      c.serve_next.new.watches.reads c.serve_next.new.watches.writes)
+      c.serve_next.result c.if-not-serve_next.true c.loop.invariant.served c.serve_next.ensures.answered,
+)

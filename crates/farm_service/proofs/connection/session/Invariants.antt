@@ -9,6 +9,6 @@ invariant-loop g l = record {
   own : g.D.Shared.owns l.office.shared.now l.token;
   tills : AreTillsOf l.office.shop.config.now (tills_of l.branches);
   served : IsBegun l.office.shop.config.now (g.D.Shared.tells l.office.shared.now) (goal.M-post g l.office.shop.make.now)
-      (stand l.fn.token l.fn.branches (g.I.Read.remaining l.fn.reader) (g.O.Write.contents l.fn.writer))
-      (stand l.token l.branches (g.I.Read.remaining l.reader) (g.O.Write.contents l.writer));
+      (stand l.fn.token l.fn.branches (g.I.Read.remaining l.fn.reader) (g.O.Write.contents l.fn.writer) 0 0)
+      (stand l.token l.branches (g.I.Read.remaining l.reader) (g.O.Write.contents l.writer) l.watches.reads l.watches.writes);
 }
