@@ -12,7 +12,7 @@ use Rattle.farm_session.specs.declared.heard.Heard.TheVariants.{Told, Asked}
 use Rattle.farm_session.specs.Branch.{BranchValue, HasLeasedFor, HasLeasedBy}
 use Rattle.farm_session.specs.Heard.{heard_of}
 use Rattle.farm_session.specs.Ready.{ReadyData}
-use Rattle.farm_replay.specs.Leases.{ScriptPoint, HaveLeased, AreLeasesOf}
+use Rattle.farm_replay.specs.Leases.{ScriptPoint, IsHeard, HaveLeased, AreLeasesOf}
 
 abbrev place : Option (List ℕ) → List BranchValue → ScriptPoint
 place left branches = record { left = left; branches = branches }
@@ -26,24 +26,24 @@ module _ {J : Type 0} (config : ConfigData) (made : ReadyData → Option J → T
   none_leased script old = ([], refl)
 
   leased_on : (script left mid rest : Option (List ℕ)) (old bs cs : List BranchValue) (read : Result Request LineFault) → mid ≡ left
-      → Takes MOST_REQUEST_BYTES None mid rest read → HasLeasedBy made config (heard_of config read) bs cs
+      → Takes MOST_REQUEST_BYTES None mid rest read → IsHeard (heard_of config read) → HasLeasedBy made config (heard_of config read) bs cs
       → LeasedTo script old left bs → LeasedTo script old rest cs
-  leased_on script left mid rest old bs cs read begun takes leased so = (
+  leased_on script left mid rest old bs cs read begun takes heard leased so = (
     read ∷ so.0,
-    (place left bs, so.1, record { takes = subst (λ l. Takes MOST_REQUEST_BYTES None l rest read) begun takes; leased = leased }),
+    (place left bs, so.1, record { takes = subst (λ l. Takes MOST_REQUEST_BYTES None l rest read) begun takes; heard = heard; leased = leased }),
   )
 
   pub leases_told : (script left mid rest : Option (List ℕ)) (old bs cs : List BranchValue) (read : Result Request LineFault) (who : Option (List ℕ)) (said : Said)
       → heard_of config read ≡ Told who said → mid ≡ left → Takes MOST_REQUEST_BYTES None mid rest read → cs ≡ bs
       → LeasedTo script old left bs → LeasedTo script old rest cs
   leases_told script left mid rest old bs cs read who said is begun takes kept so =
-      leased_on script left mid rest old bs cs read begun takes (subst (λ h. HasLeasedBy made config h bs cs) (sym is) kept) so
+      leased_on script left mid rest old bs cs read begun takes (subst (λ h. IsHeard h) (sym is) tt) (subst (λ h. HasLeasedBy made config h bs cs) (sym is) kept) so
 
   pub leases_asked : (script left mid rest : Option (List ℕ)) (old bs cs : List BranchValue) (read : Result Request LineFault) (t : ℕ) (who : List ℕ) (what : What)
       → heard_of config read ≡ Asked t who what → mid ≡ left → Takes MOST_REQUEST_BYTES None mid rest read → HasLeasedFor made config t what bs cs
       → LeasedTo script old left bs → LeasedTo script old rest cs
   leases_asked script left mid rest old bs cs read t who what is begun takes leased so =
-      leased_on script left mid rest old bs cs read begun takes (subst (λ h. HasLeasedBy made config h bs cs) (sym is) leased) so
+      leased_on script left mid rest old bs cs read begun takes (subst (λ h. IsHeard h) (sym is) tt) (subst (λ h. HasLeasedBy made config h bs cs) (sym is) leased) so
 
   pub leases_of : (script rest : Option (List ℕ)) (old new : List BranchValue) → LeasedTo script old rest new → AreLeasesOf config made script old new
   leases_of script rest old new so = (so.0, rest, so.1)

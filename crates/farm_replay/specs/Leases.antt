@@ -1,11 +1,13 @@
 -- The leases that a replay makes.
-use Rattle.std.specs.Prelude.{◌≡◌, ℕ, List, [], ◌∷◌, Option, None, Result}
+use Rattle.std.specs.Prelude.{◌≡◌, ℕ, ⊤, List, [], ◌∷◌, Option, None, Result}
 use Rattle.farm_core.specs.Config.{ConfigData}
 use Rattle.session_lines.specs.declared.request.Request.{Request}
 use Rattle.session_lines.specs.declared.request.LineFault.{LineFault}
 use Rattle.session_lines.specs.declared.reading.TheConstants.{MOST_REQUEST_BYTES}
 use Rattle.session_lines.specs.Script.{Takes}
 use Rattle.farm_session.specs.Branch.{BranchValue, HasLeasedBy}
+use Rattle.farm_session.specs.declared.heard.Heard.{Heard}
+use Rattle.farm_session.specs.declared.heard.Heard.TheVariants.{Over, Broken}
 use Rattle.farm_session.specs.Heard.{heard_of}
 use Rattle.farm_session.specs.Ready.{ReadyData}
 
@@ -14,10 +16,17 @@ pub record ScriptPoint : Type 0 where
   pub left : Option (List ℕ)
   pub branches : List BranchValue
 
+-- there was a request, and it could be read
+abbrev pub IsHeard : Heard → Type 0
+IsHeard Over = ⊥
+IsHeard Broken = ⊥
+IsHeard heard = ⊤
+
 module _ {J : Type 0} (config : ConfigData) (made : ReadyData → Option J → Type 0) where
   -- a request was read, and only the lease was made that it needs
   pub record HasHeard (old : ScriptPoint) (read : Result Request LineFault) (new : ScriptPoint) : Type 0 where
     pub takes : Takes MOST_REQUEST_BYTES None old.left new.left read
+    pub heard : IsHeard (heard_of config read)
     pub leased : HasLeasedBy made config (heard_of config read) old.branches new.branches
 
   -- requests one after another, the last one first
