@@ -1,5 +1,5 @@
 -- Why something is not certified.
-use Rattle.std.specs.Prelude.{◌≡◌, ⊤, ℕ, ◌-◌, ◌<◌}
+use Rattle.std.specs.Prelude.{◌≡◌, ⊤, ℕ, ◌-◌, ◌<◌, ◌≤◌}
 use Rattle.mrcpsp.specs.Project.{ProjectData, horizon}
 use Rattle.mrcpsp.specs.Schedule.{ScheduleData, IsFeasible, makespan}
 use Rattle.mrcpsp.specs.Breach.{IsFirstBreach}
@@ -14,9 +14,9 @@ use Rattle.schedule_clauses.specs.declared.certificate.CertificateFault.TheVaria
 abbrev pub IsBeyond : ProjectData → ℕ → ℕ → Type 0
 IsBeyond p bound h = (h ≡ horizon p.activities) × (h < bound)
 
--- the bound makes n clauses on starts, and n is above the limit
+-- the bound is within the horizon and makes n clauses on starts, and n is above the limit
 abbrev pub IsTooMany : ProjectData → ℕ → ℕ → Type 0
-IsTooMany p bound n = (n ≡ start_clauses p bound) × (MOST_START_CLAUSES < n)
+IsTooMany p bound n = (bound ≤ horizon p.activities) × (n ≡ start_clauses p bound) × (MOST_START_CLAUSES < n)
 
 -- there are no clauses of the bound
 abbrev pub IsOfClauses : ProjectData → ℕ → CertificateFault → Type 0

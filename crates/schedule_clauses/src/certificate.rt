@@ -1,5 +1,6 @@
 //! Certificates: a schedule is optimal if the clauses of a shorter makespan cannot all be true.
 ghost use Rattle.std.specs.Prelude.{◌≡◌, ◌≤◌, IfOk, IfErr, Some, None};
+ghost use Rattle.mrcpsp.specs.Project.{horizon};
 ghost use Rattle.mrcpsp.specs.Schedule.{IsOptimal, IsInfeasible, makespan};
 ghost use Rattle.schedule_clauses.specs.Encoding.{AreGood};
 ghost use Rattle.schedule_clauses.specs.Fault.{IsOfClauses, IsOfBound, IsOfStocks, IsOfSchedule};
@@ -50,6 +51,7 @@ pub fn clauses(alloc: Global, project: &Project, bound: u32) -> Result<Formula, 
     ensures clauses { IfOk result (λ formula. SatisfiedByShort project.now bound formula.clauses.items) }
     ensures meanings { IfOk result (λ formula.
         AreGood project.now (Some bound) formula.meanings.items formula.clauses.items) }
+    ensures within { IfOk result (λ _. bound ≤ horizon project.now.activities) }
     ensures few { IfOk result (λ _. start_clauses project.now bound ≤ MOST_START_CLAUSES) }
     ensures fault { IfErr result (λ fault. IsOfClauses project.now bound fault) }
 {
