@@ -24,6 +24,11 @@ pub enum CertifyFault {
 }
 
 impl From<AllocError> for CertifyFault {
+    ghost use Rattle.std.specs.Prelude.{◌≡◌};
+    ghost use Rattle.certify_cli.specs.declared.fault.CertifyFault.TheVariants.{NoMemory};
+
+    ghost from_gives = { λ _ fault. fault ≡ NoMemory };
+
     fn from(_: AllocError) -> CertifyFault {
         CertifyFault::NoMemory
     }

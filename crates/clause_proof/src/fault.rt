@@ -19,6 +19,11 @@ pub enum ProofFault {
 }
 
 impl From<AllocError> for ProofFault {
+    ghost use Rattle.std.specs.Prelude.{◌≡◌};
+    ghost use Rattle.clause_proof.specs.declared.fault.ProofFault.TheVariants.{NoMemory};
+
+    ghost from_gives = { λ _ fault. fault ≡ NoMemory };
+
     fn from(_: AllocError) -> ProofFault {
         ProofFault::NoMemory
     }

@@ -22,6 +22,11 @@ pub enum VerifyFault {
 }
 
 impl From<AllocError> for VerifyFault {
+    ghost use Rattle.std.specs.Prelude.{◌≡◌};
+    ghost use Rattle.solve_cli.specs.declared.fault.VerifyFault.TheVariants.{NoMemory};
+
+    ghost from_gives = { λ _ fault. fault ≡ NoMemory };
+
     fn from(_: AllocError) -> VerifyFault {
         VerifyFault::NoMemory
     }
