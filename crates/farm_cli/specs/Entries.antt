@@ -1,4 +1,4 @@
--- How many entries of the journal a tenant uses.
+-- At most how many entries of the journal a tenant uses.
 use Rattle.std.specs.Prelude.{ℕ, ◌+◌, ◌*◌}
 
 -- two for each slice of nodes, three for each submit or fund, and one for each other request

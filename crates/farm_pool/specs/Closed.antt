@@ -47,9 +47,10 @@ pub record AreCallsOf (config : ConfigData) (log : List (ℕ × Entry)) (calls :
   pub entries : map entry_in calls ≡ history.events_of log
   pub each : (before behind : List Call) (c : Call) → calls ≡ before ++ c ∷ behind → WasAnswered config (map entry_in before) c
 
--- two closed pools are isolated. If a purse began alike and its members made equal calls in equal
--- order, they had equal answers. The farms then hold equal parts of the purse: the ledger, and each
--- member's jobs, numbers and entries used. Other tenants, workers and numbers make no difference
+-- two closed pools are isolated. If a purse began alike, and its members' calls and the turns of
+-- their jobs were equal in equal order, the members had equal answers. The farms then hold equal
+-- parts of the purse: the ledger, and each member's jobs, numbers and entries used. Other tenants,
+-- which worker took a turn, and numbers make no difference
 abbrev pub ClosedPoolsAreIsolated : Type 0
 ClosedPoolsAreIsolated = (v x : PoolView) (w y : World) (one : IsClosed v w) (two : IsClosed x y) (p q : ℕ) →
     opened_purse w.config p ≡ opened_purse y.config q → own_in w.config p one.log ≡ own_in y.config q two.log →

@@ -18,7 +18,8 @@ pub fn each_reply_is_isolated()
     ensures { EachReplyIsIsolated }
 {}
 
-/// Purses that begin alike and make equal calls in two closed pools end alike, with equal answers.
+/// Purses that begin alike and have equal calls and turns in two closed pools end alike, with equal
+/// answers.
 pub fn closed_pools_are_isolated()
     ensures { ClosedPoolsAreIsolated }
 {}
