@@ -4,7 +4,7 @@ A function is proved against the contracts of those that it calls, never against
 judged by the line of its own function: it is refused if that line says `not proved`, or `no proof` for answers that the function lacks. `it calls .., which is
 not proved` is another's refusal, and does not count. A free function and one of an inherent `impl` stays as it is, and each of its wrong bodies is a copy beside it,
 under a name of its own and with the same contract and the same proof files. That of a trait's `impl`, and one that calls itself, can have no copy: it is edited in
-its place, so that two wrong bodies of one such function need two runs.
+its place, so that two wrong bodies of one such function need two runs, and a copy that waits for one that it calls is tried again without it.
 
 A refusal counts only if a clause or a condition refuses the body. An answer written by hand may merely no longer fit the new shape of a function. So a body that is
 refused with an error in its function's own proof files is checked again without the answers that have errors, up to three times, and at last without any.
@@ -76,6 +76,16 @@ class Run:
                 file = f"{os.path.dirname(os.path.dirname(file))}/{name}/{os.path.basename(file)}"
                 proofs[file] = proofs[file].replace(old, new)
         self.proofs.update(proofs)
+
+    def left_open(self, edits, judged):
+        """Returns the edits of its own that are to be tried again, in portions, where these functions were judged."""
+        if not judged:
+            # (a text that cannot be read hides all the others)
+            return [edits[::2], edits[1::2]] if len(edits) > 1 else []
+        # (a copy that calls a function which is edited in its place may wait for that one's proof)
+        copies = [it for it in edits if self.fns[it.path] != it.fn]
+        waiting = [it for it in copies if self.fns[it.path] not in judged]
+        return [waiting] if waiting and len(copies) < len(edits) else []
 
     def changed(self):
         """Returns the texts of all files that it changes or adds."""
@@ -198,9 +208,8 @@ class Trial:
             count += 1
             refused |= {path for path, fn in run.fns.items() if fn in bad}
             proved |= {path for path, fn in run.fns.items() if fn in good}
-            # (a text that cannot be read hides all the others of its run)
-            for half in [members[::2], members[1::2]] if len(members) > 1 and not bad | good else []:
-                worse, better, runs = self.seen(half)
+            for others in run.left_open(members, bad | good):
+                worse, better, runs = self.seen(others)
                 refused, proved, count = refused | worse, proved | better, count + runs
         return refused, proved, count
 
