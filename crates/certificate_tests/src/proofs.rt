@@ -1,12 +1,13 @@
 //! Proofs of four clauses over two variables that no values make all true.
+use clause_kernel::ClauseList;
 use clause_proof::ProofFault::{self, Unfinished, Unproved, Word};
 use clause_proof::refute;
 use std::alloc::{AllocError, Global};
 
-fn square(alloc: Global) -> Result<Vec<Vec<u32>>, AllocError> {
-    let mut clauses = Vec::new(alloc);
+fn square(alloc: Global) -> Result<ClauseList, AllocError> {
+    let mut clauses = ClauseList::new(alloc);
     for clause in [[2, 4], [3, 4], [2, 5], [3, 5]] {
-        clauses.push(Vec::from_slice(alloc, &clause)?)?;
+        clauses.push(&clause)?;
     }
     Ok(clauses)
 }

@@ -2,11 +2,14 @@
 //! `-` is standard input.
 #![tactic(auto)]
 
+use clap::builder::ValueParser;
 use clap::{Arg, ArgMatches, Command};
 use explain::{end_no_memory, words_of};
 use std::alloc::{AllocError, Global};
 use std::process::ExitCode;
 use std::rt::Runtime;
+
+const MOST_STEPS: u64 = 1_000_000;
 
 fn needed<'a>(alloc: Global, name: &'a str, help: &'a str) -> Arg<'a> {
     Arg::new(alloc, name).help(help).required(true)
@@ -40,15 +43,25 @@ fn command<'a>(alloc: Global) -> Result<Command<'a>, AllocError> {
             "A DRAT proof of the clauses without a bound",
         ))?;
     let bound = Command::new(alloc, "bound")
-        .about("Checks a proof that no schedule is shorter than a number of periods")
-        .override_usage("farm bound <FILE> [BOUND] [PROOF]")
+        .about("Tells how many periods each schedule takes at least, or checks a proof of a bound")
+        .override_usage("farm bound [--steps N] <FILE> [BOUND] [PROOF]")
         .arg(needed(alloc, "FILE", "A PSPLIB multi-mode file"))?
         .arg(Arg::new(alloc, "BOUND").help(
-            "Periods that each schedule takes at least; none tells the longest chain of activities",
+            "Periods that each schedule takes at least; without it, the best bound that prices show",
         ))?
         .arg(Arg::new(alloc, "PROOF").help(
             "A DRAT proof of the clauses of one period less; none where the longest chain alone decides",
-        ))?;
+        ))?
+        .arg(
+            Arg::new(alloc, "steps")
+                .long("steps")
+                .value_name("N")
+                .help(
+                    "Without BOUND: the most steps for the prices of each bound; 0 for the longest chain alone",
+                )
+                .value_parser(ValueParser::unsigned(0, MOST_STEPS))
+                .default_value("1000"),
+        )?;
     Command::new(alloc, "certify")
         .about("Certificates of schedules that anyone found")
         .subcommand_required(true)
@@ -56,6 +69,11 @@ fn command<'a>(alloc: Global) -> Result<Command<'a>, AllocError> {
         .subcommand(check)?
         .subcommand(infeasible)?
         .subcommand(bound)
+}
+
+fn steps_of(chosen: &ArgMatches<'_>) -> u32 {
+    let steps = chosen.get_str("steps").unwrap_or("1000");
+    steps.parse::<u32>().unwrap_or(1000)
 }
 
 fn run_chosen<R: Runtime + AllocGlobal>(rt: &R, matches: &ArgMatches<'_>) -> ExitCode {
@@ -81,6 +99,7 @@ fn run_chosen<R: Runtime + AllocGlobal>(rt: &R, matches: &ArgMatches<'_>) -> Exi
             chosen.get_str("FILE").unwrap_or("-"),
             chosen.get_str("BOUND"),
             chosen.get_str("PROOF"),
+            steps_of(chosen),
         ),
         _ => ExitCode::FAILURE,
     }

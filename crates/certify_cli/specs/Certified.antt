@@ -2,8 +2,9 @@
 use Rattle.std.specs.Prelude.{◌≡◌, ℕ, ◌≤◌, List, ◌∷◌, ◌++◌, [], Option, Ok, codes, decimal}
 use Rattle.std.specs.Io.KnownBytes.{Appends}
 use Rattle.mrcpsp.specs.Project.{ProjectData}
-use Rattle.mrcpsp.specs.Schedule.{ScheduleData, IsFeasible, IsOptimal, IsInfeasible, makespan}
+use Rattle.mrcpsp.specs.Schedule.{ScheduleData, IsOptimal, IsInfeasible, makespan}
 use Rattle.mrcpsp.specs.Values.{bound}
+use Rattle.price_search.specs.LowerBound.{TakesAtLeast}
 use Rattle.psplib_mm.specs.Reading.{reading}
 use Rattle.schedule_files.specs.ScheduleText.{Tells}
 
@@ -31,10 +32,6 @@ pub record CertifiesInfeasible (file : List ℕ) (before after : Option (List �
 abbrev pub bound_line : ℕ → List ℕ
 bound_line periods = codes "at least " ++ decimal periods ++ 10 ∷ []
 
--- no feasible schedule of the project takes fewer periods
-abbrev pub TakesAtLeast : ProjectData → ℕ → Type 0
-TakesAtLeast p periods = (s : ScheduleData) → IsFeasible p s → periods ≤ makespan p s
-
 -- no feasible schedule of the file's project takes fewer periods, and `at least` with their number
 -- was written
 pub record CertifiesBound (file : List ℕ) (periods : ℕ) (before after : Option (List ℕ)) : Type 0 where
@@ -43,10 +40,13 @@ pub record CertifiesBound (file : List ℕ) (periods : ℕ) (before after : Opti
   pub least : TakesAtLeast project periods
   pub wrote : Appends before after (bound_line periods)
 
--- the critical path of the file's project, by shortest durations, was written (Kelley and Walker
--- 1959)
-pub record CertifiesChain (file : List ℕ) (before after : Option (List ℕ)) : Type 0 where
+-- a bound of the file's project was written that no feasible schedule is below: the critical path by
+-- shortest durations (Kelley and Walker 1959), or more if prices were looked for by some steps
+pub record CertifiesLeast (file : List ℕ) (steps : ℕ) (before after : Option (List ℕ)) : Type 0 where
   pub project : ProjectData
+  pub periods : ℕ
   pub read : reading file ≡ Ok project
-  pub least : TakesAtLeast project (bound project)
-  pub wrote : Appends before after (bound_line (bound project))
+  pub least : TakesAtLeast project periods
+  pub chain : bound project ≤ periods
+  pub alone : steps ≡ 0 → periods ≡ bound project
+  pub wrote : Appends before after (bound_line periods)

@@ -13,7 +13,7 @@ use Rattle.explain.specs.Counts.{CommandCounts}
 use Rattle.explain.specs.Ending.{IsEndOf, file_alone, file_and_proof, all_inputs}
 use Rattle.explain.specs.declared.ending.CommandFault.{CommandFault}
 use Rattle.explain.specs.declared.inputs.TheConstants.{MOST_TEXT}
-use Rattle.certify_cli.specs.Certified.{CertifiesOptimal, CertifiesInfeasible, CertifiesBound, CertifiesChain}
+use Rattle.certify_cli.specs.Certified.{CertifiesOptimal, CertifiesInfeasible, CertifiesBound, CertifiesLeast}
 use Rattle.certify_cli.specs.declared.fault.CertifyFault.{CertifyFault}
 use Rattle.certify_cli.specs.declared.fault.CertifyFault.TheVariants as why
 
@@ -121,10 +121,10 @@ IsOfFileAlone (why.Certificate fault) = ⊥
 IsOfFileAlone why.NoMemory = ⊤
 IsOfFileAlone why.Write = ⊤
 
--- the end of a command that certifies the critical path
-abbrev pub IsChainOf : Result ⊤ (CommandFault CertifyFault) → CommandCounts → CommandCounts → Option (List ℕ) → Option (List ℕ) → Option (List ℕ) → Type 0
-IsChainOf ended from seen file before after =
-    IsEndOf file_alone (IfSome file (λ bytes. CertifiesChain (take MOST_TEXT bytes) before after)) (λ fault. IsRefusal fault from seen file before after × IsOfFileAlone fault) ended from seen before after
+-- the end of a command that finds a bound itself
+abbrev pub IsLeastOf : Result ⊤ (CommandFault CertifyFault) → ℕ → CommandCounts → CommandCounts → Option (List ℕ) → Option (List ℕ) → Option (List ℕ) → Type 0
+IsLeastOf ended steps from seen file before after =
+    IsEndOf file_alone (IfSome file (λ bytes. CertifiesLeast (take MOST_TEXT bytes) steps before after)) (λ fault. IsRefusal fault from seen file before after × IsOfFileAlone fault) ended from seen before after
 
 -- the exit status of a command that writes clauses: 1 for a fault
 abbrev pub clauses_status : Result ⊤ CertifyFault → ℕ

@@ -1,9 +1,9 @@
 //! Bounds over any readers and writer, with a status.
 ghost use Rattle.std.specs.Process.{exit_status};
 ghost use Rattle.explain.specs.Ending.{Ends};
-ghost use Rattle.certify_cli.specs.Commands.{IsBoundOf, IsChainOf};
+ghost use Rattle.certify_cli.specs.Commands.{IsBoundOf, IsLeastOf};
 
-use crate::bounding::{certify_bound, certify_chain};
+use crate::bounding::{certify_bound, certify_least};
 use crate::commands::MOST_PROOF;
 use crate::explaining::why_uncertified;
 use crate::fault::CertifyFault;
@@ -41,20 +41,21 @@ pub fn bound_read<S: Read + Drop, P: Read + Drop, W: Write>(
     }
 }
 
-/// Is `certify_chain` of what `file` gives.
-pub fn chain_read<S: Read + Drop, W: Write>(
+/// Is `certify_least` of what `file` gives.
+pub fn least_read<S: Read + Drop, W: Write>(
     alloc: Global,
     file: S,
+    steps: u32,
     writer: &mut W,
     watches: &mut CommandWatches<S, (), (), W>,
 ) -> Result<(), CommandFault<CertifyFault>>
-    ensures { IsChainOf result watches.old watches.new (S.remaining file) (W.contents writer.old) (W.contents writer.new) }
+    ensures { IsLeastOf result steps watches.old watches.new (S.remaining file) (W.contents writer.old) (W.contents writer.new) }
 {
     let bytes = match watches.file.read_front(alloc, file, MOST_TEXT) {
         Ok(bytes) => bytes,
         Err(error) => return Err(CommandFault::File(error.kind())),
     };
-    match certify_chain(alloc, &bytes, writer, &mut watches.output) {
+    match certify_least(alloc, &bytes, steps, writer, &mut watches.output) {
         Ok(()) => Ok(()),
         Err(fault) => {
             watches.why = why_uncertified(alloc, &bytes, &[], fault);
@@ -81,18 +82,19 @@ pub fn bound_to<R: AllocGlobal + Env + Eprint, S: Read + Drop, P: Read + Drop, W
     end_command(rt, paths, ended, watches)
 }
 
-/// Is `chain_read` with a status: 0, or 1 with the fault on standard error.
-pub fn chain_to<R: AllocGlobal + Env + Eprint, S: Read + Drop, W: Write>(
+/// Is `least_read` with a status: 0, or 1 with the fault on standard error.
+pub fn least_to<R: AllocGlobal + Env + Eprint, S: Read + Drop, W: Write>(
     rt: &R,
     paths: Paths<'_>,
     file: S,
+    steps: u32,
     writer: &mut W,
     watches: &mut CommandWatches<S, (), (), W>,
 ) -> ExitCode
     ensures { Ends
-        (λ ended. IsChainOf ended watches.old watches.new (S.remaining file) (W.contents writer.old) (W.contents writer.new))
+        (λ ended. IsLeastOf ended steps watches.old watches.new (S.remaining file) (W.contents writer.old) (W.contents writer.new))
         (exit_status result) }
 {
-    let ended = chain_read(rt.alloc(), file, writer, watches);
+    let ended = least_read(rt.alloc(), file, steps, writer, watches);
     end_command(rt, paths, ended, watches)
 }

@@ -2,13 +2,13 @@
 ghost use Rattle.std.specs.Prelude.{◌-◌, IfOk, IfErr};
 ghost use Rattle.schedule_clauses.specs.Fault.{IsOfBound};
 ghost use Rattle.watched_io.specs.Failure.{HasFailed};
-ghost use Rattle.certify_cli.specs.Certified.{CertifiesBound, CertifiesChain, TakesAtLeast};
+ghost use Rattle.certify_cli.specs.Certified.{CertifiesBound, CertifiesLeast};
+ghost use Rattle.price_search.specs.LowerBound.{TakesAtLeast};
 ghost use Rattle.certify_cli.specs.Commands.{IsLineNoted, IsStopped, IsOfFile, IsOfFileAlone, IsOfPeriods};
 
 use crate::fault::CertifyFault;
-use measures::Measures;
 use mrcpsp::Project;
-use mrcpsp::laws::none_is_below_the_bound;
+use price_search::lower_bound;
 use psplib_mm::read;
 use schedule_clauses::CertificateFault;
 use std::alloc::Global;
@@ -58,27 +58,26 @@ pub fn certify_bound<W: Write>(
     }
 }
 
-/// Writes `at least L` for the longest chain of activities of `file` by shortest durations: no
-/// feasible schedule takes fewer periods. On any error except `Write`, nothing was written.
-pub fn certify_chain<W: Write>(
+/// Writes `at least L`: no feasible schedule of `file` takes fewer than L periods. L is the longest
+/// chain of activities by shortest durations, or more if `steps` steps find prices that refute
+/// bounds above it. On any error except `Write`, nothing was written.
+pub fn certify_least<W: Write>(
     alloc: Global,
     file: &[u8],
+    steps: u32,
     writer: &mut W,
     watch: &mut Watch<W>,
 ) -> Result<(), CertifyFault>
-    ensures ok { IfOk result (λ _. CertifiesChain file.now (W.contents writer.old) (W.contents writer.new)) }
+    ensures ok { IfOk result (λ _. CertifiesLeast file.now steps (W.contents writer.old) (W.contents writer.new)) }
     ensures judged { IfErr result (λ fault. IsOfFileAlone fault) }
     ensures fault { IfErr result (λ fault.
         IsOfFile fault file.now × IsStopped fault (HasFailed watch.old watch.new) (W.contents writer.old) (W.contents writer.new)) }
     ensures noted { IsLineNoted result watch.old watch.new }
 {
-    none_is_below_the_bound();
     let project = read(alloc, file).map_err(CertifyFault::File)?;
-    project.activities();
-    let Ok(measures) = Measures::of(alloc, &project) else {
+    let Ok(periods) = lower_bound(alloc, &project, steps) else {
         return Err(CertifyFault::NoMemory);
     };
-    let periods = measures.bound();
     match watch.write_text(writer, format_args!("at least {periods}\n")) {
         Ok(()) => Ok(()),
         Err(_) => Err(CertifyFault::Write),

@@ -92,8 +92,8 @@ pub(crate) fn write_formula<W: Write>(writer: &mut W, formula: &Formula) -> io::
     let variables = formula.meanings.len().saturating_sub(1);
     let clauses = formula.clauses.len();
     writeln!(writer, "p cnf {variables} {clauses}")?;
-    for clause in &formula.clauses {
-        write_clause(writer, clause.as_slice())?;
+    for number in 0..clauses {
+        write_clause(writer, formula.clauses.get(number))?;
     }
     Ok(())
 }

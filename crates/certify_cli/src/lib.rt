@@ -24,8 +24,8 @@ mod fault;
 pub mod laws;
 mod program;
 
-pub use bound_commands::{bound_read, bound_to, chain_read, chain_to};
-pub use bounding::{certify_bound, certify_chain};
+pub use bound_commands::{bound_read, bound_to, least_read, least_to};
+pub use bounding::{certify_bound, certify_least};
 pub use certifying::{certify, certify_infeasible, write_clauses};
 pub use commands::{MOST_PROOF, certify_read, certify_to, infeasible_read, infeasible_to};
 pub use fault::CertifyFault;

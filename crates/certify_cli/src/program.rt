@@ -3,7 +3,7 @@ ghost use Rattle.std.specs.Prelude.{◌≡◌, ◌≤◌};
 ghost use Rattle.std.specs.Process.{exit_status};
 ghost use Rattle.certify_cli.specs.Commands.{clauses_status};
 
-use crate::bound_commands::{bound_to, chain_to};
+use crate::bound_commands::{bound_to, least_to};
 use crate::certifying::write_clauses;
 use crate::commands::{certify_to, infeasible_to};
 use crate::explaining::why_uncertified;
@@ -96,7 +96,7 @@ pub fn run_infeasible<R: Runtime + AllocGlobal>(rt: &R, file: &str, proof: &str)
     infeasible_to(rt, paths, project, steps, &mut output, &mut watches)
 }
 
-fn run_chain<R: Runtime + AllocGlobal>(rt: &R, file: &str) -> ExitCode
+fn run_least<R: Runtime + AllocGlobal>(rt: &R, file: &str, steps: u32) -> ExitCode
     ensures { exit_status result ≤ 1 }
 {
     let Some(project) = open_path(rt, file) else {
@@ -104,21 +104,30 @@ fn run_chain<R: Runtime + AllocGlobal>(rt: &R, file: &str) -> ExitCode
     };
     let mut output = io::writer(rt);
     let mut watches = CommandWatches::new();
-    chain_to(rt, Paths::of(file), project, &mut output, &mut watches)
+    least_to(
+        rt,
+        Paths::of(file),
+        project,
+        steps,
+        &mut output,
+        &mut watches,
+    )
 }
 
 /// Prints `at least L` if `proof` shows that no schedule of `file` takes fewer than `bound`
-/// periods. Without a bound, L is the longest chain of activities.
+/// periods. Without a bound, L is the longest chain of activities, or more by prices, in
+/// at most `steps` steps for each bound.
 pub fn run_bound<R: Runtime + AllocGlobal>(
     rt: &R,
     file: &str,
     bound: Option<&str>,
     proof: Option<&str>,
+    steps: u32,
 ) -> ExitCode
     ensures { exit_status result ≤ 1 }
 {
     let Some(bound) = bound else {
-        return run_chain(rt, file);
+        return run_least(rt, file, steps);
     };
     let Ok(periods) = bound.parse::<u32>() else {
         return end_unbounded(rt, bound, "the bound is a whole number below 4294967296");

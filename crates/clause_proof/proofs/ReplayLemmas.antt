@@ -1,10 +1,9 @@
 -- What one clause infers, and what a derivation by clauses in order leaves.
-use Rattle.std.proofs.Common.{◌≡◌, ◌⊎◌, ℕ, zero, suc, ◌+◌, ◌-◌, ◌/◌, ◌%◌, ◌<◌, ◌≤◌, ◌==◌, Bool, true, false, not, List, length, get_or, Vec, arith, refl, sym, ◌∙◌, ⊎_elim, inl, inr}
-use Rattle.std.specs.declared.alloc.Global.{Global}
+use Rattle.std.proofs.Common.{◌≡◌, ◌⊎◌, ℕ, zero, suc, ◌+◌, ◌-◌, ◌/◌, ◌%◌, ◌<◌, ◌≤◌, ◌==◌, Bool, true, false, not, List, length, get_or, arith, refl, sym, ◌∙◌, ⊎_elim, inl, inr}
 use Rattle.std.proofs.lemmas.Bool.{cases_Bool, eqb-true, eqb-false, not-true, true≢false}
 use Rattle.std.proofs.Math.Bool.{not-not}
 use Rattle.std.proofs.lemmas.List.Folds.{list_any_none, list_any_at}
-use Rattle.clause_proof.specs.Clauses.{negated, literal_true, clause_true}
+use Rattle.clause_kernel.specs.Clauses.{negated, literal_true, clause_true}
 use Rattle.clause_proof.specs.Propagation.{IsSound, IsFresh, IsAssigned, HasOnly, HasNone, Infers, Assumes, IsTautology, SatisfiesUsed, Follows, Keeps}
 
 even_or_odd : (l : ℕ) → (((l % 2 == 0) ≡ true) × (l % 2 ≡ 0)) ⊎ (((l % 2 == 0) ≡ false) × (l % 2 ≡ 1))
@@ -138,7 +137,7 @@ assumes-true clause values mark i d inside h assumes = record {
 }
 
 -- what stands as true is true wherever the used clauses before `at` are and the clause is not
-pub record Derives (clauses : List (Vec ℕ Global)) (used : List Bool) (at : ℕ) (clause values : List ℕ) (mark : ℕ) : Type 0 where
+pub record Derives (clauses : List (List ℕ)) (used : List Bool) (at : ℕ) (clause values : List ℕ) (mark : ℕ) : Type 0 where
   pub sound : (v : ℕ → Bool) → SatisfiesUsed v clauses used at → clause_true v clause ≡ false → IsSound v values mark
 
 pub keeps-refl : (used : List Bool) → Keeps used used
@@ -147,10 +146,10 @@ keeps-refl used = record { each = λ k h. h }
 pub keeps-trans : (a b c : List Bool) → Keeps a b → Keeps b c → Keeps a c
 keeps-trans a b c p q = record { each = λ k h. q.each k (p.each k h) }
 
-pub satisfies-fewer : (v : ℕ → Bool) (clauses : List (Vec ℕ Global)) (before after : List Bool) (at : ℕ) → Keeps before after → SatisfiesUsed v clauses after at → SatisfiesUsed v clauses before at
-satisfies-fewer v clauses before after at keeps all = record { each = λ k d below h. all.each k d below (keeps.each k h) }
+pub satisfies-fewer : (v : ℕ → Bool) (clauses : List (List ℕ)) (before after : List Bool) (at : ℕ) → Keeps before after → SatisfiesUsed v clauses after at → SatisfiesUsed v clauses before at
+satisfies-fewer v clauses before after at keeps all = record { each = λ k below h. all.each k below (keeps.each k h) }
 
-pub derives-first : (clauses : List (Vec ℕ Global)) (used : List Bool) (at : ℕ) (clause values : List ℕ) (mark : ℕ) → Assumes clause (length clause) values mark → Derives clauses used at clause values mark
+pub derives-first : (clauses : List (List ℕ)) (used : List Bool) (at : ℕ) (clause values : List ℕ) (mark : ℕ) → Assumes clause (length clause) values mark → Derives clauses used at clause values mark
 derives-first clauses used at clause values mark assumes = record { sound = λ v all e. assumes.sound v (λ k d inside. literal_false v clause k d inside e) }
 
 pub ruleset infer_rules = (infers-nothing, infers-conflict, infers-unit)

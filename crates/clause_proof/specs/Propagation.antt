@@ -2,9 +2,8 @@
 -- unsatisfiability for CNF formulas), checked backwards from the last one (Wetzler, Heule and Hunt
 -- 2014: DRAT-trim). A literal is marked true if its number in `values` is the mark or above: each
 -- check has the next mark.
-use Rattle.std.specs.Prelude.{◌≡◌, ◌⊎◌, ℕ, ◌+◌, ◌<◌, ◌≤◌, Bool, true, false, List, All, Vec, length, slice_index, slice_index_or}
-use Rattle.std.specs.declared.alloc.Global.{Global}
-use Rattle.clause_proof.specs.Clauses.{literal_true, clause_true, negated}
+use Rattle.std.specs.Prelude.{◌≡◌, ◌⊎◌, ℕ, ◌+◌, ◌<◌, ◌≤◌, Bool, true, false, List, [], All, length, slice_index, slice_index_or}
+use Rattle.clause_kernel.specs.Clauses.{literal_true, clause_true, negated}
 
 -- what is marked true is true
 pub record IsSound (v : ℕ → Bool) (values : List ℕ) (mark : ℕ) : Type 0 where
@@ -41,15 +40,15 @@ pub record IsTautology (clause : List ℕ) : Type 0 where
   pub sure : (v : ℕ → Bool) → clause_true v clause ≡ true
 
 -- the values make each used clause before `count` true
-pub record SatisfiesUsed (v : ℕ → Bool) (clauses : List (Vec ℕ Global)) (used : List Bool) (count : ℕ) : Type 0 where
-  pub each : (k : ℕ) (d : Vec ℕ Global) → k < count → slice_index_or used k false ≡ true → clause_true v (slice_index_or clauses k d).items ≡ true
+pub record SatisfiesUsed (v : ℕ → Bool) (clauses : List (List ℕ)) (used : List Bool) (count : ℕ) : Type 0 where
+  pub each : (k : ℕ) → k < count → slice_index_or used k false ≡ true → clause_true v (slice_index_or clauses k []) ≡ true
 
 -- a clause is true if all used clauses before it are
-pub record Follows (clauses : List (Vec ℕ Global)) (used : List Bool) (at : ℕ) : Type 0 where
-  pub sure : (v : ℕ → Bool) (d : Vec ℕ Global) → SatisfiesUsed v clauses used at → clause_true v (slice_index_or clauses at d).items ≡ true
+pub record Follows (clauses : List (List ℕ)) (used : List Bool) (at : ℕ) : Type 0 where
+  pub sure : (v : ℕ → Bool) → SatisfiesUsed v clauses used at → clause_true v (slice_index_or clauses at []) ≡ true
 
 -- the used clauses before `count` cannot all be true
-pub record IsRefuted (clauses : List (Vec ℕ Global)) (used : List Bool) (count : ℕ) : Type 0 where
+pub record IsRefuted (clauses : List (List ℕ)) (used : List Bool) (count : ℕ) : Type 0 where
   pub none : (v : ℕ → Bool) → SatisfiesUsed v clauses used count → ⊥
 
 -- what was used still is
@@ -57,6 +56,6 @@ pub record Keeps (before after : List Bool) : Type 0 where
   pub each : (k : ℕ) → slice_index_or before k false ≡ true → slice_index_or after k false ≡ true
 
 -- clauses were added behind the others
-pub record Extends (before after : List (Vec ℕ Global)) : Type 0 where
-  pub same : (k : ℕ) (d : Vec ℕ Global) → k < length before → slice_index_or after k d ≡ slice_index_or before k d
+pub record Extends (before after : List (List ℕ)) : Type 0 where
+  pub same : (k : ℕ) → k < length before → slice_index_or after k [] ≡ slice_index_or before k []
   pub longer : length before ≤ length after

@@ -22,7 +22,7 @@ pub(crate) enum State {
 /// The literals of clause `c` begin at `starts[c]`. Right before them are the clause's number, and
 /// 4 · length + state: so a visit by propagation reads one place in memory.
 #[derive(Drop)]
-pub(crate) struct ClauseList {
+pub(crate) struct NumberedClauses {
     words: Vec<u32>,
     starts: Vec<usize>,
 }
@@ -67,9 +67,9 @@ fn span_of(start: usize, word: u32) -> Span {
     }
 }
 
-impl ClauseList {
-    pub(crate) fn new(alloc: Global) -> ClauseList {
-        ClauseList {
+impl NumberedClauses {
+    pub(crate) fn new(alloc: Global) -> NumberedClauses {
+        NumberedClauses {
             words: Vec::new(alloc),
             starts: Vec::new(alloc),
         }

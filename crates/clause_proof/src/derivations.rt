@@ -1,7 +1,7 @@
 //! The hints of a clause: the reasons of a propagation, collected backwards from its conflict.
 use crate::clause_list::{NO_CLAUSE, State};
 use crate::propagator::Propagator;
-use crate::replay::negated;
+use clause_kernel::negated;
 use std::alloc::{AllocError, Global};
 
 #[derive(Drop)]

@@ -1,9 +1,12 @@
 //! The steps of a proof, read from the first to the last, and taken back again.
+ghost use Rattle.std.specs.Prelude.{◌≤◌, length};
+
 use crate::clause_list::{NO_CLAUSE, State};
 use crate::derivations::Derivations;
 use crate::fault::ProofFault;
 use crate::index::{Index, signature};
 use crate::reader::{Reader, Step};
+use clause_kernel::ClauseList;
 use std::alloc::{AllocError, Global};
 
 /// A literal that is true by the clauses alone: its unit clause, and the clause that makes it unit.
@@ -39,10 +42,13 @@ pub(crate) struct History {
 impl History {
     pub(crate) fn new(
         alloc: Global,
-        clauses: &[Vec<u32>],
+        clauses: &ClauseList,
+        originals: usize,
         size: usize,
-    ) -> Result<History, AllocError> {
-        let chains = 2 * clauses.len().min(1_000_000_000) + 1;
+    ) -> Result<History, AllocError>
+        requires { originals ≤ length clauses.now }
+    {
+        let chains = 2 * originals.min(1_000_000_000) + 1;
         let mut history = History {
             alloc,
             derivations: Derivations::new(alloc, size)?,
@@ -52,8 +58,8 @@ impl History {
             originals: 0,
             conflict: NO_CLAUSE,
         };
-        for clause in clauses {
-            history.push(clause.as_slice())?;
+        for number in 0..originals {
+            history.push(clauses.get(number))?;
         }
         history.originals = history.count();
         history.attach_all()?;

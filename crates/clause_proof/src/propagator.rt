@@ -1,9 +1,9 @@
 //! Unit propagation over two watched literals (Moskewicz, Madigan, Zhao, Zhang and Malik 2001),
 //! clauses of the core first (Wetzler, Heule and Hunt 2014). No proof rests on what it finds.
 use crate::assignment::Assignment;
-use crate::clause_list::{ClauseList, Entry, NO_CLAUSE, NO_LITERAL, Span, State};
-use crate::replay::negated;
+use crate::clause_list::{Entry, NO_CLAUSE, NO_LITERAL, NumberedClauses, Span, State};
 use crate::watches::{WatchLists, Watcher};
+use clause_kernel::negated;
 use std::alloc::{AllocError, Global};
 
 /// The greatest place of a clause that is watched, so that a watch's code fits.
@@ -29,7 +29,7 @@ enum Look {
 #[derive(Drop)]
 pub(crate) struct Propagator {
     alloc: Global,
-    pub(crate) clauses: ClauseList,
+    pub(crate) clauses: NumberedClauses,
     pub(crate) assignment: Assignment,
     watches: WatchLists,
 }
@@ -38,7 +38,7 @@ impl Propagator {
     pub(crate) fn new(alloc: Global, size: usize) -> Result<Propagator, AllocError> {
         Ok(Propagator {
             alloc,
-            clauses: ClauseList::new(alloc),
+            clauses: NumberedClauses::new(alloc),
             assignment: Assignment::new(alloc, size)?,
             watches: WatchLists::new(alloc, size)?,
         })

@@ -1,22 +1,13 @@
 //! Whole proofs, from the last step to the first.
 ghost use Rattle.std.specs.Prelude.{◌≡◌, ℕ, ◌+◌, ◌<◌, IfOk, OnOk, length, true, slice_index};
-ghost use Rattle.clause_proof.specs.Clauses.{IsUnsatisfiable};
+ghost use Rattle.clause_kernel.specs.Clauses.{IsUnsatisfiable};
 ghost use Rattle.clause_proof.specs.Propagation.{IsFresh, Extends, IsRefuted};
 
 use crate::fault::ProofFault;
 use crate::history::History;
 use crate::replay::{is_used, replay};
+use clause_kernel::ClauseList;
 use std::alloc::{AllocError, Global};
-
-fn greatest_literal(clauses: &[Vec<u32>]) -> u32 {
-    let mut greatest = 1;
-    for clause in clauses {
-        for literal in clause.as_slice() {
-            greatest = greatest.max(*literal);
-        }
-    }
-    greatest
-}
 
 fn no_marks(alloc: Global, literals: usize) -> Result<Vec<u32>, AllocError>
     ensures { IfOk result (λ values. IsFresh values.items 1) }
@@ -27,32 +18,32 @@ fn no_marks(alloc: Global, literals: usize) -> Result<Vec<u32>, AllocError>
 }
 
 #[tactic(auto, using(crate::proofs::RefutationLemmas::extend_rules))]
-fn extend(alloc: Global, clauses: &mut Vec<Vec<u32>>, history: &History) -> Result<(), AllocError>
-    ensures { IfOk result (λ _. Extends clauses.old.items clauses.new.items) }
+fn extend(clauses: &mut ClauseList, history: &History) -> Result<(), AllocError>
+    ensures { IfOk result (λ _. Extends clauses.old clauses.new) }
 {
     for clause in history.originals()..history.count() {
-        clauses.push(Vec::from_slice(alloc, history.clause(clause))?)?;
+        clauses.push(history.clause(clause))?;
     }
     Ok(())
 }
 
 /// The empty clause alone is used.
 #[tactic(auto, using(crate::proofs::RefutationLemmas::aim_rules))]
-fn aim(alloc: Global, clauses: &mut Vec<Vec<u32>>) -> Result<Vec<bool>, AllocError>
-    ensures extends { OnOk result (Extends clauses.old.items clauses.new.items) }
-    ensures refuted { IfOk result (λ used. IsRefuted clauses.new.items used.items (length clauses.new.items)) }
+fn aim(alloc: Global, clauses: &mut ClauseList) -> Result<Vec<bool>, AllocError>
+    ensures extends { OnOk result (Extends clauses.old clauses.new) }
+    ensures refuted { IfOk result (λ used. IsRefuted clauses.new used.items (length clauses.new)) }
 {
     let mut used = Vec::new(alloc);
     used.resize(clauses.len(), false)?;
     used.push(true)?;
-    clauses.push(Vec::new(alloc))?;
+    clauses.push(&[])?;
     Ok(used)
 }
 
 /// Whether clause `at` is not used or follows from clauses before it, which are then used.
 #[tactic(auto, using(crate::proofs::RefutationLemmas::step_rules))]
 fn check_one(
-    clauses: &[Vec<u32>],
+    clauses: &ClauseList,
     at: usize,
     used: &mut [bool],
     values: &mut [u32],
@@ -76,7 +67,7 @@ fn check_one(
 
 #[tactic(auto, using(crate::proofs::RefutationLemmas::back_rules))]
 fn check_backwards(
-    clauses: &[Vec<u32>],
+    clauses: &ClauseList,
     originals: usize,
     used: &mut [bool],
     values: &mut [u32],
@@ -102,15 +93,15 @@ fn check_backwards(
 #[tactic(auto, using(crate::proofs::RefutationLemmas::check_rules))]
 fn check(
     alloc: Global,
-    clauses: &mut Vec<Vec<u32>>,
+    clauses: &mut ClauseList,
     literals: usize,
     history: &mut History,
 ) -> Result<bool, AllocError>
-    ensures { IfOk result (λ well. well ≡ true → IsUnsatisfiable clauses.old.items) }
+    ensures { IfOk result (λ well. well ≡ true → IsUnsatisfiable clauses.old) }
 {
     let originals = clauses.len();
     history.turn()?;
-    extend(alloc, clauses, history)?;
+    extend(clauses, history)?;
     let mut used = aim(alloc, clauses)?;
     let mut values = no_marks(alloc, literals)?;
     let well = check_backwards(clauses, originals, &mut used, &mut values, history)?;
@@ -118,11 +109,11 @@ fn check(
 }
 
 /// Steps that no checked step uses are not checked.
-fn is_refuted(alloc: Global, clauses: &mut Vec<Vec<u32>>, proof: &[u8]) -> Result<bool, AllocError>
-    ensures { IfOk result (λ well. well ≡ true → IsUnsatisfiable clauses.old.items) }
+fn is_refuted(alloc: Global, clauses: &mut ClauseList, proof: &[u8]) -> Result<bool, AllocError>
+    ensures { IfOk result (λ well. well ≡ true → IsUnsatisfiable clauses.old) }
 {
-    let literals = greatest_literal(clauses) as usize + 2;
-    let mut history = History::new(alloc, clauses, literals)?;
+    let literals = clauses.literal_count();
+    let mut history = History::new(alloc, clauses, clauses.len(), literals)?;
     let fault = history.read(proof, false)?;
     if fault.is_some() {
         return Ok(false);
@@ -133,11 +124,13 @@ fn is_refuted(alloc: Global, clauses: &mut Vec<Vec<u32>>, proof: &[u8]) -> Resul
 
 fn first_fault(
     alloc: Global,
-    clauses: &[Vec<u32>],
+    clauses: &ClauseList,
+    originals: usize,
     proof: &[u8],
 ) -> Result<ProofFault, AllocError> {
-    let literals = greatest_literal(clauses) as usize + 2;
-    let mut history = History::new(alloc, clauses, literals)?;
+    let originals = originals.min(clauses.len());
+    let literals = clauses.literal_count();
+    let mut history = History::new(alloc, clauses, originals, literals)?;
     let fault = history.read(proof, true)?;
     Ok(fault.unwrap_or(ProofFault::Unfinished))
 }
@@ -146,15 +139,14 @@ fn first_fault(
 /// read if the clauses alone conflict. Steps that no checked step uses are not checked. If it is
 /// refused, all its steps are checked for the first fault. That this is the first one is only
 /// tested. Each call ends; how long it takes is in no contract.
-pub fn refute(alloc: Global, clauses: Vec<Vec<u32>>, proof: &[u8]) -> Result<(), ProofFault>
-    ensures { IfOk result (λ _. IsUnsatisfiable clauses.items) }
+pub fn refute(alloc: Global, clauses: ClauseList, proof: &[u8]) -> Result<(), ProofFault>
+    ensures { IfOk result (λ _. IsUnsatisfiable clauses) }
 {
     let mut clauses = clauses;
     let originals = clauses.len();
     if is_refuted(alloc, &mut clauses, proof)? {
         return Ok(());
     }
-    clauses.truncate(originals);
-    let fault = first_fault(alloc, &clauses, proof)?;
+    let fault = first_fault(alloc, &clauses, originals, proof)?;
     Err(fault)
 }

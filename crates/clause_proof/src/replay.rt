@@ -1,21 +1,11 @@
 //! Whether a clause follows by unit propagation, through clauses that are named in order
 //! (Cruz-Filipe, Heule, Hunt, Kaufmann and Schneider-Kamp 2017: LRAT).
 ghost use Rattle.std.specs.Prelude.{◌≡◌, ◌+◌, ◌<◌, ◌≤◌, IfNone, length, true, false, slice_index, slice_index_or};
-ghost use Rattle.clause_proof.specs.Clauses.{negated};
+ghost use Rattle.clause_kernel.specs.Clauses.{negated};
 ghost use Rattle.clause_proof.specs.Propagation.{IsAssigned, HasOnly, HasNone, IsFresh, Infers, Assumes, IsTautology, Keeps, Follows};
 
 use crate::clause_list::NO_LITERAL;
-
-#[tactic(auto, unfolding(crate::specs::Clauses::negated))]
-pub(crate) fn negated(literal: u32) -> u32
-    ensures { result ≡ negated literal }
-{
-    if literal % 2 == 0 {
-        literal + 1
-    } else {
-        literal - 1
-    }
-}
+use clause_kernel::{ClauseList, negated};
 
 fn mark_of(values: &[u32], literal: u32) -> u32
     ensures { result ≡ slice_index values.now literal }
@@ -112,7 +102,7 @@ fn mark_used(used: &mut [bool], clause: usize) -> bool
 /// taken first; each is to be before `at`.
 #[tactic(auto, using(crate::proofs::ReplayLemmas::replay_rules))]
 pub(crate) fn replay(
-    clauses: &[Vec<u32>],
+    clauses: &ClauseList,
     at: usize,
     hints: &[u32],
     used: &mut [bool],
@@ -125,7 +115,7 @@ pub(crate) fn replay(
     ensures keeps { Keeps used.old used.new }
     ensures follows { result ≡ true → Follows clauses.now used.new at }
 {
-    if assume(clauses[at].as_slice(), values, mark) {
+    if assume(clauses.get(at), values, mark) {
         return true;
     }
     for hint in hints.iter().rev() {
@@ -133,7 +123,7 @@ pub(crate) fn replay(
         if at <= hint || !mark_used(used, hint) {
             return false;
         }
-        if infer(clauses[hint].as_slice(), values, mark) {
+        if infer(clauses.get(hint), values, mark) {
             return true;
         }
     }

@@ -1,7 +1,6 @@
 -- Clauses stay good while variables and clauses come.
-use Rattle.std.proofs.Common.{◌≡◌, ℕ, zero, suc, ◌+◌, ◌*◌, ◌/◌, ◌%◌, ◌<◌, ◌≤◌, ◌==◌, true, false, not, List, [], ◌∷◌, ◌++◌, length, get_or, take, Vec, Option, Some, None, unwrap_or, length-append, take_all, arith, refl, sym, ap, ◌∙◌, ⊎_elim}
+use Rattle.std.proofs.Common.{◌≡◌, ℕ, zero, suc, ◌+◌, ◌*◌, ◌/◌, ◌%◌, ◌<◌, ◌≤◌, ◌==◌, true, false, not, List, [], ◌∷◌, ◌++◌, length, get_or, take, Option, Some, None, unwrap_or, length-append, take_all, arith, refl, sym, ap, ◌∙◌, ⊎_elim}
 use Rattle.std.specs.List.{list_any, slice_get}
-use Rattle.std.specs.declared.alloc.Global.{Global}
 use Rattle.std.proofs.lemmas.Bool.{cases_Bool, cases_lt, eqb-true, eqb-false, true≢false, or_cases}
 use Rattle.std.proofs.lemmas.List.{get_or_append_left}
 use Rattle.std.proofs.Math.Seq.{get_or-append_seam}
@@ -12,7 +11,7 @@ use Rattle.std.proofs.lemmas.List.FromFn.{length-map-range_with_len}
 use Rattle.measures.specs.Measures.{ValuesData, values_of, measures_of}
 use Rattle.mrcpsp.specs.Schedule.{ScheduleData, IsFeasible, IsOptimal, IsInfeasible, makespan}
 use Rattle.schedule_clauses.specs.Satisfied.{SatisfiedByShort, SatisfiedByFeasible, EachExceeds}
-use Rattle.clause_proof.specs.Clauses.{literal_true, clause_true, Satisfies, IsUnsatisfiable}
+use Rattle.clause_kernel.specs.Clauses.{literal_true, clause_true, Satisfies, IsUnsatisfiable}
 use Rattle.schedule_clauses.specs.Meaning.{IsWithin, IsValid, holds, term_true, some_true}
 use Rattle.schedule_clauses.specs.Encoding.{intended, IsTold, IsGood, AreGood, Extends}
 use Rattle.schedule_clauses.specs.declared.meaning.Fact.{Fact}
@@ -74,16 +73,16 @@ good-more p before after c l terms i d inside extends stands sign so_far s h =
     (λ (new : term_true p s (get_or terms i d) ≡ true). good-new p s after c l (record { meaning = (get_or terms i d).meaning; stands = stands; holds = term_holds p s (get_or terms i d) new ∙ sym sign }))
     (or_cases (list_any (term_true p s) (take i terms)) (term_true p s (get_or terms i d)) (sym (list_any_more (term_true p s) terms i d inside) ∙ h))
 
-single : (c d : Vec ℕ Global) (k : ℕ) → k < 1 → get_or (c ∷ []) k d ≡ c
+single : (c d : List ℕ) (k : ℕ) → k < 1 → get_or (c ∷ []) k d ≡ c
 single c d zero h = refl
 single c d (suc k) h = absurd (omega arith)
 
 -- one more clause, after more variables
-pub are-good-more : (p : ProjectData) (limit : Option ℕ) (before after : List Fact) (clauses : List (Vec ℕ Global)) (c : Vec ℕ Global) (terms : List Term) → AreGood p limit before clauses → Extends before after → IsValid p limit terms → ((s : ScheduleData) → some_true p s (take (length terms) terms) ≡ true → IsGood p s after c.items) → AreGood p limit after (clauses ++ c ∷ [])
+pub are-good-more : (p : ProjectData) (limit : Option ℕ) (before after : List Fact) (clauses : List (List ℕ)) (c : List ℕ) (terms : List Term) → AreGood p limit before clauses → Extends before after → IsValid p limit terms → ((s : ScheduleData) → some_true p s (take (length terms) terms) ≡ true → IsGood p s after c) → AreGood p limit after (clauses ++ c ∷ [])
 are-good-more p limit before after clauses c terms good extends valid so_far = record {
   each = λ s short.
-      All-append (λ (c : Vec ℕ Global). IsGood p s after c.items) clauses (c ∷ [])
-      (λ k d inside. good-extends p s before after (get_or clauses k d).items extends (good.each s short k d inside))
+      All-append (λ (c : List ℕ). IsGood p s after c) clauses (c ∷ [])
+      (λ k d inside. good-extends p s before after (get_or clauses k d) extends (good.each s short k d inside))
       (λ k d inside. rw (single c d k inside) (so_far s (rw (take_all (length terms) terms (omega arith)) (valid.sure s short))));
 }
 
@@ -105,33 +104,33 @@ clause_is : (p : ProjectData) (s : ScheduleData) (a : List Fact) (c : List ℕ) 
 unfolding clause_true
 clause_is p s a c g = list_any_at (literal_true (intended p s a)) c g.place 0 g.inside (literal_is p s a (get_or c g.place 0) g.told)
 
-pub satisfied : (p : ProjectData) (limit : Option ℕ) (a : List Fact) (clauses : List (Vec ℕ Global)) (s : ScheduleData) → AreGood p limit a clauses → IsWithin p limit s → Satisfies (intended p s a) clauses
-satisfied p limit a clauses s good within = record { each = λ k d inside. clause_is p s a (get_or clauses k d).items (good.each s within k d inside) }
+pub satisfied : (p : ProjectData) (limit : Option ℕ) (a : List Fact) (clauses : List (List ℕ)) (s : ScheduleData) → AreGood p limit a clauses → IsWithin p limit s → Satisfies (intended p s a) clauses
+satisfied p limit a clauses s good within = record { each = λ k d inside. clause_is p s a (get_or clauses k d) (good.each s within k d inside) }
 
 some_same : (a b : ℕ) → Some a ≡ Some b → a ≡ b
 some_same a b e = ap (λ (o : Option ℕ). unwrap_or o 0) e
 
 -- a short schedule is within the bound as a limit, and each feasible one where there is none
-pub by-short : (p : ProjectData) (bound : ℕ) (a : List Fact) (clauses : List (Vec ℕ Global)) → AreGood p (Some bound) a clauses → SatisfiedByShort p bound clauses
+pub by-short : (p : ProjectData) (bound : ℕ) (a : List Fact) (clauses : List (List ℕ)) → AreGood p (Some bound) a clauses → SatisfiedByShort p bound clauses
 by-short p bound a clauses good = record {
   values = λ s feasible short. (intended p s a, satisfied p (Some bound) a clauses s good (record { feasible = feasible; short = λ b e. rw (some_same bound b e) at short }));
 }
 
-pub by-feasible : (p : ProjectData) (a : List Fact) (clauses : List (Vec ℕ Global)) → AreGood p None a clauses → SatisfiedByFeasible p clauses
+pub by-feasible : (p : ProjectData) (a : List Fact) (clauses : List (List ℕ)) → AreGood p None a clauses → SatisfiedByFeasible p clauses
 by-feasible p a clauses good = record {
   values = λ s feasible. (intended p s a, satisfied p None a clauses s good (record { feasible = feasible; short = λ b e. cc }));
 }
 
-pub each-exceeds : (p : ProjectData) (bound : ℕ) (clauses : List (Vec ℕ Global)) → SatisfiedByShort p bound clauses → IsUnsatisfiable clauses → (s : ScheduleData) → IsFeasible p s → bound < makespan p s
+pub each-exceeds : (p : ProjectData) (bound : ℕ) (clauses : List (List ℕ)) → SatisfiedByShort p bound clauses → IsUnsatisfiable clauses → (s : ScheduleData) → IsFeasible p s → bound < makespan p s
 each-exceeds p bound clauses by un s feasible =
     ⊎_elim
     (λ (longer : bound < makespan p s). longer)
-    (λ (l : makespan p s ≤ bound). absurd (let found = by.values s feasible l in un found.0 found.1))
+    (λ (l : makespan p s ≤ bound). absurd (let found = by.values s feasible l in un.none found.0 found.1))
     (cases_lt bound (makespan p s))
 
 -- no schedule is feasible where the clauses that each satisfies cannot all be true
-pub none-feasible : (p : ProjectData) (clauses : List (Vec ℕ Global)) → SatisfiedByFeasible p clauses → IsUnsatisfiable clauses → IsInfeasible p
-none-feasible p clauses by un = λ s feasible. let found = by.values s feasible in un found.0 found.1
+pub none-feasible : (p : ProjectData) (clauses : List (List ℕ)) → SatisfiedByFeasible p clauses → IsUnsatisfiable clauses → IsInfeasible p
+none-feasible p clauses by un = λ s feasible. let found = by.values s feasible in un.none found.0 found.1
 
 -- no schedule is shorter where each exceeds one period less
 pub optimal : (p : ProjectData) (s : ScheduleData) (bound : ℕ) → IsFeasible p s → makespan p s ≡ bound + 1 → EachExceeds p bound → IsOptimal p s

@@ -1,7 +1,6 @@
 -- The values that a schedule gives the variables, and clauses that each schedule within the limit
 -- satisfies.
-use Rattle.std.specs.Prelude.{◌≡◌, ℕ, ◌/◌, ◌%◌, ◌<◌, ◌==◌, Bool, false, List, All, Vec, Option, Some, None, slice_get, slice_index, length}
-use Rattle.std.specs.declared.alloc.Global.{Global}
+use Rattle.std.specs.Prelude.{◌≡◌, ℕ, ◌/◌, ◌%◌, ◌<◌, ◌==◌, Bool, false, List, All, Option, Some, None, slice_get, slice_index, length}
 use Rattle.mrcpsp.specs.Project.{ProjectData}
 use Rattle.mrcpsp.specs.Schedule.{ScheduleData}
 use Rattle.schedule_clauses.specs.Meaning.{IsWithin, holds}
@@ -30,12 +29,12 @@ pub record IsGood (p : ProjectData) (s : ScheduleData) (meanings : List Fact) (c
   pub told : IsTold p s meanings (slice_index clause place)
 
 -- each clause is good, for each schedule within the limit
-pub record AreGood (p : ProjectData) (limit : Option ℕ) (meanings : List Fact) (clauses : List (Vec ℕ Global)) : Type 0 where
-  pub each : (s : ScheduleData) → IsWithin p limit s → All (λ c. IsGood p s meanings c.items) clauses
+pub record AreGood (p : ProjectData) (limit : Option ℕ) (meanings : List Fact) (clauses : List (List ℕ)) : Type 0 where
+  pub each : (s : ScheduleData) → IsWithin p limit s → All (λ c. IsGood p s meanings c) clauses
 
 -- each clause of an encoding is good
 abbrev pub AllGood : ProjectData → Option ℕ → Encoding → Type 0
-AllGood p limit encoding = AreGood p limit encoding.formula.meanings.items encoding.formula.clauses.items
+AllGood p limit encoding = AreGood p limit encoding.formula.meanings.items encoding.formula.clauses
 
 -- what had a meaning still has it
 pub record Extends (before after : List Fact) : Type 0 where

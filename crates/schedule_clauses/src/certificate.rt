@@ -48,9 +48,9 @@ impl From<AllocError> for CertificateFault {
 /// than 999,999,999 variables count as want of memory.
 #[tactic(auto, using(crate::proofs::EncodingLemmas::short_rules))]
 pub fn clauses(alloc: Global, project: &Project, bound: u32) -> Result<Formula, CertificateFault>
-    ensures clauses { IfOk result (λ formula. SatisfiedByShort project.now bound formula.clauses.items) }
+    ensures clauses { IfOk result (λ formula. SatisfiedByShort project.now bound formula.clauses) }
     ensures meanings { IfOk result (λ formula.
-        AreGood project.now (Some bound) formula.meanings.items formula.clauses.items) }
+        AreGood project.now (Some bound) formula.meanings.items formula.clauses) }
     ensures within { IfOk result (λ _. bound ≤ horizon project.now.activities) }
     ensures few { IfOk result (λ _. start_clauses project.now bound ≤ MOST_START_CLAUSES) }
     ensures fault { IfErr result (λ fault. IsOfClauses project.now bound fault) }
@@ -70,9 +70,9 @@ pub fn clauses(alloc: Global, project: &Project, bound: u32) -> Result<Formula, 
 /// Clauses on modes and stocks alone, which each feasible schedule satisfies.
 #[tactic(auto, using(crate::proofs::EncodingLemmas::feasible_rules))]
 pub fn stock_clauses(alloc: Global, project: &Project) -> Result<Formula, CertificateFault>
-    ensures clauses { IfOk result (λ formula. SatisfiedByFeasible project.now formula.clauses.items) }
+    ensures clauses { IfOk result (λ formula. SatisfiedByFeasible project.now formula.clauses) }
     ensures meanings { IfOk result (λ formula.
-        AreGood project.now None formula.meanings.items formula.clauses.items) }
+        AreGood project.now None formula.meanings.items formula.clauses) }
     ensures fault { IfErr result (λ fault. fault ≡ CertificateFault.NoMemory) }
 {
     let encoding = encode_stocks(alloc, project)?;

@@ -7,6 +7,7 @@ use crate::activities::Activities;
 use crate::diagram::number_at;
 use crate::formula::{CapacityRow, Formula, Kind, Section};
 use crate::meaning::{Fact, Term};
+use clause_kernel::ClauseList;
 use mrcpsp::Project;
 use std::alloc::{AllocError, Global};
 
@@ -92,7 +93,7 @@ fn find(meanings: &[Fact], nexts: &[u32], first: u32, meaning: Fact) -> Option<u
 impl Encoding {
     /// The number 0 is no variable's, since proofs cannot name it.
     pub(crate) fn new(alloc: Global) -> Result<Encoding, AllocError>
-        ensures { IfOk result (λ encoding. encoding.formula.clauses.items ≡ []) }
+        ensures { IfOk result (λ encoding. encoding.formula.clauses ≡ []) }
     {
         let mut heads = Vec::with_capacity(alloc, 65536)?;
         heads.resize(65536, NONE)?;
@@ -104,7 +105,7 @@ impl Encoding {
         let mut nexts = Vec::new(alloc);
         nexts.push(NONE)?;
         let formula = Formula {
-            clauses: Vec::new(alloc),
+            clauses: ClauseList::new(alloc),
             meanings,
             sections: Vec::new(alloc),
             left_out: Vec::new(alloc),
@@ -215,7 +216,7 @@ impl Encoding {
             let literal = self.literal(*term)?;
             literals.push(literal)?;
         }
-        self.formula.clauses.push(literals)?;
+        self.formula.clauses.push(&literals)?;
         Ok(())
     }
 

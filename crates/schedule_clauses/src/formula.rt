@@ -1,6 +1,7 @@
 //! The clauses of a project, section by section.
 
 use crate::meaning::Fact;
+use clause_kernel::ClauseList;
 
 /// A `Kind` is what the clauses of a section state.
 #[derive(Clone, Copy, Debug, PartialEq, Eq)]
@@ -41,7 +42,7 @@ pub enum CapacityRow {
 /// its negation.
 #[derive(Drop)]
 pub struct Formula {
-    pub clauses: Vec<Vec<u32>>,
+    pub clauses: ClauseList,
     /// The meaning of each variable. There is no variable 0, and the first meaning is none's.
     pub meanings: Vec<Fact>,
     pub sections: Vec<Section>,

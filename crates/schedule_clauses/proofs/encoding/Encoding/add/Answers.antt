@@ -11,6 +11,6 @@ loop-term-preserved c = record {
 }
 
 pub returns : goal.returns
-returns c = rw (c.in_ok-push-2.ensures.items, c.loop-term.invariant.same)
-    (are-good-more c.args.scope.project.now c.args.scope.limit c.args.self.now.formula.meanings.items c.loop-term.self.formula.meanings.items c.args.self.now.formula.clauses.items c.loop-term.literals c.args.terms.now c.requires.good c.loop-term.invariant.extends c.requires.valid
+returns c = rw (c.in_ok-push-2.ensures.pushed, c.deref.ensures.value, c.loop-term.invariant.same)
+    (are-good-more c.args.scope.project.now c.args.scope.limit c.args.self.now.formula.meanings.items c.loop-term.self.formula.meanings.items c.args.self.now.formula.clauses c.loop-term.literals.items c.args.terms.now c.requires.good c.loop-term.invariant.extends c.requires.valid
     (let e : length c.args.terms.now ≡ c.loop-term.term-index = omega arith in λ s h. c.loop-term.invariant.so_far s (rw (← e) h)))

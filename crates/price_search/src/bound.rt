@@ -1,0 +1,137 @@
+//! Lower bounds by prices.
+ghost use Rattle.std.specs.Prelude.{◌≡◌, ◌≤◌, IsTrue, IfOk, IfSome};
+ghost use Rattle.mrcpsp.specs.Values.{bound};
+ghost use Rattle.schedule_prices.specs.Choices.{EachExceeds};
+ghost use Rattle.price_search.specs.LowerBound.{TakesAtLeast};
+
+use crate::cases::refute_by_cases;
+use crate::climb::{Answer, Climb};
+use crate::narrow::narrow;
+use crate::search::find_prices;
+use measures::Measures;
+use mrcpsp::Project;
+use mrcpsp::laws::none_is_below_the_bound;
+use schedule_prices::{Barred, PriceFault};
+use std::alloc::{AllocError, Global};
+
+/// The most bounds that are asked of a project.
+pub const MOST_QUESTIONS: u32 = 256;
+
+/// The choices within a bound that are left. Returns `None` if there are too many for prices.
+fn table<'a>(
+    alloc: Global,
+    project: &'a Project,
+    bound: u32,
+) -> Result<Option<Barred<'a>>, AllocError>
+    ensures project { IfOk result (λ table. IfSome table (λ barred. barred.project ≡ project.now)) }
+    ensures bound { IfOk result (λ table. IfSome table (λ barred. barred.bound ≡ bound)) }
+{
+    match Barred::new(alloc, project, bound) {
+        Ok(mut barred) => {
+            narrow(alloc, project, &mut barred)?;
+            Ok(Some(barred))
+        }
+        Err(PriceFault::TooManyStarts) => Ok(None),
+        Err(PriceFault::NoMemory) => Err(AllocError),
+    }
+}
+
+/// Looks for prices that refute the bound, and checks them.
+fn ask(alloc: Global, project: &Project, bound: u32, steps: u32) -> Result<Answer, AllocError>
+    ensures { IfOk result (λ answer. IsTrue answer.refuted → EachExceeds project.now bound) }
+{
+    let Some(barred) = table(alloc, project, bound)? else {
+        return Ok(Answer {
+            refuted: false,
+            stretch: 0,
+        });
+    };
+    let found = find_prices(alloc, project, bound, steps, &barred)?;
+    let stretch = found.stretch;
+    let refuted = if found.refuted {
+        barred.refute(alloc, &found.prices)?
+    } else {
+        false
+    };
+    Ok(Answer { refuted, stretch })
+}
+
+/// Goes up from a known lower bound while prices refute.
+fn climb(alloc: Global, project: &Project, steps: u32, known: u32) -> Result<u32, AllocError>
+    requires { TakesAtLeast project.now known }
+    ensures least { IfOk result (λ periods. TakesAtLeast project.now periods) }
+    ensures known { IfOk result (λ periods. known ≤ periods) }
+{
+    let mut periods = known;
+    let mut climb = Climb::new(known, project.horizon());
+    for _ in 0..MOST_QUESTIONS {
+        if !climb.goes_on() {
+            break;
+        }
+        let bound = climb.at;
+        let answer = ask(alloc, project, bound, steps)?;
+        if answer.refuted {
+            periods = periods.max(bound.saturating_add(1));
+        }
+        climb.learn(answer);
+    }
+    Ok(periods)
+}
+
+/// Whether pieces refute the bound.
+fn ask_by_cases(
+    alloc: Global,
+    project: &Project,
+    bound: u32,
+    steps: u32,
+) -> Result<bool, AllocError>
+    ensures { IfOk result (λ refuted. IsTrue refuted → EachExceeds project.now bound) }
+{
+    match table(alloc, project, bound)? {
+        Some(mut barred) => refute_by_cases(alloc, project, &mut barred, steps),
+        None => Ok(false),
+    }
+}
+
+/// Goes up from a known lower bound while pieces refute.
+fn climb_by_cases(
+    alloc: Global,
+    project: &Project,
+    steps: u32,
+    known: u32,
+) -> Result<u32, AllocError>
+    requires { TakesAtLeast project.now known }
+    ensures least { IfOk result (λ periods. TakesAtLeast project.now periods) }
+    ensures known { IfOk result (λ periods. known ≤ periods) }
+{
+    let mut periods = known;
+    for _ in 0..MOST_QUESTIONS {
+        let next = periods.saturating_add(1);
+        if periods > project.horizon() || !ask_by_cases(alloc, project, periods, steps)? {
+            break;
+        }
+        periods = next;
+    }
+    Ok(periods)
+}
+
+/// The periods that every feasible schedule takes: the longest chain of activities by shortest
+/// durations, or more if prices, or pieces of the choices, refute bounds above it. Each bound is
+/// asked in at most `steps` steps, and pieces in [`crate::MOST_PIECE_STEPS`]; with 0 steps the
+/// answer is the chain. Above [`crate::MOST_ITEMS`] choices and rows no
+/// prices are looked for.
+pub fn lower_bound(alloc: Global, project: &Project, steps: u32) -> Result<u32, AllocError>
+    ensures least { IfOk result (λ periods. TakesAtLeast project.now periods) }
+    ensures chain { IfOk result (λ periods. bound project.now ≤ periods) }
+    ensures alone { steps ≡ 0 → IfOk result (λ periods. periods ≡ bound project.now) }
+{
+    none_is_below_the_bound();
+    project.activities();
+    let measures = Measures::of(alloc, project)?;
+    let chain = measures.bound();
+    if steps == 0 {
+        return Ok(chain);
+    }
+    let periods = climb(alloc, project, steps, chain)?;
+    climb_by_cases(alloc, project, steps, periods)
+}

@@ -1,0 +1,11 @@
+pub mod RowLemmas
+pub mod LeastLemmas
+pub mod ChoiceLemmas
+pub mod StepLemmas
+pub mod PriceLemmas
+pub mod LineLemmas
+pub mod SumLemmas
+pub mod CostLemmas
+pub mod DearLemmas
+pub mod TightLemmas
+pub mod TableLemmas

@@ -1,0 +1,9 @@
+pub mod Least
+pub mod Rows
+pub mod Choices
+pub mod Prices
+pub mod Steps
+pub mod Dear
+pub mod Table
+pub mod Sums
+pub mod Costs
