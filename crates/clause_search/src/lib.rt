@@ -1,0 +1,14 @@
+//! A search for values of clauses, or for a refutation (CDCL: Marques-Silva and Sakallah 1999;
+//! Moskewicz and others 2001; Een and Sorensson 2003).
+//!
+//! Nothing of the search is believed: each learned clause goes to a kernel with its hints, and
+//! `Refuted` is what the kernel says.
+#![tactic(auto)]
+
+mod elimination;
+mod occurrences;
+mod search;
+mod simplifier;
+mod subsumption;
+
+pub use search::{Answer, Limits, Search};
