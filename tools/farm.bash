@@ -39,7 +39,7 @@ _farm() {
         COMPREPLY=($(compgen -W "cadical kissat" -- "$word"))
         return
         ;;
-    --port | --sessions | --nodes | --jobs | --seconds) return ;;
+    --port | --sessions | --nodes | --jobs | --seconds | --steps) return ;;
     --config | --from | --keep | --optima)
         COMPREPLY=($(compgen -f -- "$word"))
         return
@@ -53,10 +53,11 @@ _farm() {
         solve) words="--search --nodes --json --progress --quiet --improvements --help" ;;
         verify) words="--all --help" ;;
         draw) words="--order --help" ;;
-        prove) words="--seconds --jobs --nodes --memory --from --keep --solver --help" ;;
+        prove) words="--seconds --jobs --memory --conflicts --quiet --nodes --from --keep --solver --help" ;;
         bench) words="--search --nodes --jobs --prove --seconds --optima --schedules --resume --report --progress --quiet --help" ;;
         replay) words="--config --strict --help" ;;
         serve) words="--config --port --sessions --help" ;;
+        bound) words="--steps --help" ;;
         *) words=--help ;;
         esac
     elif [ "${COMP_WORDS[1]}" = help ]; then

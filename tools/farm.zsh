@@ -22,7 +22,7 @@ _farm() {
         serve:'answer requests over connections'
         clauses:'write the clauses of a project and a bound'
         certify:'check a schedule and a proof'
-        bound:'check a proof of a lower bound'
+        bound:'find a lower bound, or check a proof of one'
         infeasible:'check a proof that no schedule is feasible'
         help:'help on all commands or on one'
     )
@@ -49,9 +49,10 @@ _farm() {
             '--quiet[tell nothing]' '--help[help]' '*:file or folder:_files'
         ;;
     prove)
-        _arguments '--seconds[the most seconds]:seconds:' '--jobs[processes]:jobs:' '--nodes[nodes before the solver]:nodes:' '--memory[megabytes of a solver]:megabytes:' '--from[a schedule to begin with]:schedule:_files' \
+        _arguments '--seconds[the most seconds]:seconds:' '--jobs[workers]:jobs:' '--nodes[nodes before the solver]:nodes:' '--memory[megabytes]:megabytes:' '--conflicts[the most conflicts]:conflicts:' '--quiet[tell nothing]' '--from[a schedule to begin with]:schedule:_files' \
             '--keep[keep the proof in a folder]:folder:_files -/' '--solver[the solver]:solver:(cadical kissat)' '--help[help]' '1:file:_files -g "*.mm"'
         ;;
+    bound) _arguments '--steps[the most steps for each bound]:steps:' '--help[help]' '1:file:_files -g "*.mm"' '2:periods:' '3:proof:_files' ;;
     replay) _arguments '--config[the configuration]:file:_files -g "*.json"' '--strict[end with 1 if a request is refused]' '--help[help]' '1:script:_files' ;;
     serve) _arguments '--config[the configuration]:file:_files -g "*.json"' '--port[the port, or 0]:port:' '--sessions[connections, 1 to 64]:sessions:' '--help[help]' ;;
     *) _arguments '--help[help]' '*:file:_files' ;;

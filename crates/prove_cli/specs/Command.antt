@@ -1,0 +1,26 @@
+-- How `prove` ends.
+use Rattle.std.specs.Prelude.{◌≡◌, ℕ, List, ⊤, Option, Result, Ok, Err, IfSome, take}
+use Rattle.psplib_mm.specs.Gives.{Fails}
+use Rattle.psplib_mm.specs.Reading.{reading}
+use Rattle.explain.specs.Counts.{CommandCounts, AreKept}
+use Rattle.explain.specs.Ending.{IsStopOf, IsUnwritten, file_alone}
+use Rattle.explain.specs.declared.ending.CommandFault.{CommandFault}
+use Rattle.explain.specs.declared.inputs.TheConstants.{MOST_TEXT}
+use Rattle.prove_cli.specs.Proved.{IsProved}
+use Rattle.prove_cli.specs.declared.fault.ProveFault.{ProveFault}
+use Rattle.prove_cli.specs.declared.fault.ProveFault.TheVariants as why
+use Rattle.prove_cli.specs.declared.proving.Ended.{Ended}
+
+-- the file is at fault, or there was no memory
+abbrev pub IsOfFile : ProveFault → Option (List ℕ) → Type 0
+IsOfFile (why.File fault) file = IfSome file (λ bytes. Fails fault (reading (take MOST_TEXT bytes)))
+IsOfFile why.NoMemory file = ⊤
+
+-- why nothing is proved
+abbrev pub IsUnproved : CommandFault ProveFault → CommandCounts → CommandCounts → Option (List ℕ) → Option (List ℕ) → Option (List ℕ) → Type 0
+IsUnproved fault from seen file before after = IsStopOf file_alone (λ why. IsUnwritten from seen before after × IsOfFile why file) fault from seen before after
+
+-- the end of the command
+abbrev pub IsProveOf : Result Ended (CommandFault ProveFault) → CommandCounts → CommandCounts → Option (List ℕ) → Option (List ℕ) → Option (List ℕ) → Type 0
+IsProveOf (Ok ended) from seen file before after = AreKept from seen × IfSome file (λ bytes. IsProved (take MOST_TEXT bytes) before after)
+IsProveOf (Err fault) from seen file before after = IsUnproved fault from seen file before after

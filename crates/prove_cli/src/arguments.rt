@@ -1,0 +1,147 @@
+//! The words of a command line.
+use clap::builder::ValueParser;
+use clap::{Arg, ArgAction, ArgMatches, Command};
+use std::alloc::{AllocError, Global};
+
+/// The most seconds of a run.
+const MOST_SECONDS: u64 = 10_000_000;
+
+/// The most workers.
+const MOST_JOBS: u64 = 256;
+
+/// The least and the most megabytes.
+const LEAST_MEMORY: u64 = 16;
+
+const MOST_MEMORY: u64 = 100_000_000;
+
+/// The most conflicts of a worker.
+pub(crate) const MOST_CONFLICTS: u64 = 1_000_000_000_000;
+
+/// The words of `prove`.
+#[derive(Clone, Copy, Debug)]
+pub(crate) struct Proving<'a> {
+    pub(crate) file: &'a str,
+    pub(crate) seconds: Option<&'a str>,
+    pub(crate) jobs: Option<&'a str>,
+    pub(crate) memory: &'a str,
+    pub(crate) conflicts: &'a str,
+    /// Whether nothing goes to the standard error while it runs.
+    pub(crate) is_quiet: bool,
+    /// Whether it ends when the standard input does.
+    pub(crate) is_watching: bool,
+}
+
+fn flag<'a>(alloc: Global, name: &'a str, help: &'a str) -> Arg<'a> {
+    Arg::new(alloc, name)
+        .long(name)
+        .help(help)
+        .action(ArgAction::SetTrue)
+}
+
+fn number<'a>(
+    alloc: Global,
+    name: &'a str,
+    value: &'a str,
+    help: &'a str,
+    within: ValueParser<'a>,
+) -> Arg<'a> {
+    Arg::new(alloc, name)
+        .long(name)
+        .value_name(value)
+        .help(help)
+        .value_parser(within)
+}
+
+pub(crate) fn prove_command<'a>(alloc: Global) -> Result<Command<'a>, AllocError> {
+    let file = Arg::new(alloc, "FILE")
+        .help("A PSPLIB multi-mode file, or - for standard input")
+        .required(true);
+    let seconds = number(
+        alloc,
+        "seconds",
+        "S",
+        "How long it may take; else until the project is decided",
+        ValueParser::unsigned(1, MOST_SECONDS),
+    );
+    let jobs = number(
+        alloc,
+        "jobs",
+        "J",
+        "Workers side by side; else one for each processor",
+        ValueParser::unsigned(1, MOST_JOBS),
+    );
+    let memory = number(
+        alloc,
+        "memory",
+        "M",
+        "The most megabytes of clauses of all workers",
+        ValueParser::unsigned(LEAST_MEMORY, MOST_MEMORY),
+    )
+    .default_value("2000");
+    let conflicts = number(
+        alloc,
+        "conflicts",
+        "C",
+        "The most conflicts of a worker's clauses",
+        ValueParser::unsigned(1, MOST_CONFLICTS),
+    )
+    .default_value("1000000000000");
+    Command::new(alloc, "prove")
+        .about("Looks for the shortest schedule of a project and proves how good it is")
+        .after_help(PROVE_HELP)
+        .arg(file)?
+        .arg(seconds)?
+        .arg(jobs)?
+        .arg(memory)?
+        .arg(conflicts)?
+        .arg(flag(alloc, "quiet", "Tell nothing while it runs"))?
+        .arg(flag(
+            alloc,
+            "until-input-ends",
+            "End with the best when the standard input ends",
+        ))
+}
+
+pub(crate) fn commands<'a>(alloc: Global) -> Result<Command<'a>, AllocError> {
+    Command::new(alloc, "farm")
+        .about("Proves how good a schedule of one multi-mode project is")
+        .subcommand_required(true)
+        .subcommand(prove_command(alloc)?)
+}
+
+pub(crate) fn proving_of<'a>(matches: &ArgMatches<'a>) -> Option<Proving<'a>> {
+    match matches.subcommand() {
+        Some(("prove", chosen)) => Some(Proving {
+            file: chosen.get_str("FILE")?,
+            seconds: chosen.get_str("seconds"),
+            jobs: chosen.get_str("jobs"),
+            memory: chosen.get_str("memory")?,
+            conflicts: chosen.get_str("conflicts")?,
+            is_quiet: chosen.get_flag("quiet"),
+            is_watching: chosen.get_flag("until-input-ends"),
+        }),
+        _ => None,
+    }
+}
+
+const PROVE_HELP: &str = "\
+It prints a line of what it has proved, and a line of the best schedule: a word J:MODE:START for
+each activity.
+
+  status  printed                                  means
+  0       optimal M, and its schedule              no schedule is shorter
+  0       infeasible                               no schedule is feasible
+  3       makespan U at least L, and its schedule  the shortest takes L to U periods
+  3       at least L                               no schedule was found
+  1       a line on standard error                 a fault of the file or of the system
+  2       the usage on standard error              wrong words
+
+Local search looks for schedules. Prices of resources and a solver of clauses raise the bound; the
+solver's steps are checked one by one when it makes them. With --jobs 1 and without --seconds the
+output depends on the file and the options alone. Standard error has a line for each better schedule
+and bound.
+
+Examples:
+
+  $ farm prove examples/j30_2.mm
+  $ farm prove --seconds 60 --jobs 4 examples/j30_1.mm";

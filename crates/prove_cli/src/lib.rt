@@ -1,0 +1,23 @@
+//! The command `prove`: what the workers of `prover` show of a project's file.
+//!
+//! [`prove_read`] writes only what is true of the file's project (`specs/Proved`), whatever the
+//! searches do. Which file is opened, and how long a run takes, is in no contract.
+//!
+//! - `telling`: an answer as text.
+//! - `proving`: the command over any reader and writer.
+//! - `stopping`: a flag that is set when the standard input ends.
+//! - `fault`: why nothing is proved.
+//! - `arguments`, `program`: the words of a command line, and the command on files.
+#![tactic(auto)]
+
+mod arguments;
+mod fault;
+mod program;
+mod proving;
+mod stopping;
+mod telling;
+
+pub use fault::ProveFault;
+pub use program::{is_prove, run_prove};
+pub use proving::{Ended, ProveOptions, prove_read};
+pub use telling::tell;

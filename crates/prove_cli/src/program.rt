@@ -1,0 +1,143 @@
+//! The command on files, with an exit status.
+ghost use Rattle.std.specs.Prelude.{◌≤◌};
+ghost use Rattle.std.specs.Process.{exit_status};
+
+use crate::arguments::{Proving, commands, proving_of};
+use crate::proving::{Ended, ProveOptions, prove_read};
+use crate::stopping::stop_at_end_of_input;
+use explain::{CommandWatches, Paths, end_command, end_no_memory, open_path, why_words};
+use prover::Limits;
+use std::io::{Input, StdinLock};
+use std::process::ExitCode;
+use std::rt::Runtime;
+use std::sync::atomic::AtomicBool;
+use std::sync::{Arc, Wait};
+use std::thread::Threads;
+use std::time::Duration;
+use std::{io, thread};
+use watched_io::tell_why;
+
+/// The words of a megabyte, shared by a search and its kernel.
+const WORDS: u64 = 125_000;
+
+/// The status of a run that leaves a gap.
+const GAP: u8 = 3;
+
+fn is_word(words: &[String], place: usize) -> bool {
+    match words.get(place) {
+        Some(word) => word.as_str() == "prove",
+        None => false,
+    }
+}
+
+fn asks_for_help(words: &[String]) -> bool {
+    match words.get(1) {
+        Some(word) => matches!(word.as_str(), "help" | "--help" | "-h"),
+        None => false,
+    }
+}
+
+/// Whether the first word behind the program's name is `prove`, or asks for its help.
+pub fn is_prove(words: &[String]) -> bool {
+    is_word(words, 1) || (asks_for_help(words) && is_word(words, 2))
+}
+
+/// Runs the command of `words`, the first of which is the program's name. The status is 0, or 3 if
+/// a gap is left, or 2 for help and for a refused command line, or 1 for any fault.
+pub fn run_prove<
+    R: Runtime
+        + AllocGlobal
+        + Threads
+        + Wait
+        + Sync
+        + Copy
+        + Send
+        + Input<Reader = StdinLock<'static>>
+        + 'static,
+>(rt: &R, words: &[String]) -> ExitCode
+    ensures { exit_status result ≤ 3 }
+{
+    let Ok(command) = commands(rt.alloc()) else {
+        return end_no_memory(rt);
+    };
+    match command.try_get_matches_from(words) {
+        Ok(matches) => match proving_of(&matches) {
+            Some(proving) => run(rt, proving),
+            None => ExitCode::from(2),
+        },
+        Err(error) => match error.print(rt) {
+            Ok(()) if error.kind() != clap::error::ErrorKind::OutOfMemory => {
+                if error.kind() != clap::error::ErrorKind::DisplayHelp {
+                    tell_why(rt, &why_words(rt.alloc(), words));
+                }
+                ExitCode::from(2)
+            }
+            _ => ExitCode::FAILURE,
+        },
+    }
+}
+
+fn number_of(word: Option<&str>) -> Option<u64> {
+    match word {
+        Some(word) => word.parse::<u64>().ok(),
+        None => None,
+    }
+}
+
+fn jobs_of<R: Threads>(rt: &R, word: Option<&str>) -> usize {
+    match number_of(word) {
+        Some(jobs) => jobs.min(256) as usize,
+        None => match thread::available_parallelism(rt) {
+            Ok(count) => count.get(),
+            Err(_) => 1,
+        },
+    }
+}
+
+fn limits_of(proving: Proving<'_>, jobs: usize) -> Limits {
+    let memory = number_of(Some(proving.memory)).unwrap_or(0);
+    let words = memory.min(100_000_000) * WORDS / (jobs.clamp(1, 256) as u64);
+    Limits {
+        time: number_of(proving.seconds).map(Duration::from_secs),
+        words: words as usize,
+        conflicts: number_of(Some(proving.conflicts)).unwrap_or(0),
+        is_told: !proving.is_quiet,
+    }
+}
+
+fn run<
+    R: Runtime
+        + AllocGlobal
+        + Threads
+        + Wait
+        + Sync
+        + Copy
+        + Send
+        + Input<Reader = StdinLock<'static>>
+        + 'static,
+>(rt: &R, proving: Proving<'_>) -> ExitCode
+    ensures { exit_status result ≤ 3 }
+{
+    let alloc = rt.alloc();
+    let Ok(stop) = Arc::new(alloc, AtomicBool::new(false)) else {
+        return end_no_memory(rt);
+    };
+    let Some(file) = open_path(rt, proving.file) else {
+        return ExitCode::FAILURE;
+    };
+    if proving.is_watching && stop_at_end_of_input(*rt, &stop).is_err() {
+        return end_no_memory(rt);
+    }
+    let jobs = jobs_of(rt, proving.jobs);
+    let asked = ProveOptions {
+        jobs,
+        limits: limits_of(proving, jobs),
+        stop: &stop,
+    };
+    let mut watches = CommandWatches::new();
+    match prove_read(rt, alloc, file, asked, &mut io::writer(rt), &mut watches) {
+        Ok(Ended::Decided) => ExitCode::SUCCESS,
+        Ok(Ended::Gap) => ExitCode::from(GAP),
+        Err(fault) => end_command(rt, Paths::of(proving.file), Err(fault), &mut watches),
+    }
+}

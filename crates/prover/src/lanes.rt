@@ -1,0 +1,277 @@
+//! What each worker does.
+ghost use Rattle.std.specs.Prelude.{◌≡◌, ◌<◌, IfOk};
+
+use crate::decide::{Watch, decide_within, exceeds_stocks};
+use crate::desk::{Desk, Taken};
+use crate::improver::Improver;
+use crate::known::{Question, Subject};
+use price_search::lower_bound;
+use schedule_clauses::CertificateFault;
+use std::alloc::AllocError;
+use std::io::Eprint;
+use std::sync::Wait;
+use std::time::Clock;
+
+/// A `Lane` is what a worker does.
+#[derive(Clone, Copy, Debug, PartialEq, Eq)]
+pub enum Lane {
+    /// Prices, then bounds from below by clauses.
+    Low,
+    /// A schedule a period shorter than the best one, by clauses.
+    High,
+    /// A schedule halfway between the bound and the best one, by clauses.
+    Middle,
+    /// Local search.
+    Improve,
+    /// All of it, in turns: the only worker.
+    Alone,
+}
+
+/// A `Worker` is a lane with the seed of its local search.
+#[derive(Clone, Copy, Debug)]
+pub struct Worker {
+    pub lane: Lane,
+    pub seed: u64,
+}
+
+/// The steps of prices for a question.
+const PRICE_STEPS: u32 = 1_000;
+
+/// The schedules of local search between two looks at what is known.
+const CHUNK: u64 = 256;
+
+/// The chunks of local search before the first question of the only worker.
+const FIRST_CHUNKS: u32 = 80;
+
+/// The conflicts of a question that is more than a period above the bound.
+const LEAP: u64 = 2_000;
+
+/// A `Shift` is a worker at a desk, with the question that it asks.
+#[derive(Drop)]
+struct Shift<'a, 'b, F: Subject, R> {
+    desk: &'a Desk<'b, F, R>,
+    improver: Improver,
+    /// Whether it improves while it asks.
+    is_alone: bool,
+    question: Question,
+    /// The most conflicts of the question.
+    most: u64,
+    conflicts: u64,
+}
+
+impl<F: Subject, R: Wait + Clock + Eprint> Watch for Shift<'_, '_, F, R> {
+    fn goes_on(&mut self, conflicts: u64) -> bool {
+        let desk = self.desk;
+        self.conflicts = conflicts;
+        if self.is_alone {
+            let _ = self.improver.work(desk, CHUNK);
+        }
+        conflicts < self.most && !desk.is_over() && !desk.is_moot(self.question)
+    }
+}
+
+/// The question of a lane at a distance from the bound, or `None` if nothing is open.
+fn question_of(lane: Lane, bound: u32, makespan: Option<u32>, stride: u32) -> Option<Question> {
+    let highest = match makespan {
+        Some(makespan) => {
+            if makespan <= bound {
+                return None;
+            }
+            makespan - 1
+        }
+        None => u32::MAX,
+    };
+    let within = match lane {
+        Lane::High => highest,
+        Lane::Middle => bound + (highest - bound.min(highest)) / 2,
+        _ => bound.saturating_add(stride - stride.min(1)).min(highest),
+    };
+    Some(Question { within })
+}
+
+/// Asks the question. Only want of memory is an error; a question of too many clauses tells nothing.
+fn ask<F: Subject, R: Wait + Clock + Eprint>(
+    shift: &mut Shift<'_, '_, F, R>,
+) -> Result<Taken, AllocError> {
+    let (desk, question) = (shift.desk, shift.question);
+    shift.conflicts = 0;
+    match decide_within(
+        desk.alloc,
+        desk.project,
+        question.within,
+        desk.limits.words,
+        shift,
+    ) {
+        Ok(decision) => Ok(desk.take_in(question, decision)),
+        Err(CertificateFault::NoMemory) => Err(AllocError),
+        Err(_) => Ok(Taken::Nothing),
+    }
+}
+
+/// The bound of prices; and whether no choice of modes keeps the stocks, if no schedule is known.
+fn begin<F: Subject, R: Wait + Clock + Eprint>(
+    shift: &mut Shift<'_, '_, F, R>,
+) -> Result<(), AllocError> {
+    let desk = shift.desk;
+    desk.raise(lower_bound(desk.alloc, desk.project, PRICE_STEPS)?);
+    let (_, makespan) = desk.gap();
+    if makespan.is_some() {
+        return Ok(());
+    }
+    shift.question = Question { within: u32::MAX };
+    shift.most = desk.limits.conflicts;
+    if exceeds_stocks(desk.alloc, desk.project, desk.limits.words, shift)? {
+        desk.rule_out();
+    }
+    Ok(())
+}
+
+/// How far above the bound the next question is.
+fn stride_after(stride: u32, taken: Taken, conflicts: u64) -> u32
+    ensures { 0 < result }
+{
+    match taken {
+        Taken::Higher => {
+            if conflicts < LEAP {
+                stride.max(1).saturating_mul(2)
+            } else {
+                1
+            }
+        }
+        Taken::Shorter => 1,
+        Taken::Nothing => (stride / 2).max(1),
+    }
+}
+
+/// Asks the question of the stride. Returns the next stride, or `None` if the worker has to stop.
+fn step<F: Subject, R: Wait + Clock + Eprint>(
+    shift: &mut Shift<'_, '_, F, R>,
+    stride: u32,
+    left: u64,
+) -> Result<Option<u32>, AllocError> {
+    let desk = shift.desk;
+    let (bound, makespan) = desk.gap();
+    let Some(question) = question_of(Lane::Low, bound, makespan, stride) else {
+        return Ok(None);
+    };
+    if desk.is_over() || desk.is_decided() || left == 0 {
+        return Ok(None);
+    }
+    shift.question = question;
+    shift.most = if stride > 1 { LEAP.min(left) } else { left };
+    let taken = ask(shift)?;
+    if taken == Taken::Nothing && stride <= 1 && !desk.is_moot(question) {
+        return Ok(None);
+    }
+    Ok(Some(stride_after(stride, taken, shift.conflicts)))
+}
+
+/// Refutes bounds from below until nothing is open, or a question ends without an answer.
+fn climb<F: Subject, R: Wait + Clock + Eprint>(
+    shift: &mut Shift<'_, '_, F, R>,
+) -> Result<(), AllocError> {
+    begin(shift)?;
+    let desk = shift.desk;
+    let (mut stride, mut left) = (1u32, desk.limits.conflicts);
+    for _ in desk.rt.forever() {
+        match step(shift, stride, left)? {
+            Some(next) => stride = next,
+            None => return Ok(()),
+        }
+        left = left.saturating_sub(shift.conflicts);
+    }
+    Ok(())
+}
+
+/// Asks for shorter schedules until nothing is open, or a question ends without an answer.
+fn descend<F: Subject, R: Wait + Clock + Eprint>(
+    shift: &mut Shift<'_, '_, F, R>,
+    lane: Lane,
+) -> Result<(), AllocError> {
+    let desk = shift.desk;
+    for _ in desk.rt.forever() {
+        let (bound, makespan) = desk.gap();
+        let Some(question) = question_of(lane, bound, makespan, 1) else {
+            return Ok(());
+        };
+        if desk.is_over() || desk.is_decided() {
+            return Ok(());
+        }
+        if makespan.is_none() {
+            if !shift.improver.work(desk, CHUNK)? {
+                return Ok(());
+            }
+        } else {
+            shift.question = question;
+            shift.most = desk.limits.conflicts;
+            if ask(shift)? == Taken::Nothing && !desk.is_moot(question) {
+                return Ok(());
+            }
+        }
+    }
+    Ok(())
+}
+
+/// Searches for shorter schedules until nothing is open.
+fn improve<F: Subject, R: Wait + Clock + Eprint>(
+    shift: &mut Shift<'_, '_, F, R>,
+) -> Result<(), AllocError> {
+    let desk = shift.desk;
+    for _ in desk.rt.forever() {
+        if desk.is_over() || desk.is_decided() || !shift.improver.work(desk, CHUNK)? {
+            return Ok(());
+        }
+    }
+    Ok(())
+}
+
+/// Improves for a while.
+fn warm_up<F: Subject, R: Wait + Clock + Eprint>(
+    shift: &mut Shift<'_, '_, F, R>,
+) -> Result<(), AllocError> {
+    let desk = shift.desk;
+    for _ in 0..FIRST_CHUNKS {
+        shift.improver.work(desk, CHUNK)?;
+    }
+    Ok(())
+}
+
+/// Does what the lane says, and then, if there is a time limit, improves.
+fn run_lane<F: Subject, R: Wait + Clock + Eprint>(
+    shift: &mut Shift<'_, '_, F, R>,
+    lane: Lane,
+) -> Result<(), AllocError> {
+    match lane {
+        Lane::Low => climb(shift)?,
+        Lane::High | Lane::Middle => descend(shift, lane)?,
+        Lane::Improve => improve(shift)?,
+        Lane::Alone => {
+            warm_up(shift)?;
+            climb(shift)?;
+        }
+    }
+    if shift.desk.limits.time.is_some() {
+        improve(shift)?;
+    }
+    Ok(())
+}
+
+fn shift_at<'a, 'b, F: Subject, R>(
+    desk: &'a Desk<'b, F, R>,
+    worker: Worker,
+) -> Shift<'a, 'b, F, R> {
+    Shift {
+        desk,
+        improver: Improver::new(worker.seed),
+        is_alone: worker.lane == Lane::Alone,
+        question: Question { within: u32::MAX },
+        most: desk.limits.conflicts,
+        conflicts: 0,
+    }
+}
+
+/// Works until nothing is open, the limits are met, or memory is wanting.
+pub(crate) fn work<F: Subject, R: Wait + Clock + Eprint>(desk: &Desk<'_, F, R>, worker: Worker) {
+    let mut shift = shift_at(desk, worker);
+    let _ = run_lane(&mut shift, worker.lane);
+}
