@@ -109,10 +109,14 @@ fn check(
 }
 
 /// Steps that no checked step uses are not checked.
-fn is_refuted(alloc: Global, clauses: &mut ClauseList, proof: &[u8]) -> Result<bool, AllocError>
+fn is_refuted(
+    alloc: Global,
+    clauses: &mut ClauseList,
+    literals: usize,
+    proof: &[u8],
+) -> Result<bool, AllocError>
     ensures { IfOk result (λ well. well ≡ true → IsUnsatisfiable clauses.old) }
 {
-    let literals = clauses.literal_count();
     let mut history = History::new(alloc, clauses, clauses.len(), literals)?;
     let fault = history.read(proof, false)?;
     if fault.is_some() {
@@ -126,10 +130,10 @@ fn first_fault(
     alloc: Global,
     clauses: &ClauseList,
     originals: usize,
+    literals: usize,
     proof: &[u8],
 ) -> Result<ProofFault, AllocError> {
     let originals = originals.min(clauses.len());
-    let literals = clauses.literal_count();
     let mut history = History::new(alloc, clauses, originals, literals)?;
     let fault = history.read(proof, true)?;
     Ok(fault.unwrap_or(ProofFault::Unfinished))
@@ -144,9 +148,11 @@ pub fn refute(alloc: Global, clauses: ClauseList, proof: &[u8]) -> Result<(), Pr
 {
     let mut clauses = clauses;
     let originals = clauses.len();
-    if is_refuted(alloc, &mut clauses, proof)? {
+    // (the given clauses' alone: a step of a proof may name a variable of any number)
+    let literals = clauses.literal_count();
+    if is_refuted(alloc, &mut clauses, literals, proof)? {
         return Ok(());
     }
-    let fault = first_fault(alloc, &clauses, originals, proof)?;
+    let fault = first_fault(alloc, &clauses, originals, literals, proof)?;
     Err(fault)
 }
