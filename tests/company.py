@@ -25,6 +25,8 @@ NO_FN = re.compile(r"has no function `(\S+)`")
 CLOSURE = re.compile(r"(\S+?)::fn::(\w+)::\S+$")
 # An error in a function's proof files.
 OF_PROOF = re.compile(r"(?:\./)?(proofs/\S+/[^/\s]+\.antt):(\d+):\d+: error: ")
+# An error of the compiler in a source file.
+OF_SOURCE = re.compile(r"(?:\./)?src/\S+:\d+:\d+: error")
 # What begins a definition of a proof file, and its name.
 WORDS = re.compile(r"(?:(?:pub|abbrev|opaque|unfoldable|data|record)\s+)*(\S+)")
 # How often a body is checked without the answers that have errors, before it is checked without any.
@@ -228,6 +230,24 @@ class Trial:
             if status:
                 return dict.fromkeys(found, (False, f"{self.crate.name}: as it stands it is not proved over what the runs kept: {said[-400:]}")), runs
         return found, runs
+
+    def front(self, texts):
+        """Returns the errors that the compiler has, before the prover begins, where the crate has these texts."""
+        return [it for it in self.said(texts, frozenset({""}))[0].split("\n") if OF_SOURCE.match(it)]
+
+    def typed(self, edits):
+        """Returns of each edit that does not reach the prover why: of a name or a type that is wrong."""
+        faults, portions = {}, [[it for it in edits if it.fn], *([it] for it in edits if not it.fn)]
+        while portions:
+            portion = portions.pop()
+            runs = runs_of(self.crate, portion) if portion and portion[0].fn else []
+            for members, texts in [([it for it in portion if it.path in run.fns], run.changed()) for run in runs] or [(portion, it.over(self.crate, {})) for it in portion]:
+                errors = self.front(texts)
+                if errors and len(members) == 1:
+                    faults[members[0].path] = f"wrong body {self.crate.name}/{members[0].name}: BAD EDIT: it does not reach the prover: {errors[0]}"
+                elif errors:
+                    portions += [members[::2], members[1::2]]
+        return faults
 
     def copied(self, edits):
         """Checks copies of the functions that have wrong bodies, with nothing edited in them. Returns how many these are, and which are not proved."""
