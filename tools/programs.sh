@@ -24,7 +24,11 @@ find_program() {
 
 need_kit() {
     command -v rt >/dev/null 2>&1 && return
-    echo "farm: $1, and the Rattle kit's command rt is not on the PATH" >&2
+    if [ "$(uname -s) $(uname -m)" != "Linux x86_64" ]; then
+        echo "farm: the programs of dist/ are for x86-64 Linux, and this is $(uname -s) $(uname -m); to build others takes the Rattle kit's command rt" >&2
+    else
+        echo "farm: $1, and the Rattle kit's command rt is not on the PATH" >&2
+    fi
     exit 1
 }
 
