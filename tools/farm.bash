@@ -54,7 +54,7 @@ _farm() {
         verify) words="--all --help" ;;
         draw) words="--order --help" ;;
         prove) words="--seconds --jobs --memory --conflicts --quiet --nodes --from --keep --solver --help" ;;
-        bench) words="--search --nodes --jobs --prove --seconds --optima --schedules --resume --report --progress --quiet --help" ;;
+        bench) words="--search --nodes --jobs --steps --prove --seconds --optima --schedules --resume --report --progress --quiet --help" ;;
         replay) words="--config --strict --help" ;;
         serve) words="--config --port --sessions --help" ;;
         bound) words="--steps --help" ;;

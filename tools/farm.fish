@@ -34,7 +34,7 @@ complete -c farm -n "__fish_seen_subcommand_from prove" -l quiet -d 'Tell nothin
 complete -c farm -n "__fish_seen_subcommand_from prove" -l from -r -d 'A schedule to begin with'
 complete -c farm -n "__fish_seen_subcommand_from prove" -l keep -r -d 'A folder for the proof'
 complete -c farm -n "__fish_seen_subcommand_from prove" -l solver -x -a 'cadical kissat' -d 'The solver'
-complete -c farm -n "__fish_seen_subcommand_from bound" -l steps -x -d 'The most steps for each bound'
+complete -c farm -n "__fish_seen_subcommand_from bound bench" -l steps -x -d 'The most steps for each bound'
 complete -c farm -n "__fish_seen_subcommand_from replay serve" -l config -r -d 'The configuration, a JSON file'
 complete -c farm -n "__fish_seen_subcommand_from replay" -l strict -d 'End with status 1 if a request is refused'
 complete -c farm -n "__fish_seen_subcommand_from serve" -l port -x -d 'The port, or 0 for a free one'

@@ -43,7 +43,7 @@ _farm() {
     verify) _arguments '--all[tell each breach]' '--help[help]' '1:file:_files -g "*.mm"' '2:schedule:_files' ;;
     draw) _arguments '--order[the order of the rows]:order:(number start)' '--help[help]' '1:file:_files -g "*.mm"' '2:schedule:_files' ;;
     bench)
-        _arguments '--search[searches]:search:_farm_searches' '--nodes[nodes]:nodes:' '--jobs[processes]:jobs:' '--prove[run farm prove]' \
+        _arguments '--search[searches]:search:_farm_searches' '--nodes[nodes]:nodes:' '--jobs[processes]:jobs:' '--steps[steps for each bound]:steps:' '--prove[run farm prove]' \
             '--seconds[the most seconds of a file]:seconds:' '--optima[known optima]:file:_files' '--schedules[folder for schedules]:folder:_files -/' \
             '--resume[rows of an earlier run]:file:_files' '--report[a page of the rows]:file:_files' '--progress[tell progress]' \
             '--quiet[tell nothing]' '--help[help]' '*:file or folder:_files'

@@ -4,7 +4,7 @@ ghost use Rattle.mrcpsp.specs.Values.{bound};
 ghost use Rattle.schedule_prices.specs.Choices.{EachExceeds};
 ghost use Rattle.price_search.specs.LowerBound.{TakesAtLeast};
 
-use crate::cases::refute_by_cases;
+use crate::cases::{MOST_PIECE_STEPS, refute_by_cases};
 use crate::climb::{Answer, Climb};
 use crate::narrow::narrow;
 use crate::search::find_prices;
@@ -78,17 +78,18 @@ fn climb(alloc: Global, project: &Project, steps: u32, known: u32) -> Result<u32
     Ok(periods)
 }
 
-/// Whether pieces refute the bound.
+/// Whether pieces refute the bound. `left` is the steps left for pieces.
 fn ask_by_cases(
     alloc: Global,
     project: &Project,
     bound: u32,
     steps: u32,
+    left: &mut u32,
 ) -> Result<bool, AllocError>
     ensures { IfOk result (λ refuted. IsTrue refuted → EachExceeds project.now bound) }
 {
     match table(alloc, project, bound)? {
-        Some(mut barred) => refute_by_cases(alloc, project, &mut barred, steps),
+        Some(mut barred) => refute_by_cases(alloc, project, &mut barred, steps, left),
         None => Ok(false),
     }
 }
@@ -105,9 +106,13 @@ fn climb_by_cases(
     ensures known { IfOk result (λ periods. known ≤ periods) }
 {
     let mut periods = known;
+    let mut left = MOST_PIECE_STEPS;
     for _ in 0..MOST_QUESTIONS {
         let next = periods.saturating_add(1);
-        if periods > project.horizon() || !ask_by_cases(alloc, project, periods, steps)? {
+        if left == 0 || periods > project.horizon() {
+            break;
+        }
+        if !ask_by_cases(alloc, project, periods, steps, &mut left)? {
             break;
         }
         periods = next;
@@ -117,9 +122,8 @@ fn climb_by_cases(
 
 /// The periods that every feasible schedule takes: the longest chain of activities by shortest
 /// durations, or more if prices, or pieces of the choices, refute bounds above it. Each bound is
-/// asked in at most `steps` steps, and pieces in [`crate::MOST_PIECE_STEPS`]; with 0 steps the
-/// answer is the chain. Above [`crate::MOST_ITEMS`] choices and rows no
-/// prices are looked for.
+/// asked in at most `steps` steps, and all pieces in [`MOST_PIECE_STEPS`]; with 0 steps the answer
+/// is the chain. Above [`crate::MOST_ITEMS`] choices and rows no prices are looked for.
 pub fn lower_bound(alloc: Global, project: &Project, steps: u32) -> Result<u32, AllocError>
     ensures least { IfOk result (λ periods. TakesAtLeast project.now periods) }
     ensures chain { IfOk result (λ periods. bound project.now ≤ periods) }

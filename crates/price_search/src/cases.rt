@@ -6,18 +6,20 @@ use crate::model::{Model, Question};
 use crate::pace::FIRST_THETA;
 use crate::pieces::{count_left, keep, leave_out, leave_out_all, marks_of, pieces_of};
 use crate::rounding::listed;
-use crate::slope::ONE;
+use crate::slope::{ONE, Row};
 use crate::steps::{Ended, Steps};
 use mrcpsp::Project;
 use schedule_prices::{Barred, Piece};
 use std::alloc::{AllocError, Global};
 
-/// The most steps for all pieces of a bound.
-pub const MOST_PIECE_STEPS: u32 = 15_000;
+/// The most steps for all pieces of all bounds of a project.
+pub const MOST_PIECE_STEPS: u32 = 3_000;
 
 const PIECE_STEPS: u32 = 60;
-/// Three tenths of the first step.
-const PIECE_THETA: i64 = 19_661;
+/// The steps in which a piece has to get dearer.
+const FIRST_STEPS: u32 = 20;
+/// A thirtieth of the first step.
+const PIECE_THETA: i64 = 3_277;
 
 const ROUNDS: u32 = 3;
 
@@ -29,6 +31,10 @@ const LEAST_STRETCH: i64 = ONE / 100 * 95;
 struct Cases {
     search: Steps,
     best: Vec<i64>,
+    /// What steps had seen of the rows by then.
+    rows: Vec<Row>,
+    /// The stretch of all choices left at the best prices.
+    stretch: i64,
     marks: Vec<bool>,
     /// Steps for pieces that are left.
     left: u32,
@@ -59,6 +65,35 @@ fn bar_piece(
     Ok(())
 }
 
+/// Steps for a piece, from the best prices. `None` if the piece is not dearer than all choices there,
+/// or does not get dearer soon.
+fn run_piece(cases: &mut Cases) -> Option<Ended> {
+    let search = &mut cases.search;
+    search.resume(&cases.best, &cases.rows, PIECE_THETA);
+    let mut ended = search.run(1);
+    let first = search.most;
+    if ended == Ended::Open {
+        if first <= cases.stretch {
+            return None;
+        }
+        ended = search.run(FIRST_STEPS);
+    }
+    if ended == Ended::Open {
+        if search.most <= first {
+            return None;
+        }
+        ended = search.run(PIECE_STEPS);
+    }
+    Some(ended)
+}
+
+/// The stretch of all choices left at the best prices.
+fn measure(cases: &mut Cases) {
+    cases.search.restart(&cases.best, PIECE_THETA);
+    cases.search.run(1);
+    cases.stretch = cases.search.most;
+}
+
 /// Looks for prices that refute the piece. Bars it, or else the choices that are dear by these.
 fn try_piece(
     alloc: Global,
@@ -73,13 +108,15 @@ fn try_piece(
         leave_out(&mut cases.search.model, barred, piece.activity);
         return Ok(());
     }
-    cases.search.restart(&cases.best, PIECE_THETA);
-    let ended = cases.search.run(PIECE_STEPS);
+    let ended = run_piece(cases);
     cases.left = cases.left.saturating_sub(cases.search.taken_steps);
-    if ended == Ended::Refuted {
-        bar_piece(alloc, barred, cases, piece)?;
-    } else {
-        bar_dear(alloc, barred, cases)?;
+    match ended {
+        None => {
+            leave_out(&mut cases.search.model, barred, piece.activity);
+            return Ok(());
+        }
+        Some(Ended::Refuted) => bar_piece(alloc, barred, cases, piece)?,
+        Some(_) => bar_dear(alloc, barred, cases)?,
     }
     leave_out_all(&mut cases.search.model, barred);
     Ok(())
@@ -96,6 +133,7 @@ fn try_activity(
     ensures bound { barred.new.bound ≡ barred.old.bound }
 {
     let mut pieces = Vec::new(alloc);
+    measure(cases);
     pieces_of(&cases.search.model, activity, &mut cases.marks, &mut pieces)?;
     for piece in pieces {
         try_piece(alloc, barred, cases, piece)?;
@@ -123,6 +161,7 @@ fn reduce(alloc: Global, barred: &mut Barred, cases: &mut Cases) -> Result<(), A
 {
     cases.best.clear();
     cases.best.extend_from_slice(&cases.search.best)?;
+    cases.search.save_rows(&mut cases.rows)?;
     bar_dear(alloc, barred, cases)?;
     barred.tighten();
     leave_out_all(&mut cases.search.model, barred);
@@ -191,12 +230,13 @@ fn try_cases(
 }
 
 /// Whether each feasible schedule is longer than the bound of the table, as far as prices and
-/// pieces show. The table gets the choices that they bar.
+/// pieces show. The table gets the choices that they bar. `left` is the steps left for pieces.
 pub(crate) fn refute_by_cases(
     alloc: Global,
     project: &Project,
     barred: &mut Barred,
     steps: u32,
+    left: &mut u32,
 ) -> Result<bool, AllocError>
     ensures { IfOk result (λ refuted. IsTrue refuted → EachExceeds barred.old.project barred.old.bound) }
 {
@@ -207,10 +247,13 @@ pub(crate) fn refute_by_cases(
     let mut cases = Cases {
         search: Steps::new(alloc, model)?,
         best: Vec::new(alloc),
+        rows: Vec::new(alloc),
+        stretch: 0,
         marks,
-        left: MOST_PIECE_STEPS,
+        left: *left,
     };
     try_cases(alloc, barred, &mut cases, steps)?;
+    *left = cases.left;
     let prices = listed(alloc, &cases.search.model, &cases.search.rounded)?;
     barred.refute(alloc, &prices)
 }

@@ -16,11 +16,13 @@
 //! - `rounding`, `search`: prices of 24 bits, and `find_prices`.
 //! - `pieces`, `cases`: choices that prices of their own bar, and bounds refuted by them.
 //! - `climb`, `bound`: which bound is asked next, and `lower_bound`.
+//! - `laws`: modes that fit decide whether there is a schedule.
 #![tactic(auto)]
 
 mod bound;
 mod cases;
 mod climb;
+pub mod laws;
 mod model;
 mod narrow;
 mod pace;

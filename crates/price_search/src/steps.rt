@@ -44,6 +44,8 @@ pub(crate) struct Steps {
     /// The steps of this cycle, and of all.
     since: i64,
     pub(crate) taken_steps: u32,
+    /// Whether the next step takes its usage for the mean.
+    is_fresh: bool,
 }
 
 /// The cost of choices in parts of the supply.
@@ -131,8 +133,26 @@ impl Steps {
             most_supply: 1,
             since: 0,
             taken_steps: 0,
+            is_fresh: true,
             model,
         })
+    }
+
+    /// Begins from given prices, and from what steps have seen of the rows there.
+    pub(crate) fn resume(&mut self, prices: &[i64], rows: &[Row], theta: i64) {
+        self.restart(prices, theta);
+        if self.rows.len() == rows.len() {
+            self.rows.copy_from_slice(rows);
+            forget(&mut self.rows);
+            self.is_fresh = false;
+        }
+    }
+
+    /// Writes what steps have seen of the rows to `rows`.
+    pub(crate) fn save_rows(&self, rows: &mut Vec<Row>) -> Result<(), AllocError> {
+        rows.clear();
+        rows.extend_from_slice(&self.rows)?;
+        Ok(())
     }
 
     /// Begins from given prices.
@@ -145,6 +165,7 @@ impl Steps {
         self.most_supply = 1;
         self.since = 0;
         self.taken_steps = 0;
+        self.is_fresh = true;
         forget(&mut self.rows);
     }
 
@@ -182,11 +203,8 @@ impl Steps {
         }
         let jumps = self.look(stretch);
         self.taken.use_rows(&self.model, &mut self.used);
-        let weight = if self.taken_steps == 1 {
-            256
-        } else {
-            self.pace.weight
-        };
+        let weight = if self.is_fresh { 256 } else { self.pace.weight };
+        self.is_fresh = false;
         let (stretch, supply) = if jumps {
             copy(&mut self.prices, &self.best);
             (self.most, self.most_supply)
