@@ -1,5 +1,5 @@
 # How `prove` is run, for ./farm and for what tools/install installs: by the program, which ends with its best on a signal, or by the script over a solver that
-# is installed; and whether words ask for help. `program` is the path of farm.
+# is installed; how much memory it may take; and whether words ask for help. `program` is the path of farm.
 
 # Whether the words ask for help.
 asks_for_help() {
@@ -30,6 +30,72 @@ reads_input() {
         [ "$word" = - ] && return
     done
     return 1
+}
+
+# Prints the number behind a label, in the first line of a file that begins with it; of a file of one number, with no label, that number.
+number_in() {
+    [ -r "$1" ] || return
+    while read -r one two _; do
+        if [ -z "$2" ]; then
+            two=$one
+        elif [ "$one" != "$2" ]; then
+            continue
+        fi
+        case $two in
+        "" | *[!0-9]*) ;;
+        *) echo "$two" ;;
+        esac
+        return
+    done <"$1"
+}
+
+# Lowers `free` to a number, if it is one.
+at_most() {
+    case $1 in
+    "" | *[!0-9]*) return ;;
+    esac
+    [ -n "$free" ] && [ "$free" -le "$1" ] || free=$1
+}
+
+# Lowers `free` to what a control group leaves, given its folder and the names of its limit, its usage and what can be taken back of that.
+at_most_of_group() {
+    limit=$(number_in "$1/$2" "")
+    [ -n "$limit" ] || return
+    usage=$(number_in "$1/$3" "")
+    spare=$(number_in "$1/memory.stat" "$4")
+    left=$((limit - ${usage:-0} + ${spare:-0}))
+    [ "$left" -ge 0 ] || left=0
+    at_most "$((left / 1024))"
+}
+
+# Sets `memory` to the option of half of the megabytes that are free to this process, at least 16: by MemAvailable, by its control groups and those above them, and
+# by `ulimit -v`. It is empty if the words limit memory, or if nothing is known.
+choose_memory() {
+    memory= free=
+    for word in "$@"; do
+        case $word in
+        --memory | --memory=*) return ;;
+        esac
+    done
+    at_most "$(number_in /proc/meminfo MemAvailable:)"
+    at_most "$(ulimit -v)"
+    [ -r /proc/self/cgroup ] && while IFS=: read -r _ kinds path; do
+        case ,$kinds, in
+        ,,) set -- /sys/fs/cgroup memory.max memory.current inactive_file ;;
+        *,memory,*) set -- /sys/fs/cgroup/memory memory.limit_in_bytes memory.usage_in_bytes total_inactive_file ;;
+        *) continue ;;
+        esac
+        while :; do
+            at_most_of_group "$1$path" "$2" "$3" "$4"
+            [ -n "$path" ] || break
+            path=${path%/*}
+        done
+    done </proc/self/cgroup
+    [ -n "$free" ] || return
+    half=$((free * 1024 / 2000000))
+    [ "$half" -ge 16 ] || half=16
+    [ "$half" -le 100000000 ] || half=100000000
+    memory=--memory=$half
 }
 
 # Runs the program until it ends, with a pipe as its standard input that ends on Ctrl-C, SIGTERM and SIGHUP: then it prints the best that it has. The pipe ends
