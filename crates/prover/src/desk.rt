@@ -23,6 +23,8 @@ pub(crate) struct Desk<'a, F: Subject, R> {
     pub(crate) project: &'a Project,
     pub(crate) known: &'a Mutex<Known<F>>,
     pub(crate) stop: &'a AtomicBool,
+    /// Whether the worker that raises the bound has ended.
+    pub(crate) has_ended: AtomicBool,
     pub(crate) begun: Instant,
     pub(crate) limits: Limits,
     ghost same: { project.now ≡ F.project },
@@ -55,12 +57,17 @@ impl<F: Subject, R: Wait + Clock + Eprint> Desk<'_, F, R> {
             return true;
         }
         let Some(limit) = self.limits.time else {
-            return false;
+            return self.has_ended.load(Ordering::SeqCst);
         };
         match self.begun.elapsed(self.rt) {
             Ok(spent) => spent >= limit,
             Err(_) => true,
         }
+    }
+
+    /// Ends all workers, if there is no time limit.
+    pub(crate) fn end(&self) {
+        self.has_ended.store(true, Ordering::SeqCst);
     }
 
     pub(crate) fn is_decided(&self) -> bool {

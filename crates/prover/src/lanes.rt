@@ -236,13 +236,18 @@ fn warm_up<F: Subject, R: Wait + Clock + Eprint>(
     Ok(())
 }
 
-/// Does what the lane says, and then, if there is a time limit, improves.
+/// Does what the lane says, and then, if there is a time limit, improves. Without one, all workers
+/// end with the one that raises the bound: its conflicts or its memory are used up.
 fn run_lane<F: Subject, R: Wait + Clock + Eprint>(
     shift: &mut Shift<'_, '_, F, R>,
     lane: Lane,
 ) -> Result<(), AllocError> {
     match lane {
-        Lane::Low => climb(shift)?,
+        Lane::Low => {
+            let climbed = climb(shift);
+            shift.desk.end();
+            climbed?;
+        }
         Lane::High | Lane::Middle => descend(shift, lane)?,
         Lane::Improve => improve(shift)?,
         Lane::Alone => {

@@ -58,6 +58,7 @@ fn prove_as<'a, F: Subject + Send + Sync, R: Threads + Wait + Clock + Eprint + S
         project,
         known: &known,
         stop,
+        has_ended: AtomicBool::new(false),
         begun,
         limits,
     };

@@ -1,11 +1,14 @@
 -- What several searches have found together: it is true, and that of one search is its own.
-use Rattle.std.proofs.Common.{◌≡◌, ◌<◌, ◌≤◌, ℕ, ◌+◌, arith, refl, sym, ◌∙◌, ◌⊎◌, ⊎_elim, cond, nat_lt, true, false, IsTrue, subst, get_or, drop, drop-cons, add-one, length, List, [], ◌∷◌, Option, Some, None, IfSome, option_map, fold, zero-add, inl, inr}
+use Rattle.std.proofs.Common.{◌≡◌, ◌<◌, ◌≤◌, ℕ, ◌+◌, arith, refl, sym, ◌∙◌, le_trans, ◌⊎◌, ⊎_elim, cond, nat_lt, true, false, IsTrue, subst, get_or, drop, drop-cons, add-one, length, List, [], ◌∷◌, Option, Some, None, IfSome, option_map, fold, zero-add, inl, inr}
 use Rattle.std.specs.Prelude.{IsSomeAnd}
 use Rattle.std.proofs.lemmas.List.{drop_all}
-use Rattle.std.proofs.lemmas.Bool.{cond_both, ltb-true, ltb-false}
+use Rattle.std.proofs.lemmas.Bool.{cond_both, ltb-true, ltb-false, leb-true, false≢true}
 use Rattle.mrcpsp.specs.Project.{ProjectData, is_project}
-use Rattle.mrcpsp.specs.Schedule.{ScheduleData, IsFeasible, IsOptimal, makespan}
-use Rattle.strategy.specs.Outcome.{better}
+use Rattle.mrcpsp.specs.Schedule.{ScheduleData, IsFeasible, IsOptimal, IsInfeasible, makespan}
+use Rattle.mrcpsp.specs.Values.{bound}
+use Rattle.mrcpsp.proofs.ProjectLemmas.{bound-le}
+use Rattle.mrcpsp.proofs.LimitLemmas.{kept}
+use Rattle.strategy.specs.Outcome.{better, is_at_bound}
 use Rattle.strategy.specs.declared.plan.Plan.{Plan}
 use Rattle.strategy.specs.declared.kind.Kind.{Kind}
 use Rattle.strategy.specs.declared.verdict.Verdict.{Verdict}
@@ -89,19 +92,24 @@ found_true plan kept most found is = record {
   infeasible = λ e. infeasible_is_true plan kept found.nodes (sym is.verdict ∙ e);
 }
 
-improved_true : (p : ProjectData) (most : ℕ) (found : SearchResult) → IsImproved p most found → IsTrueOf p found
-improved_true p most found is =
-    let open_still : found.verdict ≡ Going = is.untold in
-    record {
-      feasible = is.feasible;
-      makespan = is.makespan;
-      optimal = λ e. cc;
-      infeasible = λ e. cc;
-    }
+-- what is as short as the longest chain is optimal
+chain_decides : (p : ProjectData) → IsTrue (is_project p) → (best : Option ScheduleData) → IfSome best (IsFeasible p) → is_at_bound p best ≡ true → IsSomeAnd best (IsOptimal p)
+chain_decides p ok None h e = absurd (false≢true e)
+chain_decides p ok (Some s) h e = record { feasible = h; least = λ other feasible. le_trans (leb-true (makespan p s) (bound p) e) (bound-le p other (kept p ok) feasible) }
+
+improved_true : (p : ProjectData) → IsTrue (is_project p) → (most : ℕ) (found : SearchResult) → IsImproved p most found → IsTrueOf p found
+improved_true p ok most found is = record {
+  feasible = is.feasible;
+  makespan = is.makespan;
+  optimal = λ e. cond_both (is_at_bound p found.best) Optimal Going (λ (v : Verdict). v ≡ Optimal → IsSomeAnd found.best (IsOptimal p))
+      (λ at _. chain_decides p ok found.best is.feasible at) (λ _ other. cc) (sym is.verdict ∙ e);
+  infeasible = λ e. cond_both (is_at_bound p found.best) Optimal Going (λ (v : Verdict). v ≡ Infeasible → IsInfeasible p)
+      (λ _ other. cc) (λ _ other. cc) (sym is.verdict ∙ e);
+}
 
 by_true : (p : ProjectData) → IsTrue (is_project p) → (kind : SearchKind) (most : ℕ) (found : SearchResult) → IsFoundBy p kind most found → IsTrueOf p found
 by_true p kept (Planned kind) most found is = found_true (record { project = p; kind = kind }) kept most found is
-by_true p kept (Improve seed) most found is = improved_true p most found is
+by_true p kept (Improve seed) most found is = improved_true p kept most found is
 
 pub by_few : (p : ProjectData) (kind : SearchKind) (most : ℕ) (f : SearchResult) → IsFoundBy p kind most f → f.nodes ≤ most
 by_few p (Planned kind) most f is = found_few (record { project = p; kind = kind }) most f is

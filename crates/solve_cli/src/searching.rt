@@ -18,7 +18,7 @@ use tree_search::TreeSearch;
 /// The most nodes of a search.
 pub const MOST_NODES: u64 = 1_000_000_000_000;
 
-/// The nodes between two looks of an observer.
+/// The most nodes between two looks of an observer: it looks after 1, 3, 7 and so on.
 pub(crate) const CHUNK: u64 = 65_536;
 
 /// A `SearchResult` is what a search has found.
@@ -40,22 +40,25 @@ pub trait Observer {
     fn end(&mut self, nodes: u64);
 }
 
-fn run_chunk<S: Strategy>(search: &mut S)
+fn run_chunk<S: Strategy>(search: &mut S, chunk: u64)
+    requires some { 0 < chunk }
     requires going { IsFalse (shown_closed (S.meaning search.old)) }
     requires paid { 0 < (S.meaning search.old).left }
     ensures at { IsAt (S.meaning search.old) (S.meaning search.new) }
     ensures more { (S.meaning search.new).left < (S.meaning search.old).left }
 {
-    let _ran = search.run(CHUNK);
+    let _ran = search.run(chunk);
 }
 
 fn run_nodes<S: Strategy, W: Observer>(search: &mut S, observer: &mut W)
     ensures at { IsAt (S.meaning search.old) (S.meaning search.new) }
     ensures over { IsOver (S.meaning search.new) }
 {
+    let mut chunk = 1;
     while !search.closed() && search.left() > 0 {
-        run_chunk(search);
+        run_chunk(search, chunk);
         observer.look(&search.plan().project, search.nodes(), search.best());
+        chunk = CHUNK.min(2 * chunk);
     }
 }
 

@@ -6,9 +6,9 @@ use Rattle.solve_cli.proofs.searching.run_chunk.Goals as goal
 pub returns-clause-at : goal.returns-clause-at
 returns-clause-at g c =
     let m = g.S.Strategy.meaning c.args.search.now in
-    ran_at 65536 m (g.S.Strategy.meaning c.run-ran.new.self) (c.run-ran.ensures.shown ∙ ap (λ n. ran_on n m) c.run-ran.ensures.ran)
+    ran_at c.args.chunk m (g.S.Strategy.meaning c.run-ran.new.self) (c.run-ran.ensures.shown ∙ ap (λ n. ran_on n m) c.run-ran.ensures.ran)
 
 pub returns-clause-more : goal.returns-clause-more
 returns-clause-more g c =
     let m = g.S.Strategy.meaning c.args.search.now in
-    ran_less 65536 m (g.S.Strategy.meaning c.run-ran.new.self) (omega arith) c.requires.going c.requires.paid (c.run-ran.ensures.shown ∙ ap (λ n. ran_on n m) c.run-ran.ensures.ran)
+    ran_less c.args.chunk m (g.S.Strategy.meaning c.run-ran.new.self) c.requires.some c.requires.going c.requires.paid (c.run-ran.ensures.shown ∙ ap (λ n. ran_on n m) c.run-ran.ensures.ran)
