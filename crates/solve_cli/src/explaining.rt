@@ -52,7 +52,8 @@ pub(crate) fn next_step(alloc: Global, project: &Project, found: &SearchResult) 
         return None;
     }
     let chain = chain_of(alloc, project).ok()?;
-    let step = "more --nodes or --search all may find a shorter one, and farm prove FILE looks for a proof too";
+    let step =
+        "more --nodes or --search all may find a shorter one, and farm prove FILE looks for a proof too";
     format!(in alloc;
         "open: each schedule takes at least {chain} periods, by the longest chain of activities; {step}"
     ).ok()
