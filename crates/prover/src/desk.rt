@@ -23,8 +23,6 @@ pub(crate) struct Desk<'a, F: Subject, R> {
     pub(crate) project: &'a Project,
     pub(crate) known: &'a Mutex<Known<F>>,
     pub(crate) stop: &'a AtomicBool,
-    /// Whether the worker that raises the bound has ended.
-    pub(crate) has_ended: AtomicBool,
     pub(crate) begun: Instant,
     pub(crate) limits: Limits,
     ghost same: { project.now ≡ F.project },
@@ -57,7 +55,7 @@ impl<F: Subject, R: Wait + Clock + Eprint> Desk<'_, F, R> {
             return true;
         }
         let Some(limit) = self.limits.time else {
-            return self.has_ended.load(Ordering::SeqCst);
+            return false;
         };
         match self.begun.elapsed(self.rt) {
             Ok(spent) => spent >= limit,
@@ -67,7 +65,9 @@ impl<F: Subject, R: Wait + Clock + Eprint> Desk<'_, F, R> {
 
     /// Ends all workers, if there is no time limit.
     pub(crate) fn end(&self) {
-        self.has_ended.store(true, Ordering::SeqCst);
+        if self.limits.time.is_none() {
+            self.stop.store(true, Ordering::SeqCst);
+        }
     }
 
     pub(crate) fn is_decided(&self) -> bool {

@@ -58,7 +58,6 @@ fn prove_as<'a, F: Subject + Send + Sync, R: Threads + Wait + Clock + Eprint + S
         project,
         known: &known,
         stop,
-        has_ended: AtomicBool::new(false),
         begun,
         limits,
     };
@@ -68,7 +67,8 @@ fn prove_as<'a, F: Subject + Send + Sync, R: Threads + Wait + Clock + Eprint + S
 }
 
 /// Proves what the workers can within the limits, or until `stop` is set. The answer is true of the
-/// project, whatever the workers did. Want of memory in a worker ends that worker.
+/// project, whatever the workers did. Want of memory in a worker ends that worker. Without a time
+/// limit the worker that raises the bound sets `stop` when it ends.
 pub fn prove<R: Threads + Wait + Clock + Eprint + Sync>(
     rt: &R,
     alloc: Global,
