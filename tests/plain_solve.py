@@ -70,16 +70,29 @@ def told_as_json(p, nodes, best, verdict):
     return json.dumps(value, separators=(",", ":")) + "\n"
 
 
+def looks(p, kind, most):
+    """What `--improvements` sees of a search: its nodes, best and verdict after 1, 3, 7 nodes and so on, at last each 65,536, and at its end."""
+    chunk = next_look = 1
+    for nodes, (best, closed, verdict) in enumerate(islice(plain_searches.search(p, kind), most), 1):
+        if closed or nodes in (next_look, most):
+            yield nodes, best, verdict
+            chunk = min(2 * chunk, 65_536)
+            next_look = nodes + chunk
+        if closed:
+            return
+
+
 def output(p, kinds, most, is_improving, is_json):
-    """All that solve prints of searches that are short enough to be looked at once, at their ends."""
-    text, shortest, total = "", None, 0
+    """All that solve prints."""
+    text, shortest, ended = "", None, 0
     for kind in kinds if is_improving else []:
-        nodes, best, verdict = found(p, kind, most)
-        total += nodes
-        if best is not None and (shortest is None or p.makespan(best) < shortest):
-            shortest = p.makespan(best)
-            line = f"makespan {shortest} open {places(p, best)}\n"
-            text += told_as_json(p, total, best, "open") if is_json else line
+        nodes, verdict = 0, "open"
+        for nodes, best, verdict in looks(p, kind, most):
+            if best is not None and (shortest is None or p.makespan(best) < shortest):
+                shortest = p.makespan(best)
+                line = f"makespan {shortest} open {places(p, best)}\n"
+                text += told_as_json(p, ended + nodes, best, "open") if is_json else line
+        ended += nodes
         if verdict in DECIDED:
             break
     return text + (told_as_json(p, *together(p, kinds, most)) if is_json else solved(p, kinds, most))
