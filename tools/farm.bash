@@ -41,7 +41,7 @@ _farm() {
         ;;
     --port | --sessions | --nodes | --jobs | --seconds | --steps) return ;;
     --config | --from | --keep | --optima)
-        COMPREPLY=($(compgen -f -- "$word"))
+        mapfile -t COMPREPLY < <(compgen -f -- "$word")
         return
         ;;
     esac
@@ -54,7 +54,7 @@ _farm() {
         verify) words="--all --help" ;;
         draw) words="--order --help" ;;
         prove) words="--seconds --jobs --memory --conflicts --quiet --nodes --from --keep --solver --help" ;;
-        bench) words="--search --nodes --jobs --steps --prove --seconds --optima --schedules --resume --report --progress --quiet --help" ;;
+        bench) words="--search --nodes --jobs --steps --prove --seconds --optima --schedules --resume --join --total --report --progress --quiet --help" ;;
         replay) words="--config --strict --help" ;;
         serve) words="--config --port --sessions --help" ;;
         bound) words="--steps --help" ;;
@@ -66,7 +66,7 @@ _farm() {
     if [ -n "$words" ]; then
         COMPREPLY=($(compgen -W "$words" -- "$word"))
     else
-        COMPREPLY=($(compgen -f -- "$word"))
+        mapfile -t COMPREPLY < <(compgen -f -- "$word")
     fi
 }
 complete -o filenames -F _farm farm

@@ -27,6 +27,8 @@ complete -c farm -n "__fish_seen_subcommand_from bench" -l optima -r -d 'Known o
 complete -c farm -n "__fish_seen_subcommand_from bench" -l schedules -r -d 'A folder for the schedules'
 complete -c farm -n "__fish_seen_subcommand_from bench" -l resume -r -d 'Rows of an earlier run'
 complete -c farm -n "__fish_seen_subcommand_from bench" -l report -r -d 'A page of the rows'
+complete -c farm -n "__fish_seen_subcommand_from bench" -l join -r -d 'Rows to put side by side'
+complete -c farm -n "__fish_seen_subcommand_from bench" -l total -x -d 'The most seconds of all files'
 complete -c farm -n "__fish_seen_subcommand_from bench prove" -l seconds -x -d 'The most seconds'
 complete -c farm -n "__fish_seen_subcommand_from prove" -l memory -x -d 'The most megabytes of each solver'
 complete -c farm -n "__fish_seen_subcommand_from prove" -l conflicts -x -d 'The most conflicts of a worker'

@@ -45,7 +45,7 @@ _farm() {
     bench)
         _arguments '--search[searches]:search:_farm_searches' '--nodes[nodes]:nodes:' '--jobs[processes]:jobs:' '--steps[steps for each bound]:steps:' '--prove[run farm prove]' \
             '--seconds[the most seconds of a file]:seconds:' '--optima[known optima]:file:_files' '--schedules[folder for schedules]:folder:_files -/' \
-            '--resume[rows of an earlier run]:file:_files' '--report[a page of the rows]:file:_files' '--progress[tell progress]' \
+            '--resume[rows of an earlier run]:file:_files' '--join[rows to put side by side]:file:_files' '--total[the most seconds of all files]:seconds:' '--report[a page of the rows]:file:_files' '--progress[tell progress]' \
             '--quiet[tell nothing]' '--help[help]' '*:file or folder:_files'
         ;;
     prove)

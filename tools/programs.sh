@@ -11,7 +11,7 @@ find_program() {
     sources=$("$top/tools/digest" "$1") || return 1
     program=$top/dist/$1
     if line=$(dist_line "$1") && [ "$(echo "$line" | cut -d ' ' -f 3)" = "$sources" ]; then
-        if [ "$(sha256sum "$program" | cut -d ' ' -f 1)" = "$(echo "$line" | cut -d ' ' -f 2)" ]; then
+        if [ "$(sha256sum <"$program" | cut -d ' ' -f 1)" = "$(echo "$line" | cut -d ' ' -f 2)" ]; then
             origin="dist/$1, sha256 $(echo "$line" | cut -d ' ' -f 2)"
             return 0
         fi
