@@ -98,6 +98,13 @@ choose_memory() {
     memory=--memory=$half
 }
 
+# Sets FARM_MEMORY to the kilobytes that are free to this process, if faults are explained: `serve` warns if its journal may take more.
+export_free_memory() {
+    [ "${FARM_EXPLAIN-}" = 1 ] || return
+    choose_memory
+    [ -z "$free" ] || export FARM_MEMORY="${FARM_MEMORY-$free}"
+}
+
 # Runs the program until it ends, with a pipe as its standard input that ends on Ctrl-C, SIGTERM and SIGHUP: then it prints the best that it has. The pipe ends
 # with this shell too.
 launch() {

@@ -7,6 +7,12 @@ use std::io::Eprint;
 use std::str;
 use watched_io::explains;
 
+/// The kilobytes that the journal keeps of a submit of 202 activities, each in three modes.
+const PROJECT: u128 = 104;
+
+/// The variable of the kilobytes that are free, which `./farm` sets.
+const FREE: &str = "FARM_MEMORY";
+
 /// The entries of one job that runs `quanta` nodes, and of a request for its result.
 fn entries_of_job(quanta: u64, slice: u64) -> u128
     ensures { result ≡ entries_for (quanta / max slice 1) 1 1 }
@@ -38,5 +44,34 @@ pub(crate) fn tell_scarce_entries<R: Env + Eprint>(rt: &R, config: &Config) {
     for (tenant, line) in config.tenants().iter().enumerate() {
         let purse = config.purse_of(tenant as u32);
         tell_scarce(rt, line, config.granted(purse), config.slice());
+    }
+}
+
+/// The kilobytes that are free to this process, if `./farm` has found them out.
+fn free_memory<R: Env>(rt: &R) -> Option<u64> {
+    let mut value = [0u8; 20];
+    let length = rt.var(FREE, &mut value).ok()?;
+    let digits = value.get(..length)?;
+    str::from_utf8(digits).ok()?.parse::<u64>().ok()
+}
+
+/// Warns if the projects of all submits, as many as entries, can take more memory than is free.
+pub(crate) fn tell_large_journal<R: Env + Eprint>(rt: &R, config: &Config) {
+    if !explains(rt) {
+        return;
+    }
+    let Some(free) = free_memory(rt) else {
+        return;
+    };
+    let mut entries = 0u128;
+    for line in config.tenants() {
+        entries = entries.saturating_add(u128::from(line.entries));
+    }
+    let most = entries.saturating_mul(PROJECT);
+    if most > u128::from(free) {
+        let (most, free) = (most / 1000, free / 1000);
+        let _ = eprintln!(rt;
+            "farm: submits for all {entries} entries of the tenants can take {most} MB, and {free} MB are free"
+        );
     }
 }

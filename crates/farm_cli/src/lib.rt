@@ -8,7 +8,8 @@
 //! - `arguments`, `help`: the words of a command line, and the ends of help texts.
 //! - `input`, `summary`: the whole of an input; what a project holds, in one line.
 //! - `checking`, `replaying`: the commands over any reader and writer.
-//! - `entries`: which tenants have too few entries of the journal for their quanta.
+//! - `entries`: which tenants have too few entries of the journal for their quanta, and whether all
+//!   entries can take more memory than is free.
 //! - `program`: what each task does with files and standard output.
 //! - `laws`: the limits of a project and of a farm, in figures.
 #![tactic(auto)]

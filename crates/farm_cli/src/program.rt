@@ -3,7 +3,7 @@ ghost use Rattle.std.specs.Process.{exit_status};
 
 use crate::arguments::{Task, parse_words};
 use crate::checking::check_to;
-use crate::entries::tell_scarce_entries;
+use crate::entries::{tell_large_journal, tell_scarce_entries};
 use crate::input::read_whole;
 use crate::replaying::{ReplayLog, replay_to, tell_config_fault};
 use explain::{CommandWatches, open_path, told, why_no_port, why_words};
@@ -174,6 +174,7 @@ fn run_serve<
         return ExitCode::FAILURE;
     };
     tell_scarce_entries(rt, &config);
+    tell_large_journal(rt, &config);
     let listener = match TcpListener::bind(rt, SocketAddr::from((Ipv4Addr::LOCALHOST, port))) {
         Ok(listener) => listener,
         Err(error) => return end_unbound(rt, port, error.kind()),
