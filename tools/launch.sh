@@ -1,5 +1,5 @@
-# How `prove` is run, for ./farm and for what tools/install installs: by the program, which ends with its best on a signal, or by the script over a solver that
-# is installed; how much memory it may take; and whether words ask for help. `program` is the path of farm.
+# How `prove` is run, for ./farm and for what tools/install installs: by the program, which ends with its best on a signal, or by the script that has a solver
+# that is installed prove it once more; how much memory it may take; and whether words ask for help. `program` is the path of farm.
 
 # Whether the words ask for help.
 asks_for_help() {
@@ -18,7 +18,7 @@ asks_for_help() {
 asks_for_solver() {
     for word in "$@"; do
         case $word in
-        --solver | --solver=* | --keep | --keep=* | --from | --from=* | --nodes | --nodes=*) return ;;
+        --solver | --solver=* | --keep | --keep=*) return ;;
         esac
     done
     return 1

@@ -10,6 +10,7 @@ import os
 import resource
 import signal
 import subprocess
+import sys
 import tempfile
 import threading
 import time
@@ -36,6 +37,15 @@ class Ran:
 def die_with_parent():
     """In a child: has the system kill it when the thread that made it ends, so also when the script is killed."""
     LIBC.prctl(PR_SET_PDEATHSIG, signal.SIGKILL)
+
+
+def has_errors():
+    """Whether the standard error can be written. Where it is closed, another file may have its number."""
+    try:
+        os.write(2, b"")
+    except OSError:
+        return False
+    return sys.stderr is not None
 
 
 def end_on_signals():
