@@ -21,6 +21,7 @@ th {{ background: #f3f3f3; }} th:first-child, td:first-child {{ text-align: left
 </style></head><body>
 <h1>Tepchoum: <span class="{look}">{word}</span></h1>
 <p>{about}</p>
+<p>Ledgers and lines are the last that a client was answered.</p>
 <h2>Tenants</h2>
 {tenants}
 <h2>Jobs</h2>
