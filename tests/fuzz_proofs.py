@@ -147,9 +147,12 @@ class Expected:
         self.line, self.first, self.is_odd = line, plain_proofs.read(clauses, proof, True), is_odd(clauses, proof)
         self.may_hold = is_so and (self.first is None or self.is_odd or plain_proofs.read(clauses, proof, False) is None)
         self.must_hold = self.first is None and not self.is_odd
+        self.differs = self.first is None and plain_proofs.read_backwards(clauses, proof) is not None
 
     def fault(self, got):
         """What is wrong with what was got, or None."""
+        if self.differs:
+            return "a proof that the plain program accepts from its beginning, and not from its end"
         if (got.status, got.out, got.err) == (0, self.line, b""):
             return None if self.may_hold else "what is no proof was accepted"
         if got.status != 1 or got.out or not FAULT.fullmatch(got.err):

@@ -1,7 +1,8 @@
 #!/usr/bin/env python3
-"""Whether a proof in DRAT form refutes clauses, and its first step that is none or does not follow, from the first step to the last: a second program to compare with.
+"""Whether a proof in DRAT form refutes clauses: a second program to compare with.
 
-    plain_proofs.py CNF PROOF     'refuted', 'Word(N)', 'Unproved(N)' or 'Unfinished'
+    plain_proofs.py CNF PROOF              'refuted', 'Word(N)', 'Unproved(N)' or 'Unfinished'. It goes back from the empty clause, and checks the steps that were used
+    plain_proofs.py --forward CNF PROOF    the same, from the first step to the last: every step is checked, so it may take hours
 
 Written from docs/CERTIFICATES.md and docs/USE.md, and from the form of the files (Wetzler, Heule and Hunt 2014). A clause follows if its literals, all false, lead
 to a clause without a literal by unit propagation (Goldberg and Novikov 2003). What has become true by the clauses alone stays so when clauses are deleted.
@@ -150,11 +151,173 @@ def read(clauses, proof, is_checked):
     return "Unfinished"
 
 
+def key_of(clause):
+    return tuple(sorted(set(clause)))
+
+
+class Backward:
+    """The clauses, each with two watched literals, and `trail`: the literals that are true, in their order. Each has its place there, and the number of the clause
+    that made it true, or None if it was assumed."""
+
+    def __init__(self, clauses):
+        self.clauses, self.is_there, self.numbers, self.watches, self.units = [], [], {}, {}, []
+        self.trail, self.places, self.reasons, self.head, self.conflict = [], {}, {}, 0, None
+        for clause in clauses:
+            self.conflict = self.add(clause) if self.conflict is None else self.conflict
+
+    def is_false(self, literal):
+        return -literal in self.places
+
+    def add(self, clause):
+        """Adds a clause with the next number. Returns the number of a clause all of whose literals are false then, or None."""
+        number = len(self.clauses)
+        self.clauses.append(list(key_of(clause)))
+        self.is_there.append(False)
+        return self.put_in(number)
+
+    def put_in(self, number):
+        """As `add`, of a clause that has a number."""
+        own = self.clauses[number]
+        self.is_there[number] = True
+        self.numbers.setdefault(key_of(own), []).append(number)
+        # (what is not false is watched, and then what has become false last)
+        own.sort(key=lambda it: -self.places.get(-it, len(self.trail)))
+        if len(own) == 1:
+            self.units.append(number)
+        for literal in own[:2] if len(own) > 1 else []:
+            if number not in self.watches.setdefault(literal, []):
+                self.watches[literal].append(number)
+        left = [it for it in self.clauses[number] if not self.is_false(it)]
+        if not left:
+            return number
+        if len(left) == 1 and left[0] not in self.places:
+            self.make_true(left[0], number)
+        return self.propagate()
+
+    def take_out(self, number):
+        """Takes a clause away, and what it made true."""
+        self.is_there[number] = False
+        self.numbers[key_of(self.clauses[number])].remove(number)
+        made = [self.places[it] for it in self.clauses[number] if self.reasons.get(it) == number]
+        if made:
+            self.back_to(made[0])
+            self.head = 0
+            for unit in self.units:
+                if self.is_there[unit] and self.clauses[unit][0] not in self.places and not self.is_false(self.clauses[unit][0]):
+                    self.make_true(self.clauses[unit][0], unit)
+            self.propagate()
+
+    def delete(self, clause):
+        """Deletes the last of equal clauses, and returns its number; None if there is none, or it has made a literal true: that stays."""
+        equal = self.numbers.get(key_of(clause))
+        if not equal or any(self.reasons.get(it) == equal[-1] for it in self.clauses[equal[-1]]):
+            return None
+        self.is_there[equal[-1]] = False
+        return equal.pop()
+
+    def make_true(self, literal, reason):
+        self.places[literal], self.reasons[literal] = len(self.trail), reason
+        self.trail.append(literal)
+
+    def back_to(self, count):
+        while len(self.trail) > count:
+            literal = self.trail.pop()
+            del self.places[literal], self.reasons[literal]
+        self.head = min(self.head, count)
+
+    def propagate(self):
+        """Makes true what follows. Returns the number of a clause all of whose literals are false, or None."""
+        while self.head < len(self.trail):
+            false = -self.trail[self.head]
+            waiting, kept = self.watches.get(false, []), []
+            for at, number in enumerate(waiting):
+                own = self.clauses[number]
+                if not self.is_there[number] or false not in own[:2]:
+                    continue
+                if own[0] == false:
+                    own[0], own[1] = own[1], own[0]
+                other = next((place for place in range(2, len(own)) if not self.is_false(own[place])), None) if own[0] not in self.places else None
+                if other is not None:
+                    own[1], own[other] = own[other], own[1]
+                    self.watches.setdefault(own[1], []).append(number)
+                    continue
+                kept.append(number)
+                if self.is_false(own[0]):
+                    self.watches[false] = kept + waiting[at + 1 :]
+                    return number
+                if own[0] not in self.places:
+                    self.make_true(own[0], number)
+            self.watches[false] = kept
+            self.head += 1
+        return None
+
+    def mark(self, number, used):
+        """Marks a clause all of whose other literals are false, and what made them so."""
+        waiting, seen = [number], set()
+        while waiting:
+            number = waiting.pop()
+            used.add(number)
+            for literal in self.clauses[number]:
+                reason = self.reasons.get(-literal)
+                if reason is not None and -literal not in seen:
+                    seen.add(-literal)
+                    waiting.append(reason)
+
+    def follows(self, clause, used):
+        """Whether a clause follows from those that are there. Marks what it rests on."""
+        number, count = self.propagate(), len(self.trail)
+        for literal in clause if number is None else []:
+            if literal in self.places:
+                number = self.reasons[literal]
+                if number is not None:
+                    self.mark(number, used)
+                self.back_to(count)
+                return True
+            if not self.is_false(literal):
+                self.make_true(-literal, None)
+        number = self.propagate() if number is None else number
+        if number is not None:
+            self.mark(number, used)
+        self.back_to(count)
+        return number is not None
+
+
+def read_backwards(clauses, proof):
+    """As `read`, but that a step on which nothing rests is not checked."""
+    state, steps = Backward(clauses), []
+    try:
+        for is_deleted, clause, line in steps_of(proof) if state.conflict is None else []:
+            if is_deleted:
+                steps.append((True, state.delete(clause), line))
+                continue
+            steps.append((False, len(state.clauses), line))
+            state.conflict = state.add(clause)
+            if state.conflict is not None:
+                break
+    except NoStep as line:
+        return f"Word({line})"
+    if state.conflict is None:
+        return "Unfinished"
+    used = set()
+    state.mark(state.conflict, used)
+    for is_deleted, number, line in reversed(steps):
+        if is_deleted:
+            if number is not None:
+                state.put_in(number)
+            continue
+        state.take_out(number)
+        if number in used and not state.follows(state.clauses[number], used):
+            return f"Unproved({line})"
+    return None
+
+
 def main(words):
-    if len(words) != 2:
+    is_forward = words[:1] == ["--forward"]
+    if len(words) != 2 + is_forward:
         sys.exit(__doc__)
-    with open(words[0]) as dimacs, open(words[1], "rb") as proof:
-        print(read(clauses_of(dimacs.read()), proof.read(), True) or "refuted")
+    with open(words[is_forward]) as dimacs, open(words[is_forward + 1], "rb") as proof:
+        clauses, steps = clauses_of(dimacs.read()), proof.read()
+    print((read(clauses, steps, True) if is_forward else read_backwards(clauses, steps)) or "refuted")
 
 
 if __name__ == "__main__":
