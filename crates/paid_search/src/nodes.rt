@@ -1,12 +1,13 @@
-ghost use Rattle.std.specs.Prelude.{◌≡◌, ◌+◌, ℕ, false, IfOk, option_map};
+ghost use Rattle.std.specs.Prelude.{◌≡◌, ◌+◌, ◌<◌, ◌≤◌, ℕ, true, false, IfOk, option_map};
 ghost use Rattle.std.specs.Option.{option_copied};
 ghost use Rattle.mrcpsp.specs.Schedule.{makespan};
 ghost use Rattle.mrcpsp.specs.Values.{bound};
-ghost use Rattle.strategy.specs.Outcome.{best_after, all_run};
+ghost use Rattle.strategy.specs.Outcome.{best_after, all_run, is_closed};
 ghost use Rattle.strategy.specs.declared.plan.Plan.{Plan as PlanData};
 ghost use Rattle.strategy.specs.declared.kind.Kind.{Kind as KindData};
-ghost use Rattle.paid_search.specs.Paid.{GoesOn};
+ghost use Rattle.paid_search.specs.Paid.{GoesOn, RunsOn};
 
+use crate::shown::stops;
 use mrcpsp::Schedule;
 use std::alloc::{AllocError, Global};
 use strategy::Plan;
@@ -42,8 +43,27 @@ pub trait Nodes: Send + Drop {
     /// Runs one node, of fewer than `LEASE_LIMIT` before.
     fn advance(&mut self)
         requires { GoesOn stands self.old }
-        ensures { (plan : PlanData) (k : ℕ) → stands self.old plan k → all_run plan.project plan.kind k ≡ false
+        ensures { (plan : PlanData) (k : ℕ) → stands self.old plan k → is_closed plan k ≡ false
             → stands self.new plan (k + 1) };
+
+    /// Runs up to `most` nodes, and returns their number: fewer only if the search is over then.
+    fn run_nodes(&mut self, most: u64) -> u64
+        requires { RunsOn stands self.old most }
+        ensures most { result ≤ most }
+        ensures ran { (plan : PlanData) (k : ℕ) → stands self.old plan k → stands self.new plan (k + result) }
+        ensures going { (plan : PlanData) (k : ℕ) → stands self.old plan k
+            → (i : ℕ) → i < result → is_closed plan (k + i) ≡ false }
+        ensures over { (plan : PlanData) (k : ℕ) → stands self.old plan k
+            → result < most → is_closed plan (k + result) ≡ true }
+    {
+        let bound = self.bound();
+        let mut ran = 0;
+        while ran < most && !stops(self.makespan(), bound, self.all_run()) {
+            self.advance();
+            ran += 1;
+        }
+        ran
+    }
 
     fn take_best(&mut self) -> Option<Schedule>
         ensures { (plan : PlanData) (k : ℕ) → stands self.old plan k → result ≡ best_after plan k };

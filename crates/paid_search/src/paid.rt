@@ -3,7 +3,7 @@ ghost use Rattle.quanta_till.specs.Lease.{IsEmpty};
 ghost use Rattle.paid_search.specs.Paid.{fresh};
 
 use crate::Nodes;
-use crate::shown::{is_over, stops, verdict_by};
+use crate::shown::{is_over, verdict_by};
 use mrcpsp::Schedule;
 use quanta_till::{Lease, Owned};
 use std::alloc::Global;
@@ -128,14 +128,7 @@ impl<N: Nodes> Strategy for Paid<N> {
     }
 
     fn run(&mut self, most: u64) -> u64 {
-        let limit = most.min(self.lease.left());
-        let mut ran = 0;
-        let mut over = is_over(self.shown);
-        while ran < limit && !over {
-            self.run.advance();
-            over = stops(self.run.makespan(), self.bound, self.run.all_run());
-            ran += 1;
-        }
+        let ran = self.run.run_nodes(most.min(self.lease.left()));
         self.shown = verdict_by(
             self.plan.kind,
             self.run.makespan(),

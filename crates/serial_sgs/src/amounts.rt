@@ -5,16 +5,16 @@ ghost use Rattle.std.specs.Prelude.{◌≡◌, ℕ, ◌+◌, ◌<◌, ◌≤◌,
 
 use mrcpsp::MOST_RESOURCES;
 
-pub(crate) type Amounts = [u32; MOST_RESOURCES];
+pub type Amounts = [u32; MOST_RESOURCES];
 
 /// The most of a sum, below `GUARD`. It is enough: a nonrenewable resource needs at most
 /// `MOST_AMOUNT` for each activity, a renewable one at most its capacity in a period.
-pub(crate) const MOST_SUM: u32 = 2_000_000_000;
+pub const MOST_SUM: u32 = 2_000_000_000;
 
 /// The highest bit. A difference has it if more is subtracted than there is.
 const GUARD: u32 = 1 << 31;
 
-pub(crate) fn add(amounts: &mut Amounts, more: &Amounts)
+pub fn add(amounts: &mut Amounts, more: &Amounts)
     requires few { (r : ℕ) → r < MOST_RESOURCES → slice_index amounts.old r + slice_index more.now r ≤ MOST_SUM }
     ensures { (r : ℕ) → r < MOST_RESOURCES
         → slice_index amounts.new r ≡ slice_index amounts.old r + slice_index more.now r }
@@ -26,7 +26,7 @@ pub(crate) fn add(amounts: &mut Amounts, more: &Amounts)
     *amounts = sums;
 }
 
-pub(crate) fn subtract(amounts: &mut Amounts, less: &Amounts)
+pub fn subtract(amounts: &mut Amounts, less: &Amounts)
     requires enough { (r : ℕ) → r < MOST_RESOURCES → slice_index less.now r ≤ slice_index amounts.old r }
     ensures { (r : ℕ) → r < MOST_RESOURCES
         → slice_index amounts.old r ≡ slice_index amounts.new r + slice_index less.now r }

@@ -9,17 +9,19 @@
 //! - `order`, `members`, `waiting`: predecessors, sets of activities, who may come next.
 //! - `profile`, `walk`: the points at which the use changes; the earliest start among them.
 //! - `board`: `Board`.
+//!
+//! Another partial schedule, as that of `tree_search`, is made of the public parts.
 #![tactic(auto)]
 
-mod amounts;
+pub mod amounts;
 mod board;
-mod members;
-mod order;
+pub mod members;
+pub mod order;
 mod place;
 mod profile;
-mod rows;
-mod stock;
-mod sums;
+pub mod rows;
+pub mod stock;
+pub mod sums;
 mod waiting;
 mod walk;
 

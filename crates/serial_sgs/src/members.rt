@@ -2,7 +2,7 @@
 ghost use Rattle.std.specs.Prelude.{◌≡◌, ℕ, ◌*◌, ◌<◌, ◌≤◌, true, false, MatchOption};
 ghost use Rattle.serial_sgs.specs.Members.{has, IsNext, IsOver};
 
-pub(crate) fn put_in(words: &mut [u64; 4], activity: usize)
+pub fn put_in(words: &mut [u64; 4], activity: usize)
     requires { activity < 256 }
     ensures own { has words.new activity ≡ true }
     ensures others { (j : ℕ) → (j ≡ activity → ⊥) → has words.new j ≡ has words.old j }
@@ -10,7 +10,7 @@ pub(crate) fn put_in(words: &mut [u64; 4], activity: usize)
     words[activity / 64] |= 1 << (activity % 64);
 }
 
-pub(crate) fn take_out(words: &mut [u64; 4], activity: usize)
+pub fn take_out(words: &mut [u64; 4], activity: usize)
     requires { activity < 256 }
     ensures own { has words.new activity ≡ false }
     ensures others { (j : ℕ) → (j ≡ activity → ⊥) → has words.new j ≡ has words.old j }
@@ -56,7 +56,7 @@ fn first_in(words: &[u64; 4], first: usize, end: usize) -> Option<usize>
 }
 
 /// The least member, `from` or later. Words from `end` on are not looked at.
-pub(crate) fn next_in(words: &[u64; 4], from: usize, end: usize) -> Option<usize>
+pub fn next_in(words: &[u64; 4], from: usize, end: usize) -> Option<usize>
     requires from { from < 256 }
     requires end { end ≤ 256 }
     ensures { MatchOption result (IsOver words.now from end) (IsNext words.now from) }

@@ -15,22 +15,22 @@ use std::alloc::{AllocError, Global};
 
 /// A `ModeRow` is what an activity takes in a mode, 0 of each resource that is not there.
 #[derive(Clone, Copy, Debug)]
-pub(crate) struct ModeRow {
+pub struct ModeRow {
     /// The consumption beyond the activity's least one.
-    pub(crate) extra: Amounts,
+    pub extra: Amounts,
     /// The use in each period of the activity.
-    pub(crate) request: Amounts,
+    pub request: Amounts,
     /// In periods.
-    pub(crate) duration: u32,
+    pub duration: u32,
     /// Whether it fits into an idle project.
-    pub(crate) is_executable: bool,
+    pub is_executable: bool,
 }
 
 #[derive(Drop)]
-pub(crate) struct Rows {
+pub struct Rows {
     rows: Vec<Sequence<ModeRow>>,
-    pub(crate) capacities: Amounts,
-    pub(crate) stocks: Amounts,
+    pub capacities: Amounts,
+    pub stocks: Amounts,
 }
 
 fn requests_of(project: &Project, activity: usize, mode: usize) -> Amounts
@@ -136,11 +136,7 @@ fn stocks_of(project: &Project) -> Amounts
 }
 
 impl Rows {
-    pub(crate) fn of(
-        alloc: Global,
-        project: &Project,
-        measures: &Measures,
-    ) -> Result<Rows, AllocError>
+    pub fn of(alloc: Global, project: &Project, measures: &Measures) -> Result<Rows, AllocError>
         requires project { IsProject project.now }
         requires measured { measures.now ≡ measures_of project.now }
         ensures { IfOk result (IsTable project.now) }
@@ -152,20 +148,20 @@ impl Rows {
         })
     }
 
-    pub(crate) fn size(&self) -> usize
+    pub fn size(&self) -> usize
         ensures { (p : ProjectData) → IsTable p self.now → result ≡ size p }
     {
         self.rows.len()
     }
 
-    pub(crate) fn count(&self, activity: usize) -> usize
+    pub fn count(&self, activity: usize) -> usize
         requires { (p : ProjectData) × IsTable p self.now × (activity < size p) }
         ensures { (p : ProjectData) → IsTable p self.now → activity < size p → result ≡ mode_count p activity }
     {
         self.rows[activity].as_slice().len()
     }
 
-    pub(crate) fn row(&self, activity: usize, mode: usize) -> &ModeRow
+    pub fn row(&self, activity: usize, mode: usize) -> &ModeRow
         requires { (p : ProjectData) × IsTable p self.now × (activity < size p) × (mode < mode_count p activity) }
         ensures { (p : ProjectData) → IsTable p self.now → activity < size p → mode < mode_count p activity
             → IsRow p activity mode result.now }

@@ -4,11 +4,11 @@ use Rattle.tree_search.proofs.cursor.first_candidate.Goals as goal
 
 pub returns-in_err-activity : goal.returns-in_err-activity
 returns-in_err-activity c =
-    rw c.from_residual.ensures (from-none c.args.board.now.project c.args.board.now.placed c.args.from c.requires c.in_err-activity.ensures)
+    rw c.from_residual.ensures (from-none c.args.path.now.project c.args.path.now.placed c.args.from c.requires c.in_err-activity.ensures)
 
 pub returns : goal.returns
 returns c =
-    let p = c.args.board.now.project in
+    let p = c.args.path.now.project in
     let found = c.in_ok-activity.ensures in (
       record {
         activity = found.inside;
@@ -16,5 +16,5 @@ returns c =
         few = omega arith;
         eligible = found.eligible;
       },
-      from-next p c.args.board.now.placed c.args.from c.in_ok-activity.activity found.above found.first,
+      from-next p c.args.path.now.placed c.args.from c.in_ok-activity.activity found.above found.first,
     )

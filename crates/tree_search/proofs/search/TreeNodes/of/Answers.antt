@@ -14,15 +14,15 @@ use Rattle.tree_search.proofs.search.TreeNodes.of.Goals as goal
 pub returns : goal.returns
 returns c =
     let p = c.args.plan.now.project in
-    let none : c.in_ok-board.board.placed ≡ [] = ap (λ (b : BoardData). b.placed) c.in_ok-board.ensures in
-    let own : c.board.inside.project ≡ p = ap (λ (b : BoardData). b.project) (c.board.view_is ∙ c.in_ok-board.ensures) in
-    let project : IsProject p = subst (λ (q : ProjectData). IsProject q) own c.board.invariant.board.project in
+    let none : c.in_ok-path.path.placed ≡ [] = ap (λ (b : BoardData). b.placed) c.in_ok-path.ensures in
+    let own : c.path.inside.project ≡ p = ap (λ (b : BoardData). b.project) (c.path.view_is ∙ c.in_ok-path.ensures) in
+    let project : IsProject p = subst (λ (q : ProjectData). IsProject q) own c.path.invariant.board.project in
     let one : c.push_reserved.new.self.items ≡ first_cursor ∷ [] = c.push_reserved.ensures.items ∙ ap (λ (cs : List Cursor). cs ++ first_cursor ∷ []) c.in_ok-cursors.ensures.items in
     let found = c.in_ok-incumbent.incumbent.found in
     record {
       kind = c.requires;
       tree = record {
-        own = ap (λ (b : BoardData). b.project) c.in_ok-board.ensures;
+        own = ap (λ (b : BoardData). b.project) c.in_ok-path.ensures;
         measured = c.in_ok-measures.ensures;
         reserved = omega (arith, c.push_reserved.ensures.capacity, c.in_ok-cursors.ensures.exact, c.size-size.ensures.exact);
         early = subst (λ (xs : List Placed). IsEarly p xs) (sym none) (early_nil p);

@@ -1,0 +1,576 @@
+-- The stages of a path, as one more is placed or the last one is taken back.
+use Rattle.std.proofs.Common.{◌≡◌, ℕ, zero, suc, ◌+◌, ◌*◌, ◌-◌, ◌/◌, ◌%◌, ◌<◌, ◌≤◌, ◌==◌, ◌↔◌, ◌||◌, nat_lt, cond, Bool, true, false, List, [], ◌∷◌, ◌++◌, IsTrue, length, map, get_or, set, take, length-set, take_all, All, arith, refl, sym, ap, ◌∙◌, subst, ⊎_elim, Option, None, Some, MatchOption}
+use Rattle.std.specs.List.{slice_range, list_any, range_with_len}
+use Rattle.std.proofs.lemmas.Bool.{both_ways, cases_lt, cases_eq, cases_Bool, eqb-true, eqb-false, eq-eqb, ne_eqb, or_cases, or_left, or_right, or_parts}
+use Rattle.std.proofs.lemmas.List.{take-append-le, take_more, length-take-le, get_or-take, get_or_append_left, get_or_push, length_push, get_or-set_same, get_or-set_other}
+use Rattle.std.proofs.lemmas.Nat.Bits.{bit_at-zero}
+use Rattle.std.proofs.lemmas.List.Elements.{All-nil}
+use Rattle.std.proofs.lemmas.List.Recursion.{or_push}
+use Rattle.std.proofs.lemmas.List.FromFn.{get_or-map-range_with_len}
+use Rattle.mrcpsp.specs.Numbers.{sum_below}
+use Rattle.mrcpsp.specs.Limits.{IsProject}
+use Rattle.mrcpsp.specs.Project.{ProjectData, size, mode_count, consumption, stock, precedes}
+use Rattle.mrcpsp.specs.Values.{least}
+use Rattle.mrcpsp.specs.Placed.{Placed, finish_of, is_allowed, is_placed, is_eligible, is_affordable, last_start, mode_in, start_in}
+use Rattle.mrcpsp.proofs.PlacedLemmas.{each_is_placed, is_placed_push, last_start_push, looked_up}
+use Rattle.mrcpsp.proofs.ProjectLemmas.{precedes-rising}
+use Rattle.mrcpsp.proofs.EarliestLemmas.{eligible-unplaced, eligible-after, eligible-from}
+use Rattle.serial_sgs.specs.Board.{IsBoard, IsInside, IsNextEligible, NoneEligible, needed_of}
+use Rattle.serial_sgs.specs.Members.{has, IsNext, IsOver}
+use Rattle.serial_sgs.specs.Order.{AreReadied, AreRenewed, HasAfter, HasBefore, IsBefore, IsLatest, missing_of}
+use Rattle.serial_sgs.specs.Rows.{IsRow, IsTable}
+use Rattle.serial_sgs.specs.declared.rows.ModeRow.{ModeRow}
+use Rattle.serial_sgs.specs.declared.rows.Rows.{Rows}
+use Rattle.serial_sgs.proofs.BoardLemmas.{board_empty, board_push, board_pop, duration_small, ineligible, ineligible_after}
+use Rattle.serial_sgs.proofs.OrderLemmas.{AreNoted, noted_push, noted_pop, readied_push, readied_pop, all_there, there_all}
+use Rattle.serial_sgs.proofs.RowLemmas.{capacity_small, consumption_small, stock_small}
+use Rattle.serial_sgs.proofs.StockLemmas.{needed_push, alone_at_end, affordable_unplaced, amounts_small}
+use Rattle.tree_search.specs.declared.front.Running.{Running}
+use Rattle.tree_search.specs.declared.path.Stage.{Stage}
+use Rattle.tree_search.specs.Front.{IsFrontOf, IsRising, left_at}
+use Rattle.tree_search.specs.Path.{AreDone, AreStages, HasEntered, IsPath, IsStage, WereEligible, no_stage, triangle}
+use Rattle.tree_search.proofs.FrontLemmas.{empty_range, range_before, range_kept}
+use Rattle.tree_search.proofs.NodeLemmas.{last_start_none}
+use Rattle.tree_search.proofs.PlacedLemmas.{front_enough, front_first, front_most, front_push}
+
+pub triangle_rises : (i k : ℕ) → i ≤ k → triangle i ≤ triangle k
+triangle_rises i zero l = let none : i ≡ 0 = omega arith in rw none (omega arith)
+triangle_rises i (suc k) l =
+    ⊎_elim
+    (λ (e : i ≡ suc k). rw e (omega arith))
+    (λ (ne : i ≡ suc k → ⊥). omega (arith, triangle_rises i k (omega arith)))
+    (cases_eq i (suc k))
+
+pub triangle_next : (n : ℕ) → triangle (n + 1) ≡ triangle n + n + 1
+triangle_next n = let next : n + 1 ≡ suc n = omega arith in rw next (omega arith)
+
+pub triangle_small : (n : ℕ) → n ≤ 202 → triangle n ≤ n * 203
+triangle_small zero l = omega arith
+triangle_small (suc n) l = omega (arith, triangle_small n (omega arith))
+
+-- ---- who is placed
+
+placed_take : (placed : List Placed) (k j : ℕ) → is_placed (take k placed) j ≡ true → is_placed placed j ≡ true
+placed_take [] zero j e = e
+placed_take [] (suc k) j e = e
+placed_take (a ∷ placed) zero j e = absurd (both_ways false refl e)
+placed_take (a ∷ placed) (suc k) j e =
+    ⊎_elim
+    (λ (here : (a.activity == j) ≡ true). or_left (a.activity == j) (is_placed placed j) here)
+    (λ (there : is_placed (take k placed) j ≡ true). or_right (a.activity == j) (is_placed placed j) (placed_take placed k j there))
+    (or_cases (a.activity == j) (is_placed (take k placed) j) e)
+
+placed_where : (placed : List Placed) (j : ℕ) (d : Placed) → is_placed placed j ≡ true → (k : ℕ) × (k < length placed) × ((get_or placed k d).activity ≡ j)
+placed_where [] j d e = absurd (both_ways false refl e)
+placed_where (a ∷ placed) j d e =
+    ⊎_elim
+    (λ (here : (a.activity == j) ≡ true). (zero, omega arith, eqb-true a.activity j here))
+    (λ (there : is_placed placed j ≡ true). let (k, l, is) = placed_where placed j d there in (suc k, omega arith, is))
+    (or_cases (a.activity == j) (is_placed placed j) e)
+
+-- who comes after one that is not placed is not placed
+pub unplaced_after : (p : ProjectData) (placed : List Placed) (i j : ℕ) (d : Placed) → WereEligible p placed → i < size p → precedes p i j ≡ true → is_placed placed i ≡ false → is_placed placed j ≡ false
+unplaced_after p placed i j d entered inside first missing =
+    ⊎_elim
+    (λ (e : is_placed placed j ≡ true).
+    let (k, l, is) = placed_where placed j d e in
+    let may : is_eligible p (take k placed) j ≡ true = subst (λ (x : ℕ). is_eligible p (take k placed) x ≡ true) is (entered k d l) in
+    absurd (both_ways (is_placed placed i) missing (placed_take placed k i (eligible-after p (take k placed) i j may inside first))))
+    (λ e. e)
+    (cases_Bool (is_placed placed j))
+
+pub entered_push : (p : ProjectData) (placed : List Placed) (a : Placed) → WereEligible p placed → is_eligible p placed a.activity ≡ true → WereEligible p (placed ++ a ∷ [])
+entered_push p placed a entered may k d l =
+    ⊎_elim
+    (λ (before : k < length placed). rw (get_or_append_left placed (a ∷ []) d k before, take-append-le k placed (a ∷ []) (omega arith)) (entered k d before))
+    (λ (over : length placed ≤ k).
+    let last : length placed ≡ k = omega (arith, length_push placed a) in
+    rw (get_or_push placed a d k last, take-append-le k placed (a ∷ []) (omega arith), take_all k placed (omega arith)) may)
+    (cases_lt k (length placed))
+
+pub entered_pop : (p : ProjectData) (placed : List Placed) (a : Placed) → WereEligible p (placed ++ a ∷ []) → WereEligible p placed
+entered_pop p placed a entered k d l =
+    rw (get_or_append_left placed (a ∷ []) d k l, take-append-le k placed (a ∷ []) (omega arith)) at (entered k d (omega (arith, length_push placed a)))
+
+-- ---- who is eligible with one more
+
+-- in a row of predecessors all are done exactly if all are placed
+pub done_placed : (p : ProjectData) (placed : List Placed) (j : ℕ) (before ends : List ℕ) → IsBoard (record { project = p; placed = placed }) → IsBefore p j (size p) before → AreNoted p placed ends → ((i : ℕ) → i < size p → is_placed placed i ≡ false → get_or ends i 0 ≡ 4294967295) → AreDone before ends → (i : ℕ) → i < size p → precedes p i j ≡ true → is_placed placed i ≡ true
+done_placed p placed j before ends board names noted never done i inside first =
+    let (k, l, is) = names.all i inside first in
+    ⊎_elim
+    (λ (e : is_placed placed i ≡ true). e)
+    (λ (e : is_placed placed i ≡ false). absurd (omega (arith, done k l, ap (λ (x : ℕ). get_or ends x 0) is, never i inside e)))
+    (cases_Bool (is_placed placed i))
+
+pub placed_done : (p : ProjectData) (placed : List Placed) (j : ℕ) (before ends : List ℕ) → IsBoard (record { project = p; placed = placed }) → IsBefore p j (size p) before → AreNoted p placed ends → ((i : ℕ) → i < size p → precedes p i j ≡ true → is_placed placed i ≡ true) → AreDone before ends
+placed_done p placed j before ends board names noted there k l =
+    let i : ℕ = get_or before k 0 in
+    let name = names.each k l in
+    looked_up (λ x m t. get_or ends x 0 < 4294967295) placed i (λ n d inside.
+    let a = get_or placed n d in
+    let known : IsInside p a = board.inside n d inside in
+    omega (arith, noted n d inside, known.start, duration_small p a.activity a.mode board.project known.activity known.mode))
+    (there i name.0 name.1)
+
+-- one that does not wait for the new one stays as it was
+pub eligible_beside : (p : ProjectData) (placed : List Placed) (a : Placed) (j : ℕ) → a.activity < size p → (j ≡ a.activity → ⊥) → precedes p a.activity j ≡ false → is_eligible p (placed ++ a ∷ []) j ≡ is_eligible p placed j
+eligible_beside p placed a j inside ne apart =
+    let other : (a.activity == j) ≡ false = ⊎_elim (λ (e : (a.activity == j) ≡ true). absurd (ne (sym (eqb-true a.activity j e)))) (λ e. e) (cases_Bool (a.activity == j)) in
+    let still : (i : ℕ) → is_placed placed i ≡ true → is_placed (placed ++ a ∷ []) i ≡ true = λ i e. is_placed_push placed a i ∙ or_left (is_placed placed i) (a.activity == i) e in
+    let mine : is_placed (placed ++ a ∷ []) j ≡ is_placed placed j = is_placed_push placed a j ∙ or_no (is_placed placed j) (a.activity == j) other in
+    ⊎_elim
+    (λ (may : is_eligible p placed j ≡ true). eligible-from p (placed ++ a ∷ []) j (mine ∙ eligible-unplaced p placed j may) (λ i l first. still i (eligible-after p placed i j may l first)) ∙ sym may)
+    (λ (not_yet : is_eligible p placed j ≡ false).
+    ⊎_elim
+    (λ (now : is_eligible p (placed ++ a ∷ []) j ≡ true).
+    absurd (both_ways (is_eligible p placed j) not_yet (eligible-from p placed j (sym mine ∙ eligible-unplaced p (placed ++ a ∷ []) j now)
+    (λ i l first.
+    ⊎_elim
+    (λ (before : is_placed placed i ≡ true). before)
+    (λ (own : (a.activity == i) ≡ true). absurd (both_ways (precedes p a.activity j) apart (ap (λ (x : ℕ). precedes p x j) (eqb-true a.activity i own) ∙ first)))
+    (or_cases (is_placed placed i) (a.activity == i) (sym (is_placed_push placed a i) ∙ eligible-after p (placed ++ a ∷ []) i j now l first))))))
+    (λ e. e ∙ sym not_yet)
+    (cases_Bool (is_eligible p (placed ++ a ∷ []) j)))
+    (cases_Bool (is_eligible p placed j))
+  where
+    or_no : (x y : Bool) → y ≡ false → (x || y) ≡ x
+    or_no true y e = refl
+    or_no false y e = e
+
+-- what is needed of `HasEntered`, in the words of the project
+pub record Entered (p : ProjectData) (placed : List Placed) (a : Placed) (now : List ℕ) : Type 0 where
+  pub eligible : (j : ℕ) → j < size p → has now j ≡ is_eligible p (placed ++ a ∷ []) j
+  pub others : (j : ℕ) → size p ≤ j → j < 256 → has now j ≡ false
+
+at_any : (xs : List ℕ) (j : ℕ) → list_any (λ s. s == j) xs ≡ true → (k : ℕ) × (k < length xs) × (get_or xs k 0 ≡ j)
+at_any [] j e = absurd (both_ways false refl e)
+at_any (x ∷ xs) j e =
+    ⊎_elim
+    (λ (here : (x == j) ≡ true). (zero, omega arith, eqb-true x j here))
+    (λ (later : list_any (λ s. s == j) xs ≡ true). let (k, l, is) = at_any xs j later in (suc k, omega arith, is))
+    (or_cases (x == j) (list_any (λ s. s == j) xs) e)
+
+unlisted : (n : ℕ) (xs : List ℕ) (j : ℕ) → All (λ s. s < n) xs → n ≤ j → list_any (λ s. s == j) xs ≡ false
+unlisted n xs j below past =
+    ⊎_elim
+    (λ (e : list_any (λ s. s == j) xs ≡ true). let (k, l, is) = at_any xs j e in absurd (omega (arith, below k 0 l, is, past)))
+    (λ e. e)
+    (cases_Bool (list_any (λ s. s == j) xs))
+
+pub entered_now : (p : ProjectData) (placed : List Placed) (a : Placed) (table afters : List (List ℕ)) (ends words less now readies later : List ℕ) → IsBoard (record { project = p; placed = placed ++ a ∷ [] }) → WereEligible p placed → a.activity < size p → is_placed placed a.activity ≡ false → HasBefore p (size p) table → HasAfter p (size p) afters → AreNoted p (placed ++ a ∷ []) ends → ((i : ℕ) → i < size p → is_placed (placed ++ a ∷ []) i ≡ false → get_or ends i 0 ≡ 4294967295) → ((j : ℕ) → j < size p → has words j ≡ is_eligible p placed j) → ((j : ℕ) → size p ≤ j → j < 256 → has words j ≡ false) → has less a.activity ≡ false → ((j : ℕ) → (j ≡ a.activity → ⊥) → has less j ≡ has words j) → HasEntered (get_or afters a.activity []) table ends less readies now later → Entered p placed a now
+entered_now p placed a table afters ends words less now readies later board entered inside new before after noted never was none gone kept has_entered =
+    let x : ℕ = a.activity in
+    let whole : List Placed = placed ++ a ∷ [] in
+    let mine = after.each x inside in
+    record {
+      eligible = λ j l.
+          ⊎_elim
+          (λ (first : precedes p x j ≡ true).
+          let listed : list_any (λ s. s == j) (get_or afters x []) ≡ true = mine.members j l ∙ first in
+          let (k, at, is) = at_any (get_or afters x []) j listed in
+          let ne : j ≡ x → ⊥ = λ e. let rises : x < j = (precedes-rising p x j board.project first).0 in omega (arith, e, rises) in
+          let names : IsBefore p j (size p) (get_or table j []) = before.each j l in
+          let waited : has less j ≡ false = kept j ne ∙ was j l ∙ ineligible_after p placed x j inside first new in
+          let unplaced : is_placed whole j ≡ false = is_placed_push placed a j ∙ or_two (is_placed placed j) (x == j) (unplaced_after p placed x j a entered inside first new) (not_same x j ne) in
+          ⊎_elim
+          (λ (none_missing : missing_of p whole j ≡ 0).
+          let there : (i : ℕ) → i < size p → precedes p i j ≡ true → is_placed whole i ≡ true = λ i among before_it. there_all p whole i j none_missing among before_it in
+          let done : AreDone (get_or table j []) ends = placed_done p whole j (get_or table j []) ends board names noted there in
+          let done_at : AreDone (get_or table (get_or (get_or afters x []) k 0) []) ends = subst (λ (s : ℕ). AreDone (get_or table s []) ends) (sym is) done in
+          ap (has now) (sym is) ∙ (has_entered.ready k at done_at).0 ∙ sym (eligible-from p whole j unplaced there))
+          (λ (some_missing : missing_of p whole j ≡ 0 → ⊥).
+          let undone : AreDone (get_or table (get_or (get_or afters x []) k 0) []) ends → ⊥ =
+          λ done. some_missing (all_there p whole j (done_placed p whole j (get_or table j []) ends board names noted never (subst (λ (s : ℕ). AreDone (get_or table s []) ends) is done))) in
+          ap (has now) (sym is) ∙ has_entered.waiting k at undone ∙ ap (has less) is ∙ waited
+          ∙ sym (⊎_elim (λ (e : is_eligible p whole j ≡ true). absurd (some_missing (all_there p whole j (λ i among before_it. eligible-after p whole i j e among before_it)))) (λ e. e) (cases_Bool (is_eligible p whole j))))
+          (cases_eq (missing_of p whole j) 0))
+          (λ (apart : precedes p x j ≡ false).
+          let beside : has now j ≡ has less j = (has_entered.others j (mine.members j l ∙ apart)).0 in
+          ⊎_elim
+          (λ (e : j ≡ x). beside ∙ ap (has less) e ∙ gone ∙ sym (ineligible p whole j (is_placed_push placed a j ∙ or_right (is_placed placed j) (x == j) (eq-eqb x j (sym e)))))
+          (λ (ne : j ≡ x → ⊥). beside ∙ kept j ne ∙ was j l ∙ sym (eligible_beside p placed a j inside ne apart))
+          (cases_eq j x))
+          (cases_Bool (precedes p x j));
+      others = λ j past below.
+          (has_entered.others j (unlisted (size p) (get_or afters x []) j mine.others.inside past)).0 ∙ kept j (omega (arith, past, inside)) ∙ none j past below;
+    }
+  where
+    or_two : (x y : Bool) → x ≡ false → y ≡ false → (x || y) ≡ false
+    or_two x y e h = rw (e, h) refl
+
+    not_same : (x j : ℕ) → (j ≡ x → ⊥) → (x == j) ≡ false
+    not_same x j ne = ⊎_elim (λ (e : (x == j) ≡ true). absurd (ne (sym (eqb-true x j e)))) (λ e. e) (cases_Bool (x == j))
+
+-- ---- who enters, one after the other
+
+pub entered_none : (table : List (List ℕ)) (ends words readies : List ℕ) → HasEntered [] table ends words readies words readies
+entered_none table ends words readies = record {
+  count = refl;
+  ready = λ k l. absurd (omega arith);
+  waiting = λ k l. absurd (omega arith);
+  others = λ j _. (refl, refl);
+}
+
+listed_next : (after : List ℕ) (i j : ℕ) → i < length after → list_any (λ s. s == j) (take (i + 1) after) ≡ (list_any (λ s. s == j) (take i after) || (get_or after i 0 == j))
+listed_next after i j inside =
+    ap (list_any (λ s. s == j)) (take_more after i 0 inside) ∙ or_push (λ xs. list_any (λ s. s == j) xs) (λ s. s == j) refl (λ _ _. refl) (take i after) (get_or after i 0)
+
+-- the next one in the list, whose predecessors are all placed
+pub entered_next : (after : List ℕ) (table : List (List ℕ)) (ends words readies now later more : List ℕ) (i x latest : ℕ) → i < length after → x ≡ get_or after i 0 → x < length later → IsLatest (get_or table x []) ends latest → has more x ≡ true → ((j : ℕ) → (j ≡ x → ⊥) → has more j ≡ has now j) → AreDone (get_or table x []) ends → HasEntered (take i after) table ends words readies now later → HasEntered (take (i + 1) after) table ends words readies more (set later x latest)
+entered_next after table ends words readies now later more i x latest inside is among fresh own rest done was =
+    let short : length (take (i + 1) after) ≡ i + 1 = length-take-le (i + 1) after (omega (arith, inside)) in
+    let at : (k : ℕ) → k < i + 1 → get_or (take (i + 1) after) k 0 ≡ get_or after k 0 = λ k l. get_or-take (i + 1) after k 0 l in
+    let earlier : (k : ℕ) → k < i → get_or (take i after) k 0 ≡ get_or after k 0 = λ k l. get_or-take i after k 0 l in
+    let before : length (take i after) ≡ i = length-take-le i after (omega (arith, inside)) in
+    record {
+      count = length-set later x latest ∙ was.count;
+      ready = λ k l all.
+          ⊎_elim
+          (λ (e : get_or (take (i + 1) after) k 0 ≡ x). rw (e, get_or-set_same later x latest 0 among) (own, fresh))
+          (λ (ne : get_or (take (i + 1) after) k 0 ≡ x → ⊥).
+          let m : k < i + 1 = omega (arith, l, short) in
+          let lower : k < i = ⊎_elim (λ (e : k ≡ i). absurd (ne (at k m ∙ ap (λ (n : ℕ). get_or after n 0) e ∙ sym is))) (λ (other : k ≡ i → ⊥). omega (arith, m)) (cases_eq k i) in
+          let same : get_or (take (i + 1) after) k 0 ≡ get_or (take i after) k 0 = at k m ∙ sym (earlier k lower) in
+          rw (rest (get_or (take (i + 1) after) k 0) ne, get_or-set_other later x (get_or (take (i + 1) after) k 0) latest 0 ne)
+          (subst (λ (s : ℕ). (has now s ≡ true) × IsLatest (get_or table s []) ends (get_or later s 0)) (sym same) (was.ready k (omega (arith, lower, before)) (subst (λ (s : ℕ). AreDone (get_or table s []) ends) same all))))
+          (cases_eq (get_or (take (i + 1) after) k 0) x);
+      waiting = λ k l undone.
+          ⊎_elim
+          (λ (e : get_or (take (i + 1) after) k 0 ≡ x). absurd (undone (rw e done)))
+          (λ (ne : get_or (take (i + 1) after) k 0 ≡ x → ⊥).
+          let m : k < i + 1 = omega (arith, l, short) in
+          let lower : k < i = ⊎_elim (λ (e : k ≡ i). absurd (ne (at k m ∙ ap (λ (n : ℕ). get_or after n 0) e ∙ sym is))) (λ (other : k ≡ i → ⊥). omega (arith, m)) (cases_eq k i) in
+          let same : get_or (take (i + 1) after) k 0 ≡ get_or (take i after) k 0 = at k m ∙ sym (earlier k lower) in
+          rest (get_or (take (i + 1) after) k 0) ne
+          ∙ subst (λ (s : ℕ). has now s ≡ has words s) (sym same) (was.waiting k (omega (arith, lower, before)) (λ all. undone (subst (λ (s : ℕ). AreDone (get_or table s []) ends) (sym same) all))))
+          (cases_eq (get_or (take (i + 1) after) k 0) x);
+      others = λ j apart.
+          let parts = or_parts (list_any (λ s. s == j) (take i after)) (get_or after i 0 == j) (sym (listed_next after i j inside) ∙ apart) in
+          let ne : j ≡ x → ⊥ = λ e. eqb-false (get_or after i 0) j parts.1 (sym (e ∙ is)) in
+          let other = was.others j parts.0 in
+          (rest j ne ∙ other.0, get_or-set_other later x j latest 0 ne ∙ other.1);
+    }
+
+-- the next one in the list, of whose predecessors one is missing
+pub entered_later : (after : List ℕ) (table : List (List ℕ)) (ends words readies now later : List ℕ) (i x : ℕ) → i < length after → x ≡ get_or after i 0 → (AreDone (get_or table x []) ends → ⊥) → HasEntered (take i after) table ends words readies now later → HasEntered (take (i + 1) after) table ends words readies now later
+entered_later after table ends words readies now later i x inside is undone was =
+    let short : length (take (i + 1) after) ≡ i + 1 = length-take-le (i + 1) after (omega (arith, inside)) in
+    let at : (k : ℕ) → k < i + 1 → get_or (take (i + 1) after) k 0 ≡ get_or after k 0 = λ k l. get_or-take (i + 1) after k 0 l in
+    let earlier : (k : ℕ) → k < i → get_or (take i after) k 0 ≡ get_or after k 0 = λ k l. get_or-take i after k 0 l in
+    let before : length (take i after) ≡ i = length-take-le i after (omega (arith, inside)) in
+    let still : has now x ≡ has words x =
+    ⊎_elim
+    (λ (listed : list_any (λ s. s == x) (take i after) ≡ true).
+    let (n, within, same) = at_any (take i after) x listed in
+    subst (λ (s : ℕ). has now s ≡ has words s) same (was.waiting n within (λ all. undone (subst (λ (s : ℕ). AreDone (get_or table s []) ends) same all))))
+    (λ (apart : list_any (λ s. s == x) (take i after) ≡ false). (was.others x apart).0)
+    (cases_Bool (list_any (λ s. s == x) (take i after))) in
+    record {
+      count = was.count;
+      ready = λ k l all.
+          let m : k < i + 1 = omega (arith, l, short) in
+          let lower : k < i = ⊎_elim (λ (e : k ≡ i). absurd (undone (subst (λ (s : ℕ). AreDone (get_or table s []) ends) (at k m ∙ ap (λ (n : ℕ). get_or after n 0) e ∙ sym is) all))) (λ (other : k ≡ i → ⊥). omega (arith, m)) (cases_eq k i) in
+          let same : get_or (take (i + 1) after) k 0 ≡ get_or (take i after) k 0 = at k m ∙ sym (earlier k lower) in
+          subst (λ (s : ℕ). (has now s ≡ true) × IsLatest (get_or table s []) ends (get_or later s 0)) (sym same) (was.ready k (omega (arith, lower, before)) (subst (λ (s : ℕ). AreDone (get_or table s []) ends) same all));
+      waiting = λ k l not_done.
+          let m : k < i + 1 = omega (arith, l, short) in
+          ⊎_elim
+          (λ (e : k ≡ i). let here : get_or (take (i + 1) after) k 0 ≡ x = at k m ∙ ap (λ (n : ℕ). get_or after n 0) e ∙ sym is in rw here still)
+          (λ (other : k ≡ i → ⊥).
+          let lower : k < i = omega (arith, m) in
+          let same : get_or (take (i + 1) after) k 0 ≡ get_or (take i after) k 0 = at k m ∙ sym (earlier k lower) in
+          subst (λ (s : ℕ). has now s ≡ has words s) (sym same) (was.waiting k (omega (arith, lower, before)) (λ all. not_done (subst (λ (s : ℕ). AreDone (get_or table s []) ends) (sym same) all))))
+          (cases_eq k i);
+      others = λ j gone. was.others j (or_parts (list_any (λ s. s == j) (take i after)) (get_or after i 0 == j) (sym (listed_next after i j inside) ∙ gone)).0;
+    }
+
+-- ---- the nonrenewable resources
+
+-- a stock less its need covers what a mode takes beyond the least exactly if the mode is affordable
+pub affordable_by : (p : ProjectData) (placed : List Placed) (j m : ℕ) (slack extra : List ℕ) (answer : Bool) → IsBoard (record { project = p; placed = placed }) → j < size p → m < mode_count p j → is_placed placed j ≡ false → ((r : ℕ) → r < 8 → (get_or slack r 0 + needed_of p placed r) % 4294967296 ≡ stock p r) → ((r : ℕ) → r < 8 → get_or extra r 0 + least p j r ≡ consumption p j m r) → (IsTrue answer ↔ ((r : ℕ) → r < 8 → (get_or slack r 0 + (4294967296 - get_or extra r 0)) % 4294967296 < 2147483648)) → answer ≡ is_affordable p placed j m
+affordable_by p placed j m slack extra answer board inside known new slacks own told =
+    let needs : List ℕ = map (needed_of p placed) (range_with_len 0 8) in
+    let stocks : List ℕ = map (stock p) (range_with_len 0 8) in
+    let need : (r : ℕ) → r < 8 → get_or needs r 0 ≡ needed_of p placed r = λ r l. get_or-map-range_with_len (needed_of p placed) 0 8 r r 0 l (omega arith) in
+    let there : (r : ℕ) → r < 8 → get_or stocks r 0 ≡ stock p r = λ r l. get_or-map-range_with_len (stock p) 0 8 r r 0 l (omega arith) in
+    let small : (r : ℕ) → r < 8 → get_or needs r 0 ≤ 1000000000 = amounts_small p placed needs board need in
+    affordable_unplaced p placed j m needs extra stocks answer board inside known new need own there (
+      λ yes r l. omega (arith, told.0 yes r l, slacks r l, need r l, there r l, small r l, own r l, consumption_small p j m r board.project inside known, stock_small p r board.project),
+      λ all. told.1 (λ r l. omega (arith, all r l, slacks r l, need r l, there r l, small r l, own r l, consumption_small p j m r board.project inside known, stock_small p r board.project)),
+    )
+
+-- ---- the stages
+
+-- what lies behind the list of a stage does not matter
+stage_kept : (p : ProjectData) (placed : List Placed) (running later : List Running) (s : Stage) (base : ℕ) → IsStage p placed running s → s.end ≤ base → take base running ≡ take base later → IsStage p placed later s
+stage_kept p placed running later s base was within same = record {
+  slack = was.slack;
+  front = subst (λ (xs : List Running). IsFrontOf p placed (last_start placed) s.free xs) (range_kept running later s.begin s.end base was.order within same) was.front;
+  order = was.order;
+  few = was.few;
+  within = was.within;
+  eligible = was.eligible;
+  others = was.others;
+}
+
+pub stages_push : (p : ProjectData) (placed : List Placed) (a : Placed) (running later : List Running) (stages : List Stage) (new : Stage) → length placed < size p → AreStages p placed running stages → length later ≡ length running → take (get_or stages (length placed) no_stage).end running ≡ take (get_or stages (length placed) no_stage).end later → (get_or stages (length placed) no_stage).end ≤ new.end → IsStage p (placed ++ a ∷ []) later new → AreStages p (placed ++ a ∷ []) later (set stages (length placed + 1) new)
+stages_push p placed a running later stages new room was long same above here =
+    let n : ℕ = length placed in
+    let many : length (placed ++ a ∷ []) ≡ n + 1 = length_push placed a in
+    let base : ℕ = (get_or stages n no_stage).end in
+    let own : get_or (set stages (n + 1) new) (n + 1) no_stage ≡ new = get_or-set_same stages (n + 1) new no_stage (omega (arith, was.count)) in
+    let old : (i : ℕ) → i ≤ n → get_or (set stages (n + 1) new) i no_stage ≡ get_or stages i no_stage = λ i l. get_or-set_other stages (n + 1) i new no_stage (omega arith) in
+    record {
+      count = length-set stages (n + 1) new ∙ was.count;
+      room = long ∙ was.room;
+      each = λ i l.
+          ⊎_elim
+          (λ (before : i < n + 1).
+          let within : i ≤ n = omega (arith, before) in
+          rw (old i within, take-append-le i placed (a ∷ []) within) (stage_kept p (take i placed) running later (get_or stages i no_stage) base (was.each i within) (was.apart i n within (omega arith)) same))
+          (λ (over : n + 1 ≤ i).
+          let last : i ≡ n + 1 = omega (arith, over, l, many) in
+          rw (last, own, take_all (n + 1) (placed ++ a ∷ []) (omega (arith, many))) here)
+          (cases_lt i (n + 1));
+      apart = λ i k l inside.
+          ⊎_elim
+          (λ (before : k < n + 1). rw (old i (omega (arith, l, before)), old k (omega (arith, before))) (was.apart i k l (omega (arith, before))))
+          (λ (over : n + 1 ≤ k).
+          let last : k ≡ n + 1 = omega (arith, over, inside, many) in
+          ⊎_elim
+          (λ (before : i < n + 1). rw (last, own, old i (omega (arith, before))) (omega (arith, above, was.apart i n (omega (arith, before)) (omega arith))))
+          (λ (too : n + 1 ≤ i). let same_one : i ≡ n + 1 = omega (arith, too, l, last) in rw (last, same_one) (omega arith))
+          (cases_lt i (n + 1)))
+          (cases_lt k (n + 1));
+    }
+
+pub stages_pop : (p : ProjectData) (placed : List Placed) (a : Placed) (running : List Running) (stages : List Stage) → AreStages p (placed ++ a ∷ []) running stages → AreStages p placed running stages
+stages_pop p placed a running stages was = record {
+  count = was.count;
+  room = was.room;
+  each = λ i l. rw (take-append-le i placed (a ∷ []) l) at (was.each i (omega (arith, length_push placed a)));
+  apart = λ i k l inside. was.apart i k l (omega (arith, length_push placed a));
+}
+
+-- ---- the whole path
+
+never_push : (p : ProjectData) (placed : List Placed) (a : Placed) (ends : List ℕ) (finish : ℕ) → ((i : ℕ) → i < size p → is_placed placed i ≡ false → get_or ends i 0 ≡ 4294967295) → (i : ℕ) → i < size p → is_placed (placed ++ a ∷ []) i ≡ false → get_or (set ends a.activity finish) i 0 ≡ 4294967295
+never_push p placed a ends finish never i l missing =
+    let ne : i ≡ a.activity → ⊥ = λ e. both_ways (is_placed (placed ++ a ∷ []) i) missing (is_placed_push placed a i ∙ or_right (is_placed placed i) (a.activity == i) (eq-eqb a.activity i (sym e))) in
+    let before : is_placed placed i ≡ false = ⊎_elim (λ (e : is_placed placed i ≡ true). absurd (both_ways (is_placed (placed ++ a ∷ []) i) missing (is_placed_push placed a i ∙ or_left (is_placed placed i) (a.activity == i) e))) (λ e. e) (cases_Bool (is_placed placed i)) in
+    get_or-set_other ends a.activity i finish 0 ne ∙ never i l before
+
+never_pop : (p : ProjectData) (placed : List Placed) (a : Placed) (ends : List ℕ) → a.activity < length ends → ((i : ℕ) → i < size p → is_placed (placed ++ a ∷ []) i ≡ false → get_or ends i 0 ≡ 4294967295) → (i : ℕ) → i < size p → is_placed placed i ≡ false → get_or (set ends a.activity 4294967295) i 0 ≡ 4294967295
+never_pop p placed a ends inside never i l missing =
+    ⊎_elim
+    (λ (e : i ≡ a.activity). rw e (get_or-set_same ends a.activity 4294967295 0 inside))
+    (λ (ne : i ≡ a.activity → ⊥).
+    let other : is_placed (placed ++ a ∷ []) i ≡ false =
+    ⊎_elim
+    (λ (e : is_placed (placed ++ a ∷ []) i ≡ true).
+    ⊎_elim
+    (λ (before : is_placed placed i ≡ true). absurd (both_ways (is_placed placed i) missing before))
+    (λ (own : (a.activity == i) ≡ true). absurd (ne (sym (eqb-true a.activity i own))))
+    (or_cases (is_placed placed i) (a.activity == i) (sym (is_placed_push placed a i) ∙ e)))
+    (λ e. e)
+    (cases_Bool (is_placed (placed ++ a ∷ []) i)) in
+    get_or-set_other ends a.activity i 4294967295 0 ne ∙ never i l other)
+    (cases_eq i a.activity)
+
+noted_beside : (p : ProjectData) (placed : List Placed) (x v : ℕ) (ends : List ℕ) → is_placed placed x ≡ false → AreNoted p placed ends → AreNoted p placed (set ends x v)
+noted_beside p placed x v ends missing noted k d l =
+    let b = get_or placed k d in
+    let ne : b.activity ≡ x → ⊥ = λ e. both_ways (is_placed placed x) missing (ap (is_placed placed) (sym e) ∙ each_is_placed placed k d l) in
+    get_or-set_other ends x b.activity v 0 ne ∙ noted k d l
+
+-- a stage with one more
+stage_push : (p : ProjectData) (placed : List Placed) (a : Placed) (running later : List Running) (s new : Stage) (row : ModeRow) (finish : ℕ) → IsBoard (record { project = p; placed = placed }) → IsBoard (record { project = p; placed = placed ++ a ∷ [] }) → IsInside p a → last_start placed ≤ a.start → finish ≡ finish_of p a → IsRow p a.activity a.mode row → IsStage p placed running s → Entered p placed a new.eligible → ((r : ℕ) → r < 8 → get_or new.slack r 0 ≡ (get_or s.slack r 0 + (4294967296 - get_or row.extra r 0)) % 4294967296) → new.begin ≡ s.end → s.end ≤ new.end → new.end + s.begin ≤ s.end + s.end + 1 → IsRising (slice_range later s.end new.end) → ((r t : ℕ) → r < 8 → a.start ≤ t → left_at new.free (slice_range later s.end new.end) r t + cond (nat_lt t finish) (get_or row.request r 0) 0 ≡ left_at s.free (slice_range (take s.end running) s.begin s.end) r t) → IsStage p (placed ++ a ∷ []) later new
+stage_push p placed a running later s new row finish was_board board inside above ends own was entered slack begins behind few rising kept =
+    let many : length (placed ++ a ∷ []) ≡ length placed + 1 = length_push placed a in
+    let last : last_start (placed ++ a ∷ []) ≡ a.start = last_start_push placed a in
+    let same : slice_range (take s.end running) s.begin s.end ≡ slice_range running s.begin s.end = range_before running s.begin s.end s.end was.order (omega arith) in
+    let runs : Running = record { request = row.request; finish = finish } in
+    record {
+      slack = λ r l. omega (arith, slack r l, was.slack r l, needed_push p placed a r was_board board, own.extra r l, consumption_small p a.activity a.mode r board.project inside.activity inside.mode);
+      front = rw (last, begins) (front_push p placed a (last_start placed) s.free new.free (slice_range running s.begin s.end) (slice_range later s.end new.end) runs was.front own.request above ends rising (λ r t l late. kept r t l late ∙ ap (λ (xs : List Running). left_at s.free xs r t) same));
+      order = omega (arith, begins, behind);
+      few = omega (arith, begins, behind, few, was.few, was.order, many);
+      within = omega (arith, few, was.few, was.order, was.within, ap triangle many, triangle_next (length placed));
+      eligible = entered.eligible;
+      others = entered.others;
+    }
+
+pub stage_here : (p : ProjectData) (placed : List Placed) (running : List Running) (stages : List Stage) → AreStages p placed running stages → IsStage p placed running (get_or stages (length placed) no_stage)
+stage_here p placed running stages was = rw (take_all (length placed) placed (omega arith)) at (was.each (length placed) (omega arith))
+
+-- what the steps of a placement are, and what they leave
+pub record IsPlacing (p : ProjectData) (a : Placed) (afters table : List (List ℕ)) (running later : List Running) (s new : Stage) (less ends readies soon : List ℕ) (row : ModeRow) (finish : ℕ) : Type 0 where
+  pub ends_at : finish ≡ finish_of p a
+  pub own : IsRow p a.activity a.mode row
+  pub gone : has less a.activity ≡ false
+  pub kept : (j : ℕ) → (j ≡ a.activity → ⊥) → has less j ≡ has s.eligible j
+  pub entered : HasEntered (get_or afters a.activity []) table (set ends a.activity finish) less readies new.eligible soon
+  pub slack : (r : ℕ) → r < 8 → get_or new.slack r 0 ≡ (get_or s.slack r 0 + (4294967296 - get_or row.extra r 0)) % 4294967296
+  pub long : length later ≡ length running
+  pub same : take s.end later ≡ take s.end running
+  pub begins : new.begin ≡ s.end
+  pub behind : s.end ≤ new.end
+  pub few : new.end + s.begin ≤ s.end + s.end + 1
+  pub rising : IsRising (slice_range later s.end new.end)
+  pub left : (r t : ℕ) → r < 8 → a.start ≤ t → left_at new.free (slice_range later s.end new.end) r t + cond (nat_lt t finish) (get_or row.request r 0) 0 ≡ left_at s.free (slice_range (take s.end running) s.begin s.end) r t
+
+pub path_push : (p : ProjectData) (placed : List Placed) (a : Placed) (reserved : ℕ) (rows : Rows) (table afters : List (List ℕ)) (stages : List Stage) (running later : List Running) (new : Stage) (less ends readies soon : List ℕ) (row : ModeRow) (finish : ℕ) → IsPath p placed reserved rows table afters stages running ends readies → IsInside p a → is_eligible p placed a.activity ≡ true → is_allowed p placed a.activity a.mode a.start ≡ true → last_start placed ≤ a.start → length placed < size p → IsPlacing p a afters table running later (get_or stages (length placed) no_stage) new less ends readies soon row finish → IsPath p (placed ++ a ∷ []) reserved rows table afters (set stages (length placed + 1) new) later (set ends a.activity finish) soon
+path_push p placed a reserved rows table afters stages running later new less ends readies soon row finish was inside may fits above room steps =
+    let whole : List Placed = placed ++ a ∷ [] in
+    let s : Stage = get_or stages (length placed) no_stage in
+    let new_one : is_placed placed a.activity ≡ false = eligible-unplaced p placed a.activity may in
+    let board : IsBoard (record { project = p; placed = whole }) = board_push p placed a was.board inside new_one fits in
+    let noted : AreNoted p whole (set ends a.activity finish) = noted_push p placed a ends finish was.noted inside.activity new_one steps.ends_at was.finishes in
+    let never : (i : ℕ) → i < size p → is_placed whole i ≡ false → get_or (set ends a.activity finish) i 0 ≡ 4294967295 = never_push p placed a ends finish was.never in
+    let here : IsStage p placed running s = stage_here p placed running stages was.staged in
+    let entered : Entered p placed a new.eligible = entered_now p placed a table afters (set ends a.activity finish) s.eligible less new.eligible readies soon board was.entered inside.activity new_one was.before was.after noted never here.eligible here.others steps.gone steps.kept steps.entered in
+    let missing : List ℕ = map (missing_of p whole) (range_with_len 0 (size p)) in
+    let missed : (j : ℕ) → j < size p → get_or missing j 0 ≡ missing_of p whole j = λ j l. get_or-map-range_with_len (missing_of p whole) 0 (size p) j j 0 l (omega arith) in
+    let mine = was.after.each a.activity inside.activity in
+    let renewed : AreRenewed (get_or afters a.activity []) missing (set ends a.activity finish) table readies soon = record {
+      count = steps.entered.count;
+      own = λ k l none.
+          let j : ℕ = get_or (get_or afters a.activity []) k 0 in
+          let known : j < size p = mine.others.inside k 0 l in
+          let nobody : missing_of p whole j ≡ 0 = sym (missed j known) ∙ none in
+          (steps.entered.ready k l (placed_done p whole j (get_or table j []) (set ends a.activity finish) board (was.before.each j known) noted (λ i among first. there_all p whole i j nobody among first))).1;
+      rest = λ j apart. (steps.entered.others j apart).1;
+    } in
+    record {
+      board = board;
+      memory = was.memory;
+      tabled = was.tabled;
+      before = was.before;
+      after = was.after;
+      noted = length-set ends a.activity finish ∙ was.noted;
+      finishes = noted;
+      never = never;
+      readied = readied_push p placed a missing (set ends a.activity finish) readies soon table afters board inside.activity new_one missed noted was.before was.after renewed was.readied;
+      entered = entered_push p placed a was.entered may;
+      staged = stages_push p placed a running later stages new room was.staged steps.long (sym steps.same) steps.behind (stage_push p placed a running later s new row finish was.board board inside above steps.ends_at steps.own here entered steps.slack steps.begins steps.behind steps.few steps.rising steps.left);
+    }
+
+pub path_pop : (p : ProjectData) (placed rest : List Placed) (a : Placed) (reserved memory : ℕ) (rows : Rows) (table afters : List (List ℕ)) (stages : List Stage) (running : List Running) (ends readies : List ℕ) → placed ≡ rest ++ a ∷ [] → memory ≡ reserved → IsPath p placed reserved rows table afters stages running ends readies → IsPath p rest memory rows table afters stages running (set ends a.activity 4294967295) readies
+path_pop p placed rest a reserved memory rows table afters stages running ends readies e same path =
+    let was : IsPath p (rest ++ a ∷ []) reserved rows table afters stages running ends readies = subst (λ (xs : List Placed). IsPath p xs reserved rows table afters stages running ends readies) e path in
+    let inside : IsInside p a = subst (λ (x : Placed). IsInside p x) (get_or_push rest a a (length rest) refl) (was.board.inside (length rest) a (omega (arith, length_push rest a))) in
+    let alone : is_placed rest a.activity ≡ false = alone_at_end rest a was.board.distinct in
+    record {
+      board = board_pop p rest a was.board;
+      memory = same ∙ was.memory;
+      tabled = was.tabled;
+      before = was.before;
+      after = was.after;
+      noted = length-set ends a.activity 4294967295 ∙ was.noted;
+      finishes = noted_beside p rest a.activity 4294967295 ends alone (noted_pop p rest a ends was.finishes);
+      never = never_pop p rest a ends (omega (arith, was.noted, inside.activity)) was.never;
+      readied = readied_pop p rest a readies inside.activity alone was.readied;
+      entered = entered_pop p rest a was.entered;
+      staged = stages_pop p rest a running stages was.staged;
+    }
+
+-- the activity that is taken back is one of the project's
+pub path_last : (p : ProjectData) (placed rest : List Placed) (a : Placed) (reserved : ℕ) (rows : Rows) (table afters : List (List ℕ)) (stages : List Stage) (running : List Running) (ends readies : List ℕ) → placed ≡ rest ++ a ∷ [] → IsPath p placed reserved rows table afters stages running ends readies → a.activity < length ends
+path_last p placed rest a reserved rows table afters stages running ends readies e was =
+    let inside = was.board.inside (length rest) a (omega (arith, ap (λ (xs : List Placed). length xs) e, length_push rest a)) in
+    let mine : IsInside p a = subst (λ (x : Placed). IsInside p x) (ap (λ (xs : List Placed). get_or xs (length rest) a) e ∙ get_or_push rest a a (length rest) refl) inside in
+    omega (arith, mine.activity, was.noted)
+
+-- the next member of a stage is the next eligible activity
+pub next_is : (p : ProjectData) (placed : List Placed) (words : List ℕ) (from : ℕ) (found : Option ℕ) → ((j : ℕ) → j < size p → has words j ≡ is_eligible p placed j) → ((j : ℕ) → size p ≤ j → j < 256 → has words j ≡ false) → MatchOption found (IsOver words from (size p)) (IsNext words from) → MatchOption found (NoneEligible p placed from) (IsNextEligible p placed from)
+next_is p placed words from None own others none = λ i l inside. sym (own i inside) ∙ none i l inside
+next_is p placed words from (Some j) own others next =
+    let inside : j < size p =
+    ⊎_elim
+    (λ (l : j < size p). l)
+    (λ (past : size p ≤ j). absurd (both_ways (has words j) (others j past next.below) next.member))
+    (cases_lt j (size p)) in
+    record {
+      above = next.above;
+      inside = inside;
+      eligible = sym (own j inside) ∙ next.member;
+      first = λ i l h. sym (own i (omega (arith, h, inside))) ∙ next.first i l h;
+    }
+
+-- nothing is placed
+pub path_first : (p : ProjectData) (reserved : ℕ) (rows : Rows) (table afters : List (List ℕ)) (stage : Stage) (stages : List Stage) (running : List Running) (ends readies : List ℕ) → IsProject p → reserved ≡ size p → IsTable p rows → HasBefore p (size p) table → HasAfter p (size p) afters → length ends ≡ size p → ((j : ℕ) → j < size p → get_or ends j 0 ≡ 4294967295) → AreReadied p [] readies → length stages ≡ size p + 1 → length running ≡ triangle (size p) → get_or stages 0 no_stage ≡ stage → ((r : ℕ) → r < 8 → (get_or stage.slack r 0 + needed_of p [] r) % 4294967296 ≡ stock p r) → stage.free ≡ rows.capacities → stage.begin ≡ 0 → stage.end ≡ 0 → ((j : ℕ) → j < size p → has stage.eligible j ≡ (length (get_or table j []) == 0)) → ((j : ℕ) → size p ≤ j → j < 256 → has stage.eligible j ≡ false) → IsPath p [] reserved rows table afters stages running ends readies
+path_first p reserved rows table afters stage stages running ends readies project memory tabled before after long never readied count room first slack free begins ends_at members others = record {
+  board = board_empty p project;
+  memory = memory;
+  tabled = tabled;
+  before = before;
+  after = after;
+  noted = long;
+  finishes = All-nil _;
+  never = λ j l _. never j l;
+  readied = readied;
+  entered = λ k d l. absurd (omega arith);
+  staged = record {
+    count = count;
+    room = room;
+    each = λ i l. let none : i ≡ 0 = omega arith in rw (none, first) here;
+    apart = λ i k l inside. let none : k ≡ 0 = omega arith in let too : i ≡ 0 = omega (arith, l, none) in rw (none, too) (omega arith);
+  };
+}
+  where
+    open_first : (j : ℕ) → j < size p → (length (get_or table j []) == 0) ≡ is_eligible p [] j
+    open_first j l =
+        let names : IsBefore p j (size p) (get_or table j []) = before.each j l in
+        ⊎_elim
+        (λ (none : length (get_or table j []) ≡ 0).
+        eq-eqb (length (get_or table j [])) 0 none
+        ∙ sym (eligible-from p [] j refl (λ i inside first. let (k, within, _) = names.all i inside first in absurd (omega (arith, within, none)))))
+        (λ (some : length (get_or table j []) ≡ 0 → ⊥).
+        let name = names.each 0 (omega arith) in
+        ne_eqb (length (get_or table j [])) 0 some ∙ sym (ineligible_after p [] (get_or (get_or table j []) 0 0) j name.0 name.1 refl))
+        (cases_eq (length (get_or table j [])) 0)
+
+    here : IsStage p [] running stage
+    here = record {
+      slack = slack;
+      front = subst (λ (xs : List Running). IsFrontOf p [] (last_start []) stage.free xs) (sym (empty_range running stage.begin stage.end begins ends_at)) (rw last_start_none (front_first p stage.free (λ r l. ap (λ (xs : List ℕ). get_or xs r 0) free ∙ tabled.capacities r l)));
+      order = omega (arith, begins);
+      few = omega (arith, ends_at);
+      within = omega (arith, ends_at);
+      eligible = λ j l. members j l ∙ open_first j l;
+      others = others;
+    }
+
+-- there is a place for the list of one more, and its request is left
+pub record HasPlace (a : Placed) (running : List Running) (s : Stage) (row : ModeRow) (finish : ℕ) : Type 0 where
+  pub order : s.begin ≤ s.end
+  pub memory : s.end + s.end + 1 ≤ length running + s.begin
+  pub rising : IsRising (slice_range (take s.end running) s.begin s.end)
+  pub few : (r t : ℕ) → r < 8 → left_at s.free (slice_range (take s.end running) s.begin s.end) r t ≤ 2000000000
+  pub room : a.start < finish → (r : ℕ) → r < 8 → get_or row.request r 0 ≤ left_at s.free (slice_range (take s.end running) s.begin s.end) r a.start
+
+pub has_place : (p : ProjectData) (placed : List Placed) (a : Placed) (running : List Running) (stages : List Stage) (row : ModeRow) (finish : ℕ) → IsBoard (record { project = p; placed = placed }) → AreStages p placed running stages → length placed < size p → IsInside p a → IsRow p a.activity a.mode row → finish ≡ finish_of p a → last_start placed ≤ a.start → is_allowed p placed a.activity a.mode a.start ≡ true → HasPlace a running (get_or stages (length placed) no_stage) row finish
+has_place p placed a running stages row finish board was more inside own ends above fits =
+    let s : Stage = get_or stages (length placed) no_stage in
+    let here : IsStage p placed running s = stage_here p placed running stages was in
+    let same : slice_range (take s.end running) s.begin s.end ≡ slice_range running s.begin s.end = range_before running s.begin s.end s.end here.order (omega arith) in
+    record {
+      order = here.order;
+      memory = omega (arith, here.few, here.within, here.order, triangle_next (length placed), triangle_rises (length placed + 1) (size p) (omega (arith, more)), was.room);
+      rising = rw same here.front.rising;
+      few = rw same (λ r t l. omega (arith, front_most p placed (last_start placed) s.free (slice_range running s.begin s.end) here.front r t l, capacity_small p r board.project));
+      room = rw same (λ some r l. front_enough p placed a.activity a.mode (last_start placed) s.free (slice_range running s.begin s.end) row.request board.project inside.activity inside.mode (omega (arith, some, ends)) here.front own.request a.start above fits r l);
+    }
+
+zero_at : (w : ℕ) → get_or {A = ℕ} (0 ∷ 0 ∷ 0 ∷ 0 ∷ []) w 0 ≡ 0
+zero_at zero = refl
+zero_at (suc zero) = refl
+zero_at (suc (suc zero)) = refl
+zero_at (suc (suc (suc zero))) = refl
+zero_at (suc (suc (suc (suc w)))) = refl
+
+-- an empty set has no members
+pub empty_set : (j : ℕ) → has (0 ∷ 0 ∷ 0 ∷ 0 ∷ []) j ≡ false
+unfolding has
+empty_set j = rw (zero_at (j / 64), bit_at-zero (j % 64)) refl

@@ -1,0 +1,61 @@
+use Rattle.std.proofs.Common.{◌≡◌, ◌+◌, ℕ, List, get_or, set, length, length-set, arith, ap, ◌∙◌}
+use Rattle.std.proofs.lemmas.List.{length-replicate, get_or-replicate, get_or-set_same}
+use Rattle.mrcpsp.specs.Limits.{IsProject}
+use Rattle.mrcpsp.specs.Project.{size}
+use Rattle.mrcpsp.proofs.LimitLemmas.{kept}
+use Rattle.serial_sgs.specs.Members.{has}
+use Rattle.serial_sgs.proofs.OrderLemmas.{readied_first}
+use Rattle.tree_search.specs.declared.path.Stage.{Stage}
+use Rattle.tree_search.specs.Path.{no_stage, triangle}
+use Rattle.tree_search.proofs.PathLemmas.{path_first}
+use Rattle.tree_search.proofs.path.Path.of.Goals as goal
+
+pub invariant_of-result : goal.invariant_of-result
+unfolding size
+invariant_of-result c =
+    let p = c.args.project.now in
+    let same : c.in_ok-project.project ≡ p = c.in_ok-project.ensures in
+    let project : IsProject p = kept p c.activities-size.ensures.project in
+    let count = ap length c.activities-size.ensures.all in
+    let exact = rw c.deref.ensures.value at c.first_eligible.ensures.exact in
+    let beyond = rw c.deref.ensures.value at c.first_eligible.ensures.others in
+    let enlisted = c.first_stage-stage.ensures.eligible in
+    let stage : Stage = c.first_stage-stage.result in
+    rw (same, c.in_ok-placed.ensures.items)
+    (path_first p _ c.in_ok-rows.rows c.in_ok-before.before.items c.in_ok-after.after.items stage (set c.in_ok-stages.stages.items 0 stage) c.in_ok-running.running.items c.in_ok-finishes.finishes.items c.in_ok-readies.readies.items project
+    (omega (arith, c.in_ok-placed.ensures.exact, count))
+    c.in_ok-rows.ensures
+    c.in_ok-before.ensures
+    c.in_ok-after.ensures
+    (ap length c.in_ok-finishes.ensures ∙ length-replicate _ _ ∙ count)
+    (λ j l. ap (λ (xs : List ℕ). get_or xs j 0) c.in_ok-finishes.ensures ∙ get_or-replicate _ j 4294967295 0 (omega (arith, count, l)))
+    (readied_first p c.in_ok-readies.readies.items (ap length c.in_ok-readies.ensures ∙ length-replicate _ _ ∙ count) (λ j l. ap (λ (xs : List ℕ). get_or xs j 0) c.in_ok-readies.ensures ∙ get_or-replicate _ j 0 0 (omega (arith, count))))
+    (omega (arith, length-set c.in_ok-stages.stages.items 0 stage, c.in_ok-stages.ensures.len, c.in_ok-stages.stages.ok.0, count))
+    (omega (arith, c.in_ok-running.ensures.len, c.in_ok-running.running.ok.0, c.places_of_lists.ensures, ap triangle count))
+    (get_or-set_same c.in_ok-stages.stages.items 0 stage no_stage (omega (arith, c.in_ok-stages.ensures.len, c.in_ok-stages.stages.ok.0)))
+    (λ r l. c.first_stage-stage.ensures.slack r l (c.in_ok-rows.ensures.stocks r l))
+    c.first_stage-stage.ensures.free
+    c.first_stage-stage.ensures.begin
+    c.first_stage-stage.ensures.end
+    (λ j l. ap (λ (words : List ℕ). has words j) enlisted ∙ exact j (omega (arith, l, c.in_ok-before.ensures.count)))
+    (λ j past below. ap (λ (words : List ℕ). has words j) enlisted ∙ beyond j (omega (arith, past, c.in_ok-before.ensures.count)) below))
+
+pub of-requires-clause-project : goal.of-requires-clause-project
+of-requires-clause-project c = kept c.args.project.now c.activities-size.ensures.project
+
+pub first_stage-stage-requires-clause-project : goal.first_stage-stage-requires-clause-project
+first_stage-stage-requires-clause-project c = kept c.args.project.now c.activities-size.ensures.project
+
+pub first_eligible-requires : goal.first_eligible-requires
+unfolding size
+first_eligible-requires c =
+    let p = c.args.project.now in
+    let project : IsProject p = kept p c.activities-size.ensures.project in
+    omega (arith, project.few, c.in_ok-before.ensures.count, ap length c.deref.ensures.value)
+
+pub places_of_lists-requires : goal.places_of_lists-requires
+unfolding size
+places_of_lists-requires c =
+    let p = c.args.project.now in
+    let project : IsProject p = kept p c.activities-size.ensures.project in
+    omega (arith, project.few, ap length c.activities-size.ensures.all)

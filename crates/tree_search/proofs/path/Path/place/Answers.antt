@@ -1,0 +1,118 @@
+use Rattle.std.proofs.Common.{◌≡◌, ◌+◌, ◌<◌, ◌≤◌, true, arith, refl, subst, sym, ap, ◌∙◌, get_or, set, length-set, drop, take, take_all, ◌++◌, ℕ, List, All, [], length}
+use Rattle.std.proofs.lemmas.List.{get_or_default, take-append-le}
+use Rattle.mrcpsp.specs.Project.{size, mode_count, duration}
+use Rattle.mrcpsp.specs.Placed.{Placed, finish_of, is_allowed, is_eligible, is_placed, last_start}
+use Rattle.mrcpsp.proofs.EarliestLemmas.{eligible-unplaced}
+use Rattle.serial_sgs.specs.Board.{BoardData, IsInside}
+use Rattle.serial_sgs.proofs.BoardLemmas.{count-lt-size, duration_small}
+use Rattle.tree_search.specs.declared.path.Stage.{Stage}
+use Rattle.tree_search.specs.Path.{HasEntered, no_stage}
+use Rattle.tree_search.proofs.PathLemmas.{IsPlacing, has_place, path_push}
+use Rattle.tree_search.proofs.path.Path.place.Goals as goal
+
+pub overflow_add-finish : goal.overflow_add-finish
+overflow_add-finish c =
+    let b = c.self.inside in
+    let known = rw (← c.self.view_is) at c.requires.activity in
+    let in_mode = rw (← c.self.view_is) at c.requires.mode in
+    omega (arith, c.requires.start, (c.row-row.ensures b.project c.self.invariant.tabled known in_mode).duration, duration_small b.project c.args.activity c.args.mode c.self.invariant.board.project known in_mode)
+
+pub push_reserved-requires : goal.push_reserved-requires
+push_reserved-requires c =
+    let b : BoardData = record { project = c.self.inside.project; placed = c.self.inside.placed.items } in
+    let known = rw (← c.self.view_is) at c.requires.activity in
+    let may : is_eligible b.project b.placed c.args.activity ≡ true = rw (← c.self.view_is) at c.requires.eligible in
+    let room = count-lt-size b c.args.activity c.self.invariant.board known (eligible-unplaced b.project b.placed c.args.activity may) in
+    omega (arith, room, c.self.invariant.memory)
+
+pub enlist-requires-clause-inside : goal.enlist-requires-clause-inside
+enlist-requires-clause-inside c =
+    let b = c.self.inside in
+    let known = rw (← c.self.view_is) at c.requires.activity in
+    let list : c.as_slice.result.now ≡ get_or b.after.items c.args.activity [] = c.as_slice.ensures ∙ c.index-2.ensures ∙ get_or_default b.after.items c.args.activity c.index-2.result.now [] (omega (arith, c.self.invariant.after.count, known)) in
+    subst (λ (xs : List ℕ). All (λ s. s < length b.readies.items) xs) (sym list) (λ k d l. omega (arith, (c.self.invariant.after.each c.args.activity known).others.inside k d l, c.self.invariant.readied.count))
+
+pub enlist-requires-clause-few : goal.enlist-requires-clause-few
+enlist-requires-clause-few c = omega (arith, c.self.invariant.readied.count, c.self.invariant.board.project.few)
+
+pub enlist-requires-clause-named : goal.enlist-requires-clause-named
+enlist-requires-clause-named c =
+    let b = c.self.inside in
+    rw (c.deref.ensures.value, c.deref-2.ensures.value) (λ j k l m. omega (arith, ((c.self.invariant.before.each j (omega (arith, l, c.self.invariant.before.count))).each k m).0, c.self.invariant.noted, length-set b.finishes.items c.args.activity (c.args.start + c.row-row.result.now.duration)))
+
+pub run_in-requires : goal.run_in-requires
+run_in-requires c =
+    let b = c.self.inside in
+    let p = b.project in
+    let placed = b.placed.items in
+    let was = c.self.invariant in
+    let j = c.args.activity in
+    let m = c.args.mode in
+    let a : Placed = record { activity = j; mode = m; start = c.args.start } in
+    let known : j < size p = rw (← c.self.view_is) at c.requires.activity in
+    let in_mode : m < mode_count p j = rw (← c.self.view_is) at c.requires.mode in
+    let may : is_eligible p placed j ≡ true = rw (← c.self.view_is) at c.requires.eligible in
+    let fits : is_allowed p placed j m c.args.start ≡ true = rw (← c.self.view_is) at c.requires.allowed in
+    let above : last_start placed ≤ c.args.start = rw (← c.self.view_is) at c.requires.last in
+    let row = c.row-row.ensures p was.tabled known in_mode in
+    let inside : IsInside p a = record { activity = known; mode = in_mode; start = c.requires.start } in
+    let room = count-lt-size (record { project = p; placed = placed }) j was.board known (eligible-unplaced p placed j may) in
+    let n : c.len-depth.result ≡ length placed = omega (arith, c.len-depth.ensures, b.placed.ok.0) in
+    let stage : c.index.result.now ≡ get_or b.stages.items (length placed) no_stage = c.index.ensures ∙ get_or_default b.stages.items c.len-depth.result c.index.result.now no_stage (omega (arith, was.staged.count, room, n)) ∙ ap (λ k. get_or b.stages.items k no_stage) n in
+    let it = rw (← stage) at (has_place p placed a b.running.items b.stages.items c.row-row.result.now (c.args.start + c.row-row.result.now.duration) was.board was.staged room inside row (omega (arith, row.duration)) above fits) in
+    rw c.deref_mut.ensures.value (record { order = it.order; memory = it.memory; rising = it.rising; few = it.few; room = it.room })
+
+pub index_mut-requires-2 : goal.index_mut-requires-2
+index_mut-requires-2 c =
+    let b = c.self.inside in
+    let p = b.project in
+    let placed = b.placed.items in
+    let known : c.args.activity < size p = rw (← c.self.view_is) at c.requires.activity in
+    let may : is_eligible p placed c.args.activity ≡ true = rw (← c.self.view_is) at c.requires.eligible in
+    let room = count-lt-size (record { project = p; placed = placed }) c.args.activity c.self.invariant.board known (eligible-unplaced p placed c.args.activity may) in
+    omega (arith, room, c.self.invariant.staged.count, c.len-depth.ensures, b.placed.ok.0)
+
+pub invariant_of-self : goal.invariant_of-self
+invariant_of-self c =
+    let b = c.self.inside in
+    let p = b.project in
+    let placed = b.placed.items in
+    let was = c.self.invariant in
+    let j = c.args.activity in
+    let m = c.args.mode in
+    let a : Placed = record { activity = j; mode = m; start = c.args.start } in
+    let known : j < size p = rw (← c.self.view_is) at c.requires.activity in
+    let in_mode : m < mode_count p j = rw (← c.self.view_is) at c.requires.mode in
+    let may : is_eligible p placed j ≡ true = rw (← c.self.view_is) at c.requires.eligible in
+    let fits : is_allowed p placed j m c.args.start ≡ true = rw (← c.self.view_is) at c.requires.allowed in
+    let above : last_start placed ≤ c.args.start = rw (← c.self.view_is) at c.requires.last in
+    let row = c.row-row.ensures p was.tabled known in_mode in
+    let inside : IsInside p a = record { activity = known; mode = in_mode; start = c.requires.start } in
+    let room = count-lt-size (record { project = p; placed = placed }) j was.board known (eligible-unplaced p placed j may) in
+    let finish : ℕ = c.args.start + c.row-row.result.now.duration in
+    let n : c.len-depth.result ≡ length placed = omega (arith, c.len-depth.ensures, b.placed.ok.0) in
+    let stage : c.index.result.now ≡ get_or b.stages.items (length placed) no_stage = c.index.ensures ∙ get_or_default b.stages.items c.len-depth.result c.index.result.now no_stage (omega (arith, was.staged.count, room, n)) ∙ ap (λ k. get_or b.stages.items k no_stage) n in
+    let list : c.as_slice.result.now ≡ get_or b.after.items j [] = c.as_slice.ensures ∙ c.index-2.ensures ∙ get_or_default b.after.items j c.index-2.result.now [] (omega (arith, was.after.count, known)) in
+    let new : Stage = record { slack = c.take_off.new.amounts; free = c.run_in.new.free; eligible = c.enlist.new.eligible; begin = c.index.result.now.end; end = c.run_in.result } in
+    let entered : HasEntered (get_or b.after.items j []) b.before.items (set b.finishes.items j finish) c.take_out.new.words b.readies.items c.enlist.new.eligible c.enlist.new.readies.items = rw (list, c.deref.ensures.value, c.deref-2.ensures.value) at c.enlist.ensures in
+    let steps : IsPlacing p a b.after.items b.before.items b.running.items c.run_in.new.list c.index.result.now new c.take_out.new.words b.finishes.items b.readies.items c.enlist.new.readies.items c.row-row.result.now finish =
+    record {
+      ends_at = omega (arith, row.duration);
+      own = row;
+      gone = c.take_out.ensures.own;
+      kept = c.take_out.ensures.others;
+      entered = entered;
+      slack = c.take_off.ensures;
+      long = rw c.deref_mut.ensures.value at c.run_in.ensures.memory;
+      same = rw c.deref_mut.ensures.value at c.run_in.ensures.same;
+      begins = refl;
+      behind = c.run_in.ensures.above;
+      few = c.run_in.ensures.count;
+      rising = c.run_in.ensures.rising;
+      left = rw c.deref_mut.ensures.value at c.run_in.ensures.kept;
+    } in
+    let whole : take b.running.len (c.run_in.new.list ++ drop (length c.run_in.new.list) b.running.items) ≡ c.run_in.new.list =
+    take-append-le b.running.len c.run_in.new.list (drop (length c.run_in.new.list) b.running.items) (omega (arith, steps.long, b.running.ok.0)) ∙ take_all b.running.len c.run_in.new.list (omega (arith, steps.long, b.running.ok.0)) in
+    rw (c.push_reserved.ensures.items, c.push_reserved.ensures.capacity, n, whole)
+    (path_push p placed a _ b.rows b.before.items b.after.items b.stages.items b.running.items c.run_in.new.list new c.take_out.new.words b.finishes.items b.readies.items c.enlist.new.readies.items c.row-row.result.now finish was inside may fits above room
+    (subst (λ (s : Stage). IsPlacing p a b.after.items b.before.items b.running.items c.run_in.new.list s new c.take_out.new.words b.finishes.items b.readies.items c.enlist.new.readies.items c.row-row.result.now finish) stage steps))

@@ -1,0 +1,73 @@
+-- A partial schedule whose starts never fall, and what is known after each of its placements.
+use Rattle.std.specs.Prelude.{◌≡◌, ℕ, ◌+◌, ◌%◌, ◌<◌, ◌≤◌, ◌==◌, true, false, List, [], All, length, get_or, take}
+use Rattle.std.specs.List.{slice_range, list_any}
+use Rattle.mrcpsp.specs.declared.limits.TheConstants.{MOST_RESOURCES}
+use Rattle.mrcpsp.specs.Numbers.{sum_below}
+use Rattle.mrcpsp.specs.Project.{ProjectData, size, stock}
+use Rattle.mrcpsp.specs.Placed.{Placed, finish_of, is_eligible, is_placed, last_start}
+use Rattle.serial_sgs.specs.Board.{IsBoard, needed_of}
+use Rattle.serial_sgs.specs.Members.{has}
+use Rattle.serial_sgs.specs.Order.{AreReadied, HasAfter, HasBefore, IsLatest}
+use Rattle.serial_sgs.specs.Rows.{IsTable}
+use Rattle.serial_sgs.specs.declared.rows.Rows.{Rows}
+use Rattle.tree_search.specs.Front.{IsFrontOf}
+use Rattle.tree_search.specs.declared.front.Running.{Running}
+use Rattle.tree_search.specs.declared.path.Stage.{Stage}
+use Rattle.tree_search.specs.declared.path.TheConstants.{NEVER}
+
+-- 1 + 2 + .. + n
+abbrev pub triangle : ℕ → ℕ
+triangle n = sum_below (λ i. i + 1) n
+
+-- the default for a missing stage
+abbrev pub no_stage : Stage
+no_stage = record { slack = []; free = []; eligible = []; begin = 0; end = 0 }
+
+-- a stage after these placements: each stock less its need, modulo 2^32; what is free from the last
+-- start on; and who may come next
+pub record IsStage (p : ProjectData) (placed : List Placed) (running : List Running) (s : Stage) : Type 0 where
+  pub slack : (r : ℕ) → r < MOST_RESOURCES → (get_or s.slack r 0 + needed_of p placed r) % 4294967296 ≡ stock p r
+  pub front : IsFrontOf p placed (last_start placed) s.free (slice_range running s.begin s.end)
+  pub order : s.begin ≤ s.end
+  pub few : s.end ≤ s.begin + length placed
+  pub within : s.end ≤ triangle (length placed)
+  pub eligible : (j : ℕ) → j < size p → has s.eligible j ≡ is_eligible p placed j
+  pub others : (j : ℕ) → size p ≤ j → j < 256 → has s.eligible j ≡ false
+
+-- a stage after each number of placements. No list of a later stage covers that of an earlier one
+pub record AreStages (p : ProjectData) (placed : List Placed) (running : List Running) (stages : List Stage) : Type 0 where
+  pub count : length stages ≡ size p + 1
+  pub room : length running ≡ triangle (size p)
+  pub each : (i : ℕ) → i ≤ length placed → IsStage p (take i placed) running (get_or stages i no_stage)
+  pub apart : (i k : ℕ) → i ≤ k → k ≤ length placed → (get_or stages i no_stage).end ≤ (get_or stages k no_stage).end
+
+-- each of them was eligible when it was placed
+abbrev pub WereEligible : ProjectData → List Placed → Type 0
+WereEligible p placed = (k : ℕ) (d : Placed) → k < length placed → is_eligible p (take k placed) (get_or placed k d).activity ≡ true
+
+-- what the fields of a path keep: memory for all activities; the rows, predecessors and successors;
+-- finishes, `NEVER` for what is not placed; ready times; and the stages
+pub record IsPath (p : ProjectData) (placed : List Placed) (reserved : ℕ) (rows : Rows) (table afters : List (List ℕ)) (stages : List Stage) (running : List Running) (ends readies : List ℕ) : Type 0 where
+  pub board : IsBoard (record { project = p; placed = placed })
+  pub memory : reserved ≡ size p
+  pub tabled : IsTable p rows
+  pub before : HasBefore p (size p) table
+  pub after : HasAfter p (size p) afters
+  pub noted : length ends ≡ size p
+  pub finishes : All (λ a. get_or ends a.activity 0 ≡ finish_of p a) placed
+  pub never : (j : ℕ) → j < size p → is_placed placed j ≡ false → get_or ends j 0 ≡ NEVER
+  pub readied : AreReadied p placed readies
+  pub entered : WereEligible p placed
+  pub staged : AreStages p placed running stages
+
+-- all in the list are placed
+abbrev pub AreDone : List ℕ → List ℕ → Type 0
+AreDone before ends = (k : ℕ) → k < length before → get_or ends (get_or before k 0) 0 < NEVER
+
+-- those in `after` whose predecessors are all placed are members now, ready at the latest of their
+-- finishes. All others stay as they were
+pub record HasEntered (after : List ℕ) (table : List (List ℕ)) (ends words readies now later : List ℕ) : Type 0 where
+  pub count : length later ≡ length readies
+  pub ready : (k : ℕ) → k < length after → AreDone (get_or table (get_or after k 0) []) ends → (has now (get_or after k 0) ≡ true) × IsLatest (get_or table (get_or after k 0) []) ends (get_or later (get_or after k 0) 0)
+  pub waiting : (k : ℕ) → k < length after → (AreDone (get_or table (get_or after k 0) []) ends → ⊥) → has now (get_or after k 0) ≡ has words (get_or after k 0)
+  pub others : (j : ℕ) → list_any (λ s. s == j) after ≡ false → (has now j ≡ has words j) × (get_or later j 0 ≡ get_or readies j 0)
