@@ -110,7 +110,8 @@ fn tells_bounds_by_prices(rt: HostRuntime) -> Result<(), AllocError> {
     assert!(rt; said == Ok(()));
     let said = certify_bound(rt.alloc(), FILE, 4, b"", &mut written, &mut watch);
     assert!(rt; said == Ok(()));
-    assert!(rt; written.as_slice() == b"infeasible\nat least 4\n");
+    let wanted: &[u8] = b"infeasible\nat least 4\n";
+    assert!(rt; written.as_slice() == wanted);
     Ok(())
 }
 
