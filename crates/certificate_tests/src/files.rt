@@ -1,7 +1,7 @@
 //! A file whose optimum is 4. Activity 2 takes 3 periods and two of three units. Activity 3 takes 2
 //! periods and two units, or 4 periods and one.
 use certify_cli::CertifyFault::{self, Certificate, Words};
-use certify_cli::{certify, certify_infeasible, write_clauses};
+use certify_cli::{certify, certify_bound, certify_infeasible, certify_least, write_clauses};
 use clause_proof::ProofFault::{self, Unfinished, Unproved, Word};
 use mrcpsp::Breach;
 use schedule_clauses::CertificateFault::{Horizon, Proof, Schedule};
@@ -62,6 +62,56 @@ fn certifies_texts(rt: HostRuntime) -> Result<(), AllocError> {
         let wanted: &[u8] = if said.is_ok() { b"optimal 4\n" } else { b"" };
         assert!(rt; written.as_slice() == wanted);
     }
+    Ok(())
+}
+
+/// Activities 2 and 3 consume one unit each, and there is one. The longest chain is 3.
+const STARVED: &[u8] = b"jobs (incl. supersource/sink ): 4
+- renewable : 1 R
+- nonrenewable : 1 N
+PRECEDENCE RELATIONS:
+h
+1 1 2 2 3
+2 1 1 4
+3 2 1 4
+4 1 0
+REQUESTS/DURATIONS:
+h
+1 1 0 0 0
+2 1 3 2 1
+3 1 2 2 1
+2 4 1 1
+4 1 0 0 0
+RESOURCEAVAILABILITIES:
+h
+3 1
+";
+
+/// Files and steps, and the lower bound of each. Of the first at least ten units are needed in all,
+/// so three periods of three units are not enough.
+const BOUNDS: [(&[u8], u32, &[u8]); 4] = [
+    (FILE, 0, b"at least 3\n"),
+    (FILE, 1000, b"at least 4\n"),
+    (STARVED, 0, b"at least 3\n"),
+    (STARVED, 1000, b"infeasible\n"),
+];
+
+#[test]
+fn tells_bounds_by_prices(rt: HostRuntime) -> Result<(), AllocError> {
+    for (file, steps, told) in BOUNDS {
+        let mut written = Vec::new(rt.alloc());
+        let said = certify_least(rt.alloc(), file, steps, &mut written, &mut Watch::new());
+        assert!(rt; said == Ok(()));
+        assert!(rt; written.as_slice() == told);
+    }
+    let mut written = Vec::new(rt.alloc());
+    let mut watch = Watch::new();
+    let said = certify_infeasible(rt.alloc(), STARVED, b"", &mut written, &mut watch);
+    assert!(rt; said == Ok(()));
+    let said = certify_bound(rt.alloc(), FILE, 4, b"", &mut written, &mut watch);
+    assert!(rt; said == Ok(()));
+    let wanted: &[u8] = b"infeasible\nat least 4\n";
+    assert!(rt; written.as_slice() == wanted);
     Ok(())
 }
 

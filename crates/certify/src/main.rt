@@ -31,16 +31,14 @@ fn command<'a>(alloc: Global) -> Result<Command<'a>, AllocError> {
             "What solve prints, as lines or as JSON, or words J:MODE:START, or lines J,MODE,START",
         ))?
         .arg(Arg::new(alloc, "PROOF").help(
-            "A DRAT proof of the clauses of one period less; none where the longest chain alone decides",
+            "A DRAT proof of the clauses of one period less; none if the longest chain or prices decide",
         ))?;
     let infeasible = Command::new(alloc, "infeasible")
-        .about("Checks a proof that no schedule is feasible")
-        .override_usage("farm infeasible <FILE> <PROOF>")
+        .about("Shows that no schedule is feasible, by a proof or by prices")
+        .override_usage("farm infeasible <FILE> [PROOF]")
         .arg(needed(alloc, "FILE", "A PSPLIB multi-mode file"))?
-        .arg(needed(
-            alloc,
-            "PROOF",
-            "A DRAT proof of the clauses without a bound",
+        .arg(Arg::new(alloc, "PROOF").help(
+            "A DRAT proof of the clauses without a bound; none if prices decide",
         ))?;
     let bound = Command::new(alloc, "bound")
         .about("Tells how many periods each schedule takes at least, or checks a proof of a bound")
@@ -50,7 +48,7 @@ fn command<'a>(alloc: Global) -> Result<Command<'a>, AllocError> {
             "Periods that each schedule takes at least; without it, the best bound that prices show",
         ))?
         .arg(Arg::new(alloc, "PROOF").help(
-            "A DRAT proof of the clauses of one period less; none where the longest chain alone decides",
+            "A DRAT proof of the clauses of one period less; none if the longest chain or prices decide",
         ))?
         .arg(
             Arg::new(alloc, "steps")
@@ -92,7 +90,7 @@ fn run_chosen<R: Runtime + AllocGlobal>(rt: &R, matches: &ArgMatches<'_>) -> Exi
         Some(("infeasible", chosen)) => certify_cli::run_infeasible(
             rt,
             chosen.get_str("FILE").unwrap_or("-"),
-            chosen.get_str("PROOF").unwrap_or("-"),
+            chosen.get_str("PROOF"),
         ),
         Some(("bound", chosen)) => certify_cli::run_bound(
             rt,

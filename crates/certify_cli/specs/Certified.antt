@@ -1,7 +1,7 @@
 -- What a line of a certificate means.
-use Rattle.std.specs.Prelude.{◌≡◌, ℕ, ◌≤◌, List, ◌∷◌, ◌++◌, [], Option, Ok, codes, decimal}
+use Rattle.std.specs.Prelude.{◌≡◌, ◌⊎◌, ℕ, ◌<◌, ◌≤◌, List, ◌∷◌, ◌++◌, [], Option, Ok, codes, decimal}
 use Rattle.std.specs.Io.KnownBytes.{Appends}
-use Rattle.mrcpsp.specs.Project.{ProjectData}
+use Rattle.mrcpsp.specs.Project.{ProjectData, horizon}
 use Rattle.mrcpsp.specs.Schedule.{ScheduleData, IsOptimal, IsInfeasible, makespan}
 use Rattle.mrcpsp.specs.Values.{bound}
 use Rattle.price_search.specs.LowerBound.{TakesAtLeast}
@@ -41,12 +41,18 @@ pub record CertifiesBound (file : List ℕ) (periods : ℕ) (before after : Opti
   pub wrote : Appends before after (bound_line periods)
 
 -- a bound of the file's project was written that no feasible schedule is below: the critical path by
--- shortest durations (Kelley and Walker 1959), or more if prices were looked for by some steps
-pub record CertifiesLeast (file : List ℕ) (steps : ℕ) (before after : Option (List ℕ)) : Type 0 where
+-- shortest durations (Kelley and Walker 1959), or more if prices were looked for by some steps. Then
+-- it is no longer than the horizon
+pub record TellsLeast (file : List ℕ) (steps : ℕ) (before after : Option (List ℕ)) : Type 0 where
   pub project : ProjectData
   pub periods : ℕ
   pub read : reading file ≡ Ok project
   pub least : TakesAtLeast project periods
   pub chain : bound project ≤ periods
   pub alone : steps ≡ 0 → periods ≡ bound project
+  pub within : 0 < steps → periods ≤ horizon project.activities
   pub wrote : Appends before after (bound_line periods)
+
+-- such a bound was written; or prices were looked for, and show that no schedule is feasible
+abbrev pub CertifiesLeast : List ℕ → ℕ → Option (List ℕ) → Option (List ℕ) → Type 0
+CertifiesLeast file steps before after = TellsLeast file steps before after ⊎ ((0 < steps) × CertifiesInfeasible file before after)

@@ -8,14 +8,18 @@ ghost use Rattle.certify_cli.specs.Commands.{IsLineNoted, IsStopped, IsOfFile, I
 
 use crate::fault::CertifyFault;
 use mrcpsp::Project;
-use price_search::lower_bound;
+use price_search::laws::fitting_modes_decide;
+use price_search::{exceeds, lower_bound};
 use psplib_mm::read;
 use schedule_clauses::CertificateFault;
 use std::alloc::Global;
 use std::io::Write;
 use watched_io::Watch;
 
-/// No schedule takes fewer than 0 periods, whatever the proof.
+/// The steps for the prices of a bound that is asked once.
+pub(crate) const STEPS: u32 = 3_000;
+
+/// No schedule takes fewer than 0 periods, whatever the proof. Without a proof prices may show it.
 fn exceeded(
     alloc: Global,
     project: &Project,
@@ -28,12 +32,16 @@ fn exceeded(
     if periods == 0 {
         return Ok(());
     }
+    if proof.is_empty() && exceeds(alloc, project, periods - 1, STEPS)? {
+        return Ok(());
+    }
     schedule_clauses::certify_bound(alloc, project, periods - 1, proof)
 }
 
 /// Checks a DRAT proof that no feasible schedule of `file` takes fewer than `periods` periods, and
 /// writes `at least L`. The proof is of the clauses of one period less; it may be empty if the
-/// longest chain decides. On any error except `Write`, nothing was written.
+/// longest chain, prices or the clauses alone decide. On any error except `Write`, nothing was
+/// written.
 pub fn certify_bound<W: Write>(
     alloc: Global,
     file: &[u8],
@@ -60,7 +68,8 @@ pub fn certify_bound<W: Write>(
 
 /// Writes `at least L`: no feasible schedule of `file` takes fewer than L periods. L is the longest
 /// chain of activities by shortest durations, or more if `steps` steps find prices that refute
-/// bounds above it. On any error except `Write`, nothing was written.
+/// bounds above it. If they refute the horizon too, it writes `infeasible`. On any error except
+/// `Write`, nothing was written.
 pub fn certify_least<W: Write>(
     alloc: Global,
     file: &[u8],
@@ -78,6 +87,13 @@ pub fn certify_least<W: Write>(
     let Ok(periods) = lower_bound(alloc, &project, steps) else {
         return Err(CertifyFault::NoMemory);
     };
+    fitting_modes_decide();
+    if steps > 0 && periods > project.horizon() {
+        match watch.write_text(writer, "infeasible\n") {
+            Ok(()) => return Ok(()),
+            Err(_) => return Err(CertifyFault::Write),
+        }
+    }
     match watch.write_text(writer, format_args!("at least {periods}\n")) {
         Ok(()) => Ok(()),
         Err(_) => Err(CertifyFault::Write),

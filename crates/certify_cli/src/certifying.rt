@@ -2,24 +2,65 @@
 ghost use Rattle.std.specs.Prelude.{◌≡◌, ◌⊎◌, IfOk, IfErr};
 ghost use Rattle.psplib_mm.specs.Gives.{Gives};
 ghost use Rattle.psplib_mm.specs.Reading.{reading};
-ghost use Rattle.mrcpsp.specs.Schedule.{IsInfeasible};
+ghost use Rattle.mrcpsp.specs.Schedule.{IsOptimal, IsInfeasible, makespan};
+ghost use Rattle.schedule_clauses.specs.Fault.{IsOfStocks, IsOfSchedule};
 ghost use Rattle.watched_io.specs.Failure.{HasFailed};
 ghost use Rattle.certify_cli.specs.Certified.{CertifiesOptimal, CertifiesInfeasible};
 ghost use Rattle.certify_cli.specs.Commands.{IsLineNoted, IsStopped, IsOfFile, IsOfText, IsOfProofAlone};
 
+use crate::bounding::STEPS;
 use crate::dimacs::write_formula;
 use crate::fault::CertifyFault;
-use mrcpsp::Project;
+use mrcpsp::{Project, Schedule, check};
+use price_search::{exceeds, is_infeasible};
 use psplib_mm::read;
-use schedule_clauses::{clauses, stock_clauses};
+use schedule_clauses::{CertificateFault, clauses, stock_clauses};
 use schedule_files::{MOST_BYTES, read_schedule};
 use std::alloc::Global;
 use std::io::Write;
 use watched_io::Watch;
 
-/// Checks a schedule of `file` and a proof that none is shorter, and writes `optimal M`. Fails with
-/// the first fault, in the order of file, text, schedule and proof. On any error except `Write`,
-/// nothing was written.
+/// Checks a schedule and a proof that none is shorter. Without a proof prices may show it.
+fn certified(
+    alloc: Global,
+    project: &Project,
+    schedule: &Schedule,
+    proof: &[u8],
+) -> Result<u32, CertificateFault>
+    ensures optimal { IfOk result (λ _. IsOptimal project.now schedule.now) }
+    ensures makespan { IfOk result (λ m. m ≡ makespan project.now schedule.now) }
+    ensures fault { IfErr result (λ fault. IsOfSchedule project.now schedule.now fault) }
+{
+    if proof.is_empty()
+        && let Ok(makespan) = check(project, schedule)
+        && makespan > 0
+        && exceeds(alloc, project, makespan - 1, STEPS)?
+    {
+        return Ok(makespan);
+    }
+    schedule_clauses::certify(alloc, project, schedule, proof)
+}
+
+/// Checks that no schedule is feasible: by a proof that no modes fit the stocks, or without one by
+/// prices.
+fn certified_infeasible(
+    alloc: Global,
+    project: &Project,
+    proof: &[u8],
+) -> Result<(), CertificateFault>
+    ensures infeasible { IfOk result (λ _. IsInfeasible project.now) }
+    ensures fault { IfErr result (λ fault. IsOfStocks fault) }
+{
+    if proof.is_empty() && is_infeasible(alloc, project, STEPS)? {
+        return Ok(());
+    }
+    schedule_clauses::certify_infeasible(alloc, project, proof)
+}
+
+/// Checks a schedule of `file` and a proof that none is shorter, and writes `optimal M`. The proof
+/// may be empty if the longest chain, prices or the clauses alone decide. Fails with the first
+/// fault, in the order of file, text, schedule and proof. On any error except `Write`, nothing was
+/// written.
 pub fn certify<W: Write>(
     alloc: Global,
     file: &[u8],
@@ -41,7 +82,7 @@ pub fn certify<W: Write>(
         Ok(None) => return Err(CertifyFault::Words),
         Err(_) => return Err(CertifyFault::NoMemory),
     };
-    match schedule_clauses::certify(alloc, &project, &schedule, proof) {
+    match certified(alloc, &project, &schedule, proof) {
         Ok(makespan) => match watch.write_text(writer, format_args!("optimal {makespan}\n")) {
             Ok(()) => Ok(()),
             Err(_) => Err(CertifyFault::Write),
@@ -50,8 +91,8 @@ pub fn certify<W: Write>(
     }
 }
 
-/// Checks a proof that no modes fit the stocks of `file`, and writes `infeasible`. On any error
-/// except `Write`, nothing was written.
+/// Checks a proof that no modes fit the stocks of `file`, and writes `infeasible`. The proof may be
+/// empty if prices or the clauses alone decide. On any error except `Write`, nothing was written.
 pub fn certify_infeasible<W: Write>(
     alloc: Global,
     file: &[u8],
@@ -66,7 +107,7 @@ pub fn certify_infeasible<W: Write>(
     ensures noted { IsLineNoted result watch.old watch.new }
 {
     let project = read(alloc, file).map_err(CertifyFault::File)?;
-    match schedule_clauses::certify_infeasible(alloc, &project, proof) {
+    match certified_infeasible(alloc, &project, proof) {
         Ok(()) => match watch.write_text(writer, "infeasible\n") {
             Ok(()) => Ok(()),
             Err(_) => Err(CertifyFault::Write),

@@ -1,6 +1,7 @@
 //! Clauses in DIMACS form: `p cnf VARIABLES CLAUSES`, and each clause as numbers ended by 0. Lines
 //! that begin with `c` explain the clauses and the variables: `starts J T`, activity J starts at T
 //! or before, and `mode J M`, it has mode M.
+use itoa::Buffer;
 use schedule_clauses::{CapacityRow, Fact, Formula, Kind};
 use std::io::{self, Write};
 
@@ -76,13 +77,18 @@ fn write_meanings<W: Write>(writer: &mut W, formula: &Formula) -> io::Result<()>
     Ok(())
 }
 
-fn write_clause<W: Write>(writer: &mut W, clause: &[u32]) -> io::Result<()> {
+fn write_clause<W: Write>(writer: &mut W, digits: &mut Buffer, clause: &[u32]) -> io::Result<()> {
     for literal in clause {
-        let sign = if *literal % 2 == 0 { "" } else { "-" };
-        let variable = *literal / 2;
-        write!(writer, "{sign}{variable} ")?;
+        let variable = i64::from(*literal / 2);
+        let number = if *literal % 2 == 0 {
+            variable
+        } else {
+            -variable
+        };
+        writer.write_all(digits.format(number).as_bytes())?;
+        writer.write_all(b" ")?;
     }
-    writeln!(writer, "0")
+    writer.write_all(b"0\n")
 }
 
 pub(crate) fn write_formula<W: Write>(writer: &mut W, formula: &Formula) -> io::Result<()> {
@@ -92,8 +98,9 @@ pub(crate) fn write_formula<W: Write>(writer: &mut W, formula: &Formula) -> io::
     let variables = formula.meanings.len().saturating_sub(1);
     let clauses = formula.clauses.len();
     writeln!(writer, "p cnf {variables} {clauses}")?;
+    let mut digits = Buffer::new();
     for number in 0..clauses {
-        write_clause(writer, formula.clauses.get(number))?;
+        write_clause(writer, &mut digits, formula.clauses.get(number))?;
     }
     Ok(())
 }

@@ -48,7 +48,7 @@ fn open_proof<R: Runtime>(rt: &R, path: Option<&str>) -> Option<Source<R::Reader
 }
 
 /// Prints `optimal M` if `proof` shows that `schedule` is optimal for `file`. Without a proof, the
-/// longest chain of activities has to show it.
+/// longest chain of activities or prices have to show it.
 pub fn run_certify<R: Runtime + AllocGlobal>(
     rt: &R,
     file: &str,
@@ -76,19 +76,20 @@ pub fn run_certify<R: Runtime + AllocGlobal>(
     certify_to(rt, paths, project, text, steps, &mut output, &mut watches)
 }
 
-/// Prints `infeasible` if `proof` shows that no schedule of `file` is feasible.
-pub fn run_infeasible<R: Runtime + AllocGlobal>(rt: &R, file: &str, proof: &str) -> ExitCode
+/// Prints `infeasible` if `proof` shows that no schedule of `file` is feasible. Without a proof,
+/// prices have to show it.
+pub fn run_infeasible<R: Runtime + AllocGlobal>(rt: &R, file: &str, proof: Option<&str>) -> ExitCode
     ensures { exit_status result ≤ 1 }
 {
     let paths = Paths {
         file,
         text: file,
-        proof,
+        proof: proof.unwrap_or("-"),
     };
     let Some(project) = open_path(rt, file) else {
         return ExitCode::FAILURE;
     };
-    let Some(steps) = open_path(rt, proof) else {
+    let Some(steps) = open_proof(rt, proof) else {
         return ExitCode::FAILURE;
     };
     let mut output = io::writer(rt);

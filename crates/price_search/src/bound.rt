@@ -1,11 +1,14 @@
 //! Lower bounds by prices.
-ghost use Rattle.std.specs.Prelude.{◌≡◌, ◌≤◌, IsTrue, IfOk, IfSome};
+ghost use Rattle.std.specs.Prelude.{◌≡◌, ◌<◌, ◌≤◌, IsTrue, IfOk, IfSome};
+ghost use Rattle.mrcpsp.specs.Schedule.{IsInfeasible};
 ghost use Rattle.mrcpsp.specs.Values.{bound};
+ghost use Rattle.mrcpsp.specs.Values.{bound as chain_of};
 ghost use Rattle.schedule_prices.specs.Choices.{EachExceeds};
 ghost use Rattle.price_search.specs.LowerBound.{TakesAtLeast};
 
 use crate::cases::{MOST_PIECE_STEPS, refute_by_cases};
 use crate::climb::{Answer, Climb};
+use crate::laws::fitting_modes_decide;
 use crate::narrow::narrow;
 use crate::search::find_prices;
 use measures::Measures;
@@ -138,4 +141,39 @@ pub fn lower_bound(alloc: Global, project: &Project, steps: u32) -> Result<u32, 
     }
     let periods = climb(alloc, project, steps, chain)?;
     climb_by_cases(alloc, project, steps, periods)
+}
+
+/// Whether each feasible schedule takes more than `bound` periods, as far as the longest chain, then
+/// prices and pieces show it. Prices are looked for in at most `steps` steps, and pieces in
+/// [`MOST_PIECE_STEPS`] more.
+pub fn exceeds(
+    alloc: Global,
+    project: &Project,
+    bound: u32,
+    steps: u32,
+) -> Result<bool, AllocError>
+    ensures sound { IfOk result (λ shown. IsTrue shown → EachExceeds project.now bound) }
+    ensures chain { bound < chain_of project.now → IfOk result (λ shown. IsTrue shown) }
+{
+    none_is_below_the_bound();
+    project.activities();
+    let measures = Measures::of(alloc, project)?;
+    if measures.bound() > bound {
+        return Ok(true);
+    }
+    if ask(alloc, project, bound, steps)?.refuted {
+        return Ok(true);
+    }
+    let mut left = MOST_PIECE_STEPS;
+    ask_by_cases(alloc, project, bound, steps, &mut left)
+}
+
+/// Whether no schedule is feasible, as far as prices show it: then they refute the horizon, within
+/// which modes that fit would have a schedule.
+pub fn is_infeasible(alloc: Global, project: &Project, steps: u32) -> Result<bool, AllocError>
+    ensures { IfOk result (λ shown. IsTrue shown → IsInfeasible project.now) }
+{
+    fitting_modes_decide();
+    project.activities();
+    exceeds(alloc, project, project.horizon(), steps)
 }

@@ -91,6 +91,8 @@ are-good-none p limit a = record { each = λ s short k d inside. absurd (omega a
 
 pub ruleset add_rules = (extends-refl, extends-trans, good-none)
 
+pub ruleset new_rules = (are-good-none)
+
 -- a good clause is true at the intended values
 literal_is : (p : ProjectData) (s : ScheduleData) (a : List Fact) (l : ℕ) → IsTold p s a l → literal_true (intended p s a) l ≡ true
 unfolding literal_true intended

@@ -28,6 +28,12 @@ pub record IsGood (p : ProjectData) (s : ScheduleData) (meanings : List Fact) (c
   pub inside : place < length clause
   pub told : IsTold p s meanings (slice_index clause place)
 
+-- the schedules of which clauses hold: the feasible ones of a project, and with a limit those of at
+-- most this makespan
+pub record ScopeData : Type 0 where
+  pub project : ProjectData
+  pub limit : Option ℕ
+
 -- each clause is good, for each schedule within the limit
 pub record AreGood (p : ProjectData) (limit : Option ℕ) (meanings : List Fact) (clauses : List (List ℕ)) : Type 0 where
   pub each : (s : ScheduleData) → IsWithin p limit s → All (λ c. IsGood p s meanings c) clauses

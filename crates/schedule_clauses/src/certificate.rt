@@ -63,8 +63,7 @@ pub fn clauses(alloc: Global, project: &Project, bound: u32) -> Result<Formula, 
     if count > MOST_START_CLAUSES {
         return Err(CertificateFault::TooMany(count));
     }
-    let encoding = encode(alloc, project, bound)?;
-    Ok(encoding.formula)
+    Ok(encode(alloc, project, bound)?)
 }
 
 /// Clauses on modes and stocks alone, which each feasible schedule satisfies.
@@ -75,8 +74,7 @@ pub fn stock_clauses(alloc: Global, project: &Project) -> Result<Formula, Certif
         AreGood project.now None formula.meanings.items formula.clauses) }
     ensures fault { IfErr result (λ fault. fault ≡ CertificateFault.NoMemory) }
 {
-    let encoding = encode_stocks(alloc, project)?;
-    Ok(encoding.formula)
+    Ok(encode_stocks(alloc, project)?)
 }
 
 /// Checks a proof that each feasible schedule takes more than `bound` periods.

@@ -1,93 +1,24 @@
 //! Clauses over variables whose meanings are kept.
-ghost use Rattle.std.specs.Prelude.{◌≡◌, ◌+◌, ◌*◌, ◌<◌, ◌≤◌, ◌/◌, ◌%◌, ◌==◌, ◌++◌, ℕ, IfOk, IfSome, List, ◌∷◌, [], Some, slice_get};
+ghost use Rattle.std.specs.Prelude.{◌≡◌, ◌<◌, ◌/◌, ◌%◌, ◌==◌, ◌++◌, IfOk, ◌∷◌, [], Some, slice_get};
 ghost use Rattle.schedule_clauses.specs.Meaning.{IsValid};
 ghost use Rattle.schedule_clauses.specs.Encoding.{AllGood, Extends};
 
-use crate::activities::Activities;
-use crate::diagram::number_at;
 use crate::formula::{CapacityRow, Formula, Kind, Section};
+use crate::index::Index;
 use crate::meaning::{Fact, Term};
+use crate::scope::Scope;
 use clause_kernel::ClauseList;
-use mrcpsp::Project;
 use std::alloc::{AllocError, Global};
+use std::mem::replace;
 
-const NONE: u32 = u32::MAX;
-
-/// The feasible schedules of a project; with a limit, those of at most this makespan.
-#[derive(Clone, Copy)]
-pub(crate) struct Scope<'a> {
-    pub(crate) project: &'a Project,
-    pub(crate) limit: Option<u32>,
-}
-
-/// Clauses and their variables. `heads` and `nexts` chain the variables of each hash value.
+/// Clauses and their variables.
 #[derive(Drop)]
 pub(crate) struct Encoding {
     pub(crate) alloc: Global,
     pub(crate) formula: Formula,
-    heads: Vec<u32>,
-    nexts: Vec<u32>,
-}
-
-fn mix(sum: u64, part: u64) -> u64 {
-    let spread = (sum ^ part).wrapping_mul(0x9E37_79B9_7F4A_7C15);
-    spread ^ (spread >> 29)
-}
-
-fn mix_all(sum: u64, activities: Activities) -> u64 {
-    let mut sum = sum;
-    for word in activities {
-        sum = mix(sum, word);
-    }
-    sum
-}
-
-fn hash(meaning: Fact) -> u64 {
-    match meaning {
-        Fact::StartsBy { activity, time } => mix(mix(1, activity as u64), time as u64),
-        Fact::InMode { activity, mode } => mix(mix(2, activity as u64), mode as u64),
-        Fact::Runs {
-            activity,
-            mode,
-            time,
-        } => mix(mix(mix(3, activity as u64), mode as u64), time as u64),
-        Fact::UseWithin {
-            resource,
-            time,
-            activities,
-            most,
-        } => mix_all(
-            mix(mix(mix(4, resource as u64), time as u64), most as u64),
-            activities,
-        ),
-        Fact::ConsumptionWithin {
-            resource,
-            activities,
-            most,
-        } => mix_all(mix(mix(5, resource as u64), most as u64), activities),
-        Fact::WeightWithin {
-            weights: _,
-            count,
-            most,
-        } => mix(mix(6, count as u64), most as u64),
-    }
-}
-
-fn find(meanings: &[Fact], nexts: &[u32], first: u32, meaning: Fact) -> Option<u32>
-    ensures { IfSome result (λ x. slice_get meanings.now x ≡ Some meaning) }
-{
-    let mut number = first;
-    for _ in 0..nexts.len() {
-        let at = number as usize;
-        if at >= meanings.len() || at >= nexts.len() {
-            return None;
-        }
-        if meanings[at] == meaning {
-            return Some(number);
-        }
-        number = nexts[at];
-    }
-    None
+    index: Index,
+    /// Memory for the literals of a clause.
+    literals: Vec<u32>,
 }
 
 impl Encoding {
@@ -95,15 +26,11 @@ impl Encoding {
     pub(crate) fn new(alloc: Global) -> Result<Encoding, AllocError>
         ensures { IfOk result (λ encoding. encoding.formula.clauses ≡ []) }
     {
-        let mut heads = Vec::with_capacity(alloc, 65536)?;
-        heads.resize(65536, NONE)?;
         let mut meanings = Vec::new(alloc);
         meanings.push(Fact::InMode {
             activity: 0,
             mode: 0,
         })?;
-        let mut nexts = Vec::new(alloc);
-        nexts.push(NONE)?;
         let formula = Formula {
             clauses: ClauseList::new(alloc),
             meanings,
@@ -113,56 +40,15 @@ impl Encoding {
         Ok(Encoding {
             alloc,
             formula,
-            heads,
-            nexts,
+            index: Index::new(alloc)?,
+            literals: Vec::new(alloc),
         })
     }
 
-    fn chain_of(&self, meaning: Fact) -> usize {
-        let chains = self.heads.len() as u64;
-        if chains == 0 {
-            return 0;
-        }
-        (hash(meaning) % chains) as usize
-    }
-
-    fn link(&mut self, meaning: Fact, variable: usize) -> Result<(), AllocError>
-        ensures { self.new.formula ≡ self.old.formula }
+    pub(crate) fn clear(&mut self)
+        ensures { self.new.formula.clauses ≡ [] }
     {
-        let chain = self.chain_of(meaning);
-        if chain >= self.heads.len() || variable >= 1_000_000_000 {
-            return Ok(());
-        }
-        self.nexts.push(self.heads[chain])?;
-        self.heads[chain] = variable as u32;
-        Ok(())
-    }
-
-    /// Makes four times the chains once there are four variables for each.
-    fn spread(&mut self) -> Result<(), AllocError>
-        ensures { self.new.formula ≡ self.old.formula }
-    {
-        let chains = self.heads.len();
-        let variables = self.formula.meanings.len();
-        if variables / 4 < chains || variables >= 1_000_000_000 {
-            return Ok(());
-        }
-        let mut heads = Vec::with_capacity(self.alloc, variables)?;
-        heads.resize(variables, NONE)?;
-        self.heads = heads;
-        self.nexts = Vec::with_capacity(self.alloc, variables)?;
-        self.nexts.push(NONE)?;
-        self.link_all()
-    }
-
-    fn link_all(&mut self) -> Result<(), AllocError>
-        ensures { self.new.formula ≡ self.old.formula }
-    {
-        for variable in 1..self.formula.meanings.len() {
-            let meaning = self.formula.meanings[variable];
-            self.link(meaning, variable)?;
-        }
-        Ok(())
+        self.formula.clauses = ClauseList::new(self.alloc);
     }
 
     /// Makes the variable if there is none, but no more than 1,000,000,000 of them.
@@ -172,20 +58,17 @@ impl Encoding {
         ensures same { self.new.formula.clauses ≡ self.old.formula.clauses }
         ensures few { IfOk result (λ x. x < 1000000000) }
     {
-        let chain = self.chain_of(meaning);
-        let first = number_at(&self.heads, chain);
-        if let Some(found) = find(&self.formula.meanings, &self.nexts, first, meaning)
+        if let Some(found) = self.index.find(&self.formula.meanings, meaning)
             && found < 1_000_000_000
         {
-            return Ok(found);
+            return Ok(found as u32);
         }
         let number = self.formula.meanings.len();
         if number >= 1_000_000_000 {
             return Err(AllocError);
         }
         self.formula.meanings.push(meaning)?;
-        self.link(meaning, number)?;
-        self.spread()?;
+        self.index.add(&self.formula.meanings, number)?;
         Ok(number as u32)
     }
 
@@ -211,12 +94,14 @@ impl Encoding {
         requires good { AllGood scope.project.now scope.limit self.old }
         ensures { IfOk result (λ _. AllGood scope.entry.project.now scope.entry.limit self.new) }
     {
-        let mut literals = Vec::new(self.alloc);
+        let mut literals = replace(&mut self.literals, Vec::new(self.alloc));
+        literals.clear();
         for term in terms {
             let literal = self.literal(*term)?;
             literals.push(literal)?;
         }
         self.formula.clauses.push(&literals)?;
+        self.literals = literals;
         Ok(())
     }
 

@@ -7,7 +7,8 @@
 //! hint. So if [`clause_proof::refute`] accepts a proof, no schedule is that short. One that takes
 //! a period more is optimal ([`certify`]). That the clauses suffice for a proof is only tested.
 //!
-//! - `meaning`, `encoding`: the meanings of variables; clauses, and of which schedules they hold.
+//! - `meaning`, `index`: the meanings of variables, and where the variable of a meaning is (hints).
+//! - `encoding`, `scope`: clauses, and of which schedules they hold.
 //! - `forms`: the forms of clauses, of modes, starts, amounts and weights.
 //! - `windows`, `size`: when an activity can start (hints); how many clauses on starts to expect.
 //! - `activities`, `chains`: sets of activities; chains, one of which runs at a time (hints).
@@ -23,7 +24,9 @@ mod diagram;
 mod encoding;
 mod forms;
 mod formula;
+mod index;
 mod meaning;
+mod scope;
 mod sections;
 mod size;
 mod surrogate;

@@ -1,12 +1,13 @@
 //! All clauses of a project within a bound, or those of modes and stocks, which hold without one.
 ghost use Rattle.std.specs.Prelude.{IfOk, Some, None};
-ghost use Rattle.schedule_clauses.specs.Encoding.{AllGood};
+ghost use Rattle.schedule_clauses.specs.Encoding.{AreGood};
 
 mod capacities;
 mod starts;
 mod surrogate;
 
-use crate::encoding::{Encoding, Scope};
+use crate::formula::Formula;
+use crate::scope::{Clauses, Scope};
 use crate::sections::capacities::{mode_section, nonrenewable_section, renewable_section};
 use crate::sections::starts::{end_section, precedence_section, run_section, start_section};
 use crate::sections::surrogate::surrogate_section;
@@ -15,32 +16,32 @@ use measures::Measures;
 use mrcpsp::Project;
 use std::alloc::{AllocError, Global};
 
-pub(crate) fn encode(alloc: Global, project: &Project, bound: u32) -> Result<Encoding, AllocError>
-    ensures { IfOk result (λ encoding. AllGood project.now (Some bound) encoding) }
+pub(crate) fn encode(alloc: Global, project: &Project, bound: u32) -> Result<Formula, AllocError>
+    ensures { IfOk result (λ formula.
+        AreGood project.now (Some bound) formula.meanings.items formula.clauses) }
 {
     let measures = Measures::of(alloc, project)?;
     let windows = Windows::new(alloc, project, &measures, bound)?;
     let limit = Some(bound);
-    let scope = Scope { project, limit };
-    let mut encoding = Encoding::new(alloc)?;
-    mode_section(&mut encoding, scope)?;
-    start_section(&mut encoding, scope, &windows)?;
-    end_section(&mut encoding, scope, &measures, &windows)?;
-    precedence_section(&mut encoding, scope, &measures, &windows)?;
-    run_section(&mut encoding, scope, &windows)?;
-    renewable_section(&mut encoding, scope, &windows)?;
-    nonrenewable_section(&mut encoding, scope)?;
-    surrogate_section(&mut encoding, scope, bound)?;
-    Ok(encoding)
+    let mut clauses = Clauses::new(alloc, Scope { project, limit })?;
+    mode_section(&mut clauses)?;
+    start_section(&mut clauses, &windows)?;
+    end_section(&mut clauses, &measures, &windows)?;
+    precedence_section(&mut clauses, &measures, &windows)?;
+    run_section(&mut clauses, &windows)?;
+    renewable_section(&mut clauses, &windows)?;
+    nonrenewable_section(&mut clauses)?;
+    surrogate_section(&mut clauses, bound)?;
+    Ok(clauses.into_formula())
 }
 
-pub(crate) fn encode_stocks(alloc: Global, project: &Project) -> Result<Encoding, AllocError>
-    ensures { IfOk result (λ encoding. AllGood project.now None encoding) }
+pub(crate) fn encode_stocks(alloc: Global, project: &Project) -> Result<Formula, AllocError>
+    ensures { IfOk result (λ formula.
+        AreGood project.now None formula.meanings.items formula.clauses) }
 {
     let limit = None;
-    let scope = Scope { project, limit };
-    let mut encoding = Encoding::new(alloc)?;
-    mode_section(&mut encoding, scope)?;
-    nonrenewable_section(&mut encoding, scope)?;
-    Ok(encoding)
+    let mut clauses = Clauses::new(alloc, Scope { project, limit })?;
+    mode_section(&mut clauses)?;
+    nonrenewable_section(&mut clauses)?;
+    Ok(clauses.into_formula())
 }

@@ -1,11 +1,10 @@
 //! The clauses of a capacity row, by its diagram.
-ghost use Rattle.std.specs.Prelude.{IfOk};
-ghost use Rattle.schedule_clauses.specs.Encoding.{AllGood};
+ghost use Rattle.std.specs.Prelude.{◌≡◌};
 
 use crate::diagram::{Demand, Diagram, Level, in_order};
-use crate::encoding::{Encoding, Scope};
 use crate::forms::amounts::{Descent, all, fewer, take};
 use crate::formula::CapacityRow;
+use crate::scope::Clauses;
 use std::alloc::AllocError;
 
 /// The most clauses of all rows together: half a gigabyte of them.
@@ -19,15 +18,13 @@ struct RowLevel<'a> {
 }
 
 fn demand_clauses(
-    encoding: &mut Encoding,
-    scope: Scope<'_>,
+    clauses: &mut Clauses<'_>,
     place: RowLevel<'_>,
     demand: Demand,
     amount: u32,
     below: &mut Vec<u32>,
 ) -> Result<(), AllocError>
-    requires good { AllGood scope.project.now scope.limit encoding.old }
-    ensures { IfOk result (λ _. AllGood scope.entry.project.now scope.entry.limit encoding.new) }
+    ensures { clauses.new ≡ clauses.old }
 {
     let RowLevel {
         row,
@@ -36,26 +33,24 @@ fn demand_clauses(
     } = place;
     let from = level.up_to(amount);
     if amount < demand.amount {
-        return take(encoding, scope, row, demand, Descent { from, to: None });
+        return take(clauses, row, demand, Descent { from, to: None });
     }
     let Some(most) = diagram.greatest(level.place, amount - demand.amount) else {
         return Ok(());
     };
     below.push(most)?;
     let to = Some(level.under(most));
-    take(encoding, scope, row, demand, Descent { from, to })
+    take(clauses, row, demand, Descent { from, to })
 }
 
 /// The activities up to a level take no less than those below it.
 fn skip_clauses(
-    encoding: &mut Encoding,
-    scope: Scope<'_>,
+    clauses: &mut Clauses<'_>,
     place: RowLevel<'_>,
     amount: u32,
     below: &mut Vec<u32>,
 ) -> Result<(), AllocError>
-    requires good { AllGood scope.project.now scope.limit encoding.old }
-    ensures { IfOk result (λ _. AllGood scope.entry.project.now scope.entry.limit encoding.new) }
+    ensures { clauses.new ≡ clauses.old }
 {
     let RowLevel {
         row,
@@ -66,43 +61,39 @@ fn skip_clauses(
         return Ok(());
     };
     below.push(most)?;
-    fewer(encoding, scope, row, level.up_to(amount), level.under(most))
+    fewer(clauses, row, level.up_to(amount), level.under(most))
 }
 
 /// `amount` is left for the activities up to this level. What it leaves to the levels below goes to
 /// `below`.
 fn node_clauses(
-    encoding: &mut Encoding,
-    scope: Scope<'_>,
+    clauses: &mut Clauses<'_>,
     place: RowLevel<'_>,
     amount: u32,
     below: &mut Vec<u32>,
 ) -> Result<(), AllocError>
-    requires good { AllGood scope.project.now scope.limit encoding.old }
-    ensures { IfOk result (λ _. AllGood scope.entry.project.now scope.entry.limit encoding.new) }
+    ensures { clauses.new ≡ clauses.old }
 {
-    skip_clauses(encoding, scope, place, amount, below)?;
+    skip_clauses(clauses, place, amount, below)?;
     for demand in place.diagram.demands_of(place.level) {
-        demand_clauses(encoding, scope, place, *demand, amount, below)?;
+        demand_clauses(clauses, place, *demand, amount, below)?;
     }
     Ok(())
 }
 
 /// Returns the nodes of the level below.
 fn level_clauses(
-    encoding: &mut Encoding,
-    scope: Scope<'_>,
+    clauses: &mut Clauses<'_>,
     place: RowLevel<'_>,
     amounts: &[u32],
 ) -> Result<Vec<u32>, AllocError>
-    requires good { AllGood scope.project.now scope.limit encoding.old }
-    ensures { IfOk result (λ _. AllGood scope.entry.project.now scope.entry.limit encoding.new) }
+    ensures { clauses.new ≡ clauses.old }
 {
-    let mut below = Vec::new(encoding.alloc);
+    let mut below = Vec::new(clauses.alloc());
     for amount in amounts {
-        node_clauses(encoding, scope, place, *amount, &mut below)?;
+        node_clauses(clauses, place, *amount, &mut below)?;
     }
-    in_order(encoding.alloc, below)
+    in_order(clauses.alloc(), below)
 }
 
 /// The clauses that all rows to come may have, and each of them.
@@ -132,13 +123,11 @@ impl Room {
 }
 
 fn diagram_clauses(
-    encoding: &mut Encoding,
-    scope: Scope<'_>,
+    clauses: &mut Clauses<'_>,
     row: CapacityRow,
     diagram: &Diagram,
 ) -> Result<(), AllocError>
-    requires good { AllGood scope.project.now scope.limit encoding.old }
-    ensures { IfOk result (λ _. AllGood scope.entry.project.now scope.entry.limit encoding.new) }
+    ensures { clauses.new ≡ clauses.old }
 {
     let levels = diagram.levels.len();
     let (Some(most), Some(last)) = (
@@ -147,8 +136,8 @@ fn diagram_clauses(
     ) else {
         return Ok(());
     };
-    all(encoding, scope, row, last.up_to(most))?;
-    let mut amounts = Vec::new(encoding.alloc);
+    all(clauses, row, last.up_to(most))?;
+    let mut amounts = Vec::new(clauses.alloc());
     amounts.push(most)?;
     for level in diagram.levels.iter().rev() {
         let place = RowLevel {
@@ -156,25 +145,23 @@ fn diagram_clauses(
             diagram,
             level: *level,
         };
-        amounts = level_clauses(encoding, scope, place, &amounts)?;
+        amounts = level_clauses(clauses, place, &amounts)?;
     }
     Ok(())
 }
 
 /// A row that is too large, or larger than the room that is left, is left out.
 pub(crate) fn row_clauses(
-    encoding: &mut Encoding,
-    scope: Scope<'_>,
+    clauses: &mut Clauses<'_>,
     row: CapacityRow,
     diagram: &Diagram,
     room: &mut Room,
 ) -> Result<(), AllocError>
-    requires good { AllGood scope.project.now scope.limit encoding.old }
-    ensures { IfOk result (λ _. AllGood scope.entry.project.now scope.entry.limit encoding.new) }
+    ensures { clauses.new ≡ clauses.old }
 {
     if diagram.is_too_large || diagram.most_clauses > room.most() {
-        return encoding.leave_out(row);
+        return clauses.leave_out(row);
     }
     room.take(diagram.most_clauses);
-    diagram_clauses(encoding, scope, row, diagram)
+    diagram_clauses(clauses, row, diagram)
 }

@@ -1,16 +1,15 @@
 //! Forms of clauses on amounts: what activities use of a renewable resource in a period, and
 //! consume of a nonrenewable one. They hold of every feasible schedule; if their numbers do not
 //! fit, nothing is added.
-ghost use Rattle.std.specs.Prelude.{◌≡◌, ◌<◌, true, IfOk};
+ghost use Rattle.std.specs.Prelude.{◌≡◌, ◌<◌, true};
 ghost use Rattle.mrcpsp.specs.Project.{size, mode_count, renewables, nonrenewables};
 ghost use Rattle.schedule_clauses.specs.Activities.{Leaves};
-ghost use Rattle.schedule_clauses.specs.Encoding.{AllGood};
 
 use crate::activities::{Activities, is_among, is_part};
 use crate::diagram::Demand;
-use crate::encoding::{Encoding, Scope};
 use crate::formula::CapacityRow;
 use crate::meaning::{Share, in_mode, runs_at, stock_within, use_within};
+use crate::scope::Clauses;
 use std::alloc::AllocError;
 
 /// What is left for activities, and for those among them that are below: `None` if that cannot be.
@@ -32,24 +31,23 @@ fn does_leave(from: Share, to: Share, activity: usize, amount: u32) -> bool
 /// Some activities take at most the capacity.
 #[tactic(auto, using(crate::proofs::FormLemmas::form_rules))]
 pub(crate) fn all(
-    encoding: &mut Encoding,
-    scope: Scope<'_>,
+    clauses: &mut Clauses<'_>,
     row: CapacityRow,
     share: Share,
 ) -> Result<(), AllocError>
-    requires good { AllGood scope.project.now scope.limit encoding.old }
-    ensures { IfOk result (λ _. AllGood scope.entry.project.now scope.entry.limit encoding.new) }
+    ensures { clauses.new ≡ clauses.old }
 {
+    let scope = clauses.scope();
     match row {
         CapacityRow::Use { resource, time }
             if resource < scope.project.renewables()
                 && scope.project.capacity(resource) <= share.most => {
-            encoding.add(scope, &[use_within(resource, time, share)])
+            clauses.add(&[use_within(resource, time, share)])
         }
         CapacityRow::Stock { resource }
             if resource < scope.project.nonrenewables()
                 && scope.project.stock(resource) <= share.most => {
-            encoding.add(scope, &[stock_within(resource, share)])
+            clauses.add(&[stock_within(resource, share)])
         }
         _ => Ok(()),
     }
@@ -58,14 +56,12 @@ pub(crate) fn all(
 /// Fewer activities take no more.
 #[tactic(auto, using(crate::proofs::FormLemmas::form_rules))]
 pub(crate) fn fewer(
-    encoding: &mut Encoding,
-    scope: Scope<'_>,
+    clauses: &mut Clauses<'_>,
     row: CapacityRow,
     from: Share,
     to: Share,
 ) -> Result<(), AllocError>
-    requires good { AllGood scope.project.now scope.limit encoding.old }
-    ensures { IfOk result (λ _. AllGood scope.entry.project.now scope.entry.limit encoding.new) }
+    ensures { clauses.new ≡ clauses.old }
 {
     if !is_part(to.activities, from.activities) || to.most < from.most {
         return Ok(());
@@ -73,11 +69,11 @@ pub(crate) fn fewer(
     match row {
         CapacityRow::Use { resource, time } => {
             let most = use_within(resource, time, from);
-            encoding.add(scope, &[!most, use_within(resource, time, to)])
+            clauses.add(&[!most, use_within(resource, time, to)])
         }
         CapacityRow::Stock { resource } => {
             let most = stock_within(resource, from);
-            encoding.add(scope, &[!most, stock_within(resource, to)])
+            clauses.add(&[!most, stock_within(resource, to)])
         }
     }
 }
@@ -85,19 +81,18 @@ pub(crate) fn fewer(
 /// What runs leaves the less to those below it, or cannot run.
 #[tactic(auto, using(crate::proofs::FormLemmas::form_rules))]
 fn use_run(
-    encoding: &mut Encoding,
-    scope: Scope<'_>,
+    clauses: &mut Clauses<'_>,
     resource: usize,
     time: u32,
     demand: Demand,
     descent: Descent,
 ) -> Result<(), AllocError>
-    requires good { AllGood scope.project.now scope.limit encoding.old }
-    requires resource { resource < renewables scope.project.now }
-    requires activity { demand.activity < size scope.project.now }
-    requires mode { demand.mode < mode_count scope.project.now demand.activity }
-    ensures { IfOk result (λ _. AllGood scope.entry.project.now scope.entry.limit encoding.new) }
+    requires resource { resource < renewables clauses.old.project }
+    requires activity { demand.activity < size clauses.old.project }
+    requires mode { demand.mode < mode_count clauses.old.project demand.activity }
+    ensures { clauses.new ≡ clauses.old }
 {
+    let scope = clauses.scope();
     let Demand { activity, mode, .. } = demand;
     let Descent { from, to } = descent;
     let request = scope.project.request(activity, mode, resource);
@@ -105,10 +100,10 @@ fn use_run(
     let run = runs_at(activity, mode, time);
     match to {
         Some(to) if does_leave(from, to, activity, request) => {
-            encoding.add(scope, &[!used, !run, use_within(resource, time, to)])
+            clauses.add(&[!used, !run, use_within(resource, time, to)])
         }
         None if from.most < request && is_among(from.activities, activity) => {
-            encoding.add(scope, &[!used, !run])
+            clauses.add(&[!used, !run])
         }
         _ => Ok(()),
     }
@@ -117,18 +112,17 @@ fn use_run(
 /// An activity in this mode leaves the less to those below it, or cannot have the mode.
 #[tactic(auto, using(crate::proofs::FormLemmas::form_rules))]
 fn stock_mode(
-    encoding: &mut Encoding,
-    scope: Scope<'_>,
+    clauses: &mut Clauses<'_>,
     resource: usize,
     demand: Demand,
     descent: Descent,
 ) -> Result<(), AllocError>
-    requires good { AllGood scope.project.now scope.limit encoding.old }
-    requires resource { resource < nonrenewables scope.project.now }
-    requires activity { demand.activity < size scope.project.now }
-    requires mode { demand.mode < mode_count scope.project.now demand.activity }
-    ensures { IfOk result (λ _. AllGood scope.entry.project.now scope.entry.limit encoding.new) }
+    requires resource { resource < nonrenewables clauses.old.project }
+    requires activity { demand.activity < size clauses.old.project }
+    requires mode { demand.mode < mode_count clauses.old.project demand.activity }
+    ensures { clauses.new ≡ clauses.old }
 {
+    let scope = clauses.scope();
     let Demand { activity, mode, .. } = demand;
     let Descent { from, to } = descent;
     let consumption = scope.project.consumption(activity, mode, resource);
@@ -136,35 +130,34 @@ fn stock_mode(
     let chosen = in_mode(activity, mode);
     match to {
         Some(to) if does_leave(from, to, activity, consumption) => {
-            encoding.add(scope, &[!consumed, !chosen, stock_within(resource, to)])
+            clauses.add(&[!consumed, !chosen, stock_within(resource, to)])
         }
         None if from.most < consumption && is_among(from.activities, activity) => {
-            encoding.add(scope, &[!consumed, !chosen])
+            clauses.add(&[!consumed, !chosen])
         }
         _ => Ok(()),
     }
 }
 
 pub(crate) fn take(
-    encoding: &mut Encoding,
-    scope: Scope<'_>,
+    clauses: &mut Clauses<'_>,
     row: CapacityRow,
     demand: Demand,
     descent: Descent,
 ) -> Result<(), AllocError>
-    requires good { AllGood scope.project.now scope.limit encoding.old }
-    ensures { IfOk result (λ _. AllGood scope.entry.project.now scope.entry.limit encoding.new) }
+    ensures { clauses.new ≡ clauses.old }
 {
+    let scope = clauses.scope();
     let project = scope.project;
     if demand.activity >= project.size() || demand.mode >= project.mode_count(demand.activity) {
         return Ok(());
     }
     match row {
         CapacityRow::Use { resource, time } if resource < project.renewables() => {
-            use_run(encoding, scope, resource, time, demand, descent)
+            use_run(clauses, resource, time, demand, descent)
         }
         CapacityRow::Stock { resource } if resource < project.nonrenewables() => {
-            stock_mode(encoding, scope, resource, demand, descent)
+            stock_mode(clauses, resource, demand, descent)
         }
         _ => Ok(()),
     }

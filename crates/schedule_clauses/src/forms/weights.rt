@@ -1,12 +1,11 @@
 //! Forms of clauses on the weights of a surrogate row. They hold of every schedule within the
 //! limit; if their numbers do not fit, nothing is added.
-ghost use Rattle.std.specs.Prelude.{◌≡◌, ℕ, ◌*◌, ◌<◌, ◌≤◌, IfOk};
+ghost use Rattle.std.specs.Prelude.{◌≡◌, ℕ, ◌*◌, ◌<◌, ◌≤◌};
 ghost use Rattle.mrcpsp.specs.Project.{size, mode_count, renewables, duration, request, capacity};
-ghost use Rattle.schedule_clauses.specs.Encoding.{AllGood};
 ghost use Rattle.schedule_clauses.specs.Surrogate.{weight, renewable_need, nonrenewable_need, capacity_weight, renewable_supply, nonrenewable_supply, IsLightest};
 
-use crate::encoding::{Encoding, Scope};
 use crate::meaning::{MOST, Node, Weights, in_mode, weight_within};
+use crate::scope::Clauses;
 use mrcpsp::Project;
 use std::alloc::AllocError;
 
@@ -136,14 +135,13 @@ pub(crate) fn capacity_weight_of(project: &Project, weights: Weights, bound: u32
 /// All activities weigh at most what the capacities do.
 #[tactic(auto, using(crate::proofs::FormLemmas::end_rules))]
 pub(crate) fn weigh_all(
-    encoding: &mut Encoding,
-    scope: Scope<'_>,
+    clauses: &mut Clauses<'_>,
     weights: Weights,
     most: u32,
 ) -> Result<(), AllocError>
-    requires good { AllGood scope.project.now scope.limit encoding.old }
-    ensures { IfOk result (λ _. AllGood scope.entry.project.now scope.entry.limit encoding.new) }
+    ensures { clauses.new ≡ clauses.old }
 {
+    let scope = clauses.scope();
     let Some(bound) = scope.limit else {
         return Ok(());
     };
@@ -151,20 +149,16 @@ pub(crate) fn weigh_all(
     if capacity_weight_of(scope.project, weights, bound) > most as u64 {
         return Ok(());
     }
-    encoding.add(scope, &[weight_within(weights, Node { count, most })])
+    clauses.add(&[weight_within(weights, Node { count, most })])
 }
 
 /// An activity in any mode leaves the less to those before it, or weighs too much in each.
 #[tactic(auto, using(crate::proofs::FormLemmas::form_rules))]
-pub(crate) fn weigh_any(
-    encoding: &mut Encoding,
-    scope: Scope<'_>,
-    step: Step,
-) -> Result<(), AllocError>
-    requires good { AllGood scope.project.now scope.limit encoding.old }
-    requires activity { step.activity < size scope.project.now }
-    ensures { IfOk result (λ _. AllGood scope.entry.project.now scope.entry.limit encoding.new) }
+pub(crate) fn weigh_any(clauses: &mut Clauses<'_>, step: Step) -> Result<(), AllocError>
+    requires activity { step.activity < size clauses.old.project }
+    ensures { clauses.new ≡ clauses.old }
 {
+    let scope = clauses.scope();
     let Step {
         weights,
         activity,
@@ -182,9 +176,9 @@ pub(crate) fn weigh_any(
                 count: activity,
                 most: rest,
             };
-            encoding.add(scope, &[!whole, weight_within(weights, node)])
+            clauses.add(&[!whole, weight_within(weights, node)])
         }
-        None if (most as u64) < least => encoding.add(scope, &[!whole]),
+        None if (most as u64) < least => clauses.add(&[!whole]),
         _ => Ok(()),
     }
 }
@@ -192,16 +186,15 @@ pub(crate) fn weigh_any(
 /// An activity in `mode` leaves the less to those before it, or weighs too much.
 #[tactic(auto, using(crate::proofs::FormLemmas::form_rules))]
 pub(crate) fn weigh_mode(
-    encoding: &mut Encoding,
-    scope: Scope<'_>,
+    clauses: &mut Clauses<'_>,
     step: Step,
     mode: usize,
 ) -> Result<(), AllocError>
-    requires good { AllGood scope.project.now scope.limit encoding.old }
-    requires activity { step.activity < size scope.project.now }
-    requires mode { mode < mode_count scope.project.now step.activity }
-    ensures { IfOk result (λ _. AllGood scope.entry.project.now scope.entry.limit encoding.new) }
+    requires activity { step.activity < size clauses.old.project }
+    requires mode { mode < mode_count clauses.old.project step.activity }
+    ensures { clauses.new ≡ clauses.old }
 {
+    let scope = clauses.scope();
     let Step {
         weights,
         activity,
@@ -220,9 +213,9 @@ pub(crate) fn weigh_mode(
                 count: activity,
                 most: rest,
             };
-            encoding.add(scope, &[!whole, !chosen, weight_within(weights, node)])
+            clauses.add(&[!whole, !chosen, weight_within(weights, node)])
         }
-        None if (most as u64) < weight => encoding.add(scope, &[!whole, !chosen]),
+        None if (most as u64) < weight => clauses.add(&[!whole, !chosen]),
         _ => Ok(()),
     }
 }

@@ -1,62 +1,56 @@
 //! Clauses on modes and capacities, section by section. Which numbers are in a clause is a hint.
-ghost use Rattle.std.specs.Prelude.{◌<◌, IfOk};
+ghost use Rattle.std.specs.Prelude.{◌≡◌, ◌<◌};
 ghost use Rattle.mrcpsp.specs.Project.{size, mode_count, renewables};
-ghost use Rattle.schedule_clauses.specs.Encoding.{AllGood};
 
 use crate::chains::Chains;
 use crate::diagram::rows::{Room, row_clauses};
 use crate::diagram::{Demand, Diagram};
-use crate::encoding::{Encoding, Scope};
 use crate::forms::modes::{exclude, executable, modes};
 use crate::formula::{CapacityRow, Kind};
+use crate::scope::Clauses;
 use crate::windows::Windows;
 use mrcpsp::Project;
 use std::alloc::{AllocError, Global};
 
 fn executable_clauses(
-    encoding: &mut Encoding,
-    scope: Scope<'_>,
+    clauses: &mut Clauses<'_>,
     activity: usize,
     mode: usize,
 ) -> Result<(), AllocError>
-    requires good { AllGood scope.project.now scope.limit encoding.old }
-    requires activity { activity < size scope.project.now }
-    requires mode { mode < mode_count scope.project.now activity }
-    ensures { IfOk result (λ _. AllGood scope.entry.project.now scope.entry.limit encoding.new) }
+    requires activity { activity < size clauses.old.project }
+    requires mode { mode < mode_count clauses.old.project activity }
+    ensures { clauses.new ≡ clauses.old }
 {
+    let scope = clauses.scope();
     for resource in 0..scope.project.renewables() {
-        executable(encoding, scope, activity, mode, resource)?;
+        executable(clauses, activity, mode, resource)?;
     }
     Ok(())
 }
 
-fn mode_clauses(
-    encoding: &mut Encoding,
-    scope: Scope<'_>,
-    activity: usize,
-) -> Result<(), AllocError>
-    requires good { AllGood scope.project.now scope.limit encoding.old }
-    requires activity { activity < size scope.project.now }
-    ensures { IfOk result (λ _. AllGood scope.entry.project.now scope.entry.limit encoding.new) }
+fn mode_clauses(clauses: &mut Clauses<'_>, activity: usize) -> Result<(), AllocError>
+    requires activity { activity < size clauses.old.project }
+    ensures { clauses.new ≡ clauses.old }
 {
-    modes(encoding, scope, activity)?;
+    let scope = clauses.scope();
+    modes(clauses, activity)?;
     for mode in 0..scope.project.mode_count(activity) {
-        executable_clauses(encoding, scope, activity, mode)?;
+        executable_clauses(clauses, activity, mode)?;
         for other in 0..mode {
-            exclude(encoding, scope, activity, mode, other)?;
+            exclude(clauses, activity, mode, other)?;
         }
     }
     Ok(())
 }
 
-pub(crate) fn mode_section(encoding: &mut Encoding, scope: Scope<'_>) -> Result<(), AllocError>
-    requires good { AllGood scope.project.now scope.limit encoding.old }
-    ensures { IfOk result (λ _. AllGood scope.entry.project.now scope.entry.limit encoding.new) }
+pub(crate) fn mode_section(clauses: &mut Clauses<'_>) -> Result<(), AllocError>
+    ensures { clauses.new ≡ clauses.old }
 {
+    let scope = clauses.scope();
     for activity in 0..scope.project.size() {
-        mode_clauses(encoding, scope, activity)?;
+        mode_clauses(clauses, activity)?;
     }
-    encoding.end_section(Kind::Modes)
+    clauses.end_section(Kind::Modes)
 }
 
 fn use_demands(
@@ -115,19 +109,18 @@ fn stock_demands(
 
 /// A chain of activities is a level. Periods in which equal modes can run share their diagram.
 fn use_section(
-    encoding: &mut Encoding,
-    scope: Scope<'_>,
+    clauses: &mut Clauses<'_>,
     windows: &Windows,
     chains: &Chains,
     resource: usize,
     room: &mut Room,
 ) -> Result<(), AllocError>
-    requires good { AllGood scope.project.now scope.limit encoding.old }
-    requires resource { resource < renewables scope.project.now }
-    ensures { IfOk result (λ _. AllGood scope.entry.project.now scope.entry.limit encoding.new) }
+    requires resource { resource < renewables clauses.old.project }
+    ensures { clauses.new ≡ clauses.old }
 {
+    let scope = clauses.scope();
     let project = scope.project;
-    let alloc = encoding.alloc;
+    let alloc = clauses.alloc();
     let capacity = project.capacity(resource);
     let mut diagram = Diagram::new(alloc, capacity, Vec::new(alloc), 0)?;
     for time in 0..windows.bound {
@@ -137,43 +130,39 @@ fn use_section(
             diagram = Diagram::new(alloc, capacity, demands, room.most())?;
         }
         let row = CapacityRow::Use { resource, time };
-        row_clauses(encoding, scope, row, &diagram, room)?;
+        row_clauses(clauses, row, &diagram, room)?;
     }
     Ok(())
 }
 
 pub(crate) fn renewable_section(
-    encoding: &mut Encoding,
-    scope: Scope<'_>,
+    clauses: &mut Clauses<'_>,
     windows: &Windows,
 ) -> Result<(), AllocError>
-    requires good { AllGood scope.project.now scope.limit encoding.old }
-    ensures { IfOk result (λ _. AllGood scope.entry.project.now scope.entry.limit encoding.new) }
+    ensures { clauses.new ≡ clauses.old }
 {
+    let scope = clauses.scope();
     let resources = scope.project.renewables();
     let mut room = Room::of(resources.saturating_mul(windows.bound as usize));
-    let chains = Chains::new(encoding.alloc, scope.project)?;
+    let chains = Chains::new(clauses.alloc(), scope.project)?;
     for resource in 0..resources {
-        use_section(encoding, scope, windows, &chains, resource, &mut room)?;
+        use_section(clauses, windows, &chains, resource, &mut room)?;
     }
-    encoding.end_section(Kind::Renewable)
+    clauses.end_section(Kind::Renewable)
 }
 
-pub(crate) fn nonrenewable_section(
-    encoding: &mut Encoding,
-    scope: Scope<'_>,
-) -> Result<(), AllocError>
-    requires good { AllGood scope.project.now scope.limit encoding.old }
-    ensures { IfOk result (λ _. AllGood scope.entry.project.now scope.entry.limit encoding.new) }
+pub(crate) fn nonrenewable_section(clauses: &mut Clauses<'_>) -> Result<(), AllocError>
+    ensures { clauses.new ≡ clauses.old }
 {
+    let scope = clauses.scope();
     let project = scope.project;
     let mut room = Room::of(project.nonrenewables());
     for resource in 0..project.nonrenewables() {
-        let demands = stock_demands(encoding.alloc, project, resource)?;
+        let demands = stock_demands(clauses.alloc(), project, resource)?;
         let stock = project.stock(resource);
-        let diagram = Diagram::new(encoding.alloc, stock, demands, room.most())?;
+        let diagram = Diagram::new(clauses.alloc(), stock, demands, room.most())?;
         let row = CapacityRow::Stock { resource };
-        row_clauses(encoding, scope, row, &diagram, &mut room)?;
+        row_clauses(clauses, row, &diagram, &mut room)?;
     }
-    encoding.end_section(Kind::Nonrenewable)
+    clauses.end_section(Kind::Nonrenewable)
 }

@@ -1,170 +1,149 @@
 //! Clauses on starts, section by section. Which numbers are in a clause is a hint.
-ghost use Rattle.std.specs.Prelude.{◌≡◌, ◌<◌, IfOk};
+ghost use Rattle.std.specs.Prelude.{◌≡◌, ◌<◌};
 ghost use Rattle.mrcpsp.specs.Project.{size};
 ghost use Rattle.mrcpsp.specs.Values.{tail, shortest};
 ghost use Rattle.measures.specs.Measures.{measures_of};
-ghost use Rattle.schedule_clauses.specs.Encoding.{AllGood};
 
-use crate::encoding::{Encoding, Scope};
 use crate::forms::starts::{end, later, latest, precedence, runs, shortest_precedence};
 use crate::formula::Kind;
+use crate::scope::Clauses;
 use crate::windows::{Window, Windows, least_of, rest_of, start_for};
 use measures::Measures;
 use mrcpsp::Project;
 use std::alloc::AllocError;
 
 fn order_clauses(
-    encoding: &mut Encoding,
-    scope: Scope<'_>,
+    clauses: &mut Clauses<'_>,
     activity: usize,
     window: Window,
 ) -> Result<(), AllocError>
-    requires good { AllGood scope.project.now scope.limit encoding.old }
-    ensures { IfOk result (λ _. AllGood scope.entry.project.now scope.entry.limit encoding.new) }
+    ensures { clauses.new ≡ clauses.old }
 {
     let before = window.first.saturating_sub(1);
     for time in before.min(window.last)..window.last.max(before) {
-        later(encoding, scope, activity, time, time + 1)?;
+        later(clauses, activity, time, time + 1)?;
     }
     Ok(())
 }
 
-pub(crate) fn start_section(
-    encoding: &mut Encoding,
-    scope: Scope<'_>,
-    windows: &Windows,
-) -> Result<(), AllocError>
-    requires good { AllGood scope.project.now scope.limit encoding.old }
-    ensures { IfOk result (λ _. AllGood scope.entry.project.now scope.entry.limit encoding.new) }
+pub(crate) fn start_section(clauses: &mut Clauses<'_>, windows: &Windows) -> Result<(), AllocError>
+    ensures { clauses.new ≡ clauses.old }
 {
+    let scope = clauses.scope();
     for activity in 0..scope.project.size() {
-        order_clauses(encoding, scope, activity, windows.of(activity))?;
+        order_clauses(clauses, activity, windows.of(activity))?;
     }
-    encoding.end_section(Kind::Starts)
+    clauses.end_section(Kind::Starts)
 }
 
 fn end_clauses(
-    encoding: &mut Encoding,
-    scope: Scope<'_>,
+    clauses: &mut Clauses<'_>,
     windows: &Windows,
     activity: usize,
     rest: u32,
     least: u32,
 ) -> Result<(), AllocError>
-    requires good { AllGood scope.project.now scope.limit encoding.old }
-    requires activity { activity < size scope.project.now }
-    requires rest { rest ≡ tail scope.project.now activity }
-    requires least { least ≡ shortest scope.project.now activity }
-    ensures { IfOk result (λ _. AllGood scope.entry.project.now scope.entry.limit encoding.new) }
+    requires activity { activity < size clauses.old.project }
+    requires rest { rest ≡ tail clauses.old.project activity }
+    requires least { least ≡ shortest clauses.old.project activity }
+    ensures { clauses.new ≡ clauses.old }
 {
+    let scope = clauses.scope();
     let window = windows.of(activity);
-    latest(encoding, scope, activity, window.last, rest, least)?;
+    latest(clauses, activity, window.last, rest, least)?;
     for mode in 0..scope.project.mode_count(activity) {
         let duration = scope.project.duration(activity, mode).saturating_add(rest);
         let by = start_for(windows.bound, duration, window.first);
         if by != Some(window.last) {
-            end(encoding, scope, activity, mode, by, rest)?;
+            end(clauses, activity, mode, by, rest)?;
         }
     }
     Ok(())
 }
 
 pub(crate) fn end_section(
-    encoding: &mut Encoding,
-    scope: Scope<'_>,
+    clauses: &mut Clauses<'_>,
     measures: &Measures,
     windows: &Windows,
 ) -> Result<(), AllocError>
-    requires good { AllGood scope.project.now scope.limit encoding.old }
-    requires measures { measures.now ≡ measures_of scope.project.now }
-    ensures { IfOk result (λ _. AllGood scope.entry.project.now scope.entry.limit encoding.new) }
+    requires measures { measures.now ≡ measures_of clauses.old.project }
+    ensures { clauses.new ≡ clauses.old }
 {
+    let scope = clauses.scope();
     for activity in 0..scope.project.size() {
         let rest = rest_of(scope.project, measures, activity);
         let least = least_of(scope.project, measures, activity);
-        end_clauses(encoding, scope, windows, activity, rest, least)?;
+        end_clauses(clauses, windows, activity, rest, least)?;
     }
-    encoding.end_section(Kind::Ends)
+    clauses.end_section(Kind::Ends)
 }
 
 /// For each mode of `before`, and for the shortest.
 fn time_clauses(
-    encoding: &mut Encoding,
-    scope: Scope<'_>,
+    clauses: &mut Clauses<'_>,
     window: Window,
     before: usize,
     after: usize,
     time: u32,
     least: u32,
 ) -> Result<(), AllocError>
-    requires good { AllGood scope.project.now scope.limit encoding.old }
-    requires before { before < size scope.project.now }
-    requires after { after < size scope.project.now }
-    requires least { least ≡ shortest scope.project.now before }
-    ensures { IfOk result (λ _. AllGood scope.entry.project.now scope.entry.limit encoding.new) }
+    requires before { before < size clauses.old.project }
+    requires after { after < size clauses.old.project }
+    requires least { least ≡ shortest clauses.old.project before }
+    ensures { clauses.new ≡ clauses.old }
 {
+    let scope = clauses.scope();
     let by = start_for(time, least, window.first);
     if by.is_none() || by.unwrap_or(0) < window.last {
-        shortest_precedence(encoding, scope, before, after, time, by, least)?;
+        shortest_precedence(clauses, before, after, time, by, least)?;
     }
     for mode in 0..scope.project.mode_count(before) {
         let duration = scope.project.duration(before, mode);
         let by = start_for(time, duration, window.first);
         if duration != least && (by.is_none() || by.unwrap_or(0) < window.last) {
-            precedence(encoding, scope, before, mode, after, time, by)?;
+            precedence(clauses, before, mode, after, time, by)?;
         }
     }
     Ok(())
 }
 
 fn precedence_clauses(
-    encoding: &mut Encoding,
-    scope: Scope<'_>,
+    clauses: &mut Clauses<'_>,
     windows: &Windows,
     before: usize,
     after: usize,
     least: u32,
 ) -> Result<(), AllocError>
-    requires good { AllGood scope.project.now scope.limit encoding.old }
-    requires before { before < size scope.project.now }
-    requires after { after < size scope.project.now }
-    requires least { least ≡ shortest scope.project.now before }
-    ensures { IfOk result (λ _. AllGood scope.entry.project.now scope.entry.limit encoding.new) }
+    requires before { before < size clauses.old.project }
+    requires after { after < size clauses.old.project }
+    requires least { least ≡ shortest clauses.old.project before }
+    ensures { clauses.new ≡ clauses.old }
 {
     let window = windows.of(after);
     for time in window.first.saturating_sub(1)..window.last.saturating_add(1) {
-        time_clauses(
-            encoding,
-            scope,
-            windows.of(before),
-            before,
-            after,
-            time,
-            least,
-        )?;
+        time_clauses(clauses, windows.of(before), before, after, time, least)?;
     }
     Ok(())
 }
 
 pub(crate) fn precedence_section(
-    encoding: &mut Encoding,
-    scope: Scope<'_>,
+    clauses: &mut Clauses<'_>,
     measures: &Measures,
     windows: &Windows,
 ) -> Result<(), AllocError>
-    requires good { AllGood scope.project.now scope.limit encoding.old }
-    requires measures { measures.now ≡ measures_of scope.project.now }
-    ensures { IfOk result (λ _. AllGood scope.entry.project.now scope.entry.limit encoding.new) }
+    requires measures { measures.now ≡ measures_of clauses.old.project }
+    ensures { clauses.new ≡ clauses.old }
 {
+    let scope = clauses.scope();
     for after in 0..scope.project.size() {
         for before in 0..after {
             if scope.project.precedes(before, after) {
                 let least = least_of(scope.project, measures, before);
-                precedence_clauses(encoding, scope, windows, before, after, least)?;
+                precedence_clauses(clauses, windows, before, after, least)?;
             }
         }
     }
-    encoding.end_section(Kind::Precedence)
+    clauses.end_section(Kind::Precedence)
 }
 
 fn does_use(project: &Project, activity: usize, mode: usize) -> bool {
@@ -181,15 +160,14 @@ fn does_use(project: &Project, activity: usize, mode: usize) -> bool {
 
 /// Only for modes that use a renewable resource.
 fn run_clauses(
-    encoding: &mut Encoding,
-    scope: Scope<'_>,
+    clauses: &mut Clauses<'_>,
     windows: &Windows,
     activity: usize,
 ) -> Result<(), AllocError>
-    requires good { AllGood scope.project.now scope.limit encoding.old }
-    requires activity { activity < size scope.project.now }
-    ensures { IfOk result (λ _. AllGood scope.entry.project.now scope.entry.limit encoding.new) }
+    requires activity { activity < size clauses.old.project }
+    ensures { clauses.new ≡ clauses.old }
 {
+    let scope = clauses.scope();
     let window = windows.of(activity);
     for mode in 0..scope.project.mode_count(activity) {
         let duration = scope.project.duration(activity, mode);
@@ -198,23 +176,19 @@ fn run_clauses(
             for time in window.first..over {
                 let begun = time.min(window.last);
                 let by = start_for(time, duration, window.first);
-                runs(encoding, scope, activity, mode, begun, time, by)?;
+                runs(clauses, activity, mode, begun, time, by)?;
             }
         }
     }
     Ok(())
 }
 
-pub(crate) fn run_section(
-    encoding: &mut Encoding,
-    scope: Scope<'_>,
-    windows: &Windows,
-) -> Result<(), AllocError>
-    requires good { AllGood scope.project.now scope.limit encoding.old }
-    ensures { IfOk result (λ _. AllGood scope.entry.project.now scope.entry.limit encoding.new) }
+pub(crate) fn run_section(clauses: &mut Clauses<'_>, windows: &Windows) -> Result<(), AllocError>
+    ensures { clauses.new ≡ clauses.old }
 {
+    let scope = clauses.scope();
     for activity in 0..scope.project.size() {
-        run_clauses(encoding, scope, windows, activity)?;
+        run_clauses(clauses, windows, activity)?;
     }
-    encoding.end_section(Kind::Runs)
+    clauses.end_section(Kind::Runs)
 }

@@ -1,16 +1,15 @@
 //! The surrogate row of a bound: a diagram of what each activity weighs above its lightest mode.
 //! Its numbers are hints.
-ghost use Rattle.std.specs.Prelude.{◌≡◌, ◌<◌, IfOk};
+ghost use Rattle.std.specs.Prelude.{◌≡◌, ◌<◌};
 ghost use Rattle.mrcpsp.specs.Project.{size};
-ghost use Rattle.schedule_clauses.specs.Encoding.{AllGood};
 
 use crate::diagram::{Demand, Diagram, Level, in_order, number_at};
-use crate::encoding::{Encoding, Scope};
 use crate::forms::weights::{
     Step, capacity_weight_of, least_weight_of, weigh_all, weigh_any, weigh_mode, weight_of,
 };
 use crate::formula::Kind;
 use crate::meaning::Weights;
+use crate::scope::Clauses;
 use crate::surrogate::weights_for;
 use mrcpsp::Project;
 use std::alloc::{AllocError, Global};
@@ -103,16 +102,15 @@ impl Drawn {
 
 /// For whichever mode the activity has. What it leaves to those before it goes to `below`.
 fn any_clauses(
-    encoding: &mut Encoding,
-    scope: Scope<'_>,
+    clauses: &mut Clauses<'_>,
     drawn: &Drawn,
     level: Level,
     above: u32,
     below: &mut Vec<u32>,
 ) -> Result<(), AllocError>
-    requires good { AllGood scope.project.now scope.limit encoding.old }
-    ensures { IfOk result (λ _. AllGood scope.entry.project.now scope.entry.limit encoding.new) }
+    ensures { clauses.new ≡ clauses.old }
 {
+    let scope = clauses.scope();
     let activity = level.place;
     if activity >= scope.project.size() {
         return Ok(());
@@ -122,23 +120,22 @@ fn any_clauses(
     };
     below.push(rest)?;
     let rest = Some(drawn.row.most(activity, rest));
-    weigh_any(encoding, scope, drawn.step(activity, above, rest))
+    weigh_any(clauses, drawn.step(activity, above, rest))
 }
 
 /// Not for the lightest mode: `any_clauses` are enough. What the mode leaves to the activities
 /// before it goes to `below`. If that is less than they weigh at least, [`low_clauses`] exclude the
 /// mode.
 fn demand_clauses(
-    encoding: &mut Encoding,
-    scope: Scope<'_>,
+    clauses: &mut Clauses<'_>,
     drawn: &Drawn,
     demand: Demand,
     above: u32,
     below: &mut Vec<u32>,
 ) -> Result<(), AllocError>
-    requires good { AllGood scope.project.now scope.limit encoding.old }
-    ensures { IfOk result (λ _. AllGood scope.entry.project.now scope.entry.limit encoding.new) }
+    ensures { clauses.new ≡ clauses.old }
 {
+    let scope = clauses.scope();
     let Demand {
         activity,
         mode,
@@ -151,57 +148,53 @@ fn demand_clauses(
     }
     if above < amount {
         let step = drawn.step(activity, above, drawn.row.under(activity));
-        return weigh_mode(encoding, scope, step, mode);
+        return weigh_mode(clauses, step, mode);
     }
     let Some(rest) = drawn.diagram.greatest(activity, above - amount) else {
         return Ok(());
     };
     below.push(rest)?;
     let rest = Some(drawn.row.most(activity, rest));
-    weigh_mode(encoding, scope, drawn.step(activity, above, rest), mode)
+    weigh_mode(clauses, drawn.step(activity, above, rest), mode)
 }
 
 fn node_clauses(
-    encoding: &mut Encoding,
-    scope: Scope<'_>,
+    clauses: &mut Clauses<'_>,
     drawn: &Drawn,
     level: Level,
     above: u32,
     below: &mut Vec<u32>,
 ) -> Result<(), AllocError>
-    requires good { AllGood scope.project.now scope.limit encoding.old }
-    ensures { IfOk result (λ _. AllGood scope.entry.project.now scope.entry.limit encoding.new) }
+    ensures { clauses.new ≡ clauses.old }
 {
-    any_clauses(encoding, scope, drawn, level, above, below)?;
+    any_clauses(clauses, drawn, level, above, below)?;
     for demand in drawn.diagram.demands_of(level) {
-        demand_clauses(encoding, scope, drawn, *demand, above, below)?;
+        demand_clauses(clauses, drawn, *demand, above, below)?;
     }
     Ok(())
 }
 
 /// Returns the nodes of the level below.
 fn level_clauses(
-    encoding: &mut Encoding,
-    scope: Scope<'_>,
+    clauses: &mut Clauses<'_>,
     drawn: &Drawn,
     level: Level,
     amounts: &[u32],
 ) -> Result<Vec<u32>, AllocError>
-    requires good { AllGood scope.project.now scope.limit encoding.old }
-    ensures { IfOk result (λ _. AllGood scope.entry.project.now scope.entry.limit encoding.new) }
+    ensures { clauses.new ≡ clauses.old }
 {
-    let mut below = Vec::new(encoding.alloc);
+    let mut below = Vec::new(clauses.alloc());
     for above in amounts {
-        node_clauses(encoding, scope, drawn, level, *above, &mut below)?;
+        node_clauses(clauses, drawn, level, *above, &mut below)?;
     }
-    in_order(encoding.alloc, below)
+    in_order(clauses.alloc(), below)
 }
 
 /// The first activities weigh no less than their lightest modes, for each number of them.
-fn low_clauses(encoding: &mut Encoding, scope: Scope<'_>, row: &Surrogate) -> Result<(), AllocError>
-    requires good { AllGood scope.project.now scope.limit encoding.old }
-    ensures { IfOk result (λ _. AllGood scope.entry.project.now scope.entry.limit encoding.new) }
+fn low_clauses(clauses: &mut Clauses<'_>, row: &Surrogate) -> Result<(), AllocError>
+    ensures { clauses.new ≡ clauses.old }
 {
+    let scope = clauses.scope();
     for activity in 0..scope.project.size() {
         if let Some(most) = row.under(activity + 1) {
             let step = Step {
@@ -210,19 +203,14 @@ fn low_clauses(encoding: &mut Encoding, scope: Scope<'_>, row: &Surrogate) -> Re
                 most,
                 rest: row.under(activity),
             };
-            weigh_any(encoding, scope, step)?;
+            weigh_any(clauses, step)?;
         }
     }
     Ok(())
 }
 
-fn diagram_clauses(
-    encoding: &mut Encoding,
-    scope: Scope<'_>,
-    drawn: &Drawn,
-) -> Result<(), AllocError>
-    requires good { AllGood scope.project.now scope.limit encoding.old }
-    ensures { IfOk result (λ _. AllGood scope.entry.project.now scope.entry.limit encoding.new) }
+fn diagram_clauses(clauses: &mut Clauses<'_>, drawn: &Drawn) -> Result<(), AllocError>
+    ensures { clauses.new ≡ clauses.old }
 {
     let Drawn { row, diagram } = drawn;
     let levels = diagram.levels.len();
@@ -232,38 +220,34 @@ fn diagram_clauses(
     let Some(most) = diagram.greatest(levels, diagram.capacity) else {
         return Ok(());
     };
-    low_clauses(encoding, scope, row)?;
-    weigh_all(encoding, scope, row.weights, row.most(levels, most))?;
-    let mut amounts = Vec::new(encoding.alloc);
+    low_clauses(clauses, row)?;
+    weigh_all(clauses, row.weights, row.most(levels, most))?;
+    let mut amounts = Vec::new(clauses.alloc());
     amounts.push(most)?;
     for level in diagram.levels.iter().rev() {
-        amounts = level_clauses(encoding, scope, drawn, *level, &amounts)?;
+        amounts = level_clauses(clauses, drawn, *level, &amounts)?;
     }
     Ok(())
 }
 
 /// If even the lightest modes weigh too much, two clauses conflict at once.
-pub(crate) fn surrogate_section(
-    encoding: &mut Encoding,
-    scope: Scope<'_>,
-    bound: u32,
-) -> Result<(), AllocError>
-    requires good { AllGood scope.project.now scope.limit encoding.old }
-    ensures { IfOk result (λ _. AllGood scope.entry.project.now scope.entry.limit encoding.new) }
+pub(crate) fn surrogate_section(clauses: &mut Clauses<'_>, bound: u32) -> Result<(), AllocError>
+    ensures { clauses.new ≡ clauses.old }
 {
+    let scope = clauses.scope();
     let project = scope.project;
-    let alloc = encoding.alloc;
+    let alloc = clauses.alloc();
     let Some(row) = Surrogate::new(alloc, project, bound)? else {
         return Ok(());
     };
     let low = row.low(project.size());
     if row.most < low {
-        low_clauses(encoding, scope, &row)?;
-        weigh_all(encoding, scope, row.weights, low - 1)?;
+        low_clauses(clauses, &row)?;
+        weigh_all(clauses, row.weights, low - 1)?;
     } else {
         let demands = row.demands(alloc, project)?;
         let diagram = Diagram::new(alloc, row.most - low, demands, MOST_CLAUSES)?;
-        diagram_clauses(encoding, scope, &Drawn { row, diagram })?;
+        diagram_clauses(clauses, &Drawn { row, diagram })?;
     }
-    encoding.end_section(Kind::Surrogate)
+    clauses.end_section(Kind::Surrogate)
 }

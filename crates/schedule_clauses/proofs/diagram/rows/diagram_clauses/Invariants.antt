@@ -1,5 +1,5 @@
-use Rattle.schedule_clauses.specs.Encoding.{AllGood}
+use Rattle.std.proofs.Common.{◌≡◌}
 use Rattle.schedule_clauses.proofs.diagram.rows.diagram_clauses.Given as goal
 
 abbrev pub invariant-loop-level : goal.invariant-loop-level
-invariant-loop-level l = AllGood l.scope.project.now l.scope.limit l.encoding
+invariant-loop-level l = l.clauses ≡ l.initial.clauses

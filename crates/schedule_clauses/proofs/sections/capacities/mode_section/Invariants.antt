@@ -1,5 +1,5 @@
-use Rattle.schedule_clauses.specs.Encoding.{AllGood}
+use Rattle.std.proofs.Common.{◌≡◌}
 use Rattle.schedule_clauses.proofs.sections.capacities.mode_section.Given as goal
 
 abbrev pub invariant-loop-activity : goal.invariant-loop-activity
-invariant-loop-activity l = AllGood l.scope.project.now l.scope.limit l.encoding
+invariant-loop-activity l = l.clauses ≡ l.initial.clauses

@@ -1,5 +1,5 @@
-use Rattle.schedule_clauses.specs.Encoding.{AllGood}
+use Rattle.std.proofs.Common.{◌≡◌}
 use Rattle.schedule_clauses.proofs.sections.starts.precedence_clauses.Given as goal
 
 abbrev pub invariant-loop-time : goal.invariant-loop-time
-invariant-loop-time l = AllGood l.scope.project.now l.scope.limit l.encoding
+invariant-loop-time l = l.clauses ≡ l.initial.clauses

@@ -1,4 +1,4 @@
-use Rattle.schedule_clauses.proofs.encoding.find.Given as goal
+use Rattle.schedule_clauses.proofs.index.find_in.Given as goal
 
 abbrev pub invariant-loop : goal.invariant-loop
 invariant-loop l = Unit {0}
