@@ -18,16 +18,18 @@ asks_for_help() {
 asks_for_solver() {
     for word in "$@"; do
         case $word in
-        --solver | --solver=* | --keep | --keep=* | --from | --from=* | --nodes | --nodes=*) return ;;
+        --solver | --solver=* | --keep | --keep=* | --nodes | --nodes=*) return ;;
         esac
     done
     return 1
 }
 
-# Whether a word is `-`, the standard input.
+# Whether a word is `-` or names it as a schedule, the standard input.
 reads_input() {
     for word in "$@"; do
-        [ "$word" = - ] && return
+        case $word in
+        - | --from=-) return ;;
+        esac
     done
     return 1
 }
