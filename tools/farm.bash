@@ -53,7 +53,7 @@ _farm() {
         solve) words="--search --nodes --json --progress --quiet --improvements --help" ;;
         verify) words="--all --help" ;;
         draw) words="--order --help" ;;
-        prove) words="--seconds --jobs --memory --conflicts --quiet --nodes --from --keep --solver --help" ;;
+        prove) words="--seconds --jobs --memory --conflicts --from --json --improvements --progress --quiet --keep --solver --help" ;;
         bench) words="--search --nodes --jobs --steps --prove --seconds --optima --schedules --resume --join --total --report --progress --quiet --help" ;;
         replay) words="--config --strict --help" ;;
         serve) words="--config --port --sessions --help" ;;

@@ -14,11 +14,11 @@ complete -c farm -n "not __fish_seen_subcommand_from $commands help" -l version 
 complete -c farm -l help -d Help
 complete -c farm -n "__fish_seen_subcommand_from help" -f -a "$commands"
 complete -c farm -n "__fish_seen_subcommand_from solve bench" -l search -x -a '(__farm_searches)' -d 'Searches with commas between them'
-complete -c farm -n "__fish_seen_subcommand_from solve bench prove" -l nodes -x -d 'The most nodes of each search'
-complete -c farm -n "__fish_seen_subcommand_from solve" -l json -d 'Print one JSON object'
-complete -c farm -n "__fish_seen_subcommand_from solve bench" -l progress -d 'Tell how far the search is'
+complete -c farm -n "__fish_seen_subcommand_from solve bench" -l nodes -x -d 'The most nodes of each search'
+complete -c farm -n "__fish_seen_subcommand_from solve prove" -l json -d 'Print one JSON object'
+complete -c farm -n "__fish_seen_subcommand_from solve bench prove" -l progress -d 'Tell how far the search is'
 complete -c farm -n "__fish_seen_subcommand_from solve bench" -l quiet -d 'Tell nothing of that'
-complete -c farm -n "__fish_seen_subcommand_from solve" -l improvements -d 'Print each better schedule'
+complete -c farm -n "__fish_seen_subcommand_from solve prove" -l improvements -d 'Print each better schedule'
 complete -c farm -n "__fish_seen_subcommand_from verify" -l all -d 'Tell each breach of the schedule'
 complete -c farm -n "__fish_seen_subcommand_from draw" -l order -x -a 'number start' -d 'The order of the rows'
 complete -c farm -n "__fish_seen_subcommand_from bench prove" -l jobs -x -d 'How many processes'

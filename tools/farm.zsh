@@ -49,7 +49,8 @@ _farm() {
             '--quiet[tell nothing]' '--help[help]' '*:file or folder:_files'
         ;;
     prove)
-        _arguments '--seconds[the most seconds]:seconds:' '--jobs[workers]:jobs:' '--nodes[nodes before the solver]:nodes:' '--memory[megabytes]:megabytes:' '--conflicts[the most conflicts]:conflicts:' '--quiet[tell nothing]' '--from[a schedule to begin with]:schedule:_files' \
+        _arguments '--seconds[the most seconds]:seconds:' '--jobs[workers]:jobs:' '--memory[megabytes]:megabytes:' '--conflicts[the most conflicts]:conflicts:' '--json[print one JSON object]' '--improvements[print each better schedule]' \
+            '--progress[tell each better schedule and bound]' '--quiet[tell nothing]' '--from[a schedule to begin with]:schedule:_files' \
             '--keep[keep the proof in a folder]:folder:_files -/' '--solver[the solver]:solver:(cadical kissat)' '--help[help]' '1:file:_files -g "*.mm"'
         ;;
     bound) _arguments '--steps[the most steps for each bound]:steps:' '--help[help]' '1:file:_files -g "*.mm"' '2:periods:' '3:proof:_files' ;;

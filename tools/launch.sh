@@ -24,10 +24,12 @@ asks_for_solver() {
     return 1
 }
 
-# Whether a word is `-`, the standard input.
+# Whether a word is `-` or names it as a schedule, the standard input.
 reads_input() {
     for word in "$@"; do
-        [ "$word" = - ] && return
+        case $word in
+        - | --from=-) return ;;
+        esac
     done
     return 1
 }

@@ -1,5 +1,5 @@
 -- How `prove` ends.
-use Rattle.std.specs.Prelude.{◌≡◌, ℕ, List, ⊤, Option, Result, Ok, Err, IfSome, take}
+use Rattle.std.specs.Prelude.{◌≡◌, ℕ, Bool, List, ⊤, Option, Result, Ok, Err, IfSome, take}
 use Rattle.psplib_mm.specs.Gives.{Fails}
 use Rattle.psplib_mm.specs.Reading.{reading}
 use Rattle.explain.specs.Counts.{CommandCounts, AreKept}
@@ -21,6 +21,6 @@ abbrev pub IsUnproved : CommandFault ProveFault → CommandCounts → CommandCou
 IsUnproved fault from seen file before after = IsStopOf file_alone (λ why. IsUnwritten from seen before after × IsOfFile why file) fault from seen before after
 
 -- the end of the command
-abbrev pub IsProveOf : Result Ended (CommandFault ProveFault) → CommandCounts → CommandCounts → Option (List ℕ) → Option (List ℕ) → Option (List ℕ) → Type 0
-IsProveOf (Ok ended) from seen file before after = AreKept from seen × IfSome file (λ bytes. IsProved (take MOST_TEXT bytes) before after)
-IsProveOf (Err fault) from seen file before after = IsUnproved fault from seen file before after
+abbrev pub IsProveOf : Bool → Result Ended (CommandFault ProveFault) → CommandCounts → CommandCounts → Option (List ℕ) → Option (List ℕ) → Option (List ℕ) → Type 0
+IsProveOf is_json (Ok ended) from seen file before after = AreKept from seen × IfSome file (λ bytes. IsProved is_json ended (take MOST_TEXT bytes) before after)
+IsProveOf is_json (Err fault) from seen file before after = IsUnproved fault from seen file before after

@@ -25,6 +25,11 @@ pub(crate) struct Proving<'a> {
     pub(crate) jobs: Option<&'a str>,
     pub(crate) memory: &'a str,
     pub(crate) conflicts: &'a str,
+    /// The path of a schedule to begin with.
+    pub(crate) from: Option<&'a str>,
+    pub(crate) is_json: bool,
+    /// Whether each better schedule is printed when it is found.
+    pub(crate) is_improving: bool,
     /// Whether nothing goes to the standard error while it runs.
     pub(crate) is_quiet: bool,
     /// Whether it ends when the standard input does.
@@ -86,6 +91,11 @@ pub(crate) fn prove_command<'a>(alloc: Global) -> Result<Command<'a>, AllocError
         ValueParser::unsigned(1, MOST_CONFLICTS),
     )
     .default_value("1000000000000");
+    let from = Arg::new(alloc, "from")
+        .long("from")
+        .value_name("SCHEDULE")
+        .help("A schedule to begin with, as verify reads it; one that is broken begins the search");
+    let quiet = flag(alloc, "quiet", "Tell nothing while it runs").conflicts_with("progress")?;
     Command::new(alloc, "prove")
         .about("Looks for the shortest schedule of a project and proves how good it is")
         .after_help(PROVE_HELP)
@@ -94,7 +104,19 @@ pub(crate) fn prove_command<'a>(alloc: Global) -> Result<Command<'a>, AllocError
         .arg(jobs)?
         .arg(memory)?
         .arg(conflicts)?
-        .arg(flag(alloc, "quiet", "Tell nothing while it runs"))?
+        .arg(from)?
+        .arg(flag(alloc, "json", "Print one JSON object"))?
+        .arg(flag(
+            alloc,
+            "improvements",
+            "Print each better schedule when it is found, before the lines of the best",
+        ))?
+        .arg(flag(
+            alloc,
+            "progress",
+            "Tell each better schedule and bound on standard error, as it does by itself",
+        ))?
+        .arg(quiet)?
         .arg(flag(
             alloc,
             "until-input-ends",
@@ -117,6 +139,9 @@ pub(crate) fn proving_of<'a>(matches: &ArgMatches<'a>) -> Option<Proving<'a>> {
             jobs: chosen.get_str("jobs"),
             memory: chosen.get_str("memory")?,
             conflicts: chosen.get_str("conflicts")?,
+            from: chosen.get_str("from"),
+            is_json: chosen.get_flag("json"),
+            is_improving: chosen.get_flag("improvements"),
             is_quiet: chosen.get_flag("quiet"),
             is_watching: chosen.get_flag("until-input-ends"),
         }),
@@ -141,7 +166,12 @@ solver's steps are checked one by one when it makes them. With --jobs 1 and with
 output depends on the file and the options alone. Standard error has a line for each better schedule
 and bound.
 
+--json prints one object: verdict (optimal, infeasible, gap or open), makespan, bound, schedule,
+seconds, jobs and conflicts. With --improvements each better schedule is printed as a line of its own,
+with the verdict 'open', or as an object with the verdict 'gap'.
+
 Examples:
 
   $ farm prove examples/j30_2.mm
-  $ farm prove --seconds 60 --jobs 4 examples/j30_1.mm";
+  $ farm prove --seconds 60 --jobs 4 examples/j30_1.mm
+  $ farm prove --seconds 60 --from yesterday.schedule --json changed.mm";

@@ -1,12 +1,18 @@
 //! The command on files, with an exit status.
-ghost use Rattle.std.specs.Prelude.{◌≤◌};
+ghost use Rattle.std.specs.Prelude.{◌≤◌, IfErr};
 ghost use Rattle.std.specs.Process.{exit_status};
 
 use crate::arguments::{Proving, commands, proving_of};
 use crate::proving::{Ended, ProveOptions, prove_read};
+use crate::reporting::{Reporter, Style};
 use crate::stopping::stop_at_end_of_input;
-use explain::{CommandWatches, Paths, end_command, end_no_memory, open_path, why_words};
+use explain::{
+    CommandWatches, MOST_TEXT, Paths, end_command, end_no_memory, open_path, told, why_no_schedule,
+    why_words,
+};
+use mrcpsp::Schedule;
 use prover::Limits;
+use schedule_files::{MOST_BYTES, read_schedule};
 use std::io::{Input, StdinLock};
 use std::process::ExitCode;
 use std::rt::Runtime;
@@ -15,7 +21,7 @@ use std::sync::{Arc, Wait};
 use std::thread::Threads;
 use std::time::Duration;
 use std::{io, thread};
-use watched_io::tell_why;
+use watched_io::{Watch, tell_why};
 
 /// The words of a megabyte, shared by a search and its kernel.
 const WORDS: u64 = 125_000;
@@ -101,7 +107,62 @@ fn limits_of(proving: Proving<'_>, jobs: usize) -> Limits {
         time: number_of(proving.seconds).map(Duration::from_secs),
         words: words as usize,
         conflicts: number_of(Some(proving.conflicts)).unwrap_or(0),
-        is_told: !proving.is_quiet,
+    }
+}
+
+fn style_of(proving: Proving<'_>) -> Style {
+    match (proving.is_improving, proving.is_json) {
+        (false, _) => Style::Silent,
+        (true, false) => Style::Lines,
+        (true, true) => Style::Json,
+    }
+}
+
+/// The schedule that a text has. An error is a status, and its reason is on standard error.
+fn schedule_in<R: Runtime + AllocGlobal>(rt: &R, bytes: &[u8]) -> Result<Schedule, ExitCode>
+    ensures { IfErr result (λ status. exit_status status ≤ 2) }
+{
+    let alloc = rt.alloc();
+    match read_schedule(alloc, bytes) {
+        Ok(Some(schedule)) => Ok(schedule),
+        Ok(None) => {
+            let word = if bytes.len() > MOST_BYTES {
+                "TooLong"
+            } else {
+                "Words"
+            };
+            let _ = eprintln!(rt; "farm: no schedule {word}");
+            tell_why(rt, &why_no_schedule(alloc, bytes));
+            Err(ExitCode::FAILURE)
+        }
+        Err(_) => Err(end_no_memory(rt)),
+    }
+}
+
+/// The schedule at the path of `--from`. An error is a status, and its reason is on standard error.
+fn from_of<R: Runtime + AllocGlobal>(
+    rt: &R,
+    proving: Proving<'_>,
+) -> Result<Option<Schedule>, ExitCode>
+    ensures { IfErr result (λ status. exit_status status ≤ 2) }
+{
+    let Some(path) = proving.from else {
+        return Ok(None);
+    };
+    if path == "-" && proving.file == "-" {
+        let _ = eprintln!(rt; "farm: FILE and SCHEDULE cannot both be standard input");
+        return Err(ExitCode::from(2));
+    }
+    let Some(source) = open_path(rt, path) else {
+        return Err(ExitCode::FAILURE);
+    };
+    let got = Watch::new().read_front(rt.alloc(), source, MOST_TEXT);
+    let Some(bytes) = told(rt, path, got) else {
+        return Err(ExitCode::FAILURE);
+    };
+    match schedule_in(rt, &bytes) {
+        Ok(schedule) => Ok(Some(schedule)),
+        Err(status) => Err(status),
     }
 }
 
@@ -122,6 +183,10 @@ fn run<
     let Ok(stop) = Arc::new(alloc, AtomicBool::new(false)) else {
         return end_no_memory(rt);
     };
+    let from = match from_of(rt, proving) {
+        Ok(from) => from,
+        Err(status) => return status,
+    };
     let Some(file) = open_path(rt, proving.file) else {
         return ExitCode::FAILURE;
     };
@@ -129,13 +194,17 @@ fn run<
         return end_no_memory(rt);
     }
     let jobs = jobs_of(rt, proving.jobs);
+    let herald = Reporter::new(rt, alloc, style_of(proving), !proving.is_quiet, jobs);
     let asked = ProveOptions {
         jobs,
         limits: limits_of(proving, jobs),
+        from,
+        is_json: proving.is_json,
         stop: &stop,
+        herald: &herald,
     };
     let mut watches = CommandWatches::new();
-    match prove_read(rt, alloc, file, asked, &mut io::writer(rt), &mut watches) {
+    match prove_read(rt, alloc, file, &asked, &mut io::writer(rt), &mut watches) {
         Ok(Ended::Decided) => ExitCode::SUCCESS,
         Ok(Ended::Gap) => ExitCode::from(GAP),
         Err(fault) => end_command(rt, Paths::of(proving.file), Err(fault), &mut watches),

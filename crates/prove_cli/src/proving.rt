@@ -2,20 +2,24 @@
 ghost use Rattle.std.specs.Prelude.{◌≡◌, ℕ, List, Option, IfOk, IfErr, IfSome, OnOk, Ok, take};
 ghost use Rattle.psplib_mm.specs.Reading.{reading};
 ghost use Rattle.explain.specs.Counts.{AreReadWell};
+ghost use Rattle.prover.specs.Answers.{IsAnswer};
 ghost use Rattle.prove_cli.specs.Command.{IsProveOf, IsUnproved};
+ghost use Rattle.prove_cli.specs.Proved.{ended_by};
 
+use crate::beginning::begin_with;
+use crate::cost::cost_since;
 use crate::fault::ProveFault;
-use crate::telling::tell;
+use crate::telling::told;
 use explain::{CommandFault, CommandWatches, MOST_TEXT, why_file};
-use mrcpsp::Project;
-use prover::{Answer, Limits, prove, workers};
+use mrcpsp::{Project, Schedule};
+use prover::{Answer, Herald, Limits, Proved, Task, prove};
 use psplib_mm::read;
-use std::alloc::Global;
+use std::alloc::{AllocError, Global};
 use std::io::{Eprint, Read, Write};
 use std::sync::Wait;
 use std::sync::atomic::AtomicBool;
 use std::thread::Threads;
-use std::time::Clock;
+use std::time::{Clock, Instant};
 
 /// How a run of `prove` ends.
 #[derive(Clone, Copy, Debug, PartialEq, Eq)]
@@ -27,13 +31,17 @@ pub enum Ended {
 }
 
 /// The options of a run of `prove`.
-#[derive(Clone, Copy, Debug)]
-pub struct ProveOptions<'a> {
+#[derive(Drop)]
+pub struct ProveOptions<'a, H> {
     /// How many workers there are.
     pub jobs: usize,
     pub limits: Limits,
+    /// A schedule to begin with. If it is not feasible, its order and its modes begin the search.
+    pub from: Option<Schedule>,
+    pub is_json: bool,
     /// The workers end soon after it is set.
     pub stop: &'a AtomicBool,
+    pub herald: &'a H,
 }
 
 fn read_project<S: Read + Drop, W>(
@@ -60,33 +68,72 @@ fn read_project<S: Read + Drop, W>(
     }
 }
 
+fn ended_by(answer: &Answer) -> Ended
+    ensures { result ≡ ended_by answer.now }
+{
+    match answer {
+        Answer::Optimal(_) | Answer::Infeasible => Ended::Decided,
+        Answer::Gap(_, _) | Answer::AtLeast(_) => Ended::Gap,
+    }
+}
+
+fn task_of<'a>(
+    jobs: usize,
+    limits: Limits,
+    first: Option<&'a Schedule>,
+    stop: &'a AtomicBool,
+) -> Task<'a> {
+    Task {
+        jobs,
+        limits,
+        first,
+        stop,
+    }
+}
+
+fn proved_of<R: Threads + Wait + Clock + Eprint + Sync, H: Herald + Sync>(
+    rt: &R,
+    alloc: Global,
+    project: &Project,
+    asked: &ProveOptions<'_, H>,
+) -> Result<Proved, AllocError>
+    ensures { IfOk result (λ proved. IsAnswer project.now proved.answer) }
+{
+    let first = begin_with(rt, alloc, project, asked.from.as_ref())?;
+    let stop = &*asked.stop;
+    let task = task_of(asked.jobs, asked.limits, first.as_ref(), stop);
+    prove(rt, alloc, project, task, asked.herald)
+}
+
 /// Writes what is proved of the project of `file`. On any error except `Write`, nothing was written.
-pub fn prove_read<R: Threads + Wait + Clock + Eprint + Sync, S: Read + Drop, W: Write>(
+/// The result is `Decided` exactly if an optimal schedule was written, or that none is feasible.
+pub fn prove_read<
+    R: Threads + Wait + Clock + Eprint + Sync,
+    S: Read + Drop,
+    W: Write,
+    H: Herald + Sync,
+>(
     rt: &R,
     alloc: Global,
     file: S,
-    asked: ProveOptions<'_>,
+    asked: &ProveOptions<'_, H>,
     writer: &mut W,
     watches: &mut CommandWatches<S, (), (), W>,
 ) -> Result<Ended, CommandFault<ProveFault>>
-    ensures { IsProveOf result watches.old watches.new (S.remaining file) (W.contents writer.old) (W.contents writer.new) }
+    ensures { IsProveOf asked.now.is_json result watches.old watches.new (S.remaining file) (W.contents writer.old) (W.contents writer.new) }
 {
+    let begun = Instant::now(rt).ok();
     let project = match read_project(alloc, file, watches) {
         Ok(project) => project,
         Err(fault) => return Err(fault),
     };
-    let Ok(workers) = workers(alloc, asked.jobs) else {
-        return Err(CommandFault::Refused(ProveFault::NoMemory));
-    };
-    let answer = match prove(rt, alloc, &project, workers, asked.limits, asked.stop) {
-        Ok(answer) => answer,
+    let proved = match proved_of(rt, alloc, &project, asked) {
+        Ok(proved) => proved,
         Err(_) => return Err(CommandFault::Refused(ProveFault::NoMemory)),
     };
-    let ended = match &answer {
-        Answer::Optimal(_) | Answer::Infeasible => Ended::Decided,
-        _ => Ended::Gap,
-    };
-    let text = match tell(alloc, &answer) {
+    let ended = ended_by(&proved.answer);
+    let cost = cost_since(rt, begun, asked.jobs, Some(proved.conflicts));
+    let text = match told(alloc, asked.is_json, &proved.answer, cost) {
         Ok(text) => text,
         Err(_) => return Err(CommandFault::Refused(ProveFault::NoMemory)),
     };

@@ -14,9 +14,6 @@ use schedule_clauses::{CertificateFault, Fact, Formula, clauses, stock_clauses};
 use std::alloc::{AllocError, Global};
 use std::marker::Brand;
 
-/// The conflicts between two looks at a watch.
-const SLICE: u64 = 200;
-
 /// A `Decision` is the answer to a question.
 #[derive(Debug, Drop)]
 pub enum Decision {
@@ -32,8 +29,12 @@ pub enum Decision {
 
 /// A `Watch` is what looks at a search of clauses now and then.
 pub trait Watch {
-    /// Whether a search that has had `conflicts` conflicts is to go on.
-    fn goes_on(&mut self, conflicts: u64) -> bool;
+    /// Returns how many conflicts may follow until the next look, after `conflicts` conflicts; 0
+    /// ends the search.
+    fn look(&mut self, conflicts: u64) -> u64;
+
+    /// The search has ended after `conflicts` conflicts.
+    fn end(&mut self, conflicts: u64);
 }
 
 fn zeros(alloc: Global, count: usize) -> Result<Vec<u32>, AllocError> {
@@ -119,7 +120,8 @@ fn outcome_of<F: clause_kernel::Formula, W: Watch>(
     ensures { IfOk result (λ outcome. outcome ≡ Outcome.Refuted → IsUnsatisfiable F.clauses) }
 {
     for _ in 0..u64::MAX {
-        let answer = search.run(kernel, SLICE)?;
+        let slice = watch.look(search.conflicts());
+        let answer = search.run(kernel, slice)?;
         if kernel.is_refuted() {
             return Ok(Outcome::Refuted);
         }
@@ -128,7 +130,7 @@ fn outcome_of<F: clause_kernel::Formula, W: Watch>(
             Answer::Full => return Ok(Outcome::Full),
             _ => {}
         }
-        if search.refused() > 0 || !watch.goes_on(search.conflicts()) {
+        if search.refused() > 0 || slice == 0 {
             return Ok(Outcome::Open);
         }
     }
@@ -150,7 +152,9 @@ fn decide_as<F: clause_kernel::Formula, W: Watch>(
 {
     let mut kernel = Kernel::<F>::new(alloc, &formula.clauses)?;
     let mut search = Search::new(alloc, &formula.clauses, Limits { words })?;
-    match outcome_of(&mut kernel, &mut search, watch)? {
+    let outcome = outcome_of(&mut kernel, &mut search, watch)?;
+    watch.end(search.conflicts());
+    match outcome {
         Outcome::Values => {
             let size = project.size();
             let schedule = schedule_of(alloc, size, &formula.meanings, search.values())?;
@@ -194,7 +198,9 @@ fn exceeds_stocks_as<F: clause_kernel::Formula, W: Watch>(
 {
     let mut kernel = Kernel::<F>::new(alloc, formula)?;
     let mut search = Search::new(alloc, formula, Limits { words })?;
-    match outcome_of(&mut kernel, &mut search, watch)? {
+    let outcome = outcome_of(&mut kernel, &mut search, watch)?;
+    watch.end(search.conflicts());
+    match outcome {
         Outcome::Refuted => Ok(true),
         _ => Ok(false),
     }

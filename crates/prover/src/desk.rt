@@ -6,25 +6,29 @@ ghost use Rattle.schedule_clauses.specs.Satisfied.{EachExceeds};
 ghost use Rattle.prover.specs.Known.{IsBest};
 ghost use Rattle.prover.specs.Decided.{IsDecided};
 
-use crate::decide::{Decision, Watch};
+use crate::decide::Decision;
+use crate::herald::Herald;
 use crate::known::{Best, Known, Question, Subject};
+use crate::task::{Deadline, Limits};
 use mrcpsp::{Project, Schedule, check};
 use std::alloc::{AllocError, Global};
-use std::io::Eprint;
-use std::sync::atomic::{AtomicBool, Ordering};
+use std::sync::atomic::{AtomicU64, Ordering};
 use std::sync::{Mutex, Wait};
-use std::time::{Clock, Duration, Instant};
+use std::time::Clock;
 
 /// A `Desk` is what the workers of a project share.
 #[derive(Drop)]
-pub(crate) struct Desk<'a, F: Subject, R> {
-    pub(crate) rt: &'a R,
+pub(crate) struct Desk<'a, F: Subject, R, H> {
     pub(crate) alloc: Global,
     pub(crate) project: &'a Project,
     pub(crate) known: &'a Mutex<Known<F>>,
-    pub(crate) stop: &'a AtomicBool,
-    pub(crate) begun: Instant,
+    /// The conflicts of all workers.
+    pub(crate) conflicts: &'a AtomicU64,
+    pub(crate) deadline: Deadline<'a, R>,
     pub(crate) limits: Limits,
+    /// A schedule to begin with.
+    pub(crate) first: Option<&'a Schedule>,
+    pub(crate) herald: &'a H,
     ghost same: { project.now ≡ F.project },
 }
 
@@ -36,73 +40,35 @@ pub(crate) enum Taken {
     Nothing,
 }
 
-/// The limits of a run.
-#[derive(Clone, Copy, Debug)]
-pub struct Limits {
-    /// The time that all workers have, or none.
-    pub time: Option<Duration>,
-    /// The most words of four bytes that a worker's search holds in clauses.
-    pub words: usize,
-    /// The most conflicts of all searches of a worker.
-    pub conflicts: u64,
-    /// Whether each better schedule and bound goes to the standard error.
-    pub is_told: bool,
-}
-
-impl<F: Subject, R: Wait + Clock + Eprint> Desk<'_, F, R> {
-    pub(crate) fn is_over(&self) -> bool {
-        if self.stop.load(Ordering::SeqCst) {
-            return true;
-        }
-        let Some(limit) = self.limits.time else {
-            return false;
-        };
-        match self.begun.elapsed(self.rt) {
-            Ok(spent) => spent >= limit,
-            Err(_) => true,
-        }
-    }
-
-    /// Ends all workers, if there is no time limit.
-    pub(crate) fn end(&self) {
-        if self.limits.time.is_none() {
-            self.stop.store(true, Ordering::SeqCst);
-        }
-    }
-
+impl<F: Subject, R: Wait + Clock, H: Herald> Desk<'_, F, R, H> {
     pub(crate) fn is_decided(&self) -> bool {
-        self.known.lock(self.rt).is_decided()
+        self.known.lock(self.deadline.rt).is_decided()
     }
 
     pub(crate) fn is_moot(&self, question: Question) -> bool {
-        self.known.lock(self.rt).is_moot(question)
+        self.known.lock(self.deadline.rt).is_moot(question)
+    }
+
+    pub(crate) fn count(&self, conflicts: u64) {
+        let _ = self.conflicts.fetch_add(conflicts, Ordering::SeqCst);
     }
 
     /// The lower bound, and the makespan of the best schedule if there is one.
     pub(crate) fn gap(&self) -> (u32, Option<u32>) {
-        let known = self.known.lock(self.rt);
+        let known = self.known.lock(self.deadline.rt);
         (known.bound(), known.makespan())
-    }
-
-    fn tell(&self, text: &str, number: u32) {
-        if !self.limits.is_told {
-            return;
-        }
-        if let Ok(spent) = self.begun.elapsed(self.rt) {
-            let seconds = spent.as_secs();
-            let tenths = spent.subsec_millis() / 100;
-            let _ = eprintln!(self.rt; "{seconds}.{tenths} s  {text} {number}");
-        }
     }
 
     /// Keeps a schedule if it is shorter than the best one.
     pub(crate) fn offer(&self, best: Best)
         requires { IsBest F.project best }
     {
-        let makespan = best.makespan;
-        let mut known = self.known.lock(self.rt);
-        if known.offer(best) {
-            self.tell("makespan", makespan);
+        let mut known = self.known.lock(self.deadline.rt);
+        if !known.offer(best) {
+            return;
+        }
+        if let Some(best) = known.best() {
+            self.herald.better(self.project, best, known.bound());
         }
     }
 
@@ -110,9 +76,9 @@ impl<F: Subject, R: Wait + Clock + Eprint> Desk<'_, F, R> {
     pub(crate) fn raise(&self, bound: u32)
         requires { TakesAtLeast F.project bound }
     {
-        let mut known = self.known.lock(self.rt);
+        let mut known = self.known.lock(self.deadline.rt);
         if known.raise(bound) {
-            self.tell("at least", bound);
+            self.herald.higher(self.project, bound);
         }
     }
 
@@ -129,6 +95,14 @@ impl<F: Subject, R: Wait + Clock + Eprint> Desk<'_, F, R> {
             });
         }
         Ok(())
+    }
+
+    /// Keeps a copy of the schedule to begin with, if it is feasible.
+    pub(crate) fn offer_first(&self) -> Result<(), AllocError> {
+        match self.first {
+            Some(schedule) => self.offer_copy(schedule),
+            None => Ok(()),
+        }
     }
 
     /// Takes the answer to a question in.
@@ -155,6 +129,6 @@ impl<F: Subject, R: Wait + Clock + Eprint> Desk<'_, F, R> {
     pub(crate) fn rule_out(&self)
         requires { IsInfeasible F.project }
     {
-        self.known.lock(self.rt).rule_out();
+        self.known.lock(self.deadline.rt).rule_out();
     }
 }

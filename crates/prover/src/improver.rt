@@ -1,12 +1,8 @@
 //! Local search in runs, each twice as long as the one before.
 
-use crate::desk::Desk;
-use crate::known::Subject;
 use improve_search::Improving;
-use std::alloc::AllocError;
-use std::io::Eprint;
-use std::sync::Wait;
-use std::time::Clock;
+use mrcpsp::{Project, Schedule};
+use std::alloc::{AllocError, Global};
 
 /// The schedules of the first run.
 const FIRST_RUN: u64 = 40_000;
@@ -20,8 +16,10 @@ pub(crate) struct Improver {
     seed: u64,
     length: u64,
     run: Option<Improving>,
-    /// The makespan that was offered last.
-    offered: u32,
+    is_ended: bool,
+    /// The makespan of the last news.
+    shortest: u32,
+    has_news: bool,
 }
 
 impl Improver {
@@ -30,38 +28,50 @@ impl Improver {
             seed,
             length: FIRST_RUN,
             run: None,
-            offered: u32::MAX,
+            is_ended: true,
+            shortest: u32::MAX,
+            has_news: false,
         }
     }
 
-    /// Generates `schedules` more, and offers the best one if it is shorter than the one before.
-    /// Returns false if there is nothing to search.
-    pub(crate) fn work<F: Subject, R: Wait + Clock + Eprint>(
+    fn begin(&mut self, alloc: Global, project: &Project) -> Result<(), AllocError> {
+        self.run = Improving::new(alloc, project, self.seed, self.length)?;
+        self.seed = self.seed.wrapping_add(1);
+        self.length = self.length.saturating_mul(2).min(LONGEST_RUN);
+        self.shortest = u32::MAX;
+        self.is_ended = false;
+        Ok(())
+    }
+
+    /// Generates `schedules` more. Returns false if there is nothing to search.
+    pub(crate) fn work(
         &mut self,
-        desk: &Desk<'_, F, R>,
+        alloc: Global,
+        project: &Project,
         schedules: u64,
     ) -> Result<bool, AllocError> {
-        if self.run.is_none() {
-            self.run = Improving::new(desk.alloc, desk.project, self.seed, self.length)?;
-            self.seed = self.seed.wrapping_add(1);
-            self.length = self.length.saturating_mul(2).min(LONGEST_RUN);
-            self.offered = u32::MAX;
+        self.has_news = false;
+        if self.is_ended {
+            self.begin(alloc, project)?;
         }
         let Some(run) = &mut self.run else {
             return Ok(false);
         };
-        let goes_on = run.run(schedules);
+        self.is_ended = !run.run(schedules);
         if let Some(makespan) = run.makespan()
-            && makespan < self.offered
+            && makespan < self.shortest
         {
-            self.offered = makespan;
-            if let Some(best) = run.best() {
-                desk.offer_copy(best)?;
-            }
-        }
-        if !goes_on {
-            self.run = None;
+            self.shortest = makespan;
+            self.has_news = true;
         }
         Ok(true)
+    }
+
+    /// The best schedule of the run, if the last work has made it shorter.
+    pub(crate) fn news(&self) -> Option<&Schedule> {
+        match &self.run {
+            Some(run) if self.has_news => run.best(),
+            _ => None,
+        }
     }
 }

@@ -1,5 +1,6 @@
 //! What is known of a project: the best schedule, and a lower bound.
 ghost use Rattle.std.specs.Prelude.{◌≡◌, ◌+◌, ◌≤◌, ◌<◌, ℕ, [], true, false, IfSome, Some, None};
+ghost use Rattle.std.specs.Option.{option_copied};
 ghost use Rattle.mrcpsp.specs.Project.{ProjectData};
 ghost use Rattle.mrcpsp.specs.Schedule.{IsInfeasible};
 ghost use Rattle.price_search.specs.LowerBound.{TakesAtLeast};
@@ -131,6 +132,14 @@ impl<F: Subject> Known<F> {
         ensures least { TakesAtLeast F.project result }
     {
         self.bound
+    }
+
+    /// The best schedule so far.
+    pub fn best(&self) -> Option<&Best>
+        ensures exact { option_copied result ≡ self.now.best }
+        ensures feasible { IfSome (option_copied result) (IsBest F.project) }
+    {
+        self.best.as_ref()
     }
 
     /// The makespan of the best schedule, in periods.

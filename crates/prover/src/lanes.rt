@@ -3,12 +3,12 @@ ghost use Rattle.std.specs.Prelude.{◌≡◌, ◌<◌, IfOk};
 
 use crate::decide::{Watch, decide_within, exceeds_stocks};
 use crate::desk::{Desk, Taken};
+use crate::herald::Herald;
 use crate::improver::Improver;
 use crate::known::{Question, Subject};
 use price_search::lower_bound;
 use schedule_clauses::CertificateFault;
 use std::alloc::AllocError;
-use std::io::Eprint;
 use std::sync::Wait;
 use std::time::Clock;
 
@@ -23,8 +23,6 @@ pub enum Lane {
     Middle,
     /// Local search.
     Improve,
-    /// All of it, in turns: the only worker.
-    Alone,
 }
 
 /// A `Worker` is a lane with the seed of its local search.
@@ -35,43 +33,50 @@ pub struct Worker {
 }
 
 /// The steps of prices for a question.
-const PRICE_STEPS: u32 = 1_000;
+pub(crate) const PRICE_STEPS: u32 = 1_000;
 
 /// The schedules of local search between two looks at what is known.
-const CHUNK: u64 = 256;
+pub(crate) const CHUNK: u64 = 256;
 
-/// The chunks of local search before the first question of the only worker.
-const FIRST_CHUNKS: u32 = 80;
+/// The most conflicts between two looks at a search.
+pub(crate) const SLICE: u64 = 200;
 
 /// The conflicts of a question that is more than a period above the bound.
-const LEAP: u64 = 2_000;
+pub(crate) const LEAP: u64 = 2_000;
 
 /// A `Shift` is a worker at a desk, with the question that it asks.
 #[derive(Drop)]
-struct Shift<'a, 'b, F: Subject, R> {
-    desk: &'a Desk<'b, F, R>,
+struct Shift<'a, 'b, F: Subject, R, H> {
+    desk: &'a Desk<'b, F, R, H>,
     improver: Improver,
-    /// Whether it improves while it asks.
-    is_alone: bool,
     question: Question,
     /// The most conflicts of the question.
     most: u64,
     conflicts: u64,
 }
 
-impl<F: Subject, R: Wait + Clock + Eprint> Watch for Shift<'_, '_, F, R> {
-    fn goes_on(&mut self, conflicts: u64) -> bool {
+impl<F: Subject, R: Wait + Clock, H: Herald> Watch for Shift<'_, '_, F, R, H> {
+    fn look(&mut self, conflicts: u64) -> u64 {
         let desk = self.desk;
-        self.conflicts = conflicts;
-        if self.is_alone {
-            let _ = self.improver.work(desk, CHUNK);
+        if desk.deadline.is_over() || desk.is_moot(self.question) {
+            return 0;
         }
-        conflicts < self.most && !desk.is_over() && !desk.is_moot(self.question)
+        SLICE.min(self.most.saturating_sub(conflicts))
+    }
+
+    fn end(&mut self, conflicts: u64) {
+        self.conflicts = conflicts;
+        self.desk.count(conflicts);
     }
 }
 
 /// The question of a lane at a distance from the bound, or `None` if nothing is open.
-fn question_of(lane: Lane, bound: u32, makespan: Option<u32>, stride: u32) -> Option<Question> {
+pub(crate) fn question_of(
+    lane: Lane,
+    bound: u32,
+    makespan: Option<u32>,
+    stride: u32,
+) -> Option<Question> {
     let highest = match makespan {
         Some(makespan) => {
             if makespan <= bound {
@@ -90,8 +95,8 @@ fn question_of(lane: Lane, bound: u32, makespan: Option<u32>, stride: u32) -> Op
 }
 
 /// Asks the question. Only want of memory is an error; a question of too many clauses tells nothing.
-fn ask<F: Subject, R: Wait + Clock + Eprint>(
-    shift: &mut Shift<'_, '_, F, R>,
+fn ask<F: Subject, R: Wait + Clock, H: Herald>(
+    shift: &mut Shift<'_, '_, F, R, H>,
 ) -> Result<Taken, AllocError> {
     let (desk, question) = (shift.desk, shift.question);
     shift.conflicts = 0;
@@ -109,10 +114,11 @@ fn ask<F: Subject, R: Wait + Clock + Eprint>(
 }
 
 /// The bound of prices; and whether no choice of modes keeps the stocks, if no schedule is known.
-fn begin<F: Subject, R: Wait + Clock + Eprint>(
-    shift: &mut Shift<'_, '_, F, R>,
+fn begin<F: Subject, R: Wait + Clock, H: Herald>(
+    shift: &mut Shift<'_, '_, F, R, H>,
 ) -> Result<(), AllocError> {
     let desk = shift.desk;
+    desk.offer_first()?;
     desk.raise(lower_bound(desk.alloc, desk.project, PRICE_STEPS)?);
     let (_, makespan) = desk.gap();
     if makespan.is_some() {
@@ -127,7 +133,7 @@ fn begin<F: Subject, R: Wait + Clock + Eprint>(
 }
 
 /// How far above the bound the next question is.
-fn stride_after(stride: u32, taken: Taken, conflicts: u64) -> u32
+pub(crate) fn stride_after(stride: u32, taken: Taken, conflicts: u64) -> u32
     ensures { 0 < result }
 {
     match taken {
@@ -144,8 +150,8 @@ fn stride_after(stride: u32, taken: Taken, conflicts: u64) -> u32
 }
 
 /// Asks the question of the stride. Returns the next stride, or `None` if the worker has to stop.
-fn step<F: Subject, R: Wait + Clock + Eprint>(
-    shift: &mut Shift<'_, '_, F, R>,
+fn step<F: Subject, R: Wait + Clock, H: Herald>(
+    shift: &mut Shift<'_, '_, F, R, H>,
     stride: u32,
     left: u64,
 ) -> Result<Option<u32>, AllocError> {
@@ -154,7 +160,7 @@ fn step<F: Subject, R: Wait + Clock + Eprint>(
     let Some(question) = question_of(Lane::Low, bound, makespan, stride) else {
         return Ok(None);
     };
-    if desk.is_over() || desk.is_decided() || left == 0 {
+    if desk.deadline.is_over() || desk.is_decided() || left == 0 {
         return Ok(None);
     }
     shift.question = question;
@@ -167,13 +173,13 @@ fn step<F: Subject, R: Wait + Clock + Eprint>(
 }
 
 /// Refutes bounds from below until nothing is open, or a question ends without an answer.
-fn climb<F: Subject, R: Wait + Clock + Eprint>(
-    shift: &mut Shift<'_, '_, F, R>,
+fn climb<F: Subject, R: Wait + Clock, H: Herald>(
+    shift: &mut Shift<'_, '_, F, R, H>,
 ) -> Result<(), AllocError> {
     begin(shift)?;
     let desk = shift.desk;
     let (mut stride, mut left) = (1u32, desk.limits.conflicts);
-    for _ in desk.rt.forever() {
+    for _ in desk.deadline.rt.forever() {
         match step(shift, stride, left)? {
             Some(next) => stride = next,
             None => return Ok(()),
@@ -183,22 +189,34 @@ fn climb<F: Subject, R: Wait + Clock + Eprint>(
     Ok(())
 }
 
+/// Generates a chunk of schedules. Returns false if there is nothing to search.
+fn improve_once<F: Subject, R: Wait + Clock, H: Herald>(
+    shift: &mut Shift<'_, '_, F, R, H>,
+) -> Result<bool, AllocError> {
+    let desk = shift.desk;
+    let goes_on = shift.improver.work(desk.alloc, desk.project, CHUNK)?;
+    if let Some(schedule) = shift.improver.news() {
+        desk.offer_copy(schedule)?;
+    }
+    Ok(goes_on)
+}
+
 /// Asks for shorter schedules until nothing is open, or a question ends without an answer.
-fn descend<F: Subject, R: Wait + Clock + Eprint>(
-    shift: &mut Shift<'_, '_, F, R>,
+fn descend<F: Subject, R: Wait + Clock, H: Herald>(
+    shift: &mut Shift<'_, '_, F, R, H>,
     lane: Lane,
 ) -> Result<(), AllocError> {
     let desk = shift.desk;
-    for _ in desk.rt.forever() {
+    for _ in desk.deadline.rt.forever() {
         let (bound, makespan) = desk.gap();
         let Some(question) = question_of(lane, bound, makespan, 1) else {
             return Ok(());
         };
-        if desk.is_over() || desk.is_decided() {
+        if desk.deadline.is_over() || desk.is_decided() {
             return Ok(());
         }
         if makespan.is_none() {
-            if !shift.improver.work(desk, CHUNK)? {
+            if !improve_once(shift)? {
                 return Ok(());
             }
         } else {
@@ -213,47 +231,32 @@ fn descend<F: Subject, R: Wait + Clock + Eprint>(
 }
 
 /// Searches for shorter schedules until nothing is open.
-fn improve<F: Subject, R: Wait + Clock + Eprint>(
-    shift: &mut Shift<'_, '_, F, R>,
+fn improve<F: Subject, R: Wait + Clock, H: Herald>(
+    shift: &mut Shift<'_, '_, F, R, H>,
 ) -> Result<(), AllocError> {
     let desk = shift.desk;
-    for _ in desk.rt.forever() {
-        if desk.is_over() || desk.is_decided() || !shift.improver.work(desk, CHUNK)? {
+    for _ in desk.deadline.rt.forever() {
+        if desk.deadline.is_over() || desk.is_decided() || !improve_once(shift)? {
             return Ok(());
         }
     }
     Ok(())
 }
 
-/// Improves for a while.
-fn warm_up<F: Subject, R: Wait + Clock + Eprint>(
-    shift: &mut Shift<'_, '_, F, R>,
-) -> Result<(), AllocError> {
-    let desk = shift.desk;
-    for _ in 0..FIRST_CHUNKS {
-        shift.improver.work(desk, CHUNK)?;
-    }
-    Ok(())
-}
-
 /// Does what the lane says, and then, if there is a time limit, improves. Without one, all workers
 /// end with the one that raises the bound: its conflicts or its memory are used up.
-fn run_lane<F: Subject, R: Wait + Clock + Eprint>(
-    shift: &mut Shift<'_, '_, F, R>,
+fn run_lane<F: Subject, R: Wait + Clock, H: Herald>(
+    shift: &mut Shift<'_, '_, F, R, H>,
     lane: Lane,
 ) -> Result<(), AllocError> {
     match lane {
         Lane::Low => {
             let climbed = climb(shift);
-            shift.desk.end();
+            shift.desk.deadline.end();
             climbed?;
         }
         Lane::High | Lane::Middle => descend(shift, lane)?,
         Lane::Improve => improve(shift)?,
-        Lane::Alone => {
-            warm_up(shift)?;
-            climb(shift)?;
-        }
     }
     if shift.desk.limits.time.is_some() {
         improve(shift)?;
@@ -261,14 +264,13 @@ fn run_lane<F: Subject, R: Wait + Clock + Eprint>(
     Ok(())
 }
 
-fn shift_at<'a, 'b, F: Subject, R>(
-    desk: &'a Desk<'b, F, R>,
+fn shift_at<'a, 'b, F: Subject, R, H>(
+    desk: &'a Desk<'b, F, R, H>,
     worker: Worker,
-) -> Shift<'a, 'b, F, R> {
+) -> Shift<'a, 'b, F, R, H> {
     Shift {
         desk,
         improver: Improver::new(worker.seed),
-        is_alone: worker.lane == Lane::Alone,
         question: Question { within: u32::MAX },
         most: desk.limits.conflicts,
         conflicts: 0,
@@ -276,7 +278,10 @@ fn shift_at<'a, 'b, F: Subject, R>(
 }
 
 /// Works until nothing is open, the limits are met, or memory is wanting.
-pub(crate) fn work<F: Subject, R: Wait + Clock + Eprint>(desk: &Desk<'_, F, R>, worker: Worker) {
+pub(crate) fn work<F: Subject, R: Wait + Clock, H: Herald>(
+    desk: &Desk<'_, F, R, H>,
+    worker: Worker,
+) {
     let mut shift = shift_at(desk, worker);
     let _ = run_lane(&mut shift, worker.lane);
 }

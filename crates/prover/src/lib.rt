@@ -2,19 +2,25 @@
 //!
 //! - `known`: what is known, with its truth as the invariant.
 //! - `decide`: whether a schedule is within a bound, by a search of clauses that a kernel checks.
+//! - `task`, `herald`: what is asked for, and who hears of what is proved.
 //! - `desk`: what the workers share; `improver`: local search in runs.
 //! - `lanes`: what each worker does; `threads`: the workers in threads.
+//! - `alone`: one worker without threads, locks or a clock. It returns, whatever it is given.
 #![tactic(auto)]
 
+mod alone;
 mod decide;
 mod desk;
+mod herald;
 mod improver;
 mod known;
 mod lanes;
+mod task;
 mod threads;
 
+pub use alone::{Allowance, Overseer, prove_alone};
 pub use decide::{Decision, Watch, decide_within, exceeds_stocks};
-pub use desk::Limits;
+pub use herald::Herald;
 pub use known::{Answer, Best, Known, Question, Subject};
-pub use lanes::{Lane, Worker};
-pub use threads::{prove, workers};
+pub use task::{Limits, Proved, Task};
+pub use threads::prove;

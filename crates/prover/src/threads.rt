@@ -1,28 +1,28 @@
-//! Workers of one project, each in a thread of its own.
-ghost use Rattle.std.specs.Prelude.{◌≡◌, IfOk};
+//! The workers of a project, each in a thread of its own.
+ghost use Rattle.std.specs.Prelude.{◌≡◌, IfOk, IfSome};
+ghost use Rattle.std.specs.Option.{option_copied};
+ghost use Rattle.price_search.specs.LowerBound.{TakesAtLeast};
 ghost use Rattle.prover.specs.Answers.{IsAnswer};
+ghost use Rattle.prover.specs.Known.{IsBest};
 
-use crate::desk::{Desk, Limits};
-use crate::known::{Answer, Known, Subject};
+use crate::alone::{Allowance, Overseer, prove_alone};
+use crate::desk::Desk;
+use crate::herald::Herald;
+use crate::known::{Best, Known, Subject};
 use crate::lanes::{Lane, Worker, work};
+use crate::task::{Deadline, Proved, Task};
 use mrcpsp::Project;
 use std::alloc::{AllocError, Global};
-use std::io::Eprint;
 use std::marker::Brand;
-use std::sync::atomic::AtomicBool;
+use std::sync::atomic::AtomicU64;
 use std::sync::{Mutex, Wait};
 use std::thread;
 use std::thread::Threads;
 use std::time::{Clock, Instant};
 
-/// The lanes of a number of workers.
-pub fn workers(alloc: Global, jobs: usize) -> Result<Vec<Worker>, AllocError> {
+/// The lanes of several workers.
+fn workers(alloc: Global, jobs: usize) -> Result<Vec<Worker>, AllocError> {
     let mut workers = Vec::new(alloc);
-    if jobs <= 1 {
-        let lane = Lane::Alone;
-        workers.push(Worker { lane, seed: 1 })?;
-        return Ok(workers);
-    }
     for place in 0..jobs {
         let lane = match place {
             0 => Lane::Low,
@@ -37,47 +37,107 @@ pub fn workers(alloc: Global, jobs: usize) -> Result<Vec<Worker>, AllocError> {
     Ok(workers)
 }
 
-fn prove_as<'a, F: Subject + Send + Sync, R: Threads + Wait + Clock + Eprint + Sync>(
-    rt: &'a R,
+/// A `Clerk` tells a herald what the only worker has proved, and ends it at a deadline.
+#[derive(Drop)]
+struct Clerk<'a, R, H> {
+    deadline: Deadline<'a, R>,
+    herald: &'a H,
+    shortest: Option<u32>,
+    highest: u32,
+}
+
+fn is_shorter(shortest: Option<u32>, makespan: u32) -> bool {
+    match shortest {
+        Some(shortest) => makespan < shortest,
+        None => true,
+    }
+}
+
+impl<R: Wait + Clock, H: Herald> Overseer for Clerk<'_, R, H> {
+    fn look(&mut self, project: &Project, _conflicts: u64, best: Option<&Best>, bound: u32) -> bool
+        requires best { IfSome (option_copied best) (IsBest project.now) }
+        requires bound { TakesAtLeast project.now bound }
+    {
+        if bound > self.highest {
+            self.highest = bound;
+            self.herald.higher(project, bound);
+        }
+        if let Some(best) = best
+            && is_shorter(self.shortest, best.makespan)
+        {
+            self.shortest = Some(best.makespan);
+            self.herald.better(project, best, bound);
+        }
+        !self.deadline.is_over()
+    }
+}
+
+fn prove_together<'a, F: Subject + Send + Sync, R: Threads + Wait + Clock + Sync, H: Herald + Sync>(
     alloc: Global,
     project: &'a Project,
-    workers: Vec<Worker>,
-    limits: Limits,
-    stop: &'a AtomicBool,
-) -> Result<Answer, AllocError>
+    task: Task<'a>,
+    deadline: Deadline<'a, R>,
+    herald: &'a H,
+) -> Result<Proved, AllocError>
     requires { project.now ≡ F.project }
-    ensures { IfOk result (IsAnswer F.project) }
+    ensures { IfOk result (λ proved. IsAnswer F.project proved.answer) }
+{
+    let workers = workers(alloc, task.jobs)?;
+    let rt = deadline.rt;
+    let known = Mutex::new(Known::<F>::new());
+    let conflicts = AtomicU64::new(0);
+    let desk = Desk {
+        alloc,
+        project,
+        known: &known,
+        conflicts: &conflicts,
+        deadline,
+        limits: task.limits,
+        first: task.first,
+        herald,
+    };
+    let desk = &desk;
+    thread::map_vec(rt, workers, &|worker: Worker| -> () { work(desk, worker) })?;
+    Ok(Proved {
+        answer: known.into_inner().into_answer(),
+        conflicts: conflicts.into_inner(),
+    })
+}
+
+/// Proves what the workers can within the limits, or until `task.stop` is set. The answer is true of
+/// the project, whatever the workers did. Want of memory in a worker ends that worker. Without a
+/// time limit the worker that raises the bound sets `task.stop` when it ends.
+pub fn prove<R: Threads + Wait + Clock + Sync, H: Herald + Sync>(
+    rt: &R,
+    alloc: Global,
+    project: &Project,
+    task: Task<'_>,
+    herald: &H,
+) -> Result<Proved, AllocError>
+    ensures { IfOk result (λ proved. IsAnswer project.now proved.answer) }
 {
     let Ok(begun) = Instant::now(rt) else {
         return Err(AllocError);
     };
-    let known = Mutex::new(Known::<F>::new());
-    let desk = Desk {
+    let deadline = Deadline {
         rt,
-        alloc,
-        project,
-        known: &known,
-        stop,
         begun,
-        limits,
+        time: task.limits.time,
+        stop: task.stop,
     };
-    let desk = &desk;
-    thread::map_vec(rt, workers, &|worker: Worker| -> () { work(desk, worker) })?;
-    Ok(known.into_inner().into_answer())
-}
-
-/// Proves what the workers can within the limits, or until `stop` is set. The answer is true of the
-/// project, whatever the workers did. Want of memory in a worker ends that worker. Without a time
-/// limit the worker that raises the bound sets `stop` when it ends.
-pub fn prove<R: Threads + Wait + Clock + Eprint + Sync>(
-    rt: &R,
-    alloc: Global,
-    project: &Project,
-    workers: Vec<Worker>,
-    limits: Limits,
-    stop: &AtomicBool,
-) -> Result<Answer, AllocError>
-    ensures { IfOk result (IsAnswer project.now) }
-{
-    prove_as::<Brand, R>(rt, alloc, project, workers, limits, stop)
+    if task.jobs > 1 {
+        return prove_together::<Brand, R, H>(alloc, project, task, deadline, herald);
+    }
+    let allowance = Allowance {
+        words: task.limits.words,
+        conflicts: task.limits.conflicts,
+        is_endless: task.limits.time.is_some(),
+    };
+    let clerk = Clerk {
+        deadline,
+        herald,
+        shortest: None,
+        highest: 0,
+    };
+    Ok(prove_alone(alloc, project, allowance, task.first, clerk))
 }
