@@ -146,12 +146,7 @@ pub fn lower_bound(alloc: Global, project: &Project, steps: u32) -> Result<u32, 
 /// Whether each feasible schedule takes more than `bound` periods, as far as the longest chain, then
 /// prices and pieces show it. Prices are looked for in at most `steps` steps, and pieces in
 /// [`MOST_PIECE_STEPS`] more.
-pub fn exceeds(
-    alloc: Global,
-    project: &Project,
-    bound: u32,
-    steps: u32,
-) -> Result<bool, AllocError>
+pub fn exceeds(alloc: Global, project: &Project, bound: u32, steps: u32) -> Result<bool, AllocError>
     ensures sound { IfOk result (λ shown. IsTrue shown → EachExceeds project.now bound) }
     ensures chain { bound < chain_of project.now → IfOk result (λ shown. IsTrue shown) }
 {
