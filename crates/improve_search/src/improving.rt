@@ -1,12 +1,13 @@
 //! A search that looks for better schedules, step by step.
-ghost use Rattle.std.specs.Prelude.{◌≡◌, ◌+◌, ◌<◌, ◌≤◌, IsTrue, IsFalse, IfOk, IfSome, option_map};
+ghost use Rattle.std.specs.Prelude.{◌≡◌, ◌⊎◌, ◌+◌, ◌<◌, ◌≤◌, true, false, IsTrue, IsFalse, IfOk, IfSome, option_map};
 ghost use Rattle.std.specs.Option.{option_copied};
 ghost use Rattle.mrcpsp.specs.Schedule.{IsFeasible, makespan};
-ghost use Rattle.improve_search.specs.Improving.{fresh, IsNoLonger};
+ghost use Rattle.improve_search.specs.Improving.{fresh, is_over, is_shortest, IsNoLonger};
 
 use crate::annealing::{Annealing, Stocks};
 use crate::best::{BestChecked, better};
 use crate::budget::Budget;
+use measures::Measures;
 use mrcpsp::{Project, Schedule};
 use std::alloc::{AllocError, Global};
 use std::marker::Model;
@@ -36,9 +37,13 @@ pub struct Improving {
     length: u64,
     begun: Option<u64>,
     best: BestChecked,
+    /// The longest chain of activities by shortest durations, in periods.
+    bound: u32,
 }
 
 impl Model for Improving {
+    ghost use Rattle.std.specs.Prelude.{◌≡◌};
+    ghost use Rattle.mrcpsp.specs.Values.{bound as chain_of};
     ghost use Rattle.improve_search.specs.Improving.{ImprovingData};
     ghost use Rattle.improve_search.specs.Best.{best_in, IsKept};
 
@@ -46,7 +51,7 @@ impl Model for Improving {
 
     ghost view = { λ s. record { project = s.project; most = s.budget.most; spent = s.budget.spent; best = best_in s.best } };
 
-    ghost invariant = { λ s. IsKept s.project s.best };
+    ghost invariant = { λ s. IsKept s.project s.best × (s.bound ≡ chain_of s.project) };
 }
 
 impl Improving {
@@ -64,6 +69,7 @@ impl Improving {
             return Ok(None);
         };
         let best = BestChecked::none(alloc, project.size())?;
+        let bound = Measures::of(alloc, project)?.bound();
         let strict = if annealing.has_ample_stocks() {
             0
         } else {
@@ -78,6 +84,7 @@ impl Improving {
             length: STRICT_LENGTH.wrapping_mul(project.size() as u64),
             begun: None,
             best,
+            bound,
         }))
     }
 
@@ -104,16 +111,23 @@ impl Improving {
         self.best.makespan()
     }
 
-    /// Whether it generates nothing more: the best schedule is as short as the longest chain, or
-    /// the schedules of a candidate are not left.
-    pub fn is_over(&self) -> bool
-        ensures { IsFalse result → self.now.spent + MOST_OF_STEP ≤ self.now.most }
+    /// Whether the best schedule is as short as the longest chain of activities by shortest
+    /// durations, so that it is optimal.
+    pub fn is_shortest(&self) -> bool
+        ensures exact { result ≡ is_shortest self.now.project self.now.best }
     {
-        let is_shortest = match self.best.makespan() {
-            Some(makespan) => makespan <= self.annealing.longest_chain(),
+        match self.best.makespan() {
+            Some(makespan) => makespan <= self.bound,
             None => false,
-        };
-        is_shortest || self.budget.left() < MOST_OF_STEP
+        }
+    }
+
+    /// Whether the search generates no more schedules: the best one is as short as the longest
+    /// chain, or fewer are left than a candidate may need.
+    pub fn is_over(&self) -> bool
+        ensures exact { result ≡ is_over self.now }
+    {
+        self.is_shortest() || self.budget.left() < MOST_OF_STEP
     }
 
     /// The runs that keep the nonrenewable capacities come first, and then the last one.
@@ -179,8 +193,8 @@ impl Improving {
         }
     }
 
-    /// Generates `schedules` more, and at most two besides, but none once it is over. Returns
-    /// whether it has generated any and is not over.
+    /// Generates `schedules` more, and at most two besides, unless the search is over before that.
+    /// A search that is over stays as it is. Returns whether it has generated any and is not over.
     #[tactic(auto, using(crate::proofs::LongerLemmas::longer_self, crate::proofs::LongerLemmas::longer_then))]
     pub fn run(&mut self, schedules: u64) -> bool
         ensures project { self.new.project ≡ self.old.project }
@@ -188,12 +202,14 @@ impl Improving {
         ensures few { self.new.spent ≤ self.old.spent + schedules + 2 }
         ensures most { self.new.most ≡ self.old.most }
         ensures no_longer { IsNoLonger self.old.project self.old.best self.new.best }
-        ensures going { IsTrue result → self.old.spent < self.new.spent }
+        ensures over { is_over self.old ≡ true → self.new ≡ self.old }
+        ensures enough { is_over self.new ≡ false → self.old.spent + schedules ≤ self.new.spent }
+        ensures going { IsTrue result → self.old.spent < self.new.spent × (is_over self.new ≡ false) }
+        ensures still { IsFalse result → (self.new.spent ≡ self.old.spent) ⊎ (is_over self.new ≡ true) }
     {
         let begin = self.budget.spent;
-        let end = begin.saturating_add(schedules);
         for _ in 0..schedules {
-            if self.is_over() || self.budget.spent >= end {
+            if self.is_over() || self.budget.spent - begin >= schedules {
                 break;
             }
             self.step();
