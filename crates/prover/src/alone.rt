@@ -13,7 +13,7 @@ use crate::desk::Taken;
 use crate::improver::Improver;
 use crate::known::{Best, Known, Question, Subject};
 use crate::lanes::{CHUNK, LEAP, Lane, PRICE_STEPS, SLICE, question_of, stride_after};
-use crate::task::Proved;
+use crate::task::{Pace, Proved};
 use mrcpsp::{Project, Schedule, check};
 use price_search::lower_bound;
 use schedule_clauses::CertificateFault;
@@ -33,6 +33,9 @@ pub trait Overseer {
     fn look(&mut self, project: &Project, conflicts: u64, best: Option<&Best>, bound: u32) -> bool
         requires best { IfSome (option_copied best) (IsBest project.now) }
         requires bound { TakesAtLeast project.now bound };
+
+    /// The worker's time limit, if it has one.
+    fn pace(&self) -> Option<Pace>;
 }
 
 /// An `Allowance` is what the only worker may use.
@@ -157,7 +160,12 @@ impl<F: Subject, O: Overseer> Solo<'_, F, O> {
     /// Generates a chunk of schedules. Returns false if there is nothing to search.
     fn improve_once(&mut self) -> Result<bool, AllocError> {
         let (alloc, project) = (self.notebook.alloc, self.notebook.project);
-        let goes_on = self.improver.work(alloc, project, CHUNK)?;
+        let pace = if self.improver.is_ended() {
+            self.overseer.pace()
+        } else {
+            None
+        };
+        let goes_on = self.improver.work(alloc, project, CHUNK, pace)?;
         if let Some(schedule) = self.improver.news() {
             self.notebook.offer_copy(schedule)?;
         }

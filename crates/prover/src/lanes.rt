@@ -194,7 +194,12 @@ fn improve_once<F: Subject, R: Wait + Clock, H: Herald>(
     shift: &mut Shift<'_, '_, F, R, H>,
 ) -> Result<bool, AllocError> {
     let desk = shift.desk;
-    let goes_on = shift.improver.work(desk.alloc, desk.project, CHUNK)?;
+    let pace = if shift.improver.is_ended() {
+        desk.deadline.pace()
+    } else {
+        None
+    };
+    let goes_on = (shift.improver).work(desk.alloc, desk.project, CHUNK, pace)?;
     if let Some(schedule) = shift.improver.news() {
         desk.offer_copy(schedule)?;
     }

@@ -22,5 +22,5 @@ pub use alone::{Allowance, Overseer, prove_alone};
 pub use decide::{Decision, Watch, decide_within, exceeds_stocks};
 pub use herald::Herald;
 pub use known::{Answer, Best, Known, Question, Subject};
-pub use task::{Limits, Proved, Task};
+pub use task::{Limits, Pace, Proved, Task};
 pub use threads::prove;

@@ -35,6 +35,13 @@ pub struct Proved {
     pub conflicts: u64,
 }
 
+/// A `Pace` is how much of a time limit is spent, and how much is left.
+#[derive(Clone, Copy, Debug)]
+pub struct Pace {
+    pub spent: Duration,
+    pub left: Duration,
+}
+
 /// A `Deadline` is when all workers have to end.
 #[derive(Debug, Drop)]
 pub(crate) struct Deadline<'a, R> {
@@ -56,6 +63,16 @@ impl<R: Wait + Clock> Deadline<'_, R> {
             Ok(spent) => spent >= limit,
             Err(_) => true,
         }
+    }
+
+    /// `None` without a time limit, or without a clock.
+    pub(crate) fn pace(&self) -> Option<Pace> {
+        let limit = self.time?;
+        let spent = self.begun.elapsed(self.rt).ok()?;
+        Some(Pace {
+            spent,
+            left: limit.saturating_sub(spent),
+        })
     }
 
     /// Ends all workers, if there is no time limit.

@@ -10,7 +10,7 @@ use crate::desk::Desk;
 use crate::herald::Herald;
 use crate::known::{Best, Known, Subject};
 use crate::lanes::{Lane, Worker, work};
-use crate::task::{Deadline, Proved, Task};
+use crate::task::{Deadline, Pace, Proved, Task};
 use mrcpsp::Project;
 use std::alloc::{AllocError, Global};
 use std::marker::Brand;
@@ -69,6 +69,10 @@ impl<R: Wait + Clock, H: Herald> Overseer for Clerk<'_, R, H> {
             self.herald.better(project, best, bound);
         }
         !self.deadline.is_over()
+    }
+
+    fn pace(&self) -> Option<Pace> {
+        self.deadline.pace()
     }
 }
 

@@ -1,8 +1,10 @@
 -- The places of a schedule as JSON, and the lines of a text.
-use Rattle.std.proofs.Common.{◌≡◌, ◌⊎◌, ⊎_elim, inl, inr, ℕ, ◌+◌, ◌-◌, ◌<◌, List, [], ◌∷◌, ◌++◌, length, take, drop, drop-cons, get_or, refl, sym, ap, ◌∙◌, arith, add-one, subst}
+use Rattle.std.proofs.Common.{◌≡◌, ◌⊎◌, ⊎_elim, inl, inr, ℕ, ◌+◌, ◌-◌, ◌<◌, ◌≤◌, List, [], ◌∷◌, ◌++◌, length, take, drop, drop-cons, get_or, refl, sym, ap, ◌∙◌, arith, add-one, subst, Option, Some, None, Result, Ok, Err, IfOk, IfSome, IfNone}
 use Rattle.std.proofs.lemmas.List.{take-append-drop, take_more, take_rest}
 use Rattle.schedule_files.specs.Places.{placed_from}
-use Rattle.schedule_files.specs.ScheduleJson.{IsEnd}
+use Rattle.schedule_files.proofs.OrderLemmas.{split}
+use Rattle.mrcpsp.specs.Schedule.{ScheduleData}
+use Rattle.schedule_files.specs.ScheduleJson.{BeginsLastLine, IsJsonOf, TellsJson}
 use Rattle.schedule_files.specs.declared.places.ScheduleEntry.{ScheduleEntry}
 
 -- one more activity
@@ -14,12 +16,6 @@ placed_more j (m ∷ modes) [] place e a = absurd (omega (arith, e))
 placed_more j (m ∷ modes) (s ∷ starts) place e a =
     ap (λ l. record { activity = j; mode = m; start = s } ∷ l) (placed_more (j + 1) modes starts place (omega (arith, e)) (omega (arith, a)))
 
--- what stands behind an item of a list
-pub behind : (text : List ℕ) (i : ℕ) (c : ℕ) → i < length text → get_or text i 0 ≡ c → text ≡ take i text ++ c ∷ drop (i + 1) text
-behind text i c h e =
-    let cut : drop i text ≡ get_or text i 0 ∷ drop (i + 1) text = rw (add-one, drop-cons text i 0) refl in
-    sym (take-append-drop i text) ∙ ap (λ l. take i text ++ l) (cut ∙ ap (λ x. x ∷ drop (i + 1) text) e)
-
 -- the next place of a list that is in order so far
 pub placed_step : (places : List ScheduleEntry) (i : ℕ) (d : ScheduleEntry) (modes starts modes' starts' : List ℕ) → i < length places → take i places ≡ placed_from 1 modes starts
     → length modes ≡ i → length starts ≡ i → (get_or places i d).activity ≡ i + 1 → modes' ≡ modes ++ (get_or places i d).mode ∷ [] → starts' ≡ starts ++ (get_or places i d).start ∷ []
@@ -29,10 +25,36 @@ placed_step places i d modes starts modes' starts' h e m s a em es =
     let next = placed_more 1 modes starts (get_or places i d) (m ∙ sym s) (omega (arith, a, m)) in
     more ∙ ap (λ l. l ++ get_or places i d ∷ []) e ∙ next ∙ sym (ap (λ l. placed_from 1 l starts') em ∙ ap (λ l. placed_from 1 (modes ++ (get_or places i d).mode ∷ []) l) es)
 
--- what stands at the beginning, or behind a line feed
-pub end_at : (text : List ℕ) (start : ℕ) → (start ≡ 0) ⊎ ((before : ℕ) × (start ≡ before + 1) × (before < length text) × (get_or text before 0 ≡ 10)) → IsEnd text (take (length text - start) (drop start text))
-end_at text start at =
-    rw (take_rest text start) (⊎_elim
-    (λ e. rw e (inl refl))
-    (λ (before, e, h, t). rw e (inr (take before text, behind text before 10 h t)))
-    at)
+none_before : (text : List ℕ) (a b : ℕ) → BeginsLastLine text a → BeginsLastLine text b → a < b → ⊥
+none_before text a b one other h = one.last (b - 1) (omega arith) (omega (arith, other.inside)) (other.behind (b - 1) (omega arith))
+
+-- there is one last line
+pub one_last_line : (text : List ℕ) (a b : ℕ) → BeginsLastLine text a → BeginsLastLine text b → a ≡ b
+one_last_line text a b one other =
+    ⊎_elim
+    (λ (h : a ≤ b). ⊎_elim (λ (k : b ≤ a). omega arith) (λ (k : a < b). absurd (none_before text a b one other k)) (split b a))
+    (λ (h : b < a). absurd (none_before text b a other one h))
+    (split a b)
+
+-- what a text or its last line tells
+pub json_told : {E : Type 0} (text line : List ℕ) (r : Result (Option ScheduleData) E) → IfOk r (λ found. IfSome found (λ s. IsJsonOf line s))
+    → (0 < length text → (start : ℕ) × BeginsLastLine text start × (line ≡ drop start text)) → (length text ≡ 0 → line ≡ text) → IfOk r (λ found. IfSome found (λ s. TellsJson text s))
+json_told [] line (Ok (Some s)) told at empty = inl (subst (λ l. IsJsonOf l s) (empty refl) told)
+json_told (x ∷ text) line (Ok (Some s)) told at empty =
+    let (start, begins, is) = at (omega arith) in
+    inr (start, begins, subst (λ l. IsJsonOf l s) is told)
+json_told text line (Ok None) told at empty = tt
+json_told text line (Err e) told at empty = tt
+
+pub json_none : {E : Type 0} (text line : List ℕ) (r : Result (Option ScheduleData) E) → ((s : ScheduleData) → IsJsonOf text s → ⊥)
+    → IfOk r (λ found. IfNone found ((s : ScheduleData) → IsJsonOf line s → ⊥)) → (0 < length text → (start : ℕ) × BeginsLastLine text start × (line ≡ drop start text))
+    → IfOk r (λ found. IfNone found ((s : ScheduleData) → TellsJson text s → ⊥))
+json_none text line (Ok (Some s)) whole last at = tt
+json_none text line (Ok None) whole last at = λ s t.
+    ⊎_elim (λ (j : IsJsonOf text s). whole s j)
+    (λ (start, begins, json).
+    let (first, other, is) = at (omega (arith, begins.inside)) in
+    let same = one_last_line text start first begins other in
+    last s (subst (λ l. IsJsonOf l s) (ap (λ n. drop n text) same ∙ sym is) json))
+    t
+json_none text line (Err e) whole last at = tt

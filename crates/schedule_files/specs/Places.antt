@@ -1,5 +1,5 @@
 -- The places of a schedule's activities: a number, a mode and a start for each.
-use Rattle.std.specs.Prelude.{◌≡◌, ℕ, ◌+◌, min, List, [], ◌∷◌, length, Option, Some, None}
+use Rattle.std.specs.Prelude.{◌≡◌, ℕ, ◌+◌, ◌<◌, min, List, [], ◌∷◌, length, get_or, Option, Some, None}
 use Rattle.std.specs.List.Sorted.{IsPermutation}
 use Rattle.mrcpsp.specs.Schedule.{ScheduleData}
 use Rattle.schedule_files.specs.declared.places.ScheduleEntry.{ScheduleEntry}
@@ -25,3 +25,9 @@ placed_from j (mode ∷ modes) (start ∷ starts) = record { activity = j; mode 
 pub record ArePlaces (places : List ScheduleEntry) (s : ScheduleData) : Type 0 where
   pub even : length s.modes ≡ length s.starts
   pub whole : IsPermutation places (placed_from 1 s.modes s.starts)
+
+-- the first place whose number is not the next one, counted from 1
+pub record IsStrayAt (places : List ScheduleEntry) (place : ℕ) : Type 0 where
+  pub inside : place < length places
+  pub before : (k : ℕ) (d : ScheduleEntry) → k < place → (get_or places k d).activity ≡ k + 1
+  pub here : (d : ScheduleEntry) → (get_or places place d).activity ≡ place + 1 → ⊥

@@ -1,6 +1,6 @@
 -- A schedule as JSON (RFC 8259): an array with an object for each activity, in any order, or an
 -- object with such an array as `schedule`.
-use Rattle.std.specs.Prelude.{◌≡◌, ◌⊎◌, ℕ, List, [], ◌∷◌, ◌++◌, Option, Some, None, option_and_then, option_map, codes}
+use Rattle.std.specs.Prelude.{◌≡◌, ◌⊎◌, ℕ, ◌+◌, ◌<◌, ◌≤◌, List, [], ◌∷◌, length, drop, get_or, Option, Some, None, option_and_then, option_map, codes, IsUtf8}
 use Rattle.serde_json.specs.Data.{Data, Items, no_items, item}
 use Rattle.serde_json.specs.Read.{read}
 use Rattle.serde_json.specs.Find.{get, as_number, as_u64, as_array}
@@ -37,20 +37,22 @@ array_at value (Some at) = as_array at
 abbrev pub array_of : Data → Option Items
 array_of value = array_at value (get (codes "schedule") value)
 
--- the end is the whole text, or what is behind one of its line feeds
-abbrev pub IsEnd : List ℕ → List ℕ → Type 0
-IsEnd text end = (end ≡ text) ⊎ ((front : List ℕ) × (text ≡ front ++ 10 ∷ end))
-
 -- the text is the JSON of the schedule's places
 pub record IsJsonOf (text : List ℕ) (s : ScheduleData) : Type 0 where
+  pub utf8 : IsUtf8 text
   pub value : Data
   pub read : read text ≡ Some value
   pub places : List ScheduleEntry
   pub told : option_and_then places_of (array_of value) ≡ Some places
   pub each : ArePlaces places s
 
--- the text ends with the JSON of the schedule, at its beginning or behind a line feed
-pub record TellsJson (text : List ℕ) (s : ScheduleData) : Type 0 where
-  pub end : List ℕ
-  pub at : IsEnd text end
-  pub json : IsJsonOf end s
+-- where the last line of a text begins: at the text's beginning or behind a line feed, and a line
+-- feed behind it ends the text
+pub record BeginsLastLine (text : List ℕ) (start : ℕ) : Type 0 where
+  pub inside : start < length text
+  pub behind : (before : ℕ) → start ≡ before + 1 → get_or text before 0 ≡ 10
+  pub last : (k : ℕ) → start ≤ k → k + 1 < length text → get_or text k 0 ≡ 10 → ⊥
+
+-- the text, or else its last line, is the JSON of the schedule
+abbrev pub TellsJson : List ℕ → ScheduleData → Type 0
+TellsJson text s = IsJsonOf text s ⊎ ((start : ℕ) × BeginsLastLine text start × IsJsonOf (drop start text) s)

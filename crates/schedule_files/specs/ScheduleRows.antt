@@ -1,6 +1,7 @@
 -- The places that the words of a text write, as 3:1:7, and the lines of a text, as 3,1,7.
-use Rattle.std.specs.Prelude.{ℕ, ◌-◌, Bool, not, ◌&&◌, List, [], ◌∷◌, length, take, drop, Option, Some, None, ◌==◌, if◌then◌else◌}
+use Rattle.std.specs.Prelude.{ℕ, ◌-◌, Bool, not, ◌&&◌, List, [], ◌∷◌, length, take, drop, get_or, Option, Some, None, ◌==◌, if◌then◌else◌}
 use Rattle.std.specs.Char.{is_ascii_digit, is_ascii_whitespace}
+use Rattle.std.specs.Option.{option_map_or}
 use Rattle.std.specs.List.{filter, list_all, list_any, prefix_len, suffix_len, before_first, after_first, slice_split}
 use Rattle.std.specs.Str.Parse.{digits_value}
 use Rattle.schedule_files.specs.Places.{◌>>=◌, counted}
@@ -65,3 +66,11 @@ places_at mark (text ∷ texts) = do
   place ← place_at mark text
   places ← places_at mark texts
   Some (place ∷ places)
+
+-- the number of the last word's activity, or 0 if it is no place
+abbrev pub last_number : List (List ℕ) → ℕ
+last_number words = option_map_or (λ place. place.activity) (place_at 58 (get_or words (length words - 1) [])) 0
+
+-- the last words: as many as the number of the last word's activity
+abbrev pub last_words : List (List ℕ) → List (List ℕ)
+last_words words = drop (length words - last_number words) words

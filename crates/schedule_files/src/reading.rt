@@ -1,5 +1,7 @@
 //! The schedule that a text has.
-ghost use Rattle.std.specs.Prelude.{◌≡◌, ◌⊎◌, ◌++◌, ◌==◌, length, IfOk, IfSome};
+ghost use Rattle.std.specs.Prelude.{◌≡◌, ◌⊎◌, ◌<◌, length, map, Some, IfOk, IfSome, IfNone};
+ghost use Rattle.mrcpsp.specs.Schedule.{ScheduleData};
+ghost use Rattle.schedule_files.specs.ScheduleRows.{last_number, last_words};
 ghost use Rattle.schedule_files.specs.ScheduleJson.{TellsJson};
 ghost use Rattle.schedule_files.specs.ScheduleText.{TellsWords, TellsRows, Tells};
 
@@ -9,7 +11,9 @@ use crate::rows::{place_at, places_at, rows_of, words_of};
 use mrcpsp::Schedule;
 use std::alloc::{AllocError, Global};
 
-fn count_of(words: &[&[u8]]) -> usize {
+fn count_of(words: &[&[u8]]) -> usize
+    ensures { result ≡ last_number (map (λ word. word.now) words.now) }
+{
     match words.last() {
         Some(word) => place_at(word, b':').map_or(0, |place| place.activity as usize),
         None => 0,
@@ -18,55 +22,63 @@ fn count_of(words: &[&[u8]]) -> usize {
 
 /// The last words: as many as the number of the last word's activity.
 fn ending<'a, 'b>(words: &'b [&'a [u8]]) -> &'b [&'a [u8]]
-    ensures { (front : _) × (words.now ≡ front ++ result.now) }
+    ensures { map (λ word. word.now) result.now ≡ last_words (map (λ word. word.now) words.now) }
 {
     let start = words.len().saturating_sub(count_of(words));
     &words[start..]
 }
 
-fn is_empty(schedule: &Schedule) -> bool
-    ensures { result ≡ (length schedule.now.modes == 0) }
+/// The schedule, if it has an activity.
+fn filled(schedule: Option<Schedule>) -> Option<Schedule>
+    ensures some { IfSome result (λ s. (schedule ≡ Some s) × (0 < length s.modes)) }
+    ensures none { IfNone result (IfSome schedule (λ s. length s.modes ≡ 0)) }
 {
-    schedule.modes.as_slice().is_empty()
+    match schedule {
+        Some(schedule) if !schedule.modes.as_slice().is_empty() => Some(schedule),
+        _ => None,
+    }
 }
 
+#[tactic(auto, using(crate::proofs::ReadingLemmas::words_unread, crate::proofs::ReadingLemmas::words_told, crate::proofs::ReadingLemmas::words_none))]
 fn read_words(alloc: Global, text: &[u8]) -> Result<Option<Schedule>, AllocError>
-    ensures { IfOk result (λ found. IfSome found (λ schedule. TellsWords text.now schedule)) }
+    ensures told { IfOk result (λ found. IfSome found (λ schedule. TellsWords text.now schedule)) }
+    ensures none { IfOk result (λ found. IfNone found ((s : ScheduleData) → TellsWords text.now s → ⊥)) }
 {
     let words = words_of(alloc, text)?;
     let Some(places) = places_at(alloc, ending(words.as_slice()), b':')? else {
         return Ok(None);
     };
-    match in_order(alloc, places.as_slice())? {
-        Some(schedule) if !is_empty(&schedule) => Ok(Some(schedule)),
-        _ => Ok(None),
-    }
+    let schedule = in_order(alloc, places.as_slice())?;
+    Ok(filled(schedule))
 }
 
+#[tactic(auto, using(crate::proofs::ReadingLemmas::rows_unread, crate::proofs::ReadingLemmas::rows_told, crate::proofs::ReadingLemmas::rows_none))]
 fn read_rows(alloc: Global, text: &[u8]) -> Result<Option<Schedule>, AllocError>
-    ensures { IfOk result (λ found. IfSome found (λ schedule. TellsRows text.now schedule)) }
+    ensures told { IfOk result (λ found. IfSome found (λ schedule. TellsRows text.now schedule)) }
+    ensures none { IfOk result (λ found. IfNone found ((s : ScheduleData) → TellsRows text.now s → ⊥)) }
 {
     let rows = rows_of(alloc, text)?;
     let Some(places) = places_at(alloc, rows.as_slice(), b',')? else {
         return Ok(None);
     };
-    match scheduled(alloc, places)? {
-        Some(schedule) if !is_empty(&schedule) => Ok(Some(schedule)),
-        _ => Ok(None),
-    }
+    let schedule = scheduled(alloc, places)?;
+    Ok(filled(schedule))
 }
 
+#[tactic(auto, using(crate::proofs::ReadingLemmas::no_way))]
 fn read_any(alloc: Global, text: &[u8]) -> Result<Option<Schedule>, AllocError>
-    ensures { IfOk result (λ found. IfSome found (λ schedule.
+    ensures told { IfOk result (λ found. IfSome found (λ schedule.
         TellsWords text.now schedule ⊎ (TellsRows text.now schedule ⊎ TellsJson text.now schedule))) }
+    ensures none { IfOk result (λ found. IfNone found ((s : ScheduleData)
+        → TellsWords text.now s ⊎ (TellsRows text.now s ⊎ TellsJson text.now s) → ⊥)) }
 {
-    if let Some(schedule) = read_words(alloc, text)? {
-        return Ok(Some(schedule));
+    match read_words(alloc, text)? {
+        Some(schedule) => Ok(Some(schedule)),
+        None => match read_rows(alloc, text)? {
+            Some(schedule) => Ok(Some(schedule)),
+            None => read_json(alloc, text),
+        },
     }
-    if let Some(schedule) = read_rows(alloc, text)? {
-        return Ok(Some(schedule));
-    }
-    read_json(alloc, text)
 }
 
 /// The most bytes of a schedule's text.
@@ -78,8 +90,10 @@ pub const MOST_BYTES: usize = 1_048_576;
 /// - a farm's result line, or its words `J:MODE:START` alone, in the order of activities
 /// - rows `J,MODE,START` in any order, and lines without a digit
 /// - what `solve --json` prints, or its array alone, in any order
+#[tactic(auto, using(crate::proofs::ReadingLemmas::one_way))]
 pub fn read_schedule(alloc: Global, text: &[u8]) -> Result<Option<Schedule>, AllocError>
-    ensures { IfOk result (λ found. IfSome found (λ schedule. Tells text.now schedule)) }
+    ensures told { IfOk result (λ found. IfSome found (λ schedule. Tells text.now schedule)) }
+    ensures none { IfOk result (λ found. IfNone found ((s : ScheduleData) → Tells text.now s → ⊥)) }
 {
     if text.len() > MOST_BYTES {
         return Ok(None);
