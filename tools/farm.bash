@@ -4,7 +4,7 @@
 _farm_searches() {
     local word=$1 before=
     [[ $word == *,* ]] && before=${word%,*},
-    compgen -P "$before" -W "all tree rule:lft rule:mts rule:spt sample: improve:" -- "${word##*,}"
+    compgen -P "$before" -W "all tree rule:lft rule:mts rule:spt sample: improve: prove:" -- "${word##*,}"
 }
 
 _farm() {

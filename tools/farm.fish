@@ -4,7 +4,7 @@ set -l commands check solve verify draw bench prove replay serve clauses certify
 function __farm_searches
     set -l word (commandline -ct)
     set -l before (string replace -rf '^(--search=)?(.*,)?[^,]*$' '$2' -- $word)
-    for search in all tree rule:lft rule:mts rule:spt sample: improve:
+    for search in all tree rule:lft rule:mts rule:spt sample: improve: prove:
         echo "$before$search"
     end
 end

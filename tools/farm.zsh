@@ -5,7 +5,7 @@ _farm_searches() {
     compset -P '*,'
     local -a whole begun
     whole=(all:'a good list of searches' tree:'the precedence tree, exact' 'rule\:lft:one pass, latest finish first' 'rule\:mts:one pass, most successors first' 'rule\:spt:one pass, shortest first')
-    begun=('sample\::passes drawn from a SEED' 'improve\::local search from a SEED')
+    begun=('sample\::passes drawn from a SEED' 'improve\::local search from a SEED' 'prove\::proofs within CONFLICTS')
     _describe -t searches search whole -S '' -- begun -S ''
 }
 

@@ -20,7 +20,7 @@ solves "a short search that tells how far it is" 0 "nodes 4 best 5 ended
 makespan 5 ended 1:1:0 2:1:0 3:1:3 4:1:5" "" --progress --search=rule:lft "$long"
 solves "no project" 1 "" "farm: no file Header
 farm: why: $jobs; the file is empty" "$work/text"
-searches="searches are tree, rule:lft, rule:mts, rule:spt, sample:SEED, improve:SEED and all, with commas between them, a SEED of 1 to 18 digits"
+searches="searches are tree, rule:lft, rule:mts, rule:spt, sample:SEED, improve:SEED, prove:CONFLICTS and all, with commas between them, a SEED and CONFLICTS of 1 to 18 digits"
 solves "a search with a letter too few" 2 "" "farm: no search tre
 farm: why: tree is near; $searches" --search tre "$long"
 solves "a search without its seed" 2 "" "farm: no search sample
@@ -65,7 +65,7 @@ status=0
 says "no progress of a quiet search" 0 "" ""
 # From here on without second lines.
 FARM_EXPLAIN=0
-for word in tre rule:LFT sample: sample:x sample:+1 sample:-1 sample:1000000000000000000 improve improve: improve:x improve:+1 improve:1000000000000000000 ""; do
+for word in tre rule:LFT sample: sample:x sample:+1 sample:-1 sample:1000000000000000000 improve improve: improve:x improve:+1 improve:1000000000000000000 prove prove: prove:x prove:-1 prove:1000000000000000000 ""; do
     solves "the search '$word'" 2 "" "farm: no search $word" --search "$word" "$long"
 done
 # Each kind of search, after so many nodes, as the independent program tells it.
@@ -118,6 +118,32 @@ j30_1.mm 200000 26
 TABLE
 solves "local search of too few nodes" 0 "nodes 0 best none open
 makespan none open" "" --search improve:1 --nodes 2 "$long"
+# A search that proves: the makespan and the verdict are those of a closed tree, or were proved by other solvers too. Equal searches say the same.
+while read -r file conflicts wanted; do
+    "$farm" solve --search "prove:$conflicts" "$top/examples/$file" >"$work/found" 2>"$work/err" </dev/null
+    status=$?
+    sed 's/ 1:.*//' "$work/found" | tail -n 1 >"$work/out"
+    says "solve: what is proved of $file" 0 "$wanted" ""
+    "$farm" verify "$top/examples/$file" "$work/found" >"$work/out" 2>"$work/err"
+    status=$?
+    says "solve: the schedule that is proved of $file" 0 "feasible $(echo "$wanted" | cut -d ' ' -f 1,2)" ""
+    solves "a proof of $file, again" 0 "$(cat "$work/found")" "" --search "prove:$conflicts" "$top/examples/$file"
+done <<'TABLE'
+first.mm 1000 makespan 4 optimal
+j10_1.mm 1000 makespan 17 optimal
+j20_1.mm 100000 makespan 29 optimal
+j30_2.mm 100000 makespan 27 optimal
+TABLE
+solves "a proof that there is no feasible schedule" 0 "nodes 0 best none infeasible
+makespan none infeasible" "" --search prove:1000 "$work/text"
+for nodes in 1 7; do
+    "$farm" solve --search prove:5 --nodes "$nodes" "$top/examples/j30_1.mm" 2>/dev/null </dev/null | sed -n '1s/^nodes \([0-9]*\) .*/\1/p' >"$work/line"
+    [ "$(cat "$work/line")" -le "$((nodes < 5 ? nodes : 5))" ]
+    status=$?
+    : >"$work/out"
+    : >"$work/err"
+    says "solve: at most so many conflicts, $nodes" 0 "" ""
+done
 # Six seeds do not all find the same schedule.
 found=$(for seed in 1 2 3 4 5 6; do
     "$farm" solve --search "improve:$seed" --nodes 60 "$top/examples/j30_1.mm" 2>/dev/null </dev/null
@@ -150,7 +176,7 @@ done
 # The word for several: each of its searches runs, unless one before has shown what is best.
 solves "all searches of a small project" 0 "nodes 21 best 4 optimal
 makespan 4 optimal 1:1:0 2:1:0 3:2:0 4:1:4" "" --search all "$long"
-for kinds in rule:lft,rule:mts,rule:spt,tree,improve:1 ; do
+for kinds in rule:lft,rule:mts,rule:spt,tree,improve:1,prove:100000 ; do
     "$farm" solve --search "$kinds" --nodes 20000 "$top/examples/j30_2.mm" >"$work/found" 2>/dev/null </dev/null
     solves "all searches of a larger one" 0 "$(cat "$work/found")" "" --search all --nodes 20000 "$top/examples/j30_2.mm"
 done

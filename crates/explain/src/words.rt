@@ -21,13 +21,14 @@ const COMMANDS: [&str; 13] = [
 ];
 
 /// The words of searches, with seed 1 if they have one.
-const SEARCHES: [&str; 7] = [
+const SEARCHES: [&str; 8] = [
     "tree",
     "rule:lft",
     "rule:mts",
     "rule:spt",
     "sample:1",
     "improve:1",
+    "prove:100000",
     "all",
 ];
 
@@ -40,7 +41,7 @@ pub fn why_no_search(alloc: Global, word: &str) -> Option<String> {
         write!(text, "{near} is near; ").ok()?;
     }
     text.push_str(
-        "searches are tree, rule:lft, rule:mts, rule:spt, sample:SEED, improve:SEED and all, with commas between them, a SEED of 1 to 18 digits",
+        "searches are tree, rule:lft, rule:mts, rule:spt, sample:SEED, improve:SEED, prove:CONFLICTS and all, with commas between them, a SEED and CONFLICTS of 1 to 18 digits",
     ).ok()?;
     Some(text)
 }
@@ -58,8 +59,16 @@ fn why_no_command(alloc: Global, word: &str) -> Option<String> {
     Some(text)
 }
 
-fn is_time(word: &str) -> bool {
-    word.starts_with("--time") || word.starts_with("--seconds")
+fn is_time(command: &str, word: &str) -> bool {
+    word.starts_with("--time") || (command != "prove" && word.starts_with("--seconds"))
+}
+
+/// How a command is limited by time.
+fn why_no_time(command: &str) -> &'static str {
+    if command == "prove" {
+        return "--seconds S ends prove after S seconds with the best";
+    }
+    "no search is limited by time: --nodes N limits its nodes, farm prove --seconds S ends after S seconds with the best, and timeout S farm solve --improvements leaves it as its last line"
 }
 
 /// The value of a long option: behind `=`, or the next word.
@@ -89,7 +98,7 @@ fn is_within(word: &str, least: u64, most: u64) -> bool {
 }
 
 /// Options with a number: name, least, most, and what they take.
-const NUMBERS: [(&str, u64, u64, &str); 3] = [
+const NUMBERS: [(&str, u64, u64, &str); 7] = [
     (
         "--nodes",
         1,
@@ -108,6 +117,25 @@ const NUMBERS: [(&str, u64, u64, &str); 3] = [
         64,
         "--sessions takes a whole number, 1 to 64",
     ),
+    (
+        "--seconds",
+        1,
+        10_000_000,
+        "--seconds takes a whole number, 1 to 10000000",
+    ),
+    ("--jobs", 1, 256, "--jobs takes a whole number, 1 to 256"),
+    (
+        "--memory",
+        16,
+        100_000_000,
+        "--memory takes a whole number of megabytes, 16 to 100000000",
+    ),
+    (
+        "--conflicts",
+        1,
+        1_000_000_000_000,
+        "--conflicts takes a whole number, 1 to 1000000000000",
+    ),
 ];
 
 /// Why `words` are refused, as far as they show it. The first one is the program's name.
@@ -116,12 +144,8 @@ pub fn why_words(alloc: Global, words: &[String]) -> Option<String> {
     if !command.starts_with("-") && !COMMANDS.contains(&command) {
         return why_no_command(alloc, command);
     }
-    if words.iter().any(|word| is_time(word.as_str())) {
-        return String::from_str(
-            alloc,
-            "no search is limited by time: --nodes N limits its nodes, farm prove --seconds S ends after S seconds with the best, and timeout S farm solve --improvements leaves it as its last line",
-        )
-        .ok();
+    if words.iter().any(|word| is_time(command, word.as_str())) {
+        return String::from_str(alloc, why_no_time(command)).ok();
     }
     for (name, least, most, text) in NUMBERS {
         if let Some(value) = value_of(words, name)

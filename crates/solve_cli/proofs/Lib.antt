@@ -1,4 +1,3 @@
 pub mod SearchLemmas
 pub mod SeveralLemmas
-pub mod JsonLemmas
 pub mod CommandLemmas

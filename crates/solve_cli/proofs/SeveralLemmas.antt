@@ -1,5 +1,5 @@
 -- What several searches have found together: it is true, and that of one search is its own.
-use Rattle.std.proofs.Common.{◌≡◌, ◌<◌, ◌≤◌, ℕ, ◌+◌, arith, refl, sym, ◌∙◌, le_trans, ◌⊎◌, ⊎_elim, cond, nat_lt, true, false, IsTrue, subst, get_or, drop, drop-cons, add-one, length, List, [], ◌∷◌, Option, Some, None, IfSome, option_map, fold, zero-add, inl, inr}
+use Rattle.std.proofs.Common.{◌≡◌, ◌<◌, ◌≤◌, ℕ, ◌+◌, arith, refl, sym, ◌∙◌, le_trans, min, ◌⊎◌, ⊎_elim, cond, nat_lt, true, false, IsTrue, subst, get_or, drop, drop-cons, add-one, length, List, [], ◌∷◌, Option, Some, None, IfSome, option_map, fold, zero-add, inl, inr}
 use Rattle.std.specs.Prelude.{IsSomeAnd}
 use Rattle.std.proofs.lemmas.List.{drop_all}
 use Rattle.std.proofs.lemmas.Bool.{cond_both, ltb-true, ltb-false, leb-true, false≢true}
@@ -19,7 +19,7 @@ use Rattle.solve_cli.specs.Improved.{IsImproved}
 use Rattle.solve_cli.specs.Several.{is_decided, stronger, joined, nothing, is_shorter, IsFoundBy, AreFound, IsFoundByEach, IsTrueOf}
 use Rattle.solve_cli.specs.Laws.{SeveralAreTrue, OneIsItself}
 use Rattle.solve_cli.specs.declared.search_kinds.SearchKind.{SearchKind}
-use Rattle.solve_cli.specs.declared.search_kinds.SearchKind.TheVariants.{Planned, Improve}
+use Rattle.solve_cli.specs.declared.search_kinds.SearchKind.TheVariants.{Planned, Improve, Prove}
 use Rattle.solve_cli.specs.declared.searching.SearchResult.{SearchResult}
 use Rattle.solve_cli.proofs.SearchLemmas.{found_few}
 
@@ -110,10 +110,12 @@ improved_true p ok most found is = record {
 by_true : (p : ProjectData) → IsTrue (is_project p) → (kind : SearchKind) (most : ℕ) (found : SearchResult) → IsFoundBy p kind most found → IsTrueOf p found
 by_true p kept (Planned kind) most found is = found_true (record { project = p; kind = kind }) kept most found is
 by_true p kept (Improve seed) most found is = improved_true p kept most found is
+by_true p kept (Prove conflicts) most found is = is.holds
 
 pub by_few : (p : ProjectData) (kind : SearchKind) (most : ℕ) (f : SearchResult) → IsFoundBy p kind most f → f.nodes ≤ most
 by_few p (Planned kind) most f is = found_few (record { project = p; kind = kind }) most f is
 by_few p (Improve seed) most f is = is.nodes
+by_few p (Prove conflicts) most f is = let few : f.nodes ≤ min conflicts most = is.nodes in omega arith
 
 all_true : (p : ProjectData) → IsTrue (is_project p) → (kinds : List SearchKind) (most : ℕ) (each : List SearchResult) (before : SearchResult) → IsTrueOf p before → AreFound p kinds most each → IsTrueOf p (fold (joined p) before each)
 all_true p kept [] most each before h e = rw e h

@@ -1,8 +1,9 @@
 -- The text of a result: a line of its nodes and a line of its best schedule, in the words of a
 -- farm's replies; or JSON.
-use Rattle.std.specs.Prelude.{ℕ, ◌+◌, ◌==◌, cond, List, [], ◌∷◌, ◌++◌, Option, Some, None, codes, decimal}
+use Rattle.std.specs.Prelude.{ℕ, List, [], ◌∷◌, ◌++◌, Option, Some, None, codes, decimal}
 use Rattle.mrcpsp.specs.Schedule.{ScheduleData}
 use Rattle.schedule_files.specs.ScheduleText.{schedule_text}
+use Rattle.schedule_json.specs.ScheduleJson.{number_json, schedule_json}
 use Rattle.strategy.specs.declared.verdict.Verdict.{Verdict}
 use Rattle.strategy.specs.declared.verdict.Verdict.TheVariants.{Going, Optimal, Infeasible, Ended}
 use Rattle.solve_cli.specs.declared.searching.SearchResult.{SearchResult}
@@ -46,38 +47,10 @@ better_line makespan best = codes "makespan " ++ decimal makespan ++ codes " ope
 
 -- ---- as one JSON object on one line
 
--- the object of activity j
-abbrev pub place_json : ℕ → ℕ → ℕ → List ℕ
-place_json j mode start = codes "{\"activity\":" ++ decimal j ++ codes ",\"mode\":" ++ decimal mode ++ codes ",\"start\":" ++ decimal start ++ codes "}"
-
--- the text before the object of an activity behind i others
-abbrev pub comma_before : ℕ → List ℕ
-comma_before i = cond (i == 0) [] (codes ",")
-
--- the object of an activity behind i others
-abbrev pub next_json : ℕ → ℕ → ℕ → List ℕ
-next_json i mode start = comma_before i ++ place_json (i + 1) mode start
-
--- the objects of activities behind i others
-abbrev pub places_json : ℕ → List ℕ → List ℕ → List ℕ
-places_json i [] starts = []
-places_json i (mode ∷ modes) [] = []
-places_json i (mode ∷ modes) (start ∷ starts) = next_json i mode start ++ places_json (i + 1) modes starts
-
--- the array of a schedule, or `null`
-abbrev pub schedule_json : Option ScheduleData → List ℕ
-schedule_json None = codes "null"
-schedule_json (Some schedule) = codes "[" ++ places_json 0 schedule.modes schedule.starts ++ codes "]"
-
--- the number of a makespan, or `null`
-abbrev pub makespan_json : Option ℕ → List ℕ
-makespan_json None = codes "null"
-makespan_json (Some makespan) = decimal makespan
-
 -- the object of a result, from its parts
 abbrev pub object_json : ℕ → Option ℕ → List ℕ → Option ScheduleData → List ℕ
 object_json nodes makespan word best =
-    codes "{\"nodes\":" ++ decimal nodes ++ codes ",\"makespan\":" ++ makespan_json makespan
+    codes "{\"nodes\":" ++ decimal nodes ++ codes ",\"makespan\":" ++ number_json makespan
     ++ codes ",\"verdict\":\"" ++ word ++ codes "\",\"schedule\":" ++ schedule_json best ++ codes "}" ++ 10 ∷ []
 
 -- the object of a result

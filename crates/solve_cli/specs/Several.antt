@@ -1,6 +1,6 @@
 -- The result of several searches of one project, one after another: the shortest best schedule, and
 -- the strongest verdict.
-use Rattle.std.specs.Prelude.{◌≡◌, ℕ, ◌+◌, ◌⊎◌, Bool, true, false, nat_lt, List, [], ◌∷◌, fold, IfSome, IsSomeAnd, Option, Some, None, option_map}
+use Rattle.std.specs.Prelude.{◌≡◌, ℕ, ◌+◌, ◌≤◌, ◌⊎◌, Bool, true, false, min, nat_lt, List, [], ◌∷◌, fold, IfSome, IsSomeAnd, Option, Some, None, option_map}
 use Rattle.mrcpsp.specs.Project.{ProjectData}
 use Rattle.mrcpsp.specs.Schedule.{IsFeasible, IsOptimal, IsInfeasible, makespan}
 use Rattle.strategy.specs.Outcome.{better}
@@ -9,7 +9,7 @@ use Rattle.strategy.specs.declared.verdict.Verdict.TheVariants.{Going, Optimal, 
 use Rattle.solve_cli.specs.Found.{IsFound}
 use Rattle.solve_cli.specs.Improved.{IsImproved}
 use Rattle.solve_cli.specs.declared.search_kinds.SearchKind.{SearchKind}
-use Rattle.solve_cli.specs.declared.search_kinds.SearchKind.TheVariants.{Planned, Improve}
+use Rattle.solve_cli.specs.declared.search_kinds.SearchKind.TheVariants.{Planned, Improve, Prove}
 use Rattle.solve_cli.specs.declared.searching.SearchResult.{SearchResult}
 
 -- whether a verdict decides the project
@@ -49,10 +49,25 @@ joined p one other =
 abbrev pub nothing : SearchResult
 nothing = record { nodes = 0; best = None; makespan = None; verdict = Ended }
 
+-- the best schedule is feasible and has the result's makespan, and a verdict that decides the
+-- project is true
+pub record IsTrueOf (p : ProjectData) (found : SearchResult) : Type 0 where
+  pub feasible : IfSome found.best (IsFeasible p)
+  pub makespan : found.makespan ≡ option_map (makespan p) found.best
+  pub optimal : found.verdict ≡ Optimal → IsSomeAnd found.best (IsOptimal p)
+  pub infeasible : found.verdict ≡ Infeasible → IsInfeasible p
+
+-- the result is true, has at most `most` nodes, and is of a search that shows something or is not over
+pub record IsTrueWithin (p : ProjectData) (most : ℕ) (found : SearchResult) : Type 0 where
+  pub nodes : found.nodes ≤ most
+  pub holds : IsTrueOf p found
+  pub shows : found.verdict ≡ Ended → ⊥
+
 -- the result of a search of this kind
 abbrev pub IsFoundBy : ProjectData → SearchKind → ℕ → SearchResult → Type 0
 IsFoundBy p (Planned kind) most f = IsFound (record { project = p; kind = kind }) most f
 IsFoundBy p (Improve seed) most f = IsImproved p most f
+IsFoundBy p (Prove conflicts) most f = IsTrueWithin p (min conflicts most) f
 
 -- the results of a search of each kind, in order, up to the first that decides the project
 abbrev pub AreFound : ProjectData → List SearchKind → ℕ → List SearchResult → Type 0
@@ -67,11 +82,3 @@ pub record IsFoundByEach (p : ProjectData) (kinds : List SearchKind) (most : ℕ
   pub each : List SearchResult
   pub run : AreFound p kinds most each
   pub whole : found ≡ fold (joined p) nothing each
-
--- the best schedule is feasible and has the result's makespan, and a verdict that decides the
--- project is true
-pub record IsTrueOf (p : ProjectData) (found : SearchResult) : Type 0 where
-  pub feasible : IfSome found.best (IsFeasible p)
-  pub makespan : found.makespan ≡ option_map (makespan p) found.best
-  pub optimal : found.verdict ≡ Optimal → IsSomeAnd found.best (IsOptimal p)
-  pub infeasible : found.verdict ≡ Infeasible → IsInfeasible p

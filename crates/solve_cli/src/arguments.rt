@@ -89,7 +89,7 @@ fn solve_command<'a>(alloc: Global) -> Result<Command<'a>, AllocError> {
         .long("search")
         .value_name("S,..")
         .help(
-            "tree, rule:lft, rule:mts, rule:spt, sample:SEED or improve:SEED, or several with commas, run in this order; all is a good list of them",
+            "tree, rule:lft, rule:mts, rule:spt, sample:SEED, improve:SEED or prove:CONFLICTS, or several with commas, run in this order; all is a good list of them",
         )
         .default_value("tree");
     let nodes = Arg::new(alloc, "nodes")
@@ -214,9 +214,11 @@ It prints a line of the nodes that were run and a line of the best schedule: its
 and a word J:MODE:START for each activity. The verdict is 'optimal' or 'infeasible' where that is
 shown, 'open' where the search is not over, and 'ended' where it is over and shows nothing.
 
-improve:SEED improves schedules by local search, and generates at most N of them. all stands for
-rule:lft,rule:mts,rule:spt,tree,improve:1: the tree shows that the best schedule of a small project is
-optimal, and local search finds the shortest schedules of large ones.
+improve:SEED improves schedules by local search, and generates at most N of them. prove:CONFLICTS is
+farm prove with one worker and 500 megabytes: it takes at most that many conflicts of its clauses, and
+at most N. all stands for rule:lft,rule:mts,rule:spt,tree,improve:1,prove:100000: the tree shows that
+the best schedule of a small project is optimal, local search finds the shortest schedules of large
+ones, and clauses prove that some of these are optimal.
 
 Several searches run one after another, each for at most N nodes, and none after one that shows
 'optimal' or 'infeasible'; the shortest of their schedules is printed. With --improvements each
@@ -231,4 +233,5 @@ Examples:
   $ farm solve --search sample:7 --nodes 100000 --progress examples/j30_1.mm
   $ farm solve --search rule:lft,rule:mts,tree examples/j10_1.mm
   $ farm solve --search all --nodes 100000 examples/j30_1.mm
+  $ farm solve --search prove:100000 examples/j20_1.mm
   $ timeout 10 farm solve --improvements --nodes 1000000000 examples/j20_1.mm | tail -n 1";

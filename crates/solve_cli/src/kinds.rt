@@ -18,13 +18,15 @@ pub enum SearchFault<'a> {
     NoMemory,
 }
 
-/// A pass by each rule, the tree, which solves small projects, and local search for large ones.
-const ALL: [SearchKind; 5] = [
+/// A pass by each rule, the tree, which solves small projects, local search for large ones, and
+/// proofs of what it finds.
+const ALL: [SearchKind; 6] = [
     SearchKind::Planned(Kind::RuleLft),
     SearchKind::Planned(Kind::RuleMts),
     SearchKind::Planned(Kind::RuleSpt),
     SearchKind::Planned(Kind::Tree),
     SearchKind::Improve(1),
+    SearchKind::Prove(100_000),
 ];
 
 fn push_kinds(kinds: &mut Vec<SearchKind>, more: &[SearchKind]) -> Result<(), SearchFault<'static>>

@@ -6,7 +6,8 @@
 //! [`solve_to`] are the commands over any readers and writer (`specs/Commands`). Which files a
 //! command opens is in no contract.
 //!
-//! - `verifying`, `searching`, `local`, `several`: `verify`; `solve`; `improve`; `solve_each`.
+//! - `verifying`, `searching`: `verify`; `solve`. `local`, `proof`, `several`: `improve`;
+//!   `prove_within`; `solve_each`.
 //! - `search_kinds`, `kinds`: the kinds of search, and their words.
 //! - `telling`, `improvements`, `progress`: what a search has found, at its end and before.
 //! - `showing`, `solving`: the commands over any readers and writer.
@@ -24,6 +25,7 @@ pub mod laws;
 mod local;
 mod program;
 mod progress;
+mod proof;
 mod search_kinds;
 mod searching;
 mod several;
@@ -36,6 +38,7 @@ pub use fault::VerifyFault;
 pub use kinds::{SearchFault, kinds_of};
 pub use local::improve;
 pub use program::{COMMANDS_HELP, asks_for_help, is_command, run_command};
+pub use proof::prove_within;
 pub use search_kinds::SearchKind;
 pub use searching::{MOST_NODES, Observer, SearchResult, solve};
 pub use several::{MOST_SEARCHES, solve_each};

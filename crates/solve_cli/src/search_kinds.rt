@@ -10,17 +10,23 @@ pub enum SearchKind {
     Planned(Kind),
     /// By local search, with the words of this seed.
     Improve(u64),
+    /// By local search and a search of clauses, within this many conflicts.
+    Prove(u64),
 }
 
 impl SearchKind {
-    /// The search that `word` names: what `Kind::parse` takes, or `improve:` and a seed.
+    /// The search that `word` names: what `Kind::parse` takes, `improve:` and a seed, or `prove:`
+    /// and a number of conflicts.
     pub(crate) fn parse(word: &str) -> Option<SearchKind>
         ensures { result ≡ search_in word.now }
     {
         let word = word.as_bytes();
-        match Kind::parse(word) {
-            Some(kind) => Some(SearchKind::Planned(kind)),
-            None => seed(b"improve:", word).map(SearchKind::Improve),
+        if let Some(kind) = Kind::parse(word) {
+            return Some(SearchKind::Planned(kind));
+        }
+        match seed(b"improve:", word) {
+            Some(number) => Some(SearchKind::Improve(number)),
+            None => seed(b"prove:", word).map(SearchKind::Prove),
         }
     }
 }

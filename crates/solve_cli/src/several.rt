@@ -4,9 +4,10 @@ ghost use Rattle.mrcpsp.specs.Schedule.{makespan};
 ghost use Rattle.solve_cli.specs.Several.{is_decided, is_shorter, stronger, joined, IsFoundBy, IsFoundByEach};
 
 use crate::local::improve;
+use crate::proof::prove_within;
 use crate::search_kinds::SearchKind;
 use crate::searching::{MOST_NODES, Observer, SearchResult, solve};
-use mrcpsp::Project;
+use mrcpsp::{Project, Schedule};
 use std::alloc::{AllocError, Global};
 use strategy::{Plan, Verdict};
 
@@ -63,11 +64,13 @@ fn joined(_project: &Project, one: SearchResult, other: SearchResult) -> SearchR
     }
 }
 
+/// A search that proves begins with the schedule `first`.
 fn solve_by<W: Observer>(
     alloc: Global,
     project: &Project,
     kind: SearchKind,
     most: u64,
+    first: Option<&Schedule>,
     observer: &mut W,
 ) -> Result<SearchResult, AllocError>
     requires { most ≤ MOST_NODES }
@@ -79,6 +82,13 @@ fn solve_by<W: Observer>(
             solve(alloc, Plan { project, kind }, most, observer)
         }
         SearchKind::Improve(seed) => improve(alloc, project, seed, most, observer),
+        SearchKind::Prove(conflicts) => Ok(prove_within(
+            alloc,
+            project,
+            conflicts.min(most),
+            first,
+            observer,
+        )),
     }
 }
 
@@ -102,7 +112,7 @@ pub fn solve_each<W: Observer>(
         verdict: Verdict::Ended,
     };
     for kind in kinds {
-        let next = solve_by(alloc, project, *kind, most, observer)?;
+        let next = solve_by(alloc, project, *kind, most, found.best.as_ref(), observer)?;
         observer.end(next.nodes);
         let is_decided = is_decided(next.verdict);
         found = joined(project, found, next);

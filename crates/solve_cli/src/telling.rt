@@ -1,12 +1,13 @@
 //! What a search has found, as text.
-ghost use Rattle.std.specs.Prelude.{◌≡◌, ◌++◌, ◌+◌, ◌<◌, ◌^◌, IfOk, codes, string_bytes};
+ghost use Rattle.std.specs.Prelude.{◌≡◌, ◌++◌, IfOk, codes, string_bytes};
 ghost use Rattle.std.specs.Option.{option_copied};
 ghost use Rattle.solve_cli.specs.FoundText.{verdict_text, best_text, places_of, shown_text, better_line, found_text};
-ghost use Rattle.solve_cli.specs.FoundText.{comma_before, next_json, places_json, schedule_json, makespan_json, object_json, found_json};
+ghost use Rattle.solve_cli.specs.FoundText.{object_json, found_json};
 
 use crate::searching::SearchResult;
 use mrcpsp::Schedule;
 use schedule_files::put_schedule;
+use schedule_json::{put_number_json, put_schedule_json};
 use std::alloc::{AllocError, Global};
 use strategy::Verdict;
 
@@ -77,64 +78,13 @@ pub fn tell_better(alloc: Global, makespan: u32, best: &Schedule) -> Result<Stri
     Ok(text)
 }
 
-fn comma_before(place: usize) -> &'static str
-    ensures { result.now ≡ comma_before place }
-{
-    if place == 0 { "" } else { "," }
-}
-
-fn put_place_json(text: &mut String, place: usize, mode: u32, start: u32) -> Result<(), AllocError>
-    requires { place + 1 < 2 ^ 64 }
-    ensures { IfOk result (λ _. string_bytes text.new ≡ string_bytes text.old ++ next_json place mode start) }
-{
-    let comma = comma_before(place);
-    let number = place + 1;
-    write!(
-        text,
-        "{comma}{{\"activity\":{number},\"mode\":{mode},\"start\":{start}}}"
-    )?;
-    Ok(())
-}
-
-#[tactic(auto, using(crate::proofs::JsonLemmas::json_rules))]
-fn put_places_json(text: &mut String, schedule: &Schedule) -> Result<(), AllocError>
-    ensures { IfOk result (λ _.
-        string_bytes text.new ≡ string_bytes text.old ++ places_json 0 schedule.now.modes schedule.now.starts) }
-{
-    let modes = schedule.modes.as_slice();
-    let starts = schedule.starts.as_slice();
-    for place in 0..modes.len().min(starts.len()) {
-        put_place_json(text, place, modes[place], starts[place])?;
-    }
-    Ok(())
-}
-
-fn put_array(text: &mut String, schedule: &Schedule) -> Result<(), AllocError>
-    ensures { IfOk result (λ _. string_bytes text.new ≡ string_bytes text.old ++ schedule_json (Some schedule.now)) }
-{
-    text.push('[')?;
-    put_places_json(text, schedule)?;
-    text.push(']')
-}
-
-fn put_json(text: &mut String, best: Option<&Schedule>) -> Result<(), AllocError>
-    ensures { IfOk result (λ _.
-        string_bytes text.new ≡ string_bytes text.old ++ schedule_json (option_copied best.entry)) }
-{
-    match best {
-        Some(schedule) => put_array(text, schedule),
-        None => text.push_str("null"),
-    }
-}
-
-fn put_makespan_json(text: &mut String, makespan: Option<u32>) -> Result<(), AllocError>
-    ensures { IfOk result (λ _. string_bytes text.new ≡ string_bytes text.old ++ makespan_json makespan) }
+fn wide(makespan: Option<u32>) -> Option<u64>
+    ensures { result ≡ makespan }
 {
     match makespan {
-        Some(makespan) => write!(text, "{makespan}")?,
-        None => text.push_str("null")?,
+        Some(makespan) => Some(makespan as u64),
+        None => None,
     }
-    Ok(())
 }
 
 fn put_object(
@@ -149,9 +99,9 @@ fn put_object(
         ≡ string_bytes text.old ++ object_json nodes makespan word.now (option_copied best.entry)) }
 {
     write!(text, "{{\"nodes\":{nodes},\"makespan\":")?;
-    put_makespan_json(text, makespan)?;
+    put_number_json(text, wide(makespan))?;
     write!(text, ",\"verdict\":\"{word}\",\"schedule\":")?;
-    put_json(text, best)?;
+    put_schedule_json(text, best)?;
     text.push_str("}\n")
 }
 
