@@ -1,6 +1,6 @@
 -- The places of a schedule as JSON, and the lines of a text.
-use Rattle.std.proofs.Common.{◌≡◌, ◌⊎◌, ⊎_elim, inl, inr, ℕ, ◌+◌, ◌-◌, ◌<◌, ◌≤◌, List, [], ◌∷◌, ◌++◌, length, take, drop, drop-cons, get_or, refl, sym, ap, ◌∙◌, arith, add-one, subst, Option, Some, None, Result, Ok, Err, IfOk, IfSome, IfNone}
-use Rattle.std.proofs.lemmas.List.{take-append-drop, take_more, take_rest}
+use Rattle.std.proofs.Common.{◌≡◌, ⊎_elim, inl, inr, ℕ, ◌+◌, ◌-◌, ◌<◌, ◌≤◌, List, [], ◌∷◌, ◌++◌, length, take, drop, get_or, refl, sym, ap, ◌∙◌, arith, subst, Option, Some, None, Result, Ok, Err, IfOk, IfSome, IfNone}
+use Rattle.std.proofs.lemmas.List.{take_more}
 use Rattle.schedule_files.specs.Places.{placed_from}
 use Rattle.schedule_files.proofs.OrderLemmas.{split}
 use Rattle.mrcpsp.specs.Schedule.{ScheduleData}

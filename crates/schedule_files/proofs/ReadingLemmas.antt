@@ -1,5 +1,5 @@
 -- Words and rows of a text: that a text which tells a schedule is found to tell one.
-use Rattle.std.proofs.Common.{◌≡◌, ◌⊎◌, ⊎_elim, ℕ, zero, suc, ◌+◌, ◌-◌, ◌<◌, ◌≤◌, List, [], ◌∷◌, ◌++◌, length, length-append, take, drop, get_or, refl, sym, ap, ◌∙◌, arith, subst, Option, Some, None, IfSome, IfNone, Result, Ok, Err, IfOk}
+use Rattle.std.proofs.Common.{◌≡◌, ◌⊎◌, ⊎_elim, ℕ, zero, suc, ◌+◌, ◌-◌, ◌<◌, List, [], ◌∷◌, ◌++◌, length, length-append, take, drop, get_or, refl, sym, ap, ◌∙◌, arith, subst, Option, Some, None, IfSome, IfNone, Result, Ok, Err, IfOk}
 use Rattle.std.proofs.lemmas.List.{get_or-append_right, take-append-drop}
 use Rattle.std.proofs.lemmas.List.Sorted.{length_permutation}
 use Rattle.std.proofs.lemmas.Option.{none-some}
@@ -64,13 +64,13 @@ told_last text s t =
     let n : length t.words ≡ length s.modes = sym (places_length 58 t.words places t.places) ∙ placed_length 1 s.modes s.starts t.even in
     let all : length (words_of text) ≡ length t.front + length t.words = ap length t.ends ∙ length-append t.front t.words in
     let last : get_or (words_of text) (length (words_of text) - 1) [] ≡ get_or t.words (length t.words - 1) [] =
-      let at : length (words_of text) - 1 ≡ length t.front + (length t.words - 1) = omega (arith, all, n, some) in
-      ap (λ i. get_or (words_of text) i []) at ∙ ap (λ l. get_or l (length t.front + (length t.words - 1)) []) t.ends ∙ get_or-append_right t.front t.words (length t.front) (length t.front + (length t.words - 1)) [] refl (omega arith)
-      ∙ ap (λ i. get_or t.words i []) (omega arith) in
+    let at : length (words_of text) - 1 ≡ length t.front + (length t.words - 1) = omega (arith, all, n, some) in
+    ap (λ i. get_or (words_of text) i []) at ∙ ap (λ l. get_or l (length t.front + (length t.words - 1)) []) t.ends ∙ get_or-append_right t.front t.words (length t.front) (length t.front + (length t.words - 1)) [] refl (omega arith)
+    ∙ ap (λ i. get_or t.words i []) (omega arith) in
     let number : last_number (words_of text) ≡ length t.words =
-      let a = place_each 58 t.words places (length t.words - 1) d t.places (omega (arith, n, some)) in
-      let b = placed_number 1 (length t.words - 1) s.modes s.starts d t.even (omega (arith, n, some)) in
-      ap (λ w. option_map_or (λ (p : ScheduleEntry). p.activity) (place_at 58 w) 0) last ∙ ap (λ o. option_map_or (λ (p : ScheduleEntry). p.activity) o 0) a ∙ omega (arith, b, n, some) in
+    let a = place_each 58 t.words places (length t.words - 1) d t.places (omega (arith, n, some)) in
+    let b = placed_number 1 (length t.words - 1) s.modes s.starts d t.even (omega (arith, n, some)) in
+    ap (λ w. option_map_or (λ (p : ScheduleEntry). p.activity) (place_at 58 w) 0) last ∙ ap (λ o. option_map_or (λ (p : ScheduleEntry). p.activity) o 0) a ∙ omega (arith, b, n, some) in
     ap (λ k. drop (length (words_of text) - k) (words_of text)) number
     ∙ ap (λ l. drop (length (words_of text) - length t.words) l) t.ends
     ∙ drop_front t.front t.words (length (words_of text) - length t.words) (omega (arith, all))

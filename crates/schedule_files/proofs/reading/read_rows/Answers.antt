@@ -1,4 +1,4 @@
-use Rattle.std.proofs.Common.{rules, ◌≡◌, ap, ◌∙◌, sym, map}
+use Rattle.std.proofs.Common.{rules, map}
 use Rattle.schedule_files.proofs.ReadingLemmas.{rows_unread, rows_told, rows_none}
 use Rattle.schedule_files.proofs.reading.read_rows.Goals as goal
 

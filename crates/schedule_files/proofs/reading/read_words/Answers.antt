@@ -1,5 +1,4 @@
-use Rattle.std.proofs.Common.{rules, ◌≡◌, ap, ◌∙◌, sym, map}
-use Rattle.schedule_files.specs.ScheduleRows.{last_words}
+use Rattle.std.proofs.Common.{rules, map}
 use Rattle.schedule_files.proofs.ReadingLemmas.{words_unread, words_told, words_none}
 use Rattle.schedule_files.proofs.reading.read_words.Goals as goal
 

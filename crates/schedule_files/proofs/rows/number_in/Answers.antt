@@ -1,4 +1,4 @@
-use Rattle.std.proofs.Common.{◌≡◌, refl, ap, ◌∙◌}
+use Rattle.std.proofs.Common.{refl, ap, ◌∙◌}
 use Rattle.std.proofs.lemmas.Str.Ascii.{trim_ascii_is}
 use Rattle.schedule_files.specs.ScheduleRows.{number_of, without_front}
 use Rattle.schedule_files.proofs.rows.number_in.Goals as goal
