@@ -14,7 +14,7 @@ fn said_by(kind: Kind) -> &'static str {
         Kind::Runs => "when each activity runs",
         Kind::Renewable => "what runs fits the renewable capacities in each period",
         Kind::Nonrenewable => "the modes fit the stocks of the nonrenewable resources",
-        Kind::Surrogate => "all needs, weighted, fit the capacities over the bound's periods",
+        Kind::Barred => "starts that prices show to be in no schedule within the bound",
     }
 }
 

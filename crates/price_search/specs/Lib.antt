@@ -1,2 +1,3 @@
 pub mod LowerBound
 pub mod Fitting
+pub mod Barring

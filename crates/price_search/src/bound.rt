@@ -4,6 +4,7 @@ ghost use Rattle.mrcpsp.specs.Schedule.{IsInfeasible};
 ghost use Rattle.mrcpsp.specs.Values.{bound};
 ghost use Rattle.mrcpsp.specs.Values.{bound as chain_of};
 ghost use Rattle.schedule_prices.specs.Choices.{EachExceeds};
+ghost use Rattle.price_search.specs.Barring.{IsBarring};
 ghost use Rattle.price_search.specs.LowerBound.{TakesAtLeast};
 
 use crate::cases::{MOST_PIECE_STEPS, refute_by_cases};
@@ -81,20 +82,49 @@ fn climb(alloc: Global, project: &Project, steps: u32, known: u32) -> Result<u32
     Ok(periods)
 }
 
-/// Whether pieces refute the bound. `left` is the steps left for pieces.
-fn ask_by_cases(
+/// A `Barring` is what prices and pieces show of a bound.
+#[derive(Drop)]
+pub enum Barring<'a> {
+    /// Each feasible schedule is longer than the bound.
+    Refuted,
+    /// The choices that are known to be in no feasible schedule within the bound.
+    Open(Barred<'a>),
+    /// There are more starts than [`schedule_prices::MOST_STARTS`].
+    TooLarge,
+}
+
+/// Is `bar_choices` with `left` steps for pieces. Subtracts those that it takes.
+fn bar_by_cases<'a>(
     alloc: Global,
-    project: &Project,
+    project: &'a Project,
     bound: u32,
     steps: u32,
     left: &mut u32,
-) -> Result<bool, AllocError>
-    ensures { IfOk result (λ refuted. IsTrue refuted → EachExceeds project.now bound) }
+) -> Result<Barring<'a>, AllocError>
+    ensures { IfOk result (IsBarring project.now bound) }
 {
-    match table(alloc, project, bound)? {
-        Some(mut barred) => refute_by_cases(alloc, project, &mut barred, steps, left),
-        None => Ok(false),
+    let Some(mut barred) = table(alloc, project, bound)? else {
+        return Ok(Barring::TooLarge);
+    };
+    if refute_by_cases(alloc, project, &mut barred, steps, left)? {
+        return Ok(Barring::Refuted);
     }
+    Ok(Barring::Open(barred))
+}
+
+/// Looks for prices that refute the bound, or bar choices within it, in at most `steps` steps, and
+/// for pieces in [`MOST_PIECE_STEPS`] more. Above [`crate::MOST_ITEMS`] choices and rows, only the
+/// bound, capacities and precedences bar choices.
+pub fn bar_choices<'a>(
+    alloc: Global,
+    project: &'a Project,
+    bound: u32,
+    steps: u32,
+) -> Result<Barring<'a>, AllocError>
+    ensures { IfOk result (IsBarring project.now bound) }
+{
+    let mut left = MOST_PIECE_STEPS;
+    bar_by_cases(alloc, project, bound, steps, &mut left)
 }
 
 /// Goes up from a known lower bound while pieces refute.
@@ -115,10 +145,10 @@ fn climb_by_cases(
         if left == 0 || periods > project.horizon() {
             break;
         }
-        if !ask_by_cases(alloc, project, periods, steps, &mut left)? {
-            break;
+        match bar_by_cases(alloc, project, periods, steps, &mut left)? {
+            Barring::Refuted => periods = next,
+            _ => break,
         }
-        periods = next;
     }
     Ok(periods)
 }
@@ -156,11 +186,10 @@ pub fn exceeds(alloc: Global, project: &Project, bound: u32, steps: u32) -> Resu
     if measures.bound() > bound {
         return Ok(true);
     }
-    if ask(alloc, project, bound, steps)?.refuted {
-        return Ok(true);
+    match bar_choices(alloc, project, bound, steps)? {
+        Barring::Refuted => Ok(true),
+        _ => Ok(false),
     }
-    let mut left = MOST_PIECE_STEPS;
-    ask_by_cases(alloc, project, bound, steps, &mut left)
 }
 
 /// Whether no schedule is feasible, as far as prices show it: then they refute the horizon, within

@@ -229,8 +229,8 @@ fn try_cases(
     try_rounds(alloc, barred, cases, steps)
 }
 
-/// Whether each feasible schedule is longer than the bound of the table, as far as prices and
-/// pieces show. The table gets the choices that they bar. `left` is the steps left for pieces.
+/// Whether prices and pieces refute the bound of the table. The table gets the choices that they
+/// bar. `left` is the steps left for pieces.
 pub(crate) fn refute_by_cases(
     alloc: Global,
     project: &Project,
@@ -238,7 +238,9 @@ pub(crate) fn refute_by_cases(
     steps: u32,
     left: &mut u32,
 ) -> Result<bool, AllocError>
-    ensures { IfOk result (λ refuted. IsTrue refuted → EachExceeds barred.old.project barred.old.bound) }
+    ensures right { IfOk result (λ refuted. IsTrue refuted → EachExceeds barred.old.project barred.old.bound) }
+    ensures project { barred.new.project ≡ barred.old.project }
+    ensures bound { barred.new.bound ≡ barred.old.bound }
 {
     let Question::Open(model) = Model::new(alloc, project, barred.bound(), barred)? else {
         return barred.refute(alloc, &[]);

@@ -7,7 +7,7 @@
 //! Anbil 2000). All numbers are whole, so equal questions have equal answers.
 //!
 //! Nothing is proved of the prices that come out. `schedule_prices` checks them, and
-//! [`lower_bound`], [`exceeds`] and [`is_infeasible`] rest on its check alone.
+//! [`lower_bound`], [`exceeds`], [`is_infeasible`] and [`bar_choices`] rest on its check alone.
 //!
 //! - `narrow`, `windows`: the choices that capacities and precedences leave.
 //! - `model`: choices and rows within a bound.
@@ -15,7 +15,8 @@
 //! - `pace`, `slope`, `steps`: the length of a step, its direction, and the steps.
 //! - `rounding`, `search`: prices of 24 bits, and `find_prices`.
 //! - `pieces`, `cases`: choices that prices of their own bar, and bounds refuted by them.
-//! - `climb`, `bound`: which bound is asked next; `lower_bound`, `exceeds` and `is_infeasible`.
+//! - `climb`, `bound`: which bound is asked next; `lower_bound`, `exceeds`, `is_infeasible` and
+//!   `bar_choices`.
 //! - `laws`: modes that fit decide whether there is a schedule.
 #![tactic(auto)]
 
@@ -35,7 +36,7 @@ mod sums;
 mod usage;
 mod windows;
 
-pub use bound::{MOST_QUESTIONS, exceeds, is_infeasible, lower_bound};
+pub use bound::{Barring, MOST_QUESTIONS, bar_choices, exceeds, is_infeasible, lower_bound};
 pub use cases::MOST_PIECE_STEPS;
 pub use model::MOST_ITEMS;
 pub use search::{Found, find_prices};

@@ -10,7 +10,8 @@ use Rattle.mrcpsp.specs.Project.{ProjectData, size}
 use Rattle.std.proofs.lemmas.List.FromFn.{length-map-range_with_len}
 use Rattle.measures.specs.Measures.{ValuesData, values_of, measures_of}
 use Rattle.mrcpsp.specs.Schedule.{ScheduleData, IsFeasible, IsOptimal, IsInfeasible, makespan}
-use Rattle.schedule_clauses.specs.Satisfied.{SatisfiedByShort, SatisfiedByFeasible, EachExceeds}
+use Rattle.schedule_prices.specs.Choices.{EachExceeds}
+use Rattle.schedule_clauses.specs.Satisfied.{SatisfiedByShort, SatisfiedByFeasible}
 use Rattle.clause_kernel.specs.Clauses.{literal_true, clause_true, Satisfies, IsUnsatisfiable}
 use Rattle.schedule_clauses.specs.Meaning.{IsWithin, IsValid, holds, term_true, some_true}
 use Rattle.schedule_clauses.specs.Encoding.{intended, IsTold, IsGood, AreGood, Extends}

@@ -12,15 +12,13 @@ use Rattle.mrcpsp.proofs.LimitLemmas.{kept}
 use Rattle.mrcpsp.proofs.ProjectLemmas.{load-running, shortest-le, tail-le}
 use Rattle.schedule_clauses.specs.Activities.{is_among, IsPart, Leaves}
 use Rattle.schedule_clauses.specs.Meaning.{IsWithin, IsValid, term_true, use_among, consumed_among, runs}
-use Rattle.schedule_clauses.specs.Surrogate.{weight, weight_below, capacity_weight, IsLightest}
 use Rattle.schedule_clauses.proofs.ActivityLemmas.{part-le, all-le, one-le, part-and-one}
-use Rattle.schedule_clauses.proofs.SurrogateLemmas.{weight-fits}
 use Rattle.schedule_clauses.specs.declared.meaning.Fact.{Fact}
-use Rattle.schedule_clauses.specs.declared.meaning.Fact.TheVariants.{StartsBy, InMode, Runs, UseWithin, ConsumptionWithin, WeightWithin}
+use Rattle.schedule_clauses.specs.declared.meaning.Fact.TheVariants.{StartsBy, InMode, Runs, UseWithin, ConsumptionWithin}
 use Rattle.schedule_clauses.specs.declared.meaning.Term.{Term}
 
 -- clauses of up to four tests
-skip_not : (a b : Bool) → (a ≡ true → b ≡ true) → (not a || b) ≡ true
+pub skip_not : (a b : Bool) → (a ≡ true → b ≡ true) → (not a || b) ≡ true
 skip_not true b h = h refl
 skip_not false b h = refl
 
@@ -28,11 +26,11 @@ skip : (a b : Bool) → (a ≡ false → b ≡ true) → (a || b) ≡ true
 skip true b h = refl
 skip false b h = h refl
 
-last_not : (a : Bool) → (a ≡ true → ⊥) → (not a || false) ≡ true
+pub last_not : (a : Bool) → (a ≡ true → ⊥) → (not a || false) ≡ true
 last_not true h = absurd (h refl)
 last_not false h = refl
 
-last : (a : Bool) → a ≡ true → (a || false) ≡ true
+pub last : (a : Bool) → a ≡ true → (a || false) ≡ true
 last true h = refl
 last false h = h
 
@@ -276,58 +274,6 @@ valid-stock-over p limit r j m c a inside among h = record {
       let i = leb-true (consumed_among p s r a) c f in omega arith));
 }
 
--- a schedule within the bound weighs no more than the capacities
-pub valid-weigh-all-p : (p : ProjectData) (bound : ℕ) (w : List ℕ) (c : ℕ) → capacity_weight p w bound ≤ c → IsValid p (Some bound) (yes_of (WeightWithin w (size p) c) ∷ [])
-valid-weigh-all-p p bound w c l = record {
-  sure = λ s short.
-      last (nat_le (weight_below p s w (size p)) c) (le-leb (weight_below p s w (size p)) c (
-      let g = weight-fits p s w bound short.feasible (short.short bound refl) in omega arith));
-}
-
-pub valid-weigh-any : (p : ProjectData) (limit : Option ℕ) (w : List ℕ) (j c e least : ℕ) → j < size p → IsLightest p w j (mode_count p j) least → c ≤ e + least → IsValid p limit (not_of (WeightWithin w (j + 1) c) ∷ yes_of (WeightWithin w j e) ∷ [])
-unfolding weight_below
-valid-weigh-any p limit w j c e least inside light l = record {
-  sure = λ s short.
-      skip_not (nat_le (weight_below p s w (j + 1)) c) (nat_le (weight_below p s w j) e || false) (λ f.
-      last (nat_le (weight_below p s w j) e) (le-leb (weight_below p s w j) e (
-      let q = next (λ i. weight p w i (mode_of s i)) j in
-      let h = light (mode_of s j) ((short.feasible.modes_exist j inside).1) in
-      let i = leb-true (weight_below p s w (j + 1)) c f in omega arith)));
-}
-
-pub valid-weigh-none : (p : ProjectData) (limit : Option ℕ) (w : List ℕ) (j c least : ℕ) → j < size p → IsLightest p w j (mode_count p j) least → c < least → IsValid p limit (not_of (WeightWithin w (j + 1) c) ∷ [])
-unfolding weight_below
-valid-weigh-none p limit w j c least inside light l = record {
-  sure = λ s short.
-      last_not (nat_le (weight_below p s w (j + 1)) c) (λ f.
-      let q = next (λ i. weight p w i (mode_of s i)) j in
-      let h = light (mode_of s j) ((short.feasible.modes_exist j inside).1) in
-      let i = leb-true (weight_below p s w (j + 1)) c f in omega arith);
-}
-
-pub valid-weigh-mode : (p : ProjectData) (limit : Option ℕ) (w : List ℕ) (j m c e : ℕ) → c ≤ e + weight p w j m → IsValid p limit (not_of (WeightWithin w (j + 1) c) ∷ not_of (InMode j m) ∷ yes_of (WeightWithin w j e) ∷ [])
-unfolding weight_below
-valid-weigh-mode p limit w j m c e l = record {
-  sure = λ s short.
-      skip_not (nat_le (weight_below p s w (j + 1)) c) (not (mode_of s j == m) || (nat_le (weight_below p s w j) e || false)) (λ f.
-      skip_not (mode_of s j == m) (nat_le (weight_below p s w j) e || false) (λ n.
-      last (nat_le (weight_below p s w j) e) (le-leb (weight_below p s w j) e (
-      let q = next (λ i. weight p w i (mode_of s i)) j in
-      let h : weight p w j (mode_of s j) ≡ weight p w j m = ap (λ x. weight p w j x) (eqb-true (mode_of s j) m n) in
-      let i = leb-true (weight_below p s w (j + 1)) c f in omega arith))));
-}
-
-pub valid-weigh-over : (p : ProjectData) (limit : Option ℕ) (w : List ℕ) (j m c : ℕ) → c < weight p w j m → IsValid p limit (not_of (WeightWithin w (j + 1) c) ∷ not_of (InMode j m) ∷ [])
-unfolding weight_below
-valid-weigh-over p limit w j m c l = record {
-  sure = λ s short.
-      skip_not (nat_le (weight_below p s w (j + 1)) c) (not (mode_of s j == m) || false) (λ f.
-      last_not (mode_of s j == m) (λ n.
-      let q = next (λ i. weight p w i (mode_of s i)) j in
-      let h : weight p w j (mode_of s j) ≡ weight p w j m = ap (λ x. weight p w j x) (eqb-true (mode_of s j) m n) in
-      let i = leb-true (weight_below p s w (j + 1)) c f in omega arith));
-}
-
 -- one of the modes
 pub valid-modes : (p : ProjectData) (limit : Option ℕ) (j : ℕ) (terms : List Term) → j < size p → length terms ≡ mode_count p j → ((k : ℕ) (d : Term) → k < length terms → get_or terms k d ≡ yes_of (InMode j k)) → IsValid p limit terms
 valid-modes p limit j terms inside long each = record {
@@ -346,6 +292,6 @@ valid-end-none-p p bound j m project inside l = valid-end-none p (Some bound) bo
 pub valid-latest-p : (p : ProjectData) (bound j u : ℕ) → is_project p ≡ true → j < size p → bound ≤ u + shortest p j + tail p j → IsValid p (Some bound) (yes_of (StartsBy j u) ∷ [])
 valid-latest-p p bound j u project inside l = valid-latest p (Some bound) bound j u refl (kept p project) inside l
 
-pub ruleset form_rules = (valid-exclude, valid-executable, valid-later, valid-precedence, valid-precedence-none, valid-shortest, valid-shortest-none, valid-runs, valid-runs-early, valid-use-all, valid-use-fewer, valid-use-run, valid-use-over, valid-stock-all, valid-stock-fewer, valid-stock-mode, valid-stock-over, valid-weigh-any, valid-weigh-none, valid-weigh-mode, valid-weigh-over)
+pub ruleset form_rules = (valid-exclude, valid-executable, valid-later, valid-precedence, valid-precedence-none, valid-shortest, valid-shortest-none, valid-runs, valid-runs-early, valid-use-all, valid-use-fewer, valid-use-run, valid-use-over, valid-stock-all, valid-stock-fewer, valid-stock-mode, valid-stock-over)
 
-pub ruleset end_rules = (valid-end-p, valid-end-none-p, valid-latest-p, valid-weigh-all-p)
+pub ruleset end_rules = (valid-end-p, valid-end-none-p, valid-latest-p)

@@ -6,9 +6,8 @@ use Rattle.std.specs.List.{list_any}
 use Rattle.mrcpsp.specs.Project.{ProjectData, size, duration, consumption}
 use Rattle.mrcpsp.specs.Schedule.{ScheduleData, IsFeasible, makespan, mode_of, start_of, load}
 use Rattle.schedule_clauses.specs.Activities.{sum_among}
-use Rattle.schedule_clauses.specs.Surrogate.{weight_below}
 use Rattle.schedule_clauses.specs.declared.meaning.Fact.{Fact}
-use Rattle.schedule_clauses.specs.declared.meaning.Fact.TheVariants.{StartsBy, InMode, Runs, UseWithin, ConsumptionWithin, WeightWithin}
+use Rattle.schedule_clauses.specs.declared.meaning.Fact.TheVariants.{StartsBy, InMode, Runs, UseWithin, ConsumptionWithin}
 use Rattle.schedule_clauses.specs.declared.meaning.Term.{Term}
 
 -- a schedule is feasible, and if there is a limit, its makespan is at most that
@@ -35,7 +34,6 @@ holds p s (InMode j m) = mode_of s j == m
 holds p s (Runs j m t) = runs p s j m t
 holds p s (UseWithin r t activities most) = nat_le (use_among p s r t activities) most
 holds p s (ConsumptionWithin r activities most) = nat_le (consumed_among p s r activities) most
-holds p s (WeightWithin weights count most) = nat_le (weight_below p s weights count) most
 
 -- whether a variable or its negation is true
 abbrev pub term_true : ProjectData → ScheduleData → Term → Bool

@@ -1,5 +1,5 @@
 -- Clauses that schedules satisfy, and what follows if no values make all of them true.
-use Rattle.std.specs.Prelude.{ℕ, ◌<◌, ◌≤◌, Bool, List}
+use Rattle.std.specs.Prelude.{ℕ, ◌≤◌, Bool, List}
 use Rattle.mrcpsp.specs.Project.{ProjectData}
 use Rattle.mrcpsp.specs.Schedule.{ScheduleData, IsFeasible, makespan}
 use Rattle.clause_kernel.specs.Clauses.{Satisfies}
@@ -15,7 +15,3 @@ pub record SatisfiedByShort (p : ProjectData) (bound : ℕ) (clauses : List (Lis
 -- a feasible schedule makes the clauses satisfiable
 pub record SatisfiedByFeasible (p : ProjectData) (clauses : List (List ℕ)) : Type 0 where
   pub values : (s : ScheduleData) → IsFeasible p s → IsSatisfiable clauses
-
--- each feasible schedule takes more periods than the bound
-abbrev pub EachExceeds : ProjectData → ℕ → Type 0
-EachExceeds p bound = (s : ScheduleData) → IsFeasible p s → bound < makespan p s

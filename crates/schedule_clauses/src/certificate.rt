@@ -1,19 +1,25 @@
 //! Certificates: a schedule is optimal if the clauses of a shorter makespan cannot all be true.
-ghost use Rattle.std.specs.Prelude.{◌≡◌, ◌≤◌, IfOk, IfErr, Some, None};
+ghost use Rattle.std.specs.Prelude.{◌≡◌, ◌≤◌, IfOk, IfErr, MatchOption, Some, None};
 ghost use Rattle.mrcpsp.specs.Project.{horizon};
 ghost use Rattle.mrcpsp.specs.Schedule.{IsOptimal, IsInfeasible, makespan};
 ghost use Rattle.schedule_clauses.specs.Encoding.{AreGood};
 ghost use Rattle.schedule_clauses.specs.Fault.{IsOfClauses, IsOfBound, IsOfStocks, IsOfSchedule};
 ghost use Rattle.schedule_clauses.specs.Size.{start_clauses};
-ghost use Rattle.schedule_clauses.specs.Satisfied.{SatisfiedByShort, SatisfiedByFeasible, EachExceeds};
+ghost use Rattle.price_search.specs.Barring.{IsBarring};
+ghost use Rattle.schedule_prices.specs.Choices.{EachExceeds};
+ghost use Rattle.schedule_clauses.specs.Satisfied.{SatisfiedByShort, SatisfiedByFeasible};
 
 use crate::formula::Formula;
 use crate::sections::{encode, encode_stocks};
 use crate::size::{MOST_START_CLAUSES, start_clauses_of};
 use clause_proof::{ProofFault, refute};
 use mrcpsp::{Breach, Project, Schedule, check};
+use price_search::{Barring, bar_choices};
 use std::alloc::{AllocError, Global};
 use thiserror::Error;
+
+/// The steps in which prices of a bound are looked for. `Formula` depends on it.
+const PRICE_STEPS: u32 = 1_000;
 
 /// A `CertificateFault` is why nothing is certified. Its text is as in `no proof Word(17)`.
 #[derive(Clone, Copy, Debug, PartialEq, Eq, Error)]
@@ -43,14 +49,13 @@ impl From<AllocError> for CertificateFault {
     }
 }
 
-/// Clauses that each feasible schedule of at most `bound` periods satisfies. Fails for a bound
-/// above the horizon, and for one with more than [`MOST_START_CLAUSES`] clauses on starts. More
-/// than 999,999,999 variables count as want of memory.
-#[tactic(auto, using(crate::proofs::EncodingLemmas::short_rules))]
-pub fn clauses(alloc: Global, project: &Project, bound: u32) -> Result<Formula, CertificateFault>
-    ensures clauses { IfOk result (λ formula. SatisfiedByShort project.now bound formula.clauses) }
-    ensures meanings { IfOk result (λ formula.
-        AreGood project.now (Some bound) formula.meanings.items formula.clauses) }
+/// What prices show of a bound that has clauses.
+fn barring_of<'a>(
+    alloc: Global,
+    project: &'a Project,
+    bound: u32,
+) -> Result<Barring<'a>, CertificateFault>
+    ensures shown { IfOk result (IsBarring project.now bound) }
     ensures within { IfOk result (λ _. bound ≤ horizon project.now.activities) }
     ensures few { IfOk result (λ _. start_clauses project.now bound ≤ MOST_START_CLAUSES) }
     ensures fault { IfErr result (λ fault. IsOfClauses project.now bound fault) }
@@ -63,7 +68,43 @@ pub fn clauses(alloc: Global, project: &Project, bound: u32) -> Result<Formula, 
     if count > MOST_START_CLAUSES {
         return Err(CertificateFault::TooMany(count));
     }
-    Ok(encode(alloc, project, bound)?)
+    Ok(bar_choices(alloc, project, bound, PRICE_STEPS)?)
+}
+
+/// Clauses that each feasible schedule of at most `bound` periods satisfies. Fails for a bound
+/// above the horizon, and for one with more than [`MOST_START_CLAUSES`] clauses on starts. More
+/// than 999,999,999 variables count as want of memory.
+#[tactic(auto, using(crate::proofs::EncodingLemmas::short_rules))]
+pub fn clauses(alloc: Global, project: &Project, bound: u32) -> Result<Formula, CertificateFault>
+    ensures clauses { IfOk result (λ formula. SatisfiedByShort project.now bound formula.clauses) }
+    ensures meanings { IfOk result (λ formula.
+        AreGood project.now (Some bound) formula.meanings.items formula.clauses) }
+    ensures within { IfOk result (λ _. bound ≤ horizon project.now.activities) }
+    ensures few { IfOk result (λ _. start_clauses project.now bound ≤ MOST_START_CLAUSES) }
+    ensures fault { IfErr result (λ fault. IsOfClauses project.now bound fault) }
+{
+    let barring = barring_of(alloc, project, bound)?;
+    Ok(encode(alloc, project, bound, &barring)?)
+}
+
+/// Is [`clauses`] if prices leave the bound open, and `None` if they refute it.
+#[tactic(auto, using(crate::proofs::EncodingLemmas::short_rules))]
+pub fn open_clauses(
+    alloc: Global,
+    project: &Project,
+    bound: u32,
+) -> Result<Option<Formula>, CertificateFault>
+    ensures clauses { IfOk result (λ made. MatchOption made (EachExceeds project.now bound)
+        (λ formula. SatisfiedByShort project.now bound formula.clauses)) }
+    ensures within { IfOk result (λ _. bound ≤ horizon project.now.activities) }
+    ensures few { IfOk result (λ _. start_clauses project.now bound ≤ MOST_START_CLAUSES) }
+    ensures fault { IfErr result (λ fault. IsOfClauses project.now bound fault) }
+{
+    let barring = barring_of(alloc, project, bound)?;
+    if let Barring::Refuted = barring {
+        return Ok(None);
+    }
+    Ok(Some(encode(alloc, project, bound, &barring)?))
 }
 
 /// Clauses on modes and stocks alone, which each feasible schedule satisfies.

@@ -20,8 +20,8 @@ pub enum Kind {
     Renewable,
     /// The modes fit the stocks of the nonrenewable resources.
     Nonrenewable,
-    /// All needs of all activities, weighted, fit the capacities over the bound's periods.
-    Surrogate,
+    /// No schedule within the bound takes the choices that prices bar.
+    Barred,
 }
 
 /// A `Section` is a number of clauses of one kind, behind those of the sections before.

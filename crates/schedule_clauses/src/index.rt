@@ -90,11 +90,6 @@ fn hash(meaning: Fact) -> u64 {
             activities,
             most,
         } => mix(sum_of(activities), resource as u64, most as u64),
-        Fact::WeightWithin {
-            weights: _,
-            count,
-            most,
-        } => mix(3, count as u64, most as u64),
     }
 }
 

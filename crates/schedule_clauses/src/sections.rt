@@ -1,22 +1,30 @@
 //! All clauses of a project within a bound, or those of modes and stocks, which hold without one.
 ghost use Rattle.std.specs.Prelude.{IfOk, Some, None};
+ghost use Rattle.price_search.specs.Barring.{IsBarring};
 ghost use Rattle.schedule_clauses.specs.Encoding.{AreGood};
 
+mod barred;
 mod capacities;
 mod starts;
-mod surrogate;
 
 use crate::formula::Formula;
 use crate::scope::{Clauses, Scope};
+use crate::sections::barred::barred_section;
 use crate::sections::capacities::{mode_section, nonrenewable_section, renewable_section};
 use crate::sections::starts::{end_section, precedence_section, run_section, start_section};
-use crate::sections::surrogate::surrogate_section;
 use crate::windows::Windows;
 use measures::Measures;
 use mrcpsp::Project;
+use price_search::Barring;
 use std::alloc::{AllocError, Global};
 
-pub(crate) fn encode(alloc: Global, project: &Project, bound: u32) -> Result<Formula, AllocError>
+pub(crate) fn encode(
+    alloc: Global,
+    project: &Project,
+    bound: u32,
+    barring: &Barring<'_>,
+) -> Result<Formula, AllocError>
+    requires { IsBarring project.now bound barring.now }
     ensures { IfOk result (λ formula.
         AreGood project.now (Some bound) formula.meanings.items formula.clauses) }
 {
@@ -31,7 +39,7 @@ pub(crate) fn encode(alloc: Global, project: &Project, bound: u32) -> Result<For
     run_section(&mut clauses, &windows)?;
     renewable_section(&mut clauses, &windows)?;
     nonrenewable_section(&mut clauses)?;
-    surrogate_section(&mut clauses, bound)?;
+    barred_section(&mut clauses, barring, bound, &measures, &windows)?;
     Ok(clauses.into_formula())
 }
 
