@@ -1,3 +1,4 @@
+pub mod ExecutableLemmas
 pub mod SearchLemmas
 pub mod SeveralLemmas
 pub mod CommandLemmas

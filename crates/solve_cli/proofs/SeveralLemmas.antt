@@ -15,7 +15,8 @@ use Rattle.strategy.specs.declared.verdict.Verdict.{Verdict}
 use Rattle.strategy.specs.declared.verdict.Verdict.TheVariants.{Going, Optimal, Infeasible, Ended}
 use Rattle.strategy.proofs.OutcomeLemmas.{each_best, optimal_is_true, infeasible_is_true}
 use Rattle.solve_cli.specs.Found.{IsFound}
-use Rattle.solve_cli.specs.Improved.{IsImproved}
+use Rattle.solve_cli.specs.Improved.{IsImproved, can_all_run}
+use Rattle.solve_cli.proofs.ExecutableLemmas.{stuck_is_infeasible}
 use Rattle.solve_cli.specs.Several.{is_decided, stronger, joined, nothing, is_shorter, IsFoundBy, AreFound, IsFoundByEach, IsTrueOf}
 use Rattle.solve_cli.specs.Laws.{SeveralAreTrue, OneIsItself}
 use Rattle.solve_cli.specs.declared.search_kinds.SearchKind.{SearchKind}
@@ -101,10 +102,12 @@ improved_true : (p : ProjectData) → IsTrue (is_project p) → (most : ℕ) (fo
 improved_true p ok most found is = record {
   feasible = is.feasible;
   makespan = is.makespan;
-  optimal = λ e. cond_both (is_at_bound p found.best) Optimal Going (λ (v : Verdict). v ≡ Optimal → IsSomeAnd found.best (IsOptimal p))
-      (λ at _. chain_decides p ok found.best is.feasible at) (λ _ other. cc) (sym is.verdict ∙ e);
-  infeasible = λ e. cond_both (is_at_bound p found.best) Optimal Going (λ (v : Verdict). v ≡ Infeasible → IsInfeasible p)
-      (λ _ other. cc) (λ _ other. cc) (sym is.verdict ∙ e);
+  optimal = λ e. cond_both (can_all_run p) (cond (is_at_bound p found.best) Optimal Going) Infeasible (λ (v : Verdict). v ≡ Optimal → IsSomeAnd found.best (IsOptimal p))
+      (λ _. cond_both (is_at_bound p found.best) Optimal Going (λ (v : Verdict). v ≡ Optimal → IsSomeAnd found.best (IsOptimal p))
+      (λ at _. chain_decides p ok found.best is.feasible at) (λ _ other. cc)) (λ _ other. cc) (sym is.verdict ∙ e);
+  infeasible = λ e. cond_both (can_all_run p) (cond (is_at_bound p found.best) Optimal Going) Infeasible (λ (v : Verdict). v ≡ Infeasible → IsInfeasible p)
+      (λ _. cond_both (is_at_bound p found.best) Optimal Going (λ (v : Verdict). v ≡ Infeasible → IsInfeasible p) (λ _ other. cc) (λ _ other. cc))
+      (λ stuck _. stuck_is_infeasible p stuck) (sym is.verdict ∙ e);
 }
 
 by_true : (p : ProjectData) → IsTrue (is_project p) → (kind : SearchKind) (most : ℕ) (found : SearchResult) → IsFoundBy p kind most found → IsTrueOf p found

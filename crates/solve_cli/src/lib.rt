@@ -6,6 +6,7 @@
 //! [`solve_to`] are the commands over any readers and writer (`specs/Commands`). Which files a
 //! command opens is in no contract.
 //!
+//! - `executable`: whether each activity has a mode in which it could run.
 //! - `verifying`, `searching`: `verify`; `solve`. `local`, `proof`, `several`: `improve`;
 //!   `prove_within`; `solve_each`.
 //! - `search_kinds`, `kinds`: the kinds of search, and their words.
@@ -17,6 +18,7 @@
 #![tactic(auto)]
 
 mod arguments;
+mod executable;
 mod explaining;
 mod fault;
 mod improvements;

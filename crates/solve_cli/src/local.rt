@@ -1,9 +1,10 @@
 //! Running a local search of a project.
-ghost use Rattle.std.specs.Prelude.{◌≡◌, ◌<◌, ◌≤◌, ◌*◌, IfOk, Bool, Option, ℕ};
+ghost use Rattle.std.specs.Prelude.{◌≡◌, true, None, ◌<◌, ◌≤◌, ◌*◌, IfOk, Bool, Option, ℕ};
 ghost use Rattle.mrcpsp.specs.Values.{bound};
 ghost use Rattle.strategy.specs.Outcome.{is_at_bound};
-ghost use Rattle.solve_cli.specs.Improved.{IsImproved};
+ghost use Rattle.solve_cli.specs.Improved.{IsImproved, can_all_run};
 
+use crate::executable::can_all_run;
 use crate::searching::{CHUNK, Observer, SearchResult};
 use improve_search::Improving;
 use measures::Measures;
@@ -23,8 +24,20 @@ fn run_all<W: Observer>(search: &mut Improving, project: &Project, observer: &mu
     observer.look(project, search.spent(), search.best());
 }
 
+fn found_nothing(verdict: Verdict) -> SearchResult
+    ensures { result ≡ record { nodes = 0; best = None; makespan = None; verdict = verdict } }
+{
+    SearchResult {
+        nodes: 0,
+        best: None,
+        makespan: None,
+        verdict,
+    }
+}
+
 fn found_by(search: Improving, bound: u32) -> SearchResult
-    requires { bound ≡ Rattle.mrcpsp.specs.Values.bound search.project }
+    requires bound { bound ≡ Rattle.mrcpsp.specs.Values.bound search.project }
+    requires runs { can_all_run search.project ≡ true }
     ensures { IsImproved search.project search.most result }
 {
     let nodes = search.spent();
@@ -45,7 +58,8 @@ fn found_by(search: Improving, bound: u32) -> SearchResult
     }
 }
 
-/// Runs the local search of `seed` for at most `most` schedules. An error is want of memory.
+/// Runs the local search of `seed` for at most `most` schedules. Without an executable mode of each
+/// activity the project is infeasible, and nothing is searched. An error is want of memory.
 pub fn improve<W: Observer>(
     alloc: Global,
     project: &Project,
@@ -55,17 +69,15 @@ pub fn improve<W: Observer>(
 ) -> Result<SearchResult, AllocError>
     ensures { IfOk result (λ found. IsImproved project.now most found) }
 {
+    if !can_all_run(alloc, project)? {
+        return Ok(found_nothing(Verdict::Infeasible));
+    }
     let bound = Measures::of(alloc, project)?.bound();
     match Improving::new(alloc, project, seed, most)? {
         Some(mut search) => {
             run_all(&mut search, project, observer);
             Ok(found_by(search, bound))
         }
-        None => Ok(SearchResult {
-            nodes: 0,
-            best: None,
-            makespan: None,
-            verdict: Verdict::Going,
-        }),
+        None => Ok(found_nothing(Verdict::Going)),
     }
 }
