@@ -24,12 +24,14 @@ asks_for_solver() {
     return 1
 }
 
-# Whether a word is `-` or names it as a schedule, the standard input.
+# Whether a word is `-` or names an input that need not end, as a file or a schedule: the standard input, a pipe, a terminal. A signal ends that read.
 reads_input() {
     for word in "$@"; do
+        word=${word#--from=}
         case $word in
-        - | --from=-) return ;;
+        - | /dev/stdin | /dev/fd/* | /proc/*/fd/*) return ;;
         esac
+        [ ! -p "$word" ] && [ ! -c "$word" ] || return 0
     done
     return 1
 }

@@ -28,10 +28,10 @@ class Ended(Exception):
 
 
 class Ran:
-    """How a process ended: its status, or None if its time was over; what it printed; its processor and wall seconds."""
+    """How a process ended: its status, or None if its time was over; what it printed; its processor and wall seconds; whether its output filled the disk."""
 
-    def __init__(self, status, out, err, seconds, wall):
-        self.status, self.out, self.err, self.seconds, self.wall = status, out, err, seconds, wall
+    def __init__(self, status, out, err, seconds, wall, was_full):
+        self.status, self.out, self.err, self.seconds, self.wall, self.was_full = status, out, err, seconds, wall, was_full
 
 
 def die_with_parent():
@@ -98,11 +98,12 @@ class Processes:
             process.returncode = os.waitstatus_to_exitcode(status)
             if self.is_over:
                 raise Ended
+            was_full = os.fstatvfs(out.fileno()).f_bavail == 0
             out.seek(0)
             err.seek(0)
             said = [file.read().decode("utf-8", "replace") for file in (out, err)]
         ended = None if is_late and process.returncode == -signal.SIGKILL else process.returncode
-        return Ran(ended, *said, used.ru_utime + used.ru_stime, time.monotonic() - begun)
+        return Ran(ended, *said, used.ru_utime + used.ru_stime, time.monotonic() - begun, was_full)
 
     def end_late(self, pid):
         with self.lock:

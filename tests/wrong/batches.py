@@ -15,7 +15,7 @@ import re
 import shutil
 import tempfile
 
-from function_copies import inserted, proof_files
+from copies import inserted, proof_files
 from edits import text_of
 
 REFUSED = re.compile(r"fn (\S+): (?:not proved|no proof: expected answers in)")

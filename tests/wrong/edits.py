@@ -2,7 +2,7 @@
 import os
 import re
 
-from function_copies import FN, copyables
+from copies import FN, copyables
 
 BODY = re.compile(r"(?m)\{$")
 ITEM = re.compile(r"\b(fn|impl|struct|enum|const|trait|mod|use|ensures|requires)\s")
