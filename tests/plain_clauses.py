@@ -5,7 +5,7 @@ definitions in crates/schedule_clauses/specs: a second program to compare with.
     plain_clauses.py FILE BOUND     prints the two numbers
 
 A row is counted by its sums: two amounts that are left for its first levels are one node if no sum of choices lies between them.
-The weights of the surrogate row are hints, which no definition fixes: here they are found by the same steps.
+The clauses on starts that prices bar are not counted: no prices are found here. Their form is read, and all short schedules of a small project can be gone over.
 """
 import os
 import sys
@@ -15,9 +15,6 @@ from math import comb
 sys.dont_write_bytecode = True
 sys.path.insert(0, os.path.dirname(os.path.realpath(__file__)))
 import plain_reader  # noqa: E402
-
-# Of the surrogate row: the most clauses of its diagram, counted before equal nodes are joined, and the steps that choose its weights.
-MOST_WEIGHED, STEPS, WHOLE, FACTOR, MOST_WEIGHT = 100_000, 200, 2**20, 2**24, 24
 
 
 class Windows:
@@ -98,14 +95,6 @@ class Row:
             nodes = below
         return count, clauses
 
-    def size(self, modes):
-        """Its clauses before equal nodes are joined, where each level has so many modes, of which those that take nothing count too."""
-        amounts, clauses = {self.capacity}, 0
-        for at, many in reversed(list(enumerate(modes))):
-            clauses += len(amounts) * (1 + many)
-            amounts = {a - b for a in amounts for b in [0, *self.levels[at]] if 0 <= a - b < self.sums[at][-1]}
-        return clauses
-
 
 def capacity_counts(levels, capacity):
     """Variables and clauses of a capacity row: the activities of all levels take at most the capacity."""
@@ -152,54 +141,62 @@ def stock_counts(p):
     return total
 
 
-def weights_of(p, bound):
-    """The weights of the resources: factors for which the cheapest modes take the most of what there is, made small whole numbers."""
-    supplies = [capacity * bound for capacity in p.capacities] + p.stocks
-    needs = [[[mode[0] * a for a in mode[1]] + list(mode[2]) for mode in own] for own in p.modes]
-    shares = [[[n * WHOLE // s if s else 0 for n, s in zip(mode, supplies)] for mode in own] for own in needs]
-    cost = lambda factors, share: sum(f * x for f, x in zip(factors, share))
-    # (there are eight places of each kind, of which those without a resource have factors too)
-    factors, idle, best, most = [FACTOR] * len(supplies), [FACTOR] * (16 - len(supplies)), [FACTOR] * len(supplies), 0
-    for step in range(STEPS):
-        taken = [sum(it) for it in zip(*(min(own, key=lambda share: cost(factors, share)) for own in shares))]
-        mean = cost(factors, taken) // (sum(factors) + sum(idle))
-        if mean > most:
-            most, best = mean, factors
-        calm = WHOLE * (step + 8) // 8
-        factors = [max(1, f * (calm + x) // (calm + mean)) for f, x in zip(factors, taken)]
-        idle = [max(1, f * calm // (calm + mean)) for f in idle]
-    ratios = [f * WHOLE // s if s else 0 for f, s in zip(best, supplies)]
-    greatest = max(ratios, default=0)
-    return [(r * MOST_WEIGHT + greatest // 2) // max(greatest, 1) for r in ratios]
+# What the comments say of the clauses on starts that prices bar.
+BARRED = "starts that prices show to be in no schedule within the bound"
 
 
-def weighed(p, bound):
-    """What each activity weighs in each mode, and the capacities."""
-    weights = weights_of(p, bound)
-    split = len(p.capacities)
-    modes = [[sum(w * mode[0] * a for w, a in zip(weights, mode[1])) + sum(w * a for w, a in zip(weights[split:], mode[2])) for mode in own] for own in p.modes]
-    return modes, sum(w * c * bound for w, c in zip(weights, p.capacities)) + sum(w * s for w, s in zip(weights[split:], p.stocks))
+def barred_run(clause, meanings):
+    """The activity, the mode, and the first and the last start that a clause on barred starts excludes, None at an end that it leaves open. `meanings` has of each
+    variable a word, an activity and a mode or a time. Another form of clause is a ValueError."""
+    facts = sorted((literal > 0, *meanings[abs(literal)]) for literal in clause)
+    modes = [it for it in facts if it[:2] == (False, "mode")]
+    last = [it for it in facts if it[:2] == (False, "starts")]
+    before = [it for it in facts if it[:2] == (True, "starts")]
+    if len(modes) != 1 or len(last) > 1 or len(before) > 1 or len(facts) != len(modes + last + before) or len({it[2] for it in facts}) != 1:
+        raise ValueError(facts)
+    first, last = before[0][3] + 1 if before else None, last[0][3] if last else None
+    if None not in (first, last) and first > last:
+        raise ValueError(facts)
+    return modes[0][2], modes[0][3], first, last
 
 
-def surrogate_counts(p, bound):
-    """Variables and clauses of the surrogate row: a diagram of what each mode weighs above the lightest of its activity. With them stand clauses
-    which say that the first activities weigh no less than the lightest modes: one for each activity up to which these weigh something."""
-    modes, most = weighed(p, bound)
-    lows = [sum(map(min, modes[:count])) for count in range(len(modes) + 1)]
-    chain = sum(low > 0 for low in lows)
-    if most < lows[-1]:
-        return chain, chain + 1
-    row = Row([[weight - min(own) for weight in own if weight > min(own)] for own in modes], most - lows[-1])
-    nodes, clauses = row.counts()
-    if not nodes or row.size(map(len, modes)) > MOST_WEIGHED:
-        return 0, 0
-    return nodes + chain, clauses + 1 + chain
+def schedules(p, bound):
+    """All feasible schedules of at most `bound` periods: for each activity, from 0, its mode, from 0, and its start."""
+    before = [[i for i, own in enumerate(p.successors) if j + 1 in own] for j in range(len(p.modes))]
+    used, taken, left = [[0] * bound for _ in p.capacities], [], list(p.stocks)
+
+    def take(mode, start, sign):
+        for r, request in enumerate(mode[1]):
+            for t in range(start, start + mode[0]):
+                used[r][t] += sign * request
+        for r, consumption in enumerate(mode[2]):
+            left[r] -= sign * consumption
+
+    def fits(mode, start):
+        runs = (used[r][t] + request <= p.capacities[r] for r, request in enumerate(mode[1]) for t in range(start, start + mode[0]))
+        return all(runs) and all(consumption <= left[r] for r, consumption in enumerate(mode[2]))
+
+    def all_from(j):
+        if j == len(p.modes):
+            yield list(taken)
+            return
+        ready = max((taken[i][1] + p.modes[i][taken[i][0]][0] for i in before[j]), default=0)
+        for m, mode in enumerate(p.modes[j]):
+            for start in range(ready, bound - mode[0] + 1):
+                if fits(mode, start):
+                    take(mode, start, 1)
+                    taken.append((m, start))
+                    yield from all_from(j + 1)
+                    taken.pop()
+                    take(mode, start, -1)
+
+    return all_from(0)
 
 
 def counts(p, bound):
-    """All variables and clauses."""
+    """All variables and clauses, but those on barred starts."""
     w = Windows(p, bound)
-    parts = [mode_counts(p), start_counts(p, w), renewable_counts(p, w), stock_counts(p), surrogate_counts(p, bound)]
+    parts = [mode_counts(p), start_counts(p, w), renewable_counts(p, w), stock_counts(p)]
     return tuple(map(sum, zip(*parts)))
 
 
