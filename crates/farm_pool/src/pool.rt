@@ -1,4 +1,5 @@
-ghost use Rattle.std.specs.Prelude.{◌≡◌, ◌≢◌, ◌<◌, length, IfOk, IfSome};
+ghost use Rattle.std.specs.Prelude.{◌≡◌, ◌≢◌, ◌<◌, [], length, IfOk, IfSome};
+ghost use Rattle.turn_lock.specs.History.{entries_of};
 ghost use Rattle.turn_lock.specs.Plays.{having_split, newcomer, BothSeen, Called};
 ghost use Rattle.turn_lock.specs.Rule.{opened};
 ghost use Rattle.turn_lock.specs.Values.{IsPassOf};
@@ -113,6 +114,7 @@ impl Pool {
         ensures own { IsPassOf self.now.lock result }
         ensures new { result.view ≡ newcomer pass.old.view result.view.number }
         ensures apart { result.view.number ≢ pass.old.view.number }
+        ensures unseen { entries_of result.view.number pass.old.view.seen ≡ [] }
     {
         self.lock.split_pass(pass)
     }
