@@ -67,12 +67,16 @@ pub record WasSubmitted (config : ConfigData) (entries : List Entry) (t s : ℕ)
   pub entry : slice_get entries at ≡ Some (record { tenant = t; event = Submit plan quanta })
   pub answered : IsAnswered config (take at entries) t (Submit plan quanta) (slice_get entries at) (Job s)
 
+-- the reply to a call of tenant t is true of a plan that the tenant submitted under its number
+-- before
+abbrev pub IsTrueOf : PoolView → ℕ → Event → Reply → PoolView → Type 0
+IsTrueOf v t event reply w = (called : Called Served v (said.Asked t event) (told.Replied reply) w) →
+    IsTrueReply (WasSubmitted called.opening (history.events_of called.before) t) reply
+
 -- what is replied about a job is true of a plan that the tenant submitted under its number before:
 -- to a command, and to a give. No tenant has submitted two plans under one number
 pub record EachReplyIsTrue : Type 0 where
-  pub asked : (v w : PoolView) (t : ℕ) (event : Event) (reply : Reply) →
-      (called : Called Served v (said.Asked t event) (told.Replied reply) w) →
-      IsTrueReply (WasSubmitted called.opening (history.events_of called.before) t) reply
+  pub asked : (v w : PoolView) (t : ℕ) (event : Event) (reply : Reply) → IsTrueOf v t event reply w
   pub back : (v w : PoolView) (turn : TurnImage) (reply : Reply) →
       (called : Called Served v (said.Back turn) (told.Gave reply) w) →
       IsTrueReply (WasSubmitted called.opening (history.events_of called.before) turn.tenant) reply
