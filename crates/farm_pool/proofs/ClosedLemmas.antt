@@ -168,7 +168,7 @@ purse_then v w closed p =
     closed.replayed p ∙ ap (λ (es : List Entry). after_alone (opened_purse w.config p) (events_of w.config p es)) closed.journal
 
 pub closed_pools_are_isolated : ClosedPoolsAreIsolated
-closed_pools_are_isolated v x w y one two p q begins own = (
+closed_pools_are_isolated v w x y one two p q begins own = (
   λ calls others of also.
       answers_in w.config p one.log calls of ∙ ap (λ (first : Purse). answers_alone first (own_in w.config p one.log)) begins
       ∙ ap (answers_alone (opened_purse y.config q)) own ∙ sym (answers_in y.config q two.log others also),

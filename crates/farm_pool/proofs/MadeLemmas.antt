@@ -1,5 +1,5 @@
 -- What a tenant's step replies after a legal history can be replied there.
-use Rattle.std.proofs.Common.{◌≡◌, ◌≢◌, ℕ, zero, suc, ◌<◌, Bool, true, false, cond, List, [], ◌∷◌, ◌++◌, length, Option, Some, None, refl, sym, ap, ◌∙◌, subst, append_assoc, append-nil, ⊎_elim}
+use Rattle.std.proofs.Common.{◌≡◌, ◌≢◌, ℕ, zero, suc, ◌+◌, ◌<◌, Bool, true, false, cond, List, [], ◌∷◌, ◌++◌, length, Option, Some, None, refl, sym, ap, ◌∙◌, subst, append_assoc, append-nil, ⊎_elim}
 use Rattle.std.specs.Prelude.{⊤, slice_get}
 use Rattle.std.specs.List.{range_with_len}
 use Rattle.std.proofs.lemmas.Bool.{cases_eq}
@@ -207,14 +207,14 @@ can_serve config before legal t known event planned r is memory =
     }
 
 pub each_reply_can_be_made : EachReplyCanBeMade
-each_reply_can_be_made config log number splits legal t known event planned r is memory =
+each_reply_can_be_made config log number splits calls legal t known event planned r is memory =
     let entry : Option Entry = entry_if t event (Replied r) in
     let own = history.entries_of number log in
-    let v : PoolView = record { stage = Idle; number = number; opening = Some config; seen = log; mine = own; splits = splits } in
+    let v : PoolView = record { stage = Idle; number = number; opening = Some config; seen = log; mine = own; splits = splits; calls = calls } in
     let stands = can_serve config (history.events_of log) legal t known event planned r is memory in
     let es : List (ℕ × Entry) = tagged number (listed entry) in
     record {
-      after = record v { seen = log ++ es; mine = history.entries_of number log ++ es };
+      after = record v { seen = log ++ es; mine = history.entries_of number log ++ es; calls = calls + 1 };
       called = record {
         opening = config;
         before = log;

@@ -311,7 +311,7 @@ pub each_run_is_a_closed_pools : EachRunIsAClosedPools
 unfolding opened
 each_run_is_a_closed_pools config calls w run planned log is =
     let it = played config (opened config) w calls (reached_opened config) planned run in
-    let pass : PoolView = record { stage = Idle; number = 0; opening = Some config; seen = log; mine = history.entries_of 0 log; splits = 0 } in
+    let pass : PoolView = record { stage = Idle; number = 0; opening = Some config; seen = log; mine = history.entries_of 0 log; splits = 0; calls = 0 } in
     let closed = closed_by config w log pass it.reached is (record { opened = refl; begins = prefix_self log; own = refl }) in
     let of : AreCallsOf config log (noted calls) =
     record {

@@ -30,14 +30,14 @@ use Rattle.farm_pool.specs.Worked.{PoolView}
 use Rattle.farm_pool.proofs.MadeLemmas.{left_if, legal_left}
 
 -- a call that can be served is one of a pass
-told_by : (config : ConfigData) (log : List (ℕ × Entry)) (number splits : ℕ) (call : CallImage) (answer : AnswerImage) (entry : Option Entry) → IsLegal Served config log
-    → Served config (history.events_of log) call entry answer → IsTold config log number splits call answer
-told_by config log number splits call answer entry legal stands =
+told_by : (config : ConfigData) (log : List (ℕ × Entry)) (number splits calls : ℕ) (call : CallImage) (answer : AnswerImage) (entry : Option Entry) → IsLegal Served config log
+    → Served config (history.events_of log) call entry answer → IsTold config log number splits calls call answer
+told_by config log number splits calls call answer entry legal stands =
     let own = history.entries_of number log in
-    let v : PoolView = record { stage = Idle; number = number; opening = Some config; seen = log; mine = own; splits = splits } in
+    let v : PoolView = record { stage = Idle; number = number; opening = Some config; seen = log; mine = own; splits = splits; calls = calls } in
     let es : List (ℕ × Entry) = tagged number (listed entry) in
     record {
-      after = record v { seen = log ++ es; mine = history.entries_of number log ++ es };
+      after = record v { seen = log ++ es; mine = history.entries_of number log ++ es; calls = calls + 1 };
       called = record {
         opening = config;
         before = log;
@@ -92,11 +92,11 @@ take_served config before legal t s slice job known found waits slices room =
       steps = record { answer_is = sym is; entry_is = refl };
     })
 
-take_made : (config : ConfigData) (log : List (ℕ × Entry)) (number splits : ℕ) → IsLegal Served config log → (t s slice : ℕ) (job : JobData)
+take_made : (config : ConfigData) (log : List (ℕ × Entry)) (number splits calls : ℕ) → IsLegal Served config log → (t s slice : ℕ) (job : JobData)
     → t < length config.tenants → find_job s (tenant_at config (history.events_of log) t).jobs ≡ Some job → is_waiting job.phase ≡ true → is_slice slice ≡ true
-    → has_room 2 (tenant_at config (history.events_of log) t) ≡ true → IsTold config log number splits (said.Next slice) (told.Sent (turn_of t s slice 0 job))
-take_made config log number splits legal t s slice job known found waits slices room =
-    told_by config log number splits (said.Next slice) (told.Sent (turn_of t s slice 0 job)) (entry_if t (Take s slice) (Sent (line_of (gone_out slice job)))) legal
+    → has_room 2 (tenant_at config (history.events_of log) t) ≡ true → IsTold config log number splits calls (said.Next slice) (told.Sent (turn_of t s slice 0 job))
+take_made config log number splits calls legal t s slice job known found waits slices room =
+    told_by config log number splits calls (said.Next slice) (told.Sent (turn_of t s slice 0 job)) (entry_if t (Take s slice) (Sent (line_of (gone_out slice job)))) legal
     (take_served config (history.events_of log) legal t s slice job known found waits slices room)
 
 -- a turn has run no more than its job had quanta
@@ -127,12 +127,12 @@ give_served config before legal t s slice ran job known found out may =
       steps = record { answer_is = sym is; entry_is = refl };
     })
 
-give_made : (config : ConfigData) (log : List (ℕ × Entry)) (number splits : ℕ) → IsLegal Served config log → (t s slice ran : ℕ) (job : JobData)
+give_made : (config : ConfigData) (log : List (ℕ × Entry)) (number splits calls : ℕ) → IsLegal Served config log → (t s slice ran : ℕ) (job : JobData)
     → t < length config.tenants → find_job s (tenant_at config (history.events_of log) t).jobs ≡ Some job → is_turn slice job.phase ≡ true
-    → may_have_run ran job job.phase ≡ true → IsTold config log number splits (said.Back (turn_of t s slice ran job)) (told.Gave (reply.Ran ran (line_of (back ran job))))
-give_made config log number splits legal t s slice ran job known found out may =
+    → may_have_run ran job job.phase ≡ true → IsTold config log number splits calls (said.Back (turn_of t s slice ran job)) (told.Gave (reply.Ran ran (line_of (back ran job))))
+give_made config log number splits calls legal t s slice ran job known found out may =
     let answer = reply.Ran ran (line_of (back ran job)) in
-    told_by config log number splits (said.Back (turn_of t s slice ran job)) (told.Gave answer) (entry_if t (Give s ran) (Replied answer)) legal
+    told_by config log number splits calls (said.Back (turn_of t s slice ran job)) (told.Gave answer) (entry_if t (Give s ran) (Replied answer)) legal
     (give_served config (history.events_of log) legal t s slice ran job known found out may)
 
 pub each_turn_can_be_made : EachTurnCanBeMade

@@ -103,6 +103,6 @@ deeds_unsplit slice (d ∷ deeds) v w done = deed_unsplit slice d done.0 w done.
 
 pub no_pass_is_split_off : NoPassIsSplitOff
 no_pass_is_split_off = record {
-  called = call_unsplit;
+  called = λ v w call answer called. (call_unsplit v w call answer called, ap (λ (x : PoolView). x.calls) called.after);
   worked = λ slice turns strangers v w worked. deeds_unsplit slice (Waited ∷ worked.deeds) v w worked.done;
 }

@@ -47,16 +47,20 @@ pub record AreCallsOf (config : ConfigData) (log : List (ℕ × Entry)) (calls :
   pub entries : map entry_in calls ≡ history.events_of log
   pub each : (before behind : List Call) (c : Call) → calls ≡ before ++ c ∷ behind → WasAnswered config (map entry_in before) c
 
--- two closed pools are isolated. If a purse began alike, and its members' calls and the turns of
--- their jobs were equal in equal order, the members had equal answers. The farms then hold equal
--- parts of the purse: the ledger, and each member's jobs, numbers and entries used. Other tenants,
--- which worker took a turn, and numbers make no difference
-abbrev pub ClosedPoolsAreIsolated : Type 0
-ClosedPoolsAreIsolated = (v x : PoolView) (w y : World) (one : IsClosed v w) (two : IsClosed x y) (p q : ℕ) →
+-- a closed pool is isolated from any other one. If a purse began alike, and its members' calls and
+-- the turns of their jobs were equal in equal order, the members had equal answers. The farms then
+-- hold equal parts of the purse: the ledger, and each member's jobs, numbers and entries used. Other
+-- tenants, which worker took a turn, and numbers make no difference
+abbrev pub IsIsolated : PoolView → World → Type 0
+IsIsolated v w = (x : PoolView) (y : World) (one : IsClosed v w) (two : IsClosed x y) (p q : ℕ) →
     opened_purse w.config p ≡ opened_purse y.config q → own_in w.config p one.log ≡ own_in y.config q two.log →
     ((calls others : List Call) → AreCallsOf w.config one.log calls → AreCallsOf y.config two.log others →
     own_answers w.config p calls ≡ own_answers y.config q others)
     × (purse p w ≡ purse q y)
+
+-- all closed pools are isolated
+abbrev pub ClosedPoolsAreIsolated : Type 0
+ClosedPoolsAreIsolated = (v : PoolView) (w : World) → IsIsolated v w
 
 -- each closed pool has such calls. A tenant's call that left an entry is at its place in the
 -- history, with its reply

@@ -67,12 +67,16 @@ pub record WasSubmitted (config : ConfigData) (entries : List Entry) (t s : ℕ)
   pub entry : slice_get entries at ≡ Some (record { tenant = t; event = Submit plan quanta })
   pub answered : IsAnswered config (take at entries) t (Submit plan quanta) (slice_get entries at) (Job s)
 
+-- the reply to a call of tenant t is true of a plan that the tenant submitted under its number
+-- before
+abbrev pub IsTrueOf : PoolView → ℕ → Event → Reply → PoolView → Type 0
+IsTrueOf v t event reply w = (called : Called Served v (said.Asked t event) (told.Replied reply) w) →
+    IsTrueReply (WasSubmitted called.opening (history.events_of called.before) t) reply
+
 -- what is replied about a job is true of a plan that the tenant submitted under its number before:
 -- to a command, and to a give. No tenant has submitted two plans under one number
 pub record EachReplyIsTrue : Type 0 where
-  pub asked : (v w : PoolView) (t : ℕ) (event : Event) (reply : Reply) →
-      (called : Called Served v (said.Asked t event) (told.Replied reply) w) →
-      IsTrueReply (WasSubmitted called.opening (history.events_of called.before) t) reply
+  pub asked : (v w : PoolView) (t : ℕ) (event : Event) (reply : Reply) → IsTrueOf v t event reply w
   pub back : (v w : PoolView) (turn : TurnImage) (reply : Reply) →
       (called : Called Served v (said.Back turn) (told.Gave reply) w) →
       IsTrueReply (WasSubmitted called.opening (history.events_of called.before) turn.tenant) reply
@@ -81,20 +85,20 @@ pub record EachReplyIsTrue : Type 0 where
       WasSubmitted called.opening (history.events_of called.before) t s other → plan ≡ other
 
 -- a pass that has seen this history has this reply to its next call
-pub record IsReplied (config : ConfigData) (log : List (ℕ × Entry)) (number splits t : ℕ) (event : Event) (reply : Reply) : Type 0 where
+pub record IsReplied (config : ConfigData) (log : List (ℕ × Entry)) (number splits calls t : ℕ) (event : Event) (reply : Reply) : Type 0 where
   pub after : PoolView
   pub called :
       let own = history.entries_of number log in
-      let seen : PoolView = record { stage = Idle; number = number; opening = Some config; seen = log; mine = own; splits = splits } in
+      let seen : PoolView = record { stage = Idle; number = number; opening = Some config; seen = log; mine = own; splits = splits; calls = calls } in
       Called Served seen (said.Asked t event) (told.Replied reply) after
   pub before : called.before ≡ log
 
 -- after each legal history each call of a tenant can have the reply of the tenant's step. So no law
 -- about replies is empty
 abbrev pub EachReplyCanBeMade : Type 0
-EachReplyCanBeMade = (config : ConfigData) (log : List (ℕ × Entry)) (number splits : ℕ) → IsLegal Served config log →
+EachReplyCanBeMade = (config : ConfigData) (log : List (ℕ × Entry)) (number splits calls : ℕ) → IsLegal Served config log →
     (t : ℕ) → t < length config.tenants → (event : Event) → IsPlanned event → (reply : Reply) →
-    (step (tenant_at config (history.events_of log) t) event).answer ≡ Replied reply → reply ≢ NoMemory → IsReplied config log number splits t event reply
+    (step (tenant_at config (history.events_of log) t) event).answer ≡ Replied reply → reply ≢ NoMemory → IsReplied config log number splits calls t event reply
 
 -- the turn of tenant t's job s for at most `slice` nodes, of which `ran` have run
 abbrev pub turn_of : ℕ → ℕ → ℕ → ℕ → JobData → TurnImage
@@ -102,25 +106,25 @@ turn_of t s slice ran job =
     record { tenant = t; seq = s; slice = slice; ran = ran; owner = t; plan = job.plan; nodes = job.nodes + ran; left = job.left - ran; taken = false }
 
 -- a pass that has seen this history has this answer to its next call
-pub record IsTold (config : ConfigData) (log : List (ℕ × Entry)) (number splits : ℕ) (call : CallImage) (answer : AnswerImage) : Type 0 where
+pub record IsTold (config : ConfigData) (log : List (ℕ × Entry)) (number splits calls : ℕ) (call : CallImage) (answer : AnswerImage) : Type 0 where
   pub after : PoolView
   pub called :
       let own = history.entries_of number log in
-      let seen : PoolView = record { stage = Idle; number = number; opening = Some config; seen = log; mine = own; splits = splits } in
+      let seen : PoolView = record { stage = Idle; number = number; opening = Some config; seen = log; mine = own; splits = splits; calls = calls } in
       Called Served seen call answer after
   pub before : called.before ≡ log
 
 -- after each legal history each waiting job can be taken, if its tenant has entries. Each turn that
 -- is out can be given, with none or all of its nodes run. So no law about turns is empty
 pub record EachTurnCanBeMade : Type 0 where
-  pub taken : (config : ConfigData) (log : List (ℕ × Entry)) (number splits : ℕ) → IsLegal Served config log → (t s slice : ℕ) (job : JobData) →
+  pub taken : (config : ConfigData) (log : List (ℕ × Entry)) (number splits calls : ℕ) → IsLegal Served config log → (t s slice : ℕ) (job : JobData) →
       let tenant : Tenant = tenant_at config (history.events_of log) t in
       t < length config.tenants → find_job s tenant.jobs ≡ Some job → is_waiting job.phase ≡ true → is_slice slice ≡ true → has_room 2 tenant ≡ true →
-      IsTold config log number splits (said.Next slice) (told.Sent (turn_of t s slice 0 job))
-  pub given : (config : ConfigData) (log : List (ℕ × Entry)) (number splits : ℕ) → IsLegal Served config log → (t s slice ran : ℕ) (job : JobData) →
+      IsTold config log number splits calls (said.Next slice) (told.Sent (turn_of t s slice 0 job))
+  pub given : (config : ConfigData) (log : List (ℕ × Entry)) (number splits calls : ℕ) → IsLegal Served config log → (t s slice ran : ℕ) (job : JobData) →
       t < length config.tenants → find_job s (tenant_at config (history.events_of log) t).jobs ≡ Some job → is_turn slice job.phase ≡ true →
       may_have_run ran job job.phase ≡ true →
-      IsTold config log number splits (said.Back (turn_of t s slice ran job)) (told.Gave (Ran ran (line_of (back ran job))))
+      IsTold config log number splits calls (said.Back (turn_of t s slice ran job)) (told.Gave (Ran ran (line_of (back ran job))))
 
 -- a cancel that its tenant's step accepts is answered so, whatever memory there is
 abbrev pub AcceptedCancelsAreMade : Type 0
@@ -128,7 +132,9 @@ AcceptedCancelsAreMade = (v w : PoolView) (t s : ℕ) (reply : Reply) →
     (called : Called Served v (said.Asked t (Cancel s)) (told.Replied reply) w) → (line : JobLine) →
     (step (tenant_at called.opening (history.events_of called.before) t) (Cancel s)).answer ≡ Replied (Line line) → reply ≡ Line line
 
--- a call and a worker leave the number of a pass's splits: neither made a pass of its own
+-- a call is one call of its pass, and neither a call nor a worker splits a pass off: no call is
+-- hidden, not even one that leaves no entry
 pub record NoPassIsSplitOff : Type 0 where
-  pub called : (v w : PoolView) (call : CallImage) (answer : AnswerImage) → Called Served v call answer w → w.splits ≡ v.splits
+  pub called : (v w : PoolView) (call : CallImage) (answer : AnswerImage) → Called Served v call answer w →
+      (w.splits ≡ v.splits) × (w.calls ≡ v.calls + 1)
   pub worked : (slice turns strangers : ℕ) (v w : PoolView) → Worked slice v turns strangers w → w.splits ≡ v.splits

@@ -64,7 +64,7 @@ pub fn accepted_cancels_are_made()
     ensures { AcceptedCancelsAreMade }
 {}
 
-/// A call or a worker splits no pass off the one that it is given.
+/// A call is one call of its pass, and neither a call nor a worker splits a pass off.
 pub fn no_pass_is_split_off()
     ensures { NoPassIsSplitOff }
 {}

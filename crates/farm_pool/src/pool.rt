@@ -1,14 +1,18 @@
-ghost use Rattle.std.specs.Prelude.{◌≡◌, ◌≢◌, ◌<◌, length, IfOk, IfSome};
+ghost use Rattle.std.specs.Prelude.{◌≡◌, ◌≢◌, ◌<◌, [], length, IfOk, IfSome};
+ghost use Rattle.turn_lock.specs.History.{entries_of};
 ghost use Rattle.turn_lock.specs.Plays.{having_split, newcomer, BothSeen, Called};
 ghost use Rattle.turn_lock.specs.Rule.{opened};
 ghost use Rattle.turn_lock.specs.Values.{IsPassOf};
 ghost use Rattle.farm_core.specs.Command.{event_of, IsFresh};
 ghost use Rattle.farm_pool.specs.declared.image.AnswerImage.TheVariants as told;
 ghost use Rattle.farm_pool.specs.declared.image.CallImage.TheVariants as said;
+ghost use Rattle.farm_pool.specs.Closed.{IsIsolated};
+ghost use Rattle.farm_pool.specs.Laws.{IsTrueOf};
 ghost use Rattle.farm_pool.specs.Served.{Served};
 ghost use Rattle.farm_pool.specs.Worked.{IsClosed};
 
 use crate::held::{FarmAnswer, FarmCall, Held};
+use crate::laws::{closed_pools_are_isolated, each_reply_is_true};
 use farm_core::{Command, Config, Farm, Reply};
 use std::alloc::{AllocError, Global};
 use std::marker::Model;
@@ -96,7 +100,9 @@ impl Pool {
         ensures own { IsPassOf self.now.lock pass.new }
         ensures called { Called Served pass.old.view
             (said.Asked tenant (event_of command)) (told.Replied result) pass.new.view }
+        ensures truth { IsTrueOf pass.old.view tenant (event_of command) result pass.new.view }
     {
+        each_reply_is_true();
         match self
             .lock
             .with_turn(rt, pass, FarmCall::Asked(tenant, command))
@@ -113,6 +119,7 @@ impl Pool {
         ensures own { IsPassOf self.now.lock result }
         ensures new { result.view ≡ newcomer pass.old.view result.view.number }
         ensures apart { result.view.number ≢ pass.old.view.number }
+        ensures unseen { entries_of result.view.number pass.old.view.seen ≡ [] }
     {
         self.lock.split_pass(pass)
     }
@@ -139,8 +146,10 @@ impl Pool {
     pub fn close(self, pass: PoolPass) -> Option<Farm<Box<dyn Strategy>>>
         requires { IsPassOf self.lock pass }
         ensures closed { IfSome result (λ farm. IsClosed pass.view farm) }
+        ensures isolated { IfSome result (λ farm. IsIsolated pass.view farm) }
         ensures config { IfSome result (λ farm. farm.config ≡ self.lock.opening) }
     {
+        closed_pools_are_isolated();
         let Pool { lock, slice: _ } = self;
         match lock.close(pass) {
             Some(Held { farm }) => {

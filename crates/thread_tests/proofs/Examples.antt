@@ -141,8 +141,8 @@ history_is_legal = (
 
 -- ---- so a pass that has seen it may be given the best schedule, and the law says that it is the shortest of the plan that was submitted
 
-best_is_replied : IsReplied config log 0 0 0 (Fetch 1) best
-best_is_replied = each_reply_can_be_made config log 0 0 history_is_legal 0 (omega arith) (Fetch 1) tt best best_is_answered (λ is. absurd (cc))
+best_is_replied : IsReplied config log 0 0 0 0 (Fetch 1) best
+best_is_replied = each_reply_can_be_made config log 0 0 0 history_is_legal 0 (omega arith) (Fetch 1) tt best best_is_answered (λ is. absurd (cc))
 
 -- the submit is in the history
 plan_was_submitted : WasSubmitted config entries 0 1 plan

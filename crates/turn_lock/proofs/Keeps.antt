@@ -91,7 +91,7 @@ module _ {T O E C A : Type 0} (opening_of : T → O) (events : T → List E) (re
   pub tells : (slots id : ℕ) (m : Seat') → m.0.stage ≡ New → (st : Step (Option T)) → Allows Rule slots id m 0 (λ n. n) (told st m)
   tells slots id m new st s k wide at fits_word =
       let f = subst (λ (x : Stage E). FitsAt (get_or s.words 0 0) k.holder k.log o s.views id m.0 x) new (k.fits id m.0 at) in
-      (numbered m.0 id, keeps, tt, unmoved s k id m.1 m.0 (numbered m.0 id) at (λ e. absurd (cc (e, new))) (f.0, refl), ((λ e. f.1 (sym e)), refl))
+      (numbered m.0 id, keeps, tt, unmoved s k id m.1 m.0 (numbered m.0 id) at (λ e. absurd (cc (e, new))) (f.0, refl), ((λ e. f.1 (sym e)), refl, f.0.1.1))
 
   -- a pass that took in another learns what it had seen
   pub learns : (slots id : ℕ) (v w : View O E) (m : Seat') → m.0 ≡ taking_in v w → (st : Step (Option T)) → Allows Rule slots id m 0 (λ n. n) (learned relation st m)

@@ -15,35 +15,35 @@ module _ {O E : Type 0} where
 
   -- the pass that is split off: it has seen as much, and did nothing
   abbrev pub split_off : View O E → View O E
-  split_off v = record v { stage = New; mine = []; splits = 0 }
+  split_off v = record v { stage = New; mine = []; splits = 0; calls = 0 }
 
-  -- a new pass of that number
+  -- a new pass of that number: it has made no call
   abbrev pub newcomer : View O E → ℕ → View O E
-  newcomer v number = record v { stage = Idle; number = number; mine = []; splits = 0 }
+  newcomer v number = record v { stage = Idle; number = number; mine = []; splits = 0; calls = 0 }
 
   -- the pass has this number
   abbrev pub numbered : View O E → ℕ → View O E
   numbered v number = record v { stage = Idle; number = number }
 
-  -- the pass takes in w, and what was split off from w counts for it
+  -- the pass takes in w: the splits and the calls of w count for it
   abbrev pub taking_in : View O E → View O E → View O E
-  taking_in v w = record v { stage = Joined w.number w.seen w.mine; splits = v.splits + w.splits }
+  taking_in v w = record v { stage = Joined w.number w.seen w.mine; splits = v.splits + w.splits; calls = v.calls + w.calls }
 
-  -- the pass has taken in w, and has seen `seen`; what was split off from w counts for it
+  -- the pass has taken in w, and has seen `seen`: the splits and the calls of w count for it
   abbrev pub having_taken_in : View O E → View O E → List (ℕ × E) → View O E
-  having_taken_in v w seen = record v { stage = Idle; seen = seen; splits = v.splits + w.splits }
+  having_taken_in v w seen = record v { stage = Idle; seen = seen; splits = v.splits + w.splits; calls = v.calls + w.calls }
 
   -- the pass has seen `seen`, and is in this stage
   abbrev pub having_seen : View O E → Stage E → List (ℕ × E) → View O E
   having_seen v stage seen = record v { stage = stage; seen = seen }
 
-  -- the pass has seen `before`, and has made these events after it
+  -- one call more of the pass: it has seen `before`, and has made these events after it
   abbrev pub having_made : View O E → List (ℕ × E) → List E → View O E
-  having_made v before es = record v { stage = Idle; seen = before ++ tagged v.number es; mine = v.mine ++ tagged v.number es }
+  having_made v before es = record v { stage = Idle; seen = before ++ tagged v.number es; mine = v.mine ++ tagged v.number es; calls = v.calls + 1 }
 
-  -- a step gives the pass another number, and changes nothing else
+  -- a step gives the pass another number, which has no entry in what it has seen
   abbrev pub told : {S : Type 0} → Step S → Me S (View O E) → ℕ → Me S (View O E) → Type 0
-  told st m r n = (n.0.number ≢ m.0.number) × (n ≡ (numbered m.0 n.0.number, m.1))
+  told st m r n = (n.0.number ≢ m.0.number) × (n ≡ (numbered m.0 n.0.number, m.1)) × (entries_of n.0.number m.0.seen ≡ m.0.mine)
 
 module _ {T O E C A : Type 0} (opening_of : T → O) (events : T → List E) (relation : O → List E → C → Option E → A → Type 0) where
   -- the pass took the turn and the value: it has seen the value's whole history

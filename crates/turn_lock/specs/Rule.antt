@@ -17,11 +17,11 @@ module _ {E : Type 0} where
 module _ {O E : Type 0} where
   -- the first pass of a lock
   abbrev pub opened : O → View O E
-  opened opening = record { stage = Idle; number = 0; opening = Some opening; seen = []; mine = []; splits = 0 }
+  opened opening = record { stage = Idle; number = 0; opening = Some opening; seen = []; mine = []; splits = 0; calls = 0 }
 
   -- the view of a pass that was taken in
   abbrev pub spent : View O E
-  spent = record { stage = Spent; number = 0; opening = None; seen = []; mine = []; splits = 0 }
+  spent = record { stage = Spent; number = 0; opening = None; seen = []; mine = []; splits = 0; calls = 0 }
 
   module _ (word holder : ℕ) (log : List (ℕ × E)) (opening : O) (views : List (View O E)) (by : ℕ) (v : View O E) where
     -- the pass knows the opening and its own entries

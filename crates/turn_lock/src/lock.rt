@@ -1,4 +1,5 @@
 ghost use Rattle.std.specs.Prelude.{◌≡◌, ◌≢◌, [], ◌∷◌, None, length, drop, IfOk, IfErr, IfSome};
+ghost use Rattle.turn_lock.specs.History.{entries_of};
 ghost use Rattle.turn_lock.specs.Rule.{opened};
 ghost use Rattle.turn_lock.specs.Plays.{having_made, having_split, newcomer, Holds, MayEnd, BothSeen, Called, Ended};
 ghost use Rattle.turn_lock.specs.Values.{IsPassOf, Keeps};
@@ -128,6 +129,7 @@ impl<T: Kept + Drop> TurnLock<T> {
         ensures own { IsPassOf self.now result }
         ensures new { result.view ≡ newcomer pass.old.view result.view.number }
         ensures apart { result.view.number ≢ pass.old.view.number }
+        ensures unseen { entries_of result.view.number pass.old.view.seen ≡ [] }
     {
         let shared = &self.table.shared;
         let mut seat = shared.split_seat::<SplitOff>(&mut pass.seat);

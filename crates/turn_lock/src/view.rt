@@ -12,6 +12,7 @@ pub enum Stage<E> {
 }
 
 /// A `View` is what a pass knows. An entry is an event with the number of the pass that called.
+/// `splits` and `calls` count: a pass that was split off, or a turn, that leaves no entry.
 pub struct View<O, E> {
     pub stage: Stage<E>,
     pub number: u64,
@@ -19,4 +20,5 @@ pub struct View<O, E> {
     pub seen: LinkedList<(u64, E)>,
     pub mine: LinkedList<(u64, E)>,
     pub splits: u64,
+    pub calls: u64,
 }
