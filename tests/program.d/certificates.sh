@@ -13,32 +13,16 @@ uncertified() {
     status=$?
     says "$name, unexplained" 1 "" "$(echo "$wanted" | head -n 1)"
 }
-cp "$work/short" "$work/text"
-told "1:1:0 2:1:0 3:2:0 4:1:4"
-uncertified "a bound with an exponent" "farm: no bound 1e6
-farm: why: the bound is a whole number below 4294967296" bound "$work/text" 1e6
-uncertified "clauses of a word" "farm: no bound any
-farm: why: the bound is a whole number below 4294967296, or none" clauses "$work/text" any
-uncertified "clauses above the horizon" "farm: no bound Horizon(7)
-farm: why: the bound is above the horizon 7, the sum of the longest durations" clauses "$work/text" 8
 ten=$top/examples/j10_1.mm
 "$farm" solve "$ten" 2>"$work/err" </dev/null | tail -n 1 >"$work/best"
 uncertified "no proof where one is needed" "farm: no proof Unfinished
 farm: why: a proof to the end is needed, since the longest chain of activities takes 14 periods alone: farm prove FILE makes one" certify "$ten" "$work/best"
-uncertified "no proof that there is no schedule" "farm: no proof Unfinished
-farm: why: a proof to the end is needed, of the clauses that farm clauses FILE none writes: farm prove FILE looks for one" infeasible "$work/text" /dev/null
 echo "x 1 0" >"$work/proof"
 uncertified "a proof of other words" "farm: no proof Word(1)
 farm: why: a step is a line of numbers that ends with 0, behind d where it deletes a clause, or is in the solver's binary form" certify "$ten" "$work/best" "$work/proof"
 echo "-1 0" >"$work/proof"
 uncertified "a proof that does not follow" "farm: no proof Unproved(1)
 farm: why: the clause of this step does not follow from those before it: is it a proof of the clauses of this file and of one period less?" certify "$ten" "$work/best" "$work/proof"
-told "1:1:0 2:1:0 3:2:0 4:1:3"
-uncertified "a schedule that is not feasible" "farm: no schedule Precedence(3, 4)
-farm: why: activity 4 starts in period 3, before activity 3 ends at 4" certify "$work/text" "$work/schedule"
-: >"$work/text"
-uncertified "no file for a certificate" "farm: no file Header
-farm: why: $jobs; the file is empty" bound "$work/text"
 # A service: a port that is taken, and entries that do not last.
 echo "$two" >"$work/config"
 python3 -c 'import socket, sys, time; s = socket.create_server(("127.0.0.1", 0)); print(s.getsockname()[1], flush=True); time.sleep(20)' >"$work/port" &
