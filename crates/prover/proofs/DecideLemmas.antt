@@ -3,7 +3,8 @@ use Rattle.std.proofs.Common.{◌⊎◌, ℕ, ◌≤◌, ◌<◌, List, arith, �
 use Rattle.mrcpsp.specs.Project.{ProjectData}
 use Rattle.mrcpsp.specs.Schedule.{IsInfeasible, makespan}
 use Rattle.clause_kernel.specs.Clauses.{IsUnsatisfiable}
-use Rattle.schedule_clauses.specs.Satisfied.{SatisfiedByShort, SatisfiedByFeasible, EachExceeds}
+use Rattle.schedule_prices.specs.Choices.{EachExceeds}
+use Rattle.schedule_clauses.specs.Satisfied.{SatisfiedByShort, SatisfiedByFeasible}
 
 longer_or_not : (a b : ℕ) → (a < b) ⊎ (b ≤ a)
 longer_or_not a b = grind arith

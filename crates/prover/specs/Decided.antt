@@ -1,7 +1,7 @@
 -- What a decision means.
 use Rattle.std.specs.Prelude.{ℕ, ◌≤◌}
 use Rattle.mrcpsp.specs.Project.{ProjectData}
-use Rattle.schedule_clauses.specs.Satisfied.{EachExceeds}
+use Rattle.schedule_prices.specs.Choices.{EachExceeds}
 use Rattle.prover.specs.Known.{IsBest}
 use Rattle.prover.specs.declared.decide.Decision.{Decision}
 use Rattle.prover.specs.declared.decide.Decision.TheVariants.{Found, None, Open, Full}

@@ -2,7 +2,8 @@
 ghost use Rattle.std.specs.Prelude.{◌≡◌, ◌+◌, ◌≤◌, ◌<◌, length, IfOk, IfSome, true};
 ghost use Rattle.mrcpsp.specs.Schedule.{IsInfeasible};
 ghost use Rattle.clause_kernel.specs.Clauses.{IsUnsatisfiable};
-ghost use Rattle.schedule_clauses.specs.Satisfied.{SatisfiedByShort, SatisfiedByFeasible, EachExceeds};
+ghost use Rattle.schedule_prices.specs.Choices.{EachExceeds};
+ghost use Rattle.schedule_clauses.specs.Satisfied.{SatisfiedByShort, SatisfiedByFeasible};
 ghost use Rattle.prover.specs.Decided.{IsDecided};
 ghost use Rattle.prover.specs.Known.{IsBest};
 
@@ -10,7 +11,7 @@ use crate::known::Best;
 use clause_kernel::{ClauseList, Kernel};
 use clause_search::{Answer, Limits, Search};
 use mrcpsp::{Project, Schedule, Sequence, check};
-use schedule_clauses::{CertificateFault, Fact, Formula, clauses, stock_clauses};
+use schedule_clauses::{CertificateFault, Fact, Formula, open_clauses, stock_clauses};
 use std::alloc::{AllocError, Global};
 use std::marker::Brand;
 
@@ -166,8 +167,8 @@ fn decide_as<F: clause_kernel::Formula, W: Watch>(
     }
 }
 
-/// Decides whether a feasible schedule takes at most `bound` periods. The search holds at most
-/// `words` words of four bytes in clauses.
+/// Decides whether a feasible schedule takes at most `bound` periods: by prices, or else by a search
+/// of clauses, which holds at most `words` words of four bytes in clauses.
 pub fn decide_within<W: Watch>(
     alloc: Global,
     project: &Project,
@@ -177,7 +178,9 @@ pub fn decide_within<W: Watch>(
 ) -> Result<Decision, CertificateFault>
     ensures { IfOk result (IsDecided project.now bound) }
 {
-    let formula = clauses(alloc, project, bound)?;
+    let Some(formula) = open_clauses(alloc, project, bound)? else {
+        return Ok(Decision::None);
+    };
     match decide_as::<Brand, W>(alloc, project, bound, &formula, words, watch) {
         Ok(decision) => Ok(decision),
         Err(_) => Err(CertificateFault::NoMemory),

@@ -2,7 +2,7 @@
 ghost use Rattle.std.specs.Prelude.{◌≡◌, ◌+◌, ◌≤◌, IfSome};
 ghost use Rattle.mrcpsp.specs.Schedule.{IsFeasible, IsInfeasible, makespan};
 ghost use Rattle.price_search.specs.LowerBound.{TakesAtLeast};
-ghost use Rattle.schedule_clauses.specs.Satisfied.{EachExceeds};
+ghost use Rattle.schedule_prices.specs.Choices.{EachExceeds};
 ghost use Rattle.prover.specs.Known.{IsBest};
 ghost use Rattle.prover.specs.Decided.{IsDecided};
 
