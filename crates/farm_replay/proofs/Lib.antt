@@ -9,3 +9,5 @@ pub mod Examples
 pub mod BeginLemmas
 pub mod ByteLemmas
 pub mod NumberLemmas
+pub mod ClosingLemmas
+pub mod NameLemmas

@@ -30,8 +30,9 @@ use Rattle.session_lines.specs.Script.{Item, lines_of, first, first_request, req
 use Rattle.farm_replay.specs.declared.script.ReplayFault.{ReplayFault}
 use Rattle.farm_replay.specs.declared.script.ReplayFault.TheVariants as fault
 use Rattle.farm_session.specs.declared.heard.Heard.TheVariants as heard
-use Rattle.farm_replay.specs.Output.{Answered, request_may_need, told_to, told_under, Parts, opening, part_of, with_tenant, Saying, Next, says, answered, who_in, Marked, next, lines_for, parts_after, AreTrueMarks, line_text, output_of, items_of, has_refusal, IsWritten, lines_past, IsLongNext, IsCutBy, IsCutOff}
+use Rattle.farm_replay.specs.Output.{Answered, request_may_need, told_to, told_under, Parts, opening, part_of, with_tenant, Saying, Next, says, answered, who_in, Marked, next, lines_for, parts_after, AreTrueMarks, line_text, output_of, items_of, has_refusal, lines_past, IsLongNext, IsCutBy, IsCutOff}
 use Rattle.farm_session.specs.Heard.{tenant_number, heard_for, heard_of}
+use Rattle.farm_replay.specs.Closing.{HasLed}
 use Rattle.farm_replay.specs.Refusal.{is_refusal}
 use Rattle.farm_replay.specs.Replay.{GoesOn, end_of}
 use Rattle.farm_replay.specs.Counts.{Counts}
@@ -213,14 +214,21 @@ cut_between config xs ys old new count noted w why before seen it cause = record
   cause = cause;
 }
 
-played_whole : (config : ConfigData) (xs ys : List ℕ) (old new : Option (List ℕ)) (count : ℕ) (noted : Bool) (w : World) → count ≤ 1000000 → requests_of ys ≡ [] → IsPlayed config xs ys old new count noted w → IsWritten config xs noted old new
+-- the whole output was written, and the farm is where its requests lead
+abbrev pub LedBy : ConfigData → List ℕ → Bool → Option (List ℕ) → Option (List ℕ) → World → Type 0
+LedBy config xs noted old new w = HasLed (parts_after config (opening config)) config xs noted old new w
+
+played_whole : (config : ConfigData) (xs ys : List ℕ) (old new : Option (List ℕ)) (count : ℕ) (noted : Bool) (w : World) → count ≤ 1000000 → requests_of ys ≡ [] → IsPlayed config xs ys old new count noted w → LedBy config xs noted old new w
 played_whole config xs ys old new count noted w most none it = record {
-  requests = it.requests;
-  all = sym (it.reads ∙ ap (λ l. items_of it.requests ++ l) none ∙ append-nil (items_of it.requests));
-  marks = it.marks;
-  few = omega (arith, it.number);
-  written = it.written;
-  refusal = it.refusal;
+  written = record {
+    requests = it.requests;
+    all = sym (it.reads ∙ ap (λ l. items_of it.requests ++ l) none ∙ append-nil (items_of it.requests));
+    marks = it.marks;
+    few = omega (arith, it.number);
+    written = it.written;
+    refusal = it.refusal;
+  };
+  led = it.parts;
 }
 
 -- ---- what was read
@@ -512,10 +520,10 @@ asked_unsent turns config a b c old new count noted w answer t who what is takes
     (λ xs zs known it. it)
 
 pub play_over : EachInTurn → (config : ConfigData) (a b c old new : Option (List ℕ)) (count : ℕ) (noted : Bool) (w : World) (answer : Result Request LineFault) → count ≤ 1000000 → heard.Over ≡ heard_of config answer
-    → Takes 100000000 None b c answer → Played config a b old new count noted w → IfSome a (λ xs. IsWritten config xs noted old new)
+    → Takes 100000000 None b c answer → Played config a b old new count noted w → IfSome a (λ xs. LedBy config xs noted old new w)
 play_over turns config a b c old new count noted w answer most is takes played =
-    known_first a c (λ xs zs. IsWritten config xs noted old new) (λ xs. IsWritten config xs noted old new)
-    (goes_on a b c (λ xs ys. IsPlayed config xs ys old new count noted w) (λ ys zs. requests_of ys ≡ []) (λ xs zs. IsWritten config xs noted old new) played (over_takes turns config 100000000 b c answer is takes)
+    known_first a c (λ xs zs. LedBy config xs noted old new w) (λ xs. LedBy config xs noted old new w)
+    (goes_on a b c (λ xs ys. IsPlayed config xs ys old new count noted w) (λ ys zs. requests_of ys ≡ []) (λ xs zs. LedBy config xs noted old new w) played (over_takes turns config 100000000 b c answer is takes)
     (λ xs ys zs it none. played_whole config xs ys old new count noted w most none it))
     (λ xs zs known it. it)
 
@@ -611,9 +619,9 @@ play_broken config a b old new count noted w answer before seen is cause played 
     (λ xs ys known it. cut_between config xs ys old new count noted w fault.Read before seen it
     (refl, broken_by config xs ys old new count noted w (HasFailed before.reads seen.reads) it (cause_at (HasFailed before.reads seen.reads) b ys (λ bytes. IsPast 100000000 None (lines_of bytes)) known (given_up config (HasFailed before.reads seen.reads) b answer is cause))))
 
-pub play_ends : (config : ConfigData) (a b old new : Option (List ℕ)) (count : ℕ) (noted : Bool) (w : World) → count ≤ 1000000 → Played config a b old new count noted w → IfSome b (λ ys. requests_of ys ≡ []) → IfSome a (λ xs. IsWritten config xs noted old new)
+pub play_ends : (config : ConfigData) (a b old new : Option (List ℕ)) (count : ℕ) (noted : Bool) (w : World) → count ≤ 1000000 → Played config a b old new count noted w → IfSome b (λ ys. requests_of ys ≡ []) → IfSome a (λ xs. LedBy config xs noted old new w)
 play_ends config a b old new count noted w most played over =
-    known_first a b (λ xs ys. IsPlayed config xs ys old new count noted w) (λ xs. IsWritten config xs noted old new) played
+    known_first a b (λ xs ys. IsPlayed config xs ys old new count noted w) (λ xs. LedBy config xs noted old new w) played
     (λ xs ys known it. played_whole config xs ys old new count noted w most (subst (λ o. IfSome o (λ ys. requests_of ys ≡ [])) known over) it)
 
 -- there is one request more
@@ -651,7 +659,7 @@ end_stops turns old new Failed (Err (File w why)) takes cause = one_more turns o
 end_stops turns old new Failed (Err (NoMemory w)) takes cause = one_more turns old new (Err (NoMemory w)) takes
 
 pub play_written : (config : ConfigData) (a b old new : Option (List ℕ)) (count : ℕ) (noted : Bool) (w : World) (result : Result ⊤ ReplayFault) → count ≤ 1000000 → Played config a b old new count noted w
-    → OnOk result (IfSome b (λ ys. requests_of ys ≡ [])) → OnOk result (IfSome a (λ xs. IsWritten config xs noted old new))
+    → OnOk result (IfSome b (λ ys. requests_of ys ≡ [])) → OnOk result (IfSome a (λ xs. LedBy config xs noted old new w))
 play_written config a b old new count noted w (Ok u) most played over = play_ends config a b old new count noted w most played over
 play_written config a b old new count noted w (Err why) most played over = tt
 

@@ -1,7 +1,8 @@
 -- The output of a script as bytes: its lines, and the lines of one purse.
 use Rattle.std.specs.Prelude.{◌≡◌, ℕ, Bool, true, List, filter, map, Some}
 use Rattle.std.specs.List.{list_all, list_any}
-use Rattle.farm_core.specs.Config.{ConfigData}
+use Rattle.farm_core.specs.declared.config.TenantLine.{TenantLine}
+use Rattle.farm_core.specs.Config.{ConfigData, are_distinct, member_lines}
 use Rattle.farm_core.specs.Name.{is_name, same_bytes}
 use Rattle.farm_core.specs.World.{opened_purse}
 use Rattle.session_lines.specs.ReplyText.{who_text}
@@ -19,6 +20,15 @@ LinesAreReplies = (config : ConfigData) (script : List ℕ) (requests : List Mar
 pub record AreNamesOf (config : ConfigData) (p : ℕ) (names : List (List ℕ)) : Type 0 where
   pub named : list_all is_name names ≡ true
   pub exact : (who : List ℕ) → list_any (λ name. same_bytes who name) names ≡ is_members config p (Some who)
+
+-- the names in the lines of a purse's members
+abbrev pub names_of : ConfigData → ℕ → List (List ℕ)
+names_of config p = map (λ (line : TenantLine). line.name) (member_lines config.tenants p)
+
+-- each purse has names: those in its members' lines, if each tenant has a name of its own
+abbrev pub EachPurseHasNames : Type 0
+EachPurseHasNames = (config : ConfigData) (p : ℕ) → are_distinct config.tenants ≡ true →
+    list_all (λ (line : TenantLine). is_name line.name) config.tenants ≡ true → AreNamesOf config p (names_of config p)
 
 -- whether a line begins with `@`, one of the names and a space
 abbrev pub begins_with_any : List (List ℕ) → List ℕ → Bool

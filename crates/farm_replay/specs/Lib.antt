@@ -1,5 +1,6 @@
 pub mod Begins
 pub mod Bytes
+pub mod Closing
 pub mod Counts
 pub mod Floor
 pub mod Headline

@@ -1,7 +1,7 @@
 //! The farm of a script, and the turns that the script holds.
 ghost use Rattle.std.specs.Prelude.{◌≡◌, ◌≢◌, ℕ, ◌<◌, ◌-◌, [], length, position, None, false, IfOk, IfErr};
 ghost use Rattle.farm_core.specs.Tenant.{find_job};
-ghost use Rattle.farm_core.specs.World.{opened, view, Follows};
+ghost use Rattle.farm_core.specs.World.{opened, purse, view, Follows};
 ghost use Rattle.farm_core.specs.Step.{Sent};
 ghost use Rattle.farm_core.specs.Turn.{IsNotTaken};
 ghost use Rattle.farm_core.specs.Held.{is_out_of};
@@ -10,6 +10,7 @@ ghost use Rattle.farm_core.specs.Tills.{AreTillsOf};
 ghost use Rattle.farm_session.specs.Branch.{tills_of, HasLeasedFor};
 ghost use Rattle.farm_session.specs.Command.{event_in};
 ghost use Rattle.farm_session.specs.Ready.{MakesFresh};
+ghost use Rattle.farm_replay.specs.Closing.{all_back};
 ghost use Rattle.farm_replay.specs.Floor.{IsFloor, IsTold, is_turn_of, untaken};
 
 use farm_core::{Config, Event, Farm, Line, NoTurn, Reply, Stranger, Turn};
@@ -161,6 +162,7 @@ impl<J: Strategy> Floor<J> {
         ensures floor { IsFloor J.meaning self.new.farm self.new.held.items }
         ensures fewer { length self.new.held.items ≡ length self.old.held.items - 1 }
         ensures unrun { (t : ℕ) → (view t self.new.farm).spent ≡ (view t self.old.farm).spent }
+        ensures parts { (p : ℕ) → all_back (purse p self.new.farm) ≡ all_back (purse p self.old.farm) }
     {
         let Some(turn) = self.held.pop() else {
             return;
@@ -176,6 +178,7 @@ impl<J: Strategy> Floor<J> {
         ensures none { self.new.held.items ≡ [] }
         ensures unrun { (t : ℕ) → (view t self.new.farm).spent ≡ (view t self.old.farm).spent }
         ensures back { (t s : ℕ) → is_out_of (find_job s (view t self.new.farm).jobs) ≡ false }
+        ensures parts { (p : ℕ) → purse p self.new.farm ≡ all_back (purse p self.old.farm) }
     {
         for _given in 0..self.held.len() {
             self.give_last();
@@ -186,6 +189,7 @@ impl<J: Strategy> Floor<J> {
         requires { IsFloor J.meaning self.farm self.held.items }
         ensures unrun { (t : ℕ) → (view t result).spent ≡ (view t self.farm).spent }
         ensures back { (t s : ℕ) → is_out_of (find_job s (view t result).jobs) ≡ false }
+        ensures parts { (p : ℕ) → purse p result ≡ all_back (purse p self.farm) }
     {
         let mut floor = self;
         floor.give_all();

@@ -1,6 +1,6 @@
 //! Laws of the outputs of scripts, each the proved contract of a function.
 ghost use Rattle.farm_replay.specs.Begins.{LinesTellWhose};
-ghost use Rattle.farm_replay.specs.Bytes.{LinesAreReplies, EachOutputIsAlone, OutputsAreIsolated};
+ghost use Rattle.farm_replay.specs.Bytes.{LinesAreReplies, EachPurseHasNames, EachOutputIsAlone, OutputsAreIsolated};
 ghost use Rattle.farm_replay.specs.Isolation.{EachReplaysAlone, ReplaysAreIsolated, EachLoneReplaysAlone};
 ghost use Rattle.farm_replay.specs.Truth.{EachLineIsTrue};
 
@@ -30,6 +30,11 @@ pub fn lines_tell_whose()
 /// The lines of an output's bytes are those that answer the requests, one for each.
 pub fn lines_are_replies()
     ensures { LinesAreReplies }
+{}
+
+/// Each purse has the names of its members' lines, so that laws about names are not vacuous.
+pub fn each_purse_has_names()
+    ensures { EachPurseHasNames }
 {}
 
 /// In each output the lines that begin with a purse's names are those of its requests alone.

@@ -10,21 +10,22 @@ ghost use Rattle.job_table.specs.Job.{fresh_search};
 ghost use Rattle.farm_session.specs.Branch.{tills_of};
 ghost use Rattle.farm_session.specs.Ready.{MakesFresh};
 ghost use Rattle.farm_replay.specs.Floor.{IsFloor};
-ghost use Rattle.farm_replay.specs.Headline.{HasWritten, IsIsolated, IsTruthful};
+ghost use Rattle.farm_replay.specs.Closing.{parts_at_end, HasLed};
+ghost use Rattle.farm_replay.specs.Headline.{IsHeadline};
 ghost use Rattle.farm_replay.specs.Leases.{AreLeasesOf};
 ghost use Rattle.farm_replay.specs.Noted.{AreNoted};
-ghost use Rattle.farm_replay.specs.Output.{IsWritten, IsCutOff};
+ghost use Rattle.farm_replay.specs.Output.{opening, parts_after, IsWritten, IsCutOff};
 ghost use Rattle.farm_replay.specs.Reader.{script_rest};
 ghost use Rattle.farm_replay.specs.Replay.{end_of, GoesOn};
 
 use crate::floor::Floor;
-use crate::laws::{each_line_is_true, outputs_are_isolated};
+use crate::laws::{each_line_is_true, each_output_is_alone, outputs_are_isolated};
 use crate::notes::Notes;
 use crate::reader::Script;
 use crate::sending::{send_before_nodes, send_before_wait};
 use crate::watches::ReplayWatches;
 use farm_core::laws::farms_are_replayed;
-use farm_core::{Config, Name};
+use farm_core::{Config, Farm, Name};
 use farm_session::{Branch, Heard, Ready, Workshop, branches, hear, open_tills};
 use session_lines::laws::requests_come_in_turn;
 use session_lines::{LineFault, Request, Said, read_request, write_reply};
@@ -107,7 +108,8 @@ fn play<J: Strategy, R: Read, W: Write, M: Fn(Ready) -> Option<J>>(
     requires floor { IsFloor J.meaning floor.old.farm floor.old.held.items }
     requires notes { is_some notes.old.refused ≡ false }
     ensures written { OnOk result (IfSome (script_rest R.remaining script.old) (λ bytes.
-        IsWritten shop.now.config.now bytes (is_some notes.new.refused) (W.contents writer.old) (W.contents writer.new))) }
+        HasLed (parts_after shop.now.config.now (opening shop.now.config.now)) shop.now.config.now bytes
+        (is_some notes.new.refused) (W.contents writer.old) (W.contents writer.new) floor.new.farm)) }
     ensures cut_off { IfErr result (λ fault. IfSome (script_rest R.remaining script.old) (λ bytes.
         IsCutOff shop.now.config.now fault watches.old watches.new bytes (W.contents writer.old) (W.contents writer.new))) }
     ensures noted { AreNoted result watches.old watches.new }
@@ -147,6 +149,34 @@ fn play<J: Strategy, R: Read, W: Write, M: Fn(Ready) -> Option<J>>(
     end(shop.alloc, script, &mut watches.reads)
 }
 
+/// Plays the script, and gives back unrun the turns that it holds at its end.
+fn play_out<J: Strategy, R: Read, W: Write, M: Fn(Ready) -> Option<J>>(
+    shop: &Workshop<'_, M>,
+    floor: Floor<J>,
+    branches: &mut [Branch<'_>],
+    script: &mut Script<R>,
+    writer: &mut W,
+    watches: &mut ReplayWatches<R, W>,
+    notes: &mut Notes,
+) -> (Result<(), ReplayFault>, Farm<J>)
+    requires farm { floor.farm ≡ opened shop.now.config.now }
+    requires tills { AreTillsOf shop.now.config.now (tills_of branches.old) }
+    requires make { M.IsAlwaysCallable shop.now.make.now }
+    requires fresh { MakesFresh J.meaning (M.post shop.now.make.now) }
+    requires floor { IsFloor J.meaning floor.farm floor.held.items }
+    requires notes { is_some notes.old.refused ≡ false }
+    ensures written { OnOk result.0 (IfSome (script_rest R.remaining script.old) (λ bytes.
+        HasLed (parts_at_end shop.now.config.now) shop.now.config.now bytes
+        (is_some notes.new.refused) (W.contents writer.old) (W.contents writer.new) result.1)) }
+    ensures cut_off { IfErr result.0 (λ fault. IfSome (script_rest R.remaining script.old) (λ bytes.
+        IsCutOff shop.now.config.now fault watches.old watches.new bytes (W.contents writer.old) (W.contents writer.new))) }
+    ensures noted { AreNoted result.0 watches.old watches.new }
+{
+    let mut floor = floor;
+    let ended = play(shop, &mut floor, branches, script, writer, watches, notes);
+    (ended, floor.close())
+}
+
 /// Runs the requests of `reader` on a new farm of `config`, and writes one reply line for each.
 /// After a fault all lines of earlier requests are whole; after `Write` a prefix of the next line
 /// may follow. It sets `notes` anew. Turns that the script holds at its end are given back unrun.
@@ -160,15 +190,14 @@ pub fn replay<R: Read + Drop, W: Write>(
 ) -> Result<(), ReplayFault>
     ensures written { OnOk result (IfSome (R.remaining reader) (λ script.
         IsWritten config.now script (is_some notes.new.refused) (W.contents writer.old) (W.contents writer.new))) }
-    ensures isolated { OnOk result (IfSome (R.remaining reader) (λ script.
-        HasWritten (IsIsolated config.now) config.now script (W.contents writer.old) (W.contents writer.new))) }
-    ensures truth { OnOk result (IfSome (R.remaining reader) (λ script.
-        HasWritten (IsTruthful config.now) config.now script (W.contents writer.old) (W.contents writer.new))) }
+    ensures headline { OnOk result (IfSome (R.remaining reader) (λ script.
+        IsHeadline config.now script (is_some notes.new.refused) (W.contents writer.old) (W.contents writer.new))) }
     ensures cut_off { IfErr result (λ fault. IfSome (R.remaining reader) (λ script.
         IsCutOff config.now fault watches.old watches.new script (W.contents writer.old) (W.contents writer.new))) }
     ensures noted { AreNoted result watches.old watches.new }
 {
     outputs_are_isolated();
+    each_output_is_alone();
     each_line_is_true();
     *notes = Notes::default();
     let Ok(mut script) = Script::new(alloc, reader) else {
@@ -180,7 +209,7 @@ pub fn replay<R: Read + Drop, W: Write>(
     let Ok(mut branches) = branches(alloc, &tills, &mut desks) else {
         return Err(ReplayFault::NoMemory);
     };
-    let Ok(mut floor) = Floor::<Box<dyn Strategy>>::new(alloc, config) else {
+    let Ok(floor) = Floor::<Box<dyn Strategy>>::new(alloc, config) else {
         return Err(ReplayFault::NoMemory);
     };
     let make = |ready: Ready| -> Option<Box<dyn Strategy>>
@@ -207,15 +236,15 @@ pub fn replay<R: Read + Drop, W: Write>(
         config,
         make: &make,
     };
-    let ended = play(
+    let (ended, farm) = play_out(
         &shop,
-        &mut floor,
+        floor,
         &mut branches,
         &mut script,
         writer,
         watches,
         notes,
     );
-    drop(floor.close());
+    drop(farm);
     ended
 }
