@@ -23,7 +23,7 @@ struct Looks<'a, W> {
 
 impl<W: Observer> Overseer for Looks<'_, W> {
     fn look(&mut self, project: &Project, conflicts: u64, best: Option<&Best>, _bound: u32) -> bool
-        requires best { IfSome (option_copied best.entry) (IsBest project.now) }
+        requires best { IfSome (option_copied best) (IsBest project.now) }
         requires bound { TakesAtLeast project.now _bound }
     {
         match best {
