@@ -70,4 +70,4 @@ stuck_is_infeasible p e s feasible =
     false≢true (sym e ∙ all_below-from (can_run p) (size p) (λ j h.
     let m = mode_of s j in
     let exists = feasible.modes_exist j h in
-    sym (run_found p j m exists (executable_of p s j feasible h))))
+    sym (run_found p j m exists.1 (executable_of p s j feasible h))))

@@ -3,6 +3,7 @@ ghost use Rattle.std.specs.Prelude.{◌≡◌, ◌++◌, IfOk, codes, string_byt
 ghost use Rattle.std.specs.Option.{option_copied};
 ghost use Rattle.solve_cli.specs.FoundText.{verdict_text, best_text, places_of, shown_text, better_line, found_text};
 ghost use Rattle.solve_cli.specs.FoundText.{object_json, found_json};
+ghost use Rattle.schedule_json.specs.ScheduleJson.{number_json};
 
 use crate::searching::SearchResult;
 use mrcpsp::Schedule;
@@ -87,6 +88,12 @@ fn wide(makespan: Option<u32>) -> Option<u64>
     }
 }
 
+fn put_makespan_json(text: &mut String, makespan: Option<u32>) -> Result<(), AllocError>
+    ensures { IfOk result (λ _. string_bytes text.new ≡ string_bytes text.old ++ number_json makespan) }
+{
+    put_number_json(text, wide(makespan))
+}
+
 fn put_object(
     text: &mut String,
     nodes: u64,
@@ -99,7 +106,7 @@ fn put_object(
         ≡ string_bytes text.old ++ object_json nodes makespan word.now (option_copied best.entry)) }
 {
     write!(text, "{{\"nodes\":{nodes},\"makespan\":")?;
-    put_number_json(text, wide(makespan))?;
+    put_makespan_json(text, makespan)?;
     write!(text, ",\"verdict\":\"{word}\",\"schedule\":")?;
     put_schedule_json(text, best)?;
     text.push_str("}\n")
