@@ -6,7 +6,7 @@ pub mod EarliestLemmas
 pub mod MeaningLemmas
 pub mod BoundLemmas
 pub mod BreachLemmas
-pub mod MoreBreachesLemmas
-pub mod BrokenLemmas
+pub mod PassingLemmas
+pub mod StartLemmas
 pub mod AllBreachesLemmas
 pub mod Examples

@@ -1,6 +1,7 @@
 //! Laws of the definitions, each the proved contract of a function that does nothing.
 ghost use Rattle.mrcpsp.specs.Earliest.{EarliestIsLeast, EarliestIsUnique};
 ghost use Rattle.mrcpsp.specs.Bound.{NoneIsBelowBound};
+ghost use Rattle.mrcpsp.specs.Breaches.{BreachesAreRight};
 
 /// The earliest start that is computed is the least one at which nothing is broken, and it alone
 /// is.
@@ -12,4 +13,10 @@ pub fn earliest_is_the_least_start()
 /// No feasible schedule is shorter than the longest chain of activities by shortest durations.
 pub fn none_is_below_the_bound()
     ensures { NoneIsBelowBound }
+{}
+
+/// Of the list of all breaches a schedule breaks each, and each breach has a line in it; so the list
+/// of a feasible schedule is empty.
+pub fn breaches_are_right()
+    ensures { BreachesAreRight }
 {}

@@ -1,9 +1,8 @@
-use Rattle.mrcpsp.specs.Project.{size}
-use Rattle.mrcpsp.proofs.BrokenLemmas.{pair_joined}
+use Rattle.mrcpsp.specs.Breaches.{early_after}
+use Rattle.mrcpsp.proofs.PassingLemmas.{list_told}
 use Rattle.mrcpsp.proofs.breaches.push_all_early.Goals as goal
 
 pub loop-before-preserved : goal.loop-before-preserved
 loop-before-preserved c =
-    let p = c.args.project.now in
-    pair_joined p c.args.schedule.now c.args.told.now.items c.loop-before.told.items c.push_early.new.told.items c.loop-before.before (size p)
+    list_told (early_after c.args.project.now c.args.schedule.now) c.loop-before.before c.args.told.now.items c.loop-before.told.items c.push_early.new.told.items
     c.loop-before.invariant c.in_ok-push_early.ensures

@@ -1,5 +1,7 @@
-use Rattle.mrcpsp.specs.Breaches.{IsMore, IsAnyUse}
+use Rattle.std.proofs.Common.{◌≡◌, ◌++◌}
+use Rattle.std.specs.List.{range_with_len, flat_map}
+use Rattle.mrcpsp.specs.Breaches.{overuse_of}
 use Rattle.mrcpsp.proofs.breaches.push_all_overused.Given as goal
 
 abbrev pub invariant-loop-resource : goal.invariant-loop-resource
-invariant-loop-resource l = IsMore l.project l.schedule (IsAnyUse l.resource l.periods) l.initial.told.items l.told.items
+invariant-loop-resource l = l.told.items ≡ l.initial.told.items ++ flat_map (overuse_of l.project l.schedule) (range_with_len 0 l.resource)

@@ -1,5 +1,7 @@
-use Rattle.mrcpsp.specs.Breaches.{IsMore, IsStock}
+use Rattle.std.proofs.Common.{◌≡◌, ◌+◌, ◌++◌, map}
+use Rattle.mrcpsp.specs.Breaches.{passing, is_short}
+use Rattle.mrcpsp.specs.declared.breach.Breach.TheVariants.{Nonrenewable}
 use Rattle.mrcpsp.proofs.breaches.push_short.Given as goal
 
 abbrev pub invariant-loop-resource : goal.invariant-loop-resource
-invariant-loop-resource l = IsMore l.project l.schedule (IsStock l.resource) l.initial.told.items l.told.items
+invariant-loop-resource l = l.told.items ≡ l.initial.told.items ++ map (λ r. Nonrenewable (r + 1)) (passing (is_short l.project l.schedule) l.resource)
