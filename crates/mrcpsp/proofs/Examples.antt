@@ -1,8 +1,10 @@
 -- The definitions on a small project, computed. Activities and modes are named by their places, from 0.
 use Rattle.std.proofs.Common.{◌≡◌, ℕ, true, false, List, [], ◌∷◌, map, refl}
-use Rattle.mrcpsp.specs.Project.{ProjectData, ModeData, ActivityData, is_project, horizon, size, renewables, nonrenewables, modes, successors, duration, request, consumption, capacity, stock, precedes}
+use Rattle.mrcpsp.specs.Project.{ProjectData, ModeData, ActivityData, is_project, horizon, size, renewables, nonrenewables, modes, successors, mode_count, duration, request, consumption, capacity, stock, precedes}
 use Rattle.mrcpsp.specs.Schedule.{ScheduleData, mode_of, start_of, finish, load, use_of, consumed, makespan}
 use Rattle.mrcpsp.specs.Values.{shortest, least, tail, bound, lft, mts}
+use Rattle.mrcpsp.specs.declared.breach.Breach.TheVariants.{Shape, Mode, Precedence, Renewable}
+use Rattle.mrcpsp.specs.Breaches.{breaches_in}
 use Rattle.mrcpsp.specs.Placed.{Placed, placed_use, placed_consumption, are_ready, fits, is_allowed, earliest, is_eligible, reserve, is_affordable}
 
 abbrev activity : List ModeData → List ℕ → ActivityData
@@ -90,3 +92,21 @@ consumed_in_four = refl
 makespan_of_four : makespan diamond in_four ≡ 4
 unfolding makespan finish mode_of start_of duration modes size
 makespan_of_four = refl
+
+-- ---- all breaches
+
+abbrev at_once : ScheduleData
+at_once = record { modes = each 1 1 1 1; starts = each 0 0 0 1 }
+
+-- the sink starts before both end, and both use 4 of 3, in the two periods in which activities start
+all_at_once : breaches_in diamond at_once ≡ Precedence 2 4 ∷ Precedence 3 4 ∷ Renewable 1 0 ∷ Renewable 1 1 ∷ []
+unfolding size renewables nonrenewables modes successors mode_count duration request consumption capacity stock precedes mode_of start_of finish load use_of consumed
+all_at_once = refl
+
+missing : breaches_in diamond (record { modes = each 1 3 1 2; starts = each 0 0 0 1 }) ≡ Mode 2 ∷ Mode 4 ∷ []
+unfolding size mode_count modes
+missing = refl
+
+late : breaches_in diamond (record { modes = each 1 1 1 1; starts = each 0 0 3 1000000001 }) ≡ Shape ∷ []
+unfolding size
+late = refl
