@@ -9,7 +9,7 @@ use std::marker::Model;
 #[derive(Drop)]
 pub struct ClauseList {
     literals: Vec<u32>,
-    ends: Vec<usize>,
+    ends: Vec<u32>,
 }
 
 impl Model for ClauseList {
@@ -24,24 +24,24 @@ impl Model for ClauseList {
 }
 
 #[tactic(auto, using(crate::proofs::PieceLemmas::get_rules))]
-fn start_of(ends: &[usize], number: usize) -> usize
+fn start_of(ends: &[u32], number: usize) -> usize
     requires { number < length ends.now }
     ensures { result ≡ start_of 0 ends.now number }
 {
     if number == 0 {
         return 0;
     }
-    ends[number - 1]
+    ends[number - 1] as usize
 }
 
 #[tactic(auto, using(crate::proofs::PieceLemmas::get_rules))]
-fn piece<'a>(literals: &'a [u32], ends: &[usize], number: usize) -> &'a [u32]
+fn piece<'a>(literals: &'a [u32], ends: &[u32], number: usize) -> &'a [u32]
     requires ends { AreEnds 0 ends.now (length literals.now) }
     requires inside { number < length ends.now }
     ensures { result.now ≡ slice_index_or (pieces literals.now 0 ends.now) number [] }
 {
     let start = start_of(ends, number);
-    let end = ends[number];
+    let end = ends[number] as usize;
     &literals[start..end]
 }
 
@@ -80,14 +80,19 @@ impl ClauseList {
         piece(&self.literals, &self.ends, number)
     }
 
+    /// More than 4,294,967,295 literals in all count as want of memory.
     #[tactic(auto, using(crate::proofs::PieceLemmas::push_rules))]
     pub fn push(&mut self, clause: &[u32]) -> Result<(), AllocError>
         ensures pushed { IfOk result (λ _. self.new ≡ self.old ++ clause.now ∷ []) }
         ensures no_memory { OnErr result (self.new ≡ self.old) }
     {
+        let end = self.literals.len() + clause.len();
+        if end > u32::MAX as usize {
+            return Err(AllocError);
+        }
         self.ends.reserve(1)?;
         self.literals.extend_from_slice(clause)?;
-        self.ends.push(self.literals.len())?;
+        self.ends.push(end as u32)?;
         Ok(())
     }
 }
