@@ -20,17 +20,28 @@ use std::thread;
 use std::thread::Threads;
 use std::time::{Clock, Instant};
 
-/// The lanes of several workers.
-fn workers(alloc: Global, jobs: usize) -> Result<Vec<Worker>, AllocError> {
+/// The most activities of a project whose shorter schedules are asked for by clauses. In larger ones
+/// no such question was answered within minutes, so those workers improve.
+const MOST_BY_CLAUSES: usize = 80;
+
+/// What a worker does, by its place among several.
+fn lane_at(place: usize, activities: usize) -> Lane {
+    if place > 1 && activities > MOST_BY_CLAUSES {
+        return Lane::Improve;
+    }
+    match place {
+        0 => Lane::Low,
+        2 => Lane::High,
+        3 => Lane::Middle,
+        _ => Lane::Improve,
+    }
+}
+
+/// Several workers of a project of so many activities.
+fn workers(alloc: Global, jobs: usize, activities: usize) -> Result<Vec<Worker>, AllocError> {
     let mut workers = Vec::new(alloc);
     for place in 0..jobs {
-        let lane = match place {
-            0 => Lane::Low,
-            1 => Lane::Improve,
-            2 => Lane::High,
-            3 => Lane::Middle,
-            _ => Lane::Improve,
-        };
+        let lane = lane_at(place, activities);
         let seed = (place as u64).wrapping_mul(1_000_003).wrapping_add(1);
         workers.push(Worker { lane, seed })?;
     }
@@ -86,7 +97,7 @@ fn prove_together<'a, F: Subject + Send + Sync, R: Threads + Wait + Clock + Sync
     requires { project.now ≡ F.project }
     ensures { IfOk result (λ proved. IsAnswer F.project proved.answer) }
 {
-    let workers = workers(alloc, task.jobs)?;
+    let workers = workers(alloc, task.jobs, project.size())?;
     let rt = deadline.rt;
     let known = Mutex::new(Known::<F>::new());
     let conflicts = AtomicU64::new(0);
