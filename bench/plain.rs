@@ -3,7 +3,7 @@
 //! does. SEARCH is `tree` or `sample:SEED`.
 //!
 //! The duties are the same: a search is in a box behind a trait, stops after any number of nodes,
-//! pays each node with one atomic addition, and takes no memory in a node.
+//! pays the nodes of a run with one atomic addition at its end, and takes no memory in a node.
 //! Nothing here is shared with the service: no code, no tables.
 //!
 //! Searches are compiled for sets of one word and of four, and for amounts in one to three words.
@@ -30,7 +30,7 @@ trait Search {
     fn verdict(&self) -> &'static str;
 }
 
-/// A search that pays each node with a quantum.
+/// A search that pays each node with a quantum, all of a run at its end.
 struct Paid<T: Nodes> {
     nodes: T,
     quanta: Arc<AtomicU64>,
@@ -38,13 +38,12 @@ struct Paid<T: Nodes> {
 
 impl<T: Nodes> Search for Paid<T> {
     fn run(&mut self, most: u64) {
-        for _ in 0..most {
-            if self.nodes.is_over() {
-                return;
-            }
-            self.quanta.fetch_add(1, Ordering::Relaxed);
+        let mut done = 0;
+        while done < most && !self.nodes.is_over() {
             self.nodes.node();
+            done += 1;
         }
+        self.quanta.fetch_add(done, Ordering::Relaxed);
     }
 
     fn best(&self) -> Option<u32> {
