@@ -10,8 +10,10 @@ use strategy::{Kind, Strategy};
 /// A `Call` is a call about the job of a tenant and a number.
 #[derive(Clone, Copy)]
 enum Call {
-    /// A new job with one quantum.
+    /// A new job of the tree with one quantum.
     Insert(u32, u64),
+    /// A new job of a priority rule with one quantum.
+    InsertRule(u32, u64),
     /// `set_phase`.
     Put(u32, u64, Phase),
     /// `find_mut`: the job gives up its search and its quanta.
@@ -21,7 +23,7 @@ enum Call {
     Remove(u32, u64),
 }
 
-use Call::{Draw, Empty, Insert, Put, Remove};
+use Call::{Draw, Empty, Insert, InsertRule, Put, Remove};
 
 /// A call, whether it finds its job or adds one, and who waits then.
 #[derive(Clone, Copy)]
@@ -37,6 +39,37 @@ const TREE: [Step; 8] = [
     Step(Put(0, 1, Out(10)), true, &[]),
     Step(Empty(0, 1), true, &[]),
     Step(Put(0, 1, Closed), true, &[]),
+];
+
+/// While a tenant's job is out, another's job runs and is cancelled, and its next one goes out.
+const BESIDE: [Step; 12] = [
+    Step(Insert(0, 1), true, &[(0, 1)]),
+    Step(Put(0, 1, Out(10)), true, &[]),
+    Step(Insert(1, 1), true, &[(1, 1)]),
+    Step(Put(1, 1, Out(4)), true, &[]),
+    Step(Put(1, 1, Waiting), true, &[(1, 1)]),
+    Step(Put(0, 1, Waiting), true, &[(1, 1), (0, 1)]),
+    Step(Empty(1, 1), true, &[(1, 1), (0, 1)]),
+    Step(Put(1, 1, Cancelled), true, &[(0, 1)]),
+    Step(InsertRule(1, 2), true, &[(0, 1), (1, 2)]),
+    Step(Put(1, 2, Out(3)), true, &[(0, 1)]),
+    Step(Put(0, 1, Out(10)), true, &[]),
+    Step(Put(0, 1, Dry), true, &[]),
+];
+
+/// A job closes and is forgotten; the tenant's next one has a new number.
+const FORGET: [Step; 11] = [
+    Step(InsertRule(0, 1), true, &[(0, 1)]),
+    Step(Put(0, 1, Out(10)), true, &[]),
+    Step(Empty(0, 1), true, &[]),
+    Step(Put(0, 1, Closed), true, &[]),
+    Step(Insert(0, 2), true, &[(0, 2)]),
+    Step(Remove(0, 1), true, &[(0, 2)]),
+    Step(Insert(0, 3), true, &[(0, 2), (0, 3)]),
+    Step(Put(0, 1, Waiting), false, &[(0, 2), (0, 3)]),
+    Step(Draw(0, 1, 1), false, &[(0, 2), (0, 3)]),
+    Step(Remove(0, 1), false, &[(0, 2), (0, 3)]),
+    Step(Remove(0, 2), true, &[(0, 3)]),
 ];
 
 /// Two tenants' jobs of equal numbers: each one comes back behind all others.
@@ -131,12 +164,19 @@ struct Both {
     purses: Purses,
 }
 
+fn kind_of(call: Call) -> Kind {
+    match call {
+        InsertRule(..) => Kind::RuleSpt,
+        _ => Kind::Tree,
+    }
+}
+
 fn make_call(rt: &impl Abort, alloc: Global, both: &mut Both, call: Call) -> bool {
     let table = &mut both.table;
     match call {
-        Insert(tenant, seq) => {
+        Insert(tenant, seq) | InsertRule(tenant, seq) => {
             let lease = both.purses.lease_of(rt, tenant);
-            let (kind, text) = (Kind::Tree, Text::Diamond);
+            let (kind, text) = (kind_of(call), Text::Diamond);
             let planned = planned_for(rt, alloc, lease, Wanted { tenant, kind, text });
             insert(alloc, table, (tenant, seq), planned)
         }
@@ -149,7 +189,7 @@ fn make_call(rt: &impl Abort, alloc: Global, both: &mut Both, call: Call) -> boo
 
 fn make_plain_call(plain: &mut PlainTable, call: Call) -> bool {
     match call {
-        Insert(tenant, seq) => plain.insert(Row {
+        Insert(tenant, seq) | InsertRule(tenant, seq) => plain.insert(Row {
             tenant,
             seq,
             phase: Waiting,
@@ -234,6 +274,8 @@ fn play(rt: &impl Abort, alloc: Global, script: &[Step], name: &str) {
 #[test]
 fn a_table_is_a_plain_list(rt: HostRuntime) {
     play(&rt, rt.alloc(), &TREE, "a job to its end");
+    play(&rt, rt.alloc(), &BESIDE, "a job beside a turn");
+    play(&rt, rt.alloc(), &FORGET, "a new number");
     play(&rt, rt.alloc(), &TWO, "two tenants");
     play(&rt, rt.alloc(), &CANCELS, "cancels");
     play(&rt, rt.alloc(), &UNKNOWN, "unknown jobs");
