@@ -8,7 +8,7 @@ ghost use Rattle.quanta_till.specs.Lease.{after_draw};
 ghost use Rattle.strategy.specs.Search.{Meaning, funded};
 ghost use Rattle.job_table.specs.Table.{JobData};
 ghost use Rattle.job_table.specs.Job.{fresh_search, is_turn, is_here, phase_after, IsOwn};
-ghost use Rattle.job_table.specs.Lent.{search_of, returned, with_work, in_phase};
+ghost use Rattle.job_table.specs.Lent.{search_of, returned, with_work, in_phase, LacksOwn, HasDrawn};
 
 use crate::Phase;
 use crate::best::Best;
@@ -32,13 +32,12 @@ pub struct Work<J> {
 }
 
 impl<J> Model for Work<J> {
-    ghost use Rattle.std.specs.Prelude.{is_some};
     ghost use Rattle.job_table.specs.Lent.{WorkData};
     ghost use Rattle.job_table.specs.Job.{IsSound};
 
-    ghost Value = { WorkData };
+    ghost Value = { WorkData J };
 
-    ghost view = { λ w. record { plan = w.plan; nodes = w.nodes; left = w.left; here = is_some w.search } };
+    ghost view = { λ w. record { plan = w.plan; nodes = w.nodes; left = w.left; search = w.search } };
 
     ghost invariant = { λ w. IsSound w.plan w.nodes w.best w.makespan w.verdict };
 }
@@ -52,6 +51,7 @@ pub struct Job<J> {
 }
 
 impl<J> Model for Job<J> {
+    ghost use Rattle.std.specs.Prelude.{is_some};
     ghost use Rattle.job_table.specs.Table.{JobData};
 
     ghost Value = { JobData };
@@ -62,7 +62,7 @@ impl<J> Model for Job<J> {
       phase = j.phase;
       nodes = j.work.nodes;
       left = j.work.left;
-      here = j.work.here;
+      here = is_some j.work.search;
     } };
 }
 
@@ -100,6 +100,10 @@ fn fund_own<S: Strategy>(
     requires { nodes + left + quanta ≤ LEASE_LIMIT }
     ensures own { IsTrue result → S.meaning search.old
         ≡ record { tenant = tenant; plan = plan.now; nodes = nodes; left = left; taken = false } }
+    ensures other { IsFalse result
+        → S.meaning search.old
+        ≡ record { tenant = tenant; plan = plan.now; nodes = nodes; left = left; taken = false }
+        → is_closed plan.now nodes ≡ true }
     ensures going { IsTrue result → is_closed plan.now nodes ≡ false }
     ensures funded { IsTrue result → S.meaning search.new ≡ funded quanta (S.meaning search.old) }
     ensures drawn { IsTrue result → S.lease search.new ≡ after_draw (S.lease search.old) quanta }
@@ -132,8 +136,9 @@ impl<J: Strategy> Work<J> {
     ) -> Result<Work<J>, AllocError>
         requires limited { quanta ≤ LEASE_LIMIT }
         requires fresh { J.meaning search ≡ fresh_search tenant plan }
-        ensures { IfOk result
-            (λ work. work ≡ record { plan = plan; nodes = 0; left = quanta; here = true }) }
+        ensures made { IfOk result
+            (λ work. work ≡ record { plan = plan; nodes = 0; left = quanta; search = work.search }) }
+        ensures drawn { IfOk result (λ work. HasDrawn J.meaning J.lease quanta (Some search) work.search) }
     {
         let best = Best::new(alloc, plan.project.activities().len())?;
         search.fund(quanta);
@@ -185,9 +190,11 @@ impl<J: Strategy> Work<J> {
     /// Hands the search out. `None` if it is not here, over, or of another tenant, plan, count of
     /// nodes or of quanta.
     pub fn send(&mut self, tenant: u32) -> Option<J>
+        ensures own { IfSome result (λ search. self.old.search ≡ Some search) }
         ensures search { IfSome result (λ search. J.meaning search ≡ search_of tenant self.old) }
         ensures going { OnSome result (is_closed self.old.plan self.old.nodes ≡ false) }
-        ensures sent { OnSome result (self.new ≡ record self.old { here = false }) }
+        ensures sent { OnSome result (self.new ≡ record self.old { search = None }) }
+        ensures refused { IfNone result (LacksOwn J.meaning tenant self.old) }
         ensures kept { IfNone result (self.new ≡ self.old) }
     {
         let search = self.search.take()?;
@@ -204,7 +211,7 @@ impl<J: Strategy> Work<J> {
         requires plan { (J.meaning search).plan ≡ self.old.plan }
         requires best { (J.meaning search).taken ≡ false }
         ensures after { result ≡ phase_after phase (is_closed self.old.plan (J.meaning search).nodes) (J.meaning search).left }
-        ensures returned { self.new ≡ returned (is_here result) (J.meaning search) self.old }
+        ensures returned { self.new ≡ returned (is_here result) search (J.meaning search) self.old }
     {
         let after = phase.after(search.closed(), search.left());
         self.best.copy(search.best());
@@ -222,7 +229,7 @@ impl<J: Strategy> Work<J> {
 
     /// Drops the search with its quanta. Takes no memory.
     pub fn give_up(&mut self)
-        ensures { self.new ≡ record self.old { left = 0; here = false } }
+        ensures { self.new ≡ record self.old { left = 0; search = None } }
     {
         self.search = None;
         self.left = 0;
@@ -231,8 +238,10 @@ impl<J: Strategy> Work<J> {
     /// Draws more quanta for the search. Returns false if `send` would return `None`.
     pub fn fund(&mut self, tenant: u32, quanta: u64) -> bool
         requires { self.old.nodes + self.old.left + quanta ≤ LEASE_LIMIT }
-        ensures funded { IsTrue result → self.new ≡ record self.old { left = self.old.left + quanta } }
-        ensures here { IsTrue result → self.old.here ≡ true }
+        ensures funded { IsTrue result
+            → self.new ≡ record self.old { left = self.old.left + quanta; search = self.new.search } }
+        ensures drawn { IsTrue result → HasDrawn J.meaning J.lease quanta self.old.search self.new.search }
+        ensures refused { IsFalse result → LacksOwn J.meaning tenant self.old }
         ensures kept { IsFalse result → self.new ≡ self.old }
     {
         let Some(mut search) = self.search.take() else {

@@ -5,16 +5,17 @@ ghost use Rattle.paid_search.specs.Paid.{fresh};
 use crate::Nodes;
 use crate::shown::{is_over, verdict_by};
 use mrcpsp::Schedule;
-use quanta_till::{Lease, Owned};
+use quanta_till::Lease;
 use std::alloc::Global;
 use std::marker::Model;
 use strategy::{Plan, Strategy, Verdict};
 
 /// A `Paid` is a search that pays a quantum of its lease for each node. It owns the lease, which
-/// ends with it. No call but `new` takes memory.
+/// is dropped with it. No call but `new` takes memory.
+#[derive(Drop)]
 pub struct Paid<N: Nodes> {
     plan: Plan,
-    lease: Owned,
+    lease: Lease,
     run: N,
     nodes: u64,
     bound: u32,
@@ -43,21 +44,6 @@ pub struct Refused {
     pub lease: Lease,
 }
 
-impl<N: Nodes> Drop for Paid<N> {
-    fn drop(self) {
-        let Paid {
-            plan: _,
-            lease,
-            run: _,
-            nodes: _,
-            bound: _,
-            shown: _,
-            taken: _,
-        } = self;
-        let _ended = lease.end();
-    }
-}
-
 impl<N: Nodes> Paid<N> {
     /// No node has run yet. Without memory the lease comes back, and the plan is dropped.
     pub fn new(alloc: Global, plan: Plan, lease: Lease) -> Result<Paid<N>, Refused>
@@ -73,7 +59,7 @@ impl<N: Nodes> Paid<N> {
         let shown = verdict_by(plan.kind, run.makespan(), bound, run.all_run());
         Ok(Paid {
             plan,
-            lease: Owned::of(lease),
+            lease,
             run,
             nodes: 0,
             bound,

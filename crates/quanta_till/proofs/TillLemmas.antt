@@ -113,10 +113,10 @@ module _ (granted slots id : ℕ) (me : Me (Unit {0}) SeatView) where
   loads_granted s k _ at _ = (view_after_granted_load me.0, keeps, tt, looks s k at GRANTED _ refl refl refl refl, (refl, k.grant ∙ sym (k.covered id me.0 at).1, refl))
 
 -- a seat that did nothing joins
-pub splits : (granted id : ℕ) (v : SeatView) → Splits (IsBalanced granted) id v (view_after_split v) (new_view v.granted)
+pub splits : (granted id : ℕ) (v : SeatView) → Splits (IsBalanced granted) id v (view_after_split v) (new_view v.granted (v.depth + 1))
 splits granted id v s k at =
     let a = view_after_split v in
-    let w = new_view v.granted in
+    let w = new_view v.granted (v.depth + 1) in
     let views = set s.views id a in
     let h = k.covered id v at in
     let p = k.pool in

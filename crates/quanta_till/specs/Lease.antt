@@ -4,18 +4,19 @@ use Rattle.std.specs.Prelude.{◌≡◌, ℕ, ◌+◌, ◌-◌}
 use Rattle.atomic_table.specs.Seated.{TableId}
 use Rattle.quanta_till.specs.Till.{TillValue}
 
--- a lease: its till's table, its tenant, and its quanta
+-- a lease: its till's table, its tenant, the depth of its seat, and its quanta
 pub record LeaseValue : Type 0 where
   pub id : TableId
   pub tenant : ℕ
+  pub depth : ℕ
   pub drawn : ℕ
   pub used : ℕ
   pub back : ℕ
   pub left : ℕ
 
--- a new lease: nothing was drawn, used or handed back
-abbrev pub empty_lease : TillValue → ℕ → LeaseValue
-empty_lease t tenant = record { id = t.id; tenant = tenant; drawn = 0; used = 0; back = 0; left = 0 }
+-- a new lease of a seat of that depth: nothing was drawn, used or handed back
+abbrev pub empty_lease : TillValue → ℕ → ℕ → LeaseValue
+empty_lease t tenant depth = record { id = t.id; tenant = tenant; depth = depth; drawn = 0; used = 0; back = 0; left = 0 }
 
 -- nothing was drawn, used or handed back yet
 pub record IsEmpty (l : LeaseValue) : Type 0 where
@@ -39,6 +40,7 @@ after_settle l = record l { back = l.back + l.left; left = 0 }
 -- what a lease holds, whoever the tenant is
 pub record HoldingValue : Type 0 where
   pub id : TableId
+  pub depth : ℕ
   pub drawn : ℕ
   pub used : ℕ
   pub back : ℕ

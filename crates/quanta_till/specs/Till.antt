@@ -21,9 +21,10 @@ pub record IsBalanced (granted : ℕ) (s : State (Unit {0}) SeatView) : Type 0 w
   pub grant : slice_index s.words GRANTED ≡ granted
   pub covered : (number : ℕ) (v : SeatView) → get_elem? s.views number ≡ some v → IsCovered granted v
 
--- a seat that has done nothing yet
-abbrev pub new_view : ℕ → SeatView
-new_view granted = record { drawn = 0; used = 0; back = 0; granted = granted; seats = 0; loads = 0; pool = 0; spent = 0 }
+-- a seat that has done nothing yet. The first seat of a till has depth 0; a seat made from another
+-- is one deeper.
+abbrev pub new_view : ℕ → ℕ → SeatView
+new_view granted depth = record { drawn = 0; used = 0; back = 0; granted = granted; depth = depth; seats = 0; loads = 0; pool = 0; spent = 0 }
 
 -- The steps. Each changes one view:
 

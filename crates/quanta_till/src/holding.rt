@@ -24,6 +24,7 @@ impl Model for Holding {
 
     ghost view = { λ h. record {
       id = h.seat.table_id;
+      depth = h.seat.me.0.depth;
       drawn = h.seat.me.0.drawn;
       used = h.seat.me.0.used;
       back = h.seat.me.0.back;
@@ -39,8 +40,15 @@ impl Model for Holding {
 
 impl Holding {
     pub(crate) fn new(seat: Seat<(), SeatView>) -> Holding
-        requires { seat.me.0 ≡ new_view seat.me.0.granted }
-        ensures { result ≡ record { id = seat.table_id; drawn = 0; used = 0; back = 0; left = 0 } }
+        requires { seat.me.0 ≡ new_view seat.me.0.granted seat.me.0.depth }
+        ensures { result ≡ record {
+          id = seat.table_id;
+          depth = seat.me.0.depth;
+          drawn = 0;
+          used = 0;
+          back = 0;
+          left = 0;
+        } }
     {
         Holding { seat, left: 0 }
     }
@@ -90,6 +98,7 @@ impl Holding {
         requires empty { self.left ≡ 0 }
         requires counted { self.drawn ≡ self.used + self.back }
         ensures till { result.table_id ≡ self.id }
+        ensures depth { result.me.0.depth ≡ self.depth }
         ensures drawn { result.me.0.drawn ≡ self.drawn }
         ensures used { result.me.0.used ≡ self.used }
         ensures back { result.me.0.back ≡ self.back }

@@ -6,6 +6,8 @@ use crate::owned::Owned;
 use std::marker::Model;
 
 /// A `Lease` is quanta of a till in one holder's hands. When it is dropped, it hands back the rest.
+/// It shares the till: so its holder borrows nothing, and may move to another thread. Its calls
+/// take no memory and no lock.
 pub struct Lease {
     owned: Owned,
 }
@@ -23,13 +25,6 @@ impl Lease {
         ensures { result ≡ owned }
     {
         Lease { owned }
-    }
-
-    pub(crate) fn into_owned(self) -> Owned
-        ensures { result ≡ self }
-    {
-        let Lease { owned } = self;
-        owned
     }
 
     /// The tenant of the purse for whom quanta are drawn.

@@ -2,10 +2,10 @@
 //! them.
 //!
 //! Whatever other threads do: a [`Till`]'s pool, what its leases hold and what was used sum to what
-//! was granted. A [`Lease`] is ended by its drop, an [`Owned`] one by its owner.
+//! was granted. A [`Lease`] is ended by its drop.
 //!
 //! - `rule`, `account`: the words, what a seat at them knows, and what each atomic step keeps.
-//! - `holding`, `owned`, `lease`: what a lease holds; one to be ended; one to be dropped.
+//! - `holding`, `owned`, `lease`: what is drawn at a seat; a lease to be ended; one to be dropped.
 //! - `till`: `Till`, `Desk`, and the words that a desk reads.
 #![tactic(auto)]
 
@@ -18,5 +18,4 @@ mod till;
 
 pub use holding::LEASE_LIMIT;
 pub use lease::Lease;
-pub use owned::{Ended, Owned};
 pub use till::{Desk, Till, TillWords};

@@ -4,17 +4,15 @@ ghost use Rattle.quanta_till.specs.Lease.{after_draw, after_use, after_settle};
 
 use crate::account::SharedTill;
 use crate::holding::{Holding, LEASE_LIMIT};
-use crate::lease::Lease;
 use crate::rule::SeatView;
 use atomic_table::Seat;
 use std::alloc::Global;
 use std::marker::Model;
 use std::sync::Arc;
 
-/// An `Owned` is a lease that cannot be let go: it ends by `end`. A type that owns one needs a drop
-/// of its own that ends it. It shares the till: so its owner borrows nothing, and may move to
-/// another thread. Its calls are those of [`Lease`](crate::Lease); they take no memory and no lock.
-pub struct Owned {
+/// An `Owned` is what a [`Lease`](crate::Lease) holds. It cannot be let go: it ends by `end`. So
+/// the drop of a lease has to end it.
+pub(crate) struct Owned {
     account: Arc<SharedTill, Global>,
     tenant: u32,
     holding: Holding,
@@ -23,7 +21,7 @@ pub struct Owned {
 /// An `Ended` is a lease that has ended, by which contracts see what was drawn, used and handed
 /// back.
 #[derive(Drop)]
-pub struct Ended {
+pub(crate) struct Ended {
     tenant: u32,
     seat: Seat<(), SeatView>,
 }
@@ -36,6 +34,7 @@ impl Model for Ended {
     ghost view = { λ e. record {
       id = e.seat.table_id;
       tenant = e.tenant;
+      depth = e.seat.me.0.depth;
       drawn = e.seat.me.0.drawn;
       used = e.seat.me.0.used;
       back = e.seat.me.0.back;
@@ -53,6 +52,7 @@ impl Model for Owned {
     ghost view = { λ o. record {
       id = (arc_value o.account).table.shared.table_id;
       tenant = o.tenant;
+      depth = o.holding.depth;
       drawn = o.holding.drawn;
       used = o.holding.used;
       back = o.holding.back;
@@ -69,6 +69,7 @@ impl Owned {
         ensures { result ≡ record {
           id = holding.id;
           tenant = tenant;
+          depth = holding.depth;
           drawn = holding.drawn;
           used = holding.used;
           back = holding.back;
@@ -82,20 +83,13 @@ impl Owned {
         }
     }
 
-    /// The lease, which has to be ended from now on.
-    pub fn of(lease: Lease) -> Owned
-        ensures { result ≡ lease }
-    {
-        lease.into_owned()
-    }
-
-    pub fn tenant(&self) -> u32
+    pub(crate) fn tenant(&self) -> u32
         ensures { result ≡ self.now.tenant }
     {
         self.tenant
     }
 
-    pub fn left(&self) -> u64
+    pub(crate) fn left(&self) -> u64
         ensures left { result ≡ self.now.left }
         ensures counted { (self.now.used + self.now.back) + result ≡ self.now.drawn }
         ensures limited { result ≤ LEASE_LIMIT }
@@ -103,35 +97,35 @@ impl Owned {
         self.holding.left()
     }
 
-    pub fn draw(&mut self, n: u64)
+    pub(crate) fn draw(&mut self, n: u64)
         requires { self.old.left + n ≤ LEASE_LIMIT }
         ensures { self.new ≡ after_draw self.old n }
     {
         self.holding.draw(&self.account.table, n);
     }
 
-    pub fn use_one(&mut self)
+    pub(crate) fn use_one(&mut self)
         requires { 0 < self.old.left }
         ensures { self.new ≡ after_use self.old 1 }
     {
         self.holding.use_up(&self.account.table, 1);
     }
 
-    pub fn use_up(&mut self, n: u64)
+    pub(crate) fn use_up(&mut self, n: u64)
         requires { n ≤ self.old.left }
         ensures { self.new ≡ after_use self.old n }
     {
         self.holding.use_up(&self.account.table, n);
     }
 
-    pub fn settle(&mut self)
+    pub(crate) fn settle(&mut self)
         ensures { self.new ≡ after_settle self.old }
     {
         self.holding.settle(&self.account.table);
     }
 
-    /// Hands back what is left, and ends the lease.
-    pub fn end(self) -> Ended
+    /// Hands back what is left, and ends.
+    pub(crate) fn end(self) -> Ended
         ensures { result ≡ after_settle self }
     {
         let Owned {

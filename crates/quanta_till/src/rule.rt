@@ -21,6 +21,7 @@ pub struct SeatView {
     pub used: u64,
     pub back: u64,
     pub granted: u64,
+    pub depth: u64,
     pub seats: u64,
     pub loads: u64,
     pub pool: u64,
@@ -34,7 +35,7 @@ impl TableRule<(), SeatView, u64> for Balance {
 
     ghost holds = { IsBalanced };
 
-    ghost first = { new_view };
+    ghost first = { λ granted. new_view granted 0 };
 }
 
 pub(crate) type TillTable = Table<(), SeatView, u64, Balance, Global>;
@@ -42,11 +43,12 @@ pub(crate) type TillTable = Table<(), SeatView, u64, Balance, Global>;
 pub(crate) struct NewSeat;
 
 impl Split<SeatView> for NewSeat {
+    ghost use Rattle.std.specs.Prelude.{◌+◌};
     ghost use Rattle.quanta_till.specs.Till.{view_after_split, new_view};
 
     ghost left = { view_after_split };
 
-    ghost right = { λ v. new_view v.granted };
+    ghost right = { λ v. new_view v.granted (v.depth + 1) };
 }
 
 pub(crate) struct Draw;

@@ -1,4 +1,4 @@
-ghost use Rattle.std.specs.Prelude.{◌≡◌, IfOk, OnOk, OnErr};
+ghost use Rattle.std.specs.Prelude.{◌≡◌, ◌+◌, IfOk, OnOk, OnErr};
 ghost use Rattle.quanta_till.specs.Desk.{new_desk, after_seat, after_words};
 ghost use Rattle.quanta_till.specs.Lease.{empty_lease};
 
@@ -52,6 +52,7 @@ impl Model for Desk {
       number = d.seat.id;
       purse = d.purse;
       granted = d.seat.me.0.granted;
+      depth = d.seat.me.0.depth;
       seats = d.seat.me.0.seats;
       loads = d.seat.me.0.loads;
       pool = d.seat.me.0.pool;
@@ -75,7 +76,7 @@ impl Till {
     /// Opens a till with `granted` quanta, and its first desk. Fails only for want of memory.
     pub fn new(alloc: Global, purse: u32, granted: u64) -> Result<(Till, Desk), AllocError>
         ensures till { IfOk result (λ made. (made.0.purse ≡ purse) × (made.0.granted ≡ granted)) }
-        ensures desk { IfOk result (λ made. made.1 ≡ new_desk made.0.id 0 purse granted) }
+        ensures desk { IfOk result (λ made. made.1 ≡ new_desk made.0.id 0 purse granted 0) }
     {
         let mut words = [0; WORDS];
         words[POOL] = granted;
@@ -89,7 +90,7 @@ impl Till {
     pub fn desk(&self, desk: &mut Desk) -> Desk
         requires { desk.old.id ≡ self.now.id }
         ensures desk { desk.new ≡ after_seat desk.old }
-        ensures new { result ≡ new_desk self.now.id result.number self.now.purse desk.old.granted }
+        ensures new { result ≡ new_desk self.now.id result.number self.now.purse desk.old.granted (desk.old.depth + 1) }
     {
         let seat = self
             .account
@@ -105,7 +106,7 @@ impl Till {
     /// Makes an empty lease for `tenant`. Fails only if the count of the till's sharers is full.
     pub fn lease(&self, desk: &mut Desk, tenant: u32) -> Result<Lease, AllocError>
         requires { desk.old.id ≡ self.now.id }
-        ensures empty { IfOk result (λ lease. lease ≡ empty_lease self.now tenant) }
+        ensures empty { IfOk result (λ lease. lease ≡ empty_lease self.now tenant (desk.old.depth + 1)) }
         ensures desk { OnOk result (desk.new ≡ after_seat desk.old) }
         ensures err { OnErr result (desk.new ≡ desk.old) }
     {

@@ -1,6 +1,6 @@
 use Rattle.std.proofs.Common.{◌≡◌, sym, ap, ◌∙◌}
 use Rattle.job_table.specs.Lent.{with_work, change_found}
-use Rattle.job_table.proofs.LentLemmas.{own_work}
+use Rattle.job_table.proofs.LentLemmas.{own_work, drawn_here}
 use Rattle.farm_core.proofs.JobsLemmas.{funded_so, is_put}
 use Rattle.farm_core.proofs.farm.jobs.fund.Goals as goal
 
@@ -19,7 +19,8 @@ returns-clause-funded g c did =
     let old = c.args.jobs.now in
     let wrote : c.find_mut.follows.lender c.fund.new.self ≡ change_found t s (with_work c.fund.new.self) old = rw c.in-Some-find_mut.is at (c.find_mut.follows.holds c.fund.new.self) in
     funded_so old (c.find_mut.follows.lender c.fund.new.self) c.set_phase.new.self t s c.args.quanta c.in-Some.phase c.in-Some-find_mut.work.now c.fund.new.self c.in-Some-find_mut.ensures.lent (sym c.in-Some.is ∙ c.phase_of.ensures)
-    (sym c.is_here.ensures ∙ c.if-not-is_here.false) (c.fund.ensures.funded c.if-not-fund.false) wrote c.set_phase.ensures.put
+    (sym c.is_here.ensures ∙ c.if-not-is_here.false) (c.fund.ensures.funded c.if-not-fund.false)
+    (drawn_here g.J.Strategy.meaning g.J.Strategy.lease c.args.quanta c.in-Some-find_mut.work.now.search c.fund.new.self.search (c.fund.ensures.drawn c.if-not-fund.false)) wrote c.set_phase.ensures.put
 
 pub returns-clause-kept : goal.returns-clause-kept
 returns-clause-kept g c not =

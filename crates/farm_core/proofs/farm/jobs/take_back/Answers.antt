@@ -15,5 +15,5 @@ returns-clause-back g c =
     let m = g.J.Strategy.meaning c.args.search in
     let wrote : c.find_mut.follows.lender c.take_back-after.new.self ≡ change_found t s (with_work c.take_back-after.new.self) old = rw c.in-Some-find_mut.is at (c.find_mut.follows.holds c.take_back-after.new.self) in
     let found : find_row t s old.rows ≡ Some c.in-Some.job.now = sym c.find.ensures ∙ ap option_copied c.in-Some.is in
-    back_so old (c.find_mut.follows.lender c.take_back-after.new.self) c.set_phase.new.self t s c.args.slice c.args.ran m c.in-Some.job.now c.in-Some-find_mut.work.now c.take_back-after.new.self c.take_back-after.result found
+    back_so old (c.find_mut.follows.lender c.take_back-after.new.self) c.set_phase.new.self t s c.args.slice c.args.ran c.args.search m c.in-Some.job.now c.in-Some-find_mut.work.now c.take_back-after.new.self c.take_back-after.result found
     (c.is_own.ensures.0 c.if-not-is_own.false) c.in-Some-find_mut.ensures.lent (c.take_back-after.ensures.after ∙ ap (λ p. phase_after p (is_closed c.in-Some-find_mut.work.now.plan m.nodes) m.left) c.phase-phase.ensures) c.take_back-after.ensures.returned wrote c.set_phase.ensures.put

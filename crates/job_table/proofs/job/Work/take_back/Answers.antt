@@ -13,7 +13,7 @@ use Rattle.job_table.proofs.job.Work.take_back.Goals as goal
 pub copy-requires-clause-shown : goal.copy-requires-clause-shown
 copy-requires-clause-shown g c =
     let m = g.J.Strategy.meaning c.args.search in
-    let own : m.plan ≡ c.self.inside.plan = c.requires.plan ∙ ap (λ (w : WorkData). w.plan) (sym c.self.view_is) in
+    let own : m.plan ≡ c.self.inside.plan = c.requires.plan ∙ ap (λ (w : WorkData _). w.plan) (sym c.self.view_is) in
     let planned : IsTrue (is_project m.plan.project) = subst (λ (p : Plan). IsTrue (is_project p.project)) (sym own) c.self.invariant.planned in
     let shown : option_copied c.best.result ≡ best_after m.plan m.nodes = c.best.ensures ∙ ap (λ b. cond b None (best_after m.plan m.nodes)) c.requires.best in
     let count : size m.plan.project ≡ length c.self.inside.best.schedule.modes = ap (λ (p : Plan). size p.project) own ∙ sym c.self.invariant.sized.modes in

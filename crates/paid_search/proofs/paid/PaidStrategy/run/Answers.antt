@@ -1,5 +1,4 @@
 use Rattle.std.proofs.Common.{◌≡◌, ◌+◌, ◌≤◌, min, false, arith, refl, sym}
-use Rattle.quanta_till.specs.Lease.{after_use}
 use Rattle.paid_search.proofs.PaidLemmas.{meaning_from, all_within}
 use Rattle.paid_search.proofs.paid.PaidStrategy.run.Goals as goal
 
