@@ -27,6 +27,7 @@ plays_kept (Err fault) config from seen refuses script a b c h k = record {
   rest = h.rest;
   part = h.part;
   all = h.all;
+  marks = h.marks;
   written = appends_kept a b c _ h.written k;
   cause = h.cause;
 }

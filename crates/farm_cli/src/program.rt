@@ -1,4 +1,4 @@
-ghost use Rattle.std.specs.Prelude.{◌≡◌, ◌≤◌, OnOk, OnErr};
+ghost use Rattle.std.specs.Prelude.{◌≡◌, ◌≤◌, ◌&&◌, cond, is_ok, OnOk, OnErr};
 ghost use Rattle.std.specs.Process.{exit_status};
 
 use crate::arguments::{Task, parse_words};
@@ -200,22 +200,24 @@ fn end_unbound<R: Print + Env + Eprint>(rt: &R, port: u16, kind: ErrorKind) -> E
     status
 }
 
+fn status_of(ended: &Result<Settled, ServeFault>, is_told: bool) -> ExitCode
+    ensures { exit_status result ≡ cond (is_ok ended.now && is_told) 0 1 }
+{
+    if ended.is_ok() && is_told {
+        ExitCode::SUCCESS
+    } else {
+        ExitCode::FAILURE
+    }
+}
+
 fn end_serve<R: Print + Eprint>(rt: &R, ended: Result<Settled, ServeFault>) -> ExitCode
     ensures ok { exit_status result ≤ 1 }
     ensures fault { OnErr ended (exit_status result ≡ 1) }
 {
-    match ended {
-        Ok(_) => match println!(rt; "settled") {
-            Ok(()) => ExitCode::SUCCESS,
-            Err(_) => ExitCode::FAILURE,
-        },
-        Err(ServeFault::Unsettled) => {
-            let _ = eprintln!(rt; "unsettled");
-            ExitCode::FAILURE
-        }
-        Err(fault) => {
-            let _ = eprintln!(rt; "farm: serve {fault}");
-            ExitCode::FAILURE
-        }
-    }
+    let told = match &ended {
+        Ok(_) => println!(rt; "settled"),
+        Err(ServeFault::Unsettled) => eprintln!(rt; "unsettled"),
+        Err(fault) => eprintln!(rt; "farm: serve {fault}"),
+    };
+    status_of(&ended, told.is_ok())
 }

@@ -9,7 +9,7 @@ use Rattle.session_lines.specs.declared.reading.TheConstants.{MOST_REQUEST_BYTES
 use Rattle.session_lines.specs.declared.said.Said.{Said}
 use Rattle.session_lines.specs.Script.{Takes}
 use Rattle.farm_session.specs.declared.heard.Heard.TheVariants.{Told, Asked}
-use Rattle.farm_session.specs.Branch.{BranchValue, HasLeasedFor, HasLeasedBy}
+use Rattle.farm_session.specs.Branch.{BranchValue, HasLeasedOne, HasLeasedBy}
 use Rattle.farm_session.specs.Heard.{heard_of}
 use Rattle.farm_session.specs.Ready.{ReadyData}
 use Rattle.farm_replay.specs.Leases.{ScriptPoint, IsHeard, HaveLeased, AreLeasesOf}
@@ -40,7 +40,7 @@ module _ {J : Type 0} (config : ConfigData) (made : ReadyData → Option J → T
       leased_on script left mid rest old bs cs read begun takes (subst (λ h. IsHeard h) (sym is) tt) (subst (λ h. HasLeasedBy made config h bs cs) (sym is) kept) so
 
   pub leases_asked : (script left mid rest : Option (List ℕ)) (old bs cs : List BranchValue) (read : Result Request LineFault) (t : ℕ) (who : List ℕ) (what : What)
-      → heard_of config read ≡ Asked t who what → mid ≡ left → Takes MOST_REQUEST_BYTES None mid rest read → HasLeasedFor made config t what bs cs
+      → heard_of config read ≡ Asked t who what → mid ≡ left → Takes MOST_REQUEST_BYTES None mid rest read → HasLeasedOne made config t what bs cs
       → LeasedTo script old left bs → LeasedTo script old rest cs
   leases_asked script left mid rest old bs cs read t who what is begun takes leased so =
       leased_on script left mid rest old bs cs read begun takes (subst (λ h. IsHeard h) (sym is) tt) (subst (λ h. HasLeasedBy made config h bs cs) (sym is) leased) so

@@ -177,6 +177,7 @@ cut_by_write turns config xs ys zs old mid new count noted w w' line it m n by p
   rest = m.item ∷ requests_of zs;
   part = part.part;
   all = ap (λ l. items_of it.requests ++ l) (sym (reads_next turns m ys zs n)) ∙ sym it.reads;
+  marks = it.marks;
   written = appends_on old mid new (output_of config it.requests) part.part it.written part.written;
   cause = (failed, record { refused = m.refused; item = m.item; more = requests_of zs; behind = part.rest; first = refl; line = ap line_text by.says ∙ part.split });
 }
@@ -189,6 +190,7 @@ cut_before turns config xs ys zs old new count noted w it m n before seen failed
   rest = m.item ∷ requests_of zs;
   part = [];
   all = ap (λ l. items_of it.requests ++ l) (sym (reads_next turns m ys zs n)) ∙ sym it.reads;
+  marks = it.marks;
   written = subst (Appends old new) (sym (append-nil (output_of config it.requests))) it.written;
   cause = (
     failed,
@@ -210,6 +212,7 @@ cut_between config xs ys old new count noted w why before seen it cause = record
   rest = requests_of ys;
   part = [];
   all = sym it.reads;
+  marks = it.marks;
   written = subst (Appends old new) (sym (append-nil (output_of config it.requests))) it.written;
   cause = cause;
 }

@@ -231,5 +231,6 @@ pub record IsCutOff (config : ConfigData) (fault : ReplayFault) (before seen : C
   pub rest : List Item
   pub part : List ℕ
   pub all : items_of requests ++ rest ≡ requests_of script
+  pub marks : AreTrueMarks config (opening config) requests
   pub written : Appends old new (output_of config requests ++ part)
   pub cause : IsCutBy fault before seen config script requests rest part

@@ -7,7 +7,7 @@ ghost use Rattle.farm_core.specs.Turn.{IsNotTaken};
 ghost use Rattle.farm_core.specs.Held.{is_out_of};
 ghost use Rattle.session_lines.specs.declared.request.What.TheVariants as what;
 ghost use Rattle.farm_core.specs.Tills.{AreTillsOf};
-ghost use Rattle.farm_session.specs.Branch.{tills_of, HasLeasedFor};
+ghost use Rattle.farm_session.specs.Branch.{tills_of, HasLeasedOne};
 ghost use Rattle.farm_session.specs.Command.{event_in};
 ghost use Rattle.farm_session.specs.Ready.{MakesFresh};
 ghost use Rattle.farm_replay.specs.Closing.{all_back};
@@ -143,9 +143,9 @@ impl<J: Strategy> Floor<J> {
         requires known { tenant < length shop.now.config.now.tenants }
         requires tills { AreTillsOf shop.now.config.now (tills_of branches.old) }
         requires make { M.IsAlwaysCallable shop.now.make.now }
-        requires fresh { MakesFresh J.meaning (M.post shop.now.make.now) }
+        requires fresh { MakesFresh J.meaning J.lease (M.post shop.now.make.now) }
         requires floor { IsFloor J.meaning self.old.farm self.old.held.items }
-        ensures leased { HasLeasedFor (M.post shop.now.make.now)
+        ensures leased { HasLeasedOne (M.post shop.now.make.now)
             shop.now.config.now tenant asked branches.old branches.new }
         ensures told { IsTold self.old.farm tenant asked result self.new.farm }
         ensures floor { IsFloor J.meaning self.new.farm self.new.held.items }

@@ -104,7 +104,7 @@ fn play<J: Strategy, R: Read, W: Write, M: Fn(Ready) -> Option<J>>(
     requires farm { floor.old.farm ≡ opened shop.now.config.now }
     requires tills { AreTillsOf shop.now.config.now (tills_of branches.old) }
     requires make { M.IsAlwaysCallable shop.now.make.now }
-    requires fresh { MakesFresh J.meaning (M.post shop.now.make.now) }
+    requires fresh { MakesFresh J.meaning J.lease (M.post shop.now.make.now) }
     requires floor { IsFloor J.meaning floor.old.farm floor.old.held.items }
     requires notes { is_some notes.old.refused ≡ false }
     ensures written { OnOk result (IfSome (script_rest R.remaining script.old) (λ bytes.
@@ -162,7 +162,7 @@ fn play_out<J: Strategy, R: Read, W: Write, M: Fn(Ready) -> Option<J>>(
     requires farm { floor.farm ≡ opened shop.now.config.now }
     requires tills { AreTillsOf shop.now.config.now (tills_of branches.old) }
     requires make { M.IsAlwaysCallable shop.now.make.now }
-    requires fresh { MakesFresh J.meaning (M.post shop.now.make.now) }
+    requires fresh { MakesFresh J.meaning J.lease (M.post shop.now.make.now) }
     requires floor { IsFloor J.meaning floor.farm floor.held.items }
     requires notes { is_some notes.old.refused ≡ false }
     ensures written { OnOk result.0 (IfSome (script_rest R.remaining script.old) (λ bytes.
@@ -214,7 +214,8 @@ pub fn replay<R: Read + Drop, W: Write>(
     };
     let make = |ready: Ready| -> Option<Box<dyn Strategy>>
         ensures { IfSome result (λ search.
-            (Strategy-box search).meaning search.value ≡ fresh_search ready.lease.tenant ready.plan) }
+            ((Strategy-box search).meaning search.value ≡ fresh_search ready.lease.tenant ready.plan)
+            × ((Strategy-box search).lease search.value ≡ ready.lease)) }
     {
         match ready.kind() {
             Kind::Tree => {

@@ -2,7 +2,7 @@
 ghost use Rattle.std.specs.Prelude.{◌≡◌, ◌<◌, ℕ, length};
 ghost use Rattle.watched_io.specs.Failure.{IsNoted};
 ghost use Rattle.farm_core.specs.Command.{event_of, IsFresh};
-ghost use Rattle.farm_session.specs.Branch.{tills_of, HasLeasedFor, HasLeasedBy};
+ghost use Rattle.farm_session.specs.Branch.{tills_of, HasLeasedOne, HasLeasedBy};
 ghost use Rattle.farm_session.specs.Ready.{MakesFresh};
 ghost use Rattle.farm_session.specs.Command.{event_in};
 ghost use Rattle.farm_service.specs.Asked.{IsSaidTo};
@@ -115,11 +115,11 @@ fn answer<D: Shared, R: Wait, M: Fn(Ready) -> Option<D::Search>>(
     requires known { tenant < length office.now.shop.config.now.tenants }
     requires tills { AreTillsOf office.now.shop.config.now (tills_of branches.old) }
     requires make { M.IsAlwaysCallable office.now.shop.make.now }
-    requires fresh { MakesFresh D.means (M.post office.now.shop.make.now) }
+    requires fresh { MakesFresh D.means D.leases (M.post office.now.shop.make.now) }
     ensures own { D.owns office.now.shared.now token.new }
     ensures said { IsSaidTo (D.tells office.now.shared.now token.old tenant)
         token.old (event_in asked) result token.new }
-    ensures leased { HasLeasedFor (M.post office.now.shop.make.now)
+    ensures leased { HasLeasedOne (M.post office.now.shop.make.now)
         office.now.shop.config.now tenant asked branches.old branches.new }
 {
     match errand_of(&office.shop, branches, tenant, asked) {
@@ -146,7 +146,7 @@ fn reply<D: Shared, R: Wait, W: Write, M: Fn(Ready) -> Option<D::Search>>(
     requires tills { AreTillsOf office.now.shop.config.now (tills_of branches.old) }
     requires known { IsKnown office.now.shop.config.now heard }
     requires make { M.IsAlwaysCallable office.now.shop.make.now }
-    requires fresh { MakesFresh D.means (M.post office.now.shop.make.now) }
+    requires fresh { MakesFresh D.means D.leases (M.post office.now.shop.make.now) }
     ensures own { D.owns office.now.shared.now token.new }
     ensures told { IsToldOf (D.tells office.now.shared.now) token.old heard result
         (W.contents writer.old)
@@ -185,7 +185,7 @@ fn serve_next<D: Shared, R: Wait, I: BufRead, O: Write, M: Fn(Ready) -> Option<D
     requires config { D.config office.now.shared.now ≡ office.now.shop.config.now }
     requires tills { AreTillsOf office.now.shop.config.now (tills_of branches.old) }
     requires make { M.IsAlwaysCallable office.now.shop.make.now }
-    requires fresh { MakesFresh D.means (M.post office.now.shop.make.now) }
+    requires fresh { MakesFresh D.means D.leases (M.post office.now.shop.make.now) }
     ensures own { D.owns office.now.shared.now token.new }
     ensures tills { AreTillsOf office.now.shop.config.now (tills_of branches.new) }
     ensures answered { (heard : Heard) × HasAnswered office.now.shop.config.now
@@ -221,7 +221,7 @@ pub(crate) fn session<D: Shared, R: Wait, I: BufRead, O: Write, M: Fn(Ready) -> 
     requires config { D.config office.now.shared.now ≡ office.now.shop.config.now }
     requires tills { AreTillsOf office.now.shop.config.now (tills_of branches.old) }
     requires make { M.IsAlwaysCallable office.now.shop.make.now }
-    requires fresh { MakesFresh D.means (M.post office.now.shop.make.now) }
+    requires fresh { MakesFresh D.means D.leases (M.post office.now.shop.make.now) }
     ensures own { D.owns office.now.shared.now token.new }
     ensures served { (reads : ℕ) × (writes : ℕ) × IsSession office.now.shop.config.now
         (D.tells office.now.shared.now)

@@ -1,7 +1,7 @@
 //! The desks of a service's connections.
 ghost use Rattle.std.specs.Prelude.{◌≡◌, length, map, All, IfOk, OnOk};
 ghost use Rattle.farm_core.specs.Tills.{AreSeated};
-ghost use Rattle.farm_session.specs.Branch.{new_branch, HaveSeated};
+ghost use Rattle.farm_session.specs.Branch.{new_branch, AreFirst, HaveSeated};
 
 use farm_session::{Branch, branches};
 use quanta_till::{Desk, Till};
@@ -13,7 +13,8 @@ pub(crate) fn places<'a>(
     desks: &mut [Desk],
     count: u64,
 ) -> Result<Vec<Vec<Branch<'a>>>, AllocError>
-    requires { AreSeated tills.now desks.old }
+    requires seated { AreSeated tills.now desks.old }
+    requires first { AreFirst desks.old }
     ensures seated { AreSeated tills.entry.now desks.new }
     ensures unused { IfOk result (λ places. All (λ own. own.items ≡ map new_branch tills.entry.now) places.items) }
     ensures count { IfOk result (λ places. length places.items ≡ count) }

@@ -60,7 +60,7 @@ fn welcome<D: Shared, R: Wait, M: Fn(Ready) -> Option<D::Search>>(
     requires config { D.config office.now.shared.now ≡ office.now.shop.config.now }
     requires tills { AreTillsOf office.now.shop.config.now (tills_of own.old) }
     requires make { M.IsAlwaysCallable office.now.shop.make.now }
-    requires fresh { MakesFresh D.means (M.post office.now.shop.make.now) }
+    requires fresh { MakesFresh D.means D.leases (M.post office.now.shop.make.now) }
     ensures own { D.owns office.now.shared.now token.new }
     ensures served { IsClientServed office.now.shop.config.now
         (D.tells office.now.shared.now)
@@ -90,7 +90,7 @@ fn play_role<'a, D: Shared, R: Wait + Clock, M: Fn(Ready) -> Option<D::Search>>(
     requires config { D.config office.now.shared.now ≡ office.now.shop.config.now }
     requires tills { IsAtTills office.now.shop.config.now role }
     requires make { M.IsAlwaysCallable office.now.shop.make.now }
-    requires fresh { MakesFresh D.means (M.post office.now.shop.make.now) }
+    requires fresh { MakesFresh D.means D.leases (M.post office.now.shop.make.now) }
     ensures own { D.owns office.now.shared.now result.0 }
     ensures role { HasPlayedRole office.now.shop.config.now
         (D.tells office.now.shared.now)
@@ -150,7 +150,7 @@ fn hire<
     requires config { D.config office.now.shared.now ≡ office.now.shop.config.now }
     requires tills { IsAtTills office.now.shop.config.now role }
     requires make { M.IsAlwaysCallable office.now.shop.make.now }
-    requires fresh { MakesFresh D.means (M.post office.now.shop.make.now) }
+    requires fresh { MakesFresh D.means D.leases (M.post office.now.shop.make.now) }
     requires all { All (λ h. h.promise.0.value ≡ office.now.shared.now) handles.old.items }
     ensures own { D.owns office.now.shared.now token.new }
     ensures all { All (λ h. h.promise.0.value ≡ office.now.shared.now) handles.new.items }
@@ -166,7 +166,7 @@ fn hire<
                 × (D.config office.now.shared.now ≡ office.now.shop.config.now)
                 × IsAtTills office.now.shop.config.now role
                 × M.IsAlwaysCallable office.now.shop.make.now
-                × MakesFresh D.means (M.post office.now.shop.make.now) }
+                × MakesFresh D.means D.leases (M.post office.now.shop.make.now) }
             ensures { D.owns office.entry.now.shared.now result }
         { play_role(office, theirs, role).0 },
     );
@@ -197,7 +197,7 @@ fn hire_all<
     requires config { D.config office.now.shared.now ≡ office.now.shop.config.now }
     requires tills { All (λ own. AreTillsOf office.now.shop.config.now (tills_of own.items)) places.items }
     requires make { M.IsAlwaysCallable office.now.shop.make.now }
-    requires fresh { MakesFresh D.means (M.post office.now.shop.make.now) }
+    requires fresh { MakesFresh D.means D.leases (M.post office.now.shop.make.now) }
     requires all { All (λ h. h.promise.0.value ≡ office.now.shared.now) handles.old.items }
     ensures own { D.owns office.now.shared.now token.new }
     ensures all { All (λ h. h.promise.0.value ≡ office.now.shared.now) handles.new.items }
@@ -231,7 +231,7 @@ fn attend<
     requires config { D.config office.now.shared.now ≡ office.now.shop.config.now }
     requires tills { All (λ own. AreTillsOf office.now.shop.config.now (tills_of own.items)) places.items }
     requires make { M.IsAlwaysCallable office.now.shop.make.now }
-    requires fresh { MakesFresh D.means (M.post office.now.shop.make.now) }
+    requires fresh { MakesFresh D.means D.leases (M.post office.now.shop.make.now) }
     ensures { D.owns office.now.shared.now token.new }
 {
     let mine = office.shared.split(token);
@@ -243,7 +243,7 @@ fn attend<
                 × (D.config office.now.shared.now ≡ office.now.shop.config.now)
                 × All (λ own. AreTillsOf office.now.shop.config.now (tills_of own.items)) places.items
                 × M.IsAlwaysCallable office.now.shop.make.now
-                × MakesFresh D.means (M.post office.now.shop.make.now) }
+                × MakesFresh D.means D.leases (M.post office.now.shop.make.now) }
             ensures { D.owns office.entry.now.shared.now result.0 }
         {
             let mut mine = mine;
@@ -286,7 +286,8 @@ pub fn serve<R: Threads + Wait + Clock + Sync>(
     let lobby = Lobby::new(places.len() as u64);
     let make = |ready: Ready| -> Option<Box<dyn Strategy>>
         ensures { IfSome result (λ search.
-            (Strategy-box search).meaning search.value ≡ fresh_search ready.lease.tenant ready.plan) }
+            ((Strategy-box search).meaning search.value ≡ fresh_search ready.lease.tenant ready.plan)
+            × ((Strategy-box search).lease search.value ≡ ready.lease)) }
     {
         match ready.kind() {
             Kind::Tree => {

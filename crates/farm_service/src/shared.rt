@@ -4,6 +4,7 @@
 //! `serve` names the boxes.
 ghost use Rattle.std.specs.Prelude.{◌≡◌, ℕ, ◌<◌, All, length};
 ghost use Rattle.std.specs.Vec.{vec_len, vec_capacity};
+ghost use Rattle.quanta_till.specs.Lease.{LeaseValue};
 ghost use Rattle.strategy.specs.Search.{Meaning};
 ghost use Rattle.job_table.specs.Job.{fresh_search};
 ghost use Rattle.farm_core.specs.Config.{ConfigData};
@@ -28,6 +29,8 @@ pub(crate) trait Shared {
     ghost config: { Self → ConfigData };
 
     ghost means: { Self.Search → Meaning };
+
+    ghost leases: { Self.Search → LeaseValue };
 
     ghost owns: { Self → Self.Token → Type 0 };
 
@@ -90,6 +93,8 @@ impl Shared for Pool {
     ghost config = { λ pool. pool.lock.opening };
 
     ghost means = { λ b. (Strategy-box b).meaning b.value };
+
+    ghost leases = { λ b. (Strategy-box b).lease b.value };
 
     ghost owns = { λ pool pass. IsPassOf pool.lock pass };
 

@@ -1,11 +1,10 @@
 -- The tills of purses, by their numbers.
-use Rattle.std.proofs.Common.{◌≡◌, ℕ, zero, suc, ◌+◌, ◌<◌, List, [], ◌∷◌, ◌++◌, length, map, get_or, set, Option, Some, None, refl, sym, ap, ◌∙◌, arith, ⊎_elim}
+use Rattle.std.proofs.Common.{◌≡◌, ℕ, zero, suc, ◌+◌, ◌<◌, List, [], ◌∷◌, ◌++◌, length, map, get_or, set, Option, Some, None, refl, sym, ap, ◌∙◌, subst, arith, ⊎_elim}
 use Rattle.std.specs.Prelude.{slice_get}
 use Rattle.std.proofs.lemmas.List.{map-append, get_or-map, length-map}
 use Rattle.std.proofs.lemmas.List.FromFn.{map-range_with_len_more, get_or-map-range_with_len}
 use Rattle.std.specs.List.{range_with_len}
 use Rattle.quanta_till.specs.Desk.{DeskValue, new_desk}
-use Rattle.quanta_till.specs.Lease.{empty_lease}
 use Rattle.quanta_till.specs.Till.{TillValue}
 use Rattle.farm_core.specs.Config.{ConfigData, member_lines, granted_by}
 use Rattle.farm_core.specs.World.{purses_in, purse_in}
@@ -15,7 +14,7 @@ use Rattle.mrcpsp.specs.Project.{ProjectData}
 use Rattle.strategy.specs.declared.kind.Kind.{Kind}
 use Rattle.session_lines.specs.declared.request.What.{What}
 use Rattle.session_lines.specs.declared.request.What.TheVariants.{Submit}
-use Rattle.farm_session.specs.Branch.{BranchValue, new_branch, tills_of, first_desk, HasLeased, HasLeasedFor, HasLeasedBy}
+use Rattle.farm_session.specs.Branch.{BranchValue, new_branch, lease_at, tills_of, first_desk, AreFirst, HaveSeated, HasLeased, HasLeasedFor, HasLeasedOne, HasLeasedBy}
 use Rattle.farm_session.specs.Ready.{ReadyData}
 use Rattle.farm_session.specs.declared.heard.Heard.{Heard}
 use Rattle.farm_session.specs.declared.heard.Heard.TheVariants.{Asked}
@@ -71,13 +70,17 @@ leased_till made old new ready None has =
     ⊎_elim (λ none. ap (λ (b : BranchValue). b.till) none) (λ one. ap (λ (b : BranchValue). b.till) one.0) has
 
 -- branches stay at their tills
-pub tills_kept : {J : Type 0} (made : ReadyData → Option J → Type 0) (config : ConfigData) (t : ℕ) (what : What) (old new : List BranchValue)
-    → HasLeasedFor made config t what old new → tills_of new ≡ tills_of old
-tills_kept made config t (Submit kind quanta project) old new has =
+kept_for : {J : Type 0} (made : ReadyData → Option J → Type 0) (config : ConfigData) (t : ℕ) (what : What) (search : Option J) (old new : List BranchValue)
+    → HasLeasedFor made config t what search old new → tills_of new ≡ tills_of old
+kept_for made config t (Submit kind quanta project) search old new has =
     ap tills_of has.after
     ∙ tills_set old (purse_in config t) has.here has.then has.found
-    (leased_till made has.here has.then (record { plan = record { project = project; kind = kind }; lease = empty_lease has.here.till t }) has.search has.leased)
-tills_kept made config t what old new has = ap tills_of has
+    (leased_till made has.here has.then (record { plan = record { project = project; kind = kind }; lease = lease_at has.here t }) search has.leased)
+kept_for made config t what search old new has = ap tills_of has
+
+pub tills_kept : {J : Type 0} (made : ReadyData → Option J → Type 0) (config : ConfigData) (t : ℕ) (what : What) (old new : List BranchValue)
+    → HasLeasedOne made config t what old new → tills_of new ≡ tills_of old
+tills_kept made config t what old new has = kept_for made config t what has.0 old new has.1
 
 pub tills_kept_by : {J : Type 0} (made : ReadyData → Option J → Type 0) (config : ConfigData) (heard : Heard) (old new : List BranchValue)
     → HasLeasedBy made config heard old new → tills_of new ≡ tills_of old
@@ -86,15 +89,15 @@ tills_kept_by made config heard old new has = ap tills_of has
 
 -- one first desk more
 pub desks_on : (purse granted : ℕ) (tills new : List TillValue) (desks then : List DeskValue) (till : TillValue) (desk : DeskValue)
-    → (till.purse ≡ purse) × (till.granted ≡ granted) → desk ≡ new_desk till.id 0 purse granted → desks ≡ map first_desk tills
+    → (till.purse ≡ purse) × (till.granted ≡ granted) → desk ≡ new_desk till.id 0 purse granted 0 → desks ≡ map first_desk tills
     → new ≡ tills ++ till ∷ [] → then ≡ desks ++ desk ∷ [] → then ≡ map first_desk new
 desks_on purse granted tills new desks then till desk made is before pushed also =
     let first : desk ≡ first_desk till =
-    is ∙ ap (λ n. new_desk till.id 0 n granted) (sym made.0) ∙ ap (new_desk till.id 0 till.purse) (sym made.1) in
+    is ∙ ap (λ n. new_desk till.id 0 n granted 0) (sym made.0) ∙ ap (λ n. new_desk till.id 0 till.purse n 0) (sym made.1) in
     also ∙ ap (λ (ds : List DeskValue). ds ++ desk ∷ []) before ∙ ap (λ (d : DeskValue). map first_desk tills ++ d ∷ []) first
     ∙ sym (map-append first_desk tills (till ∷ [])) ∙ sym (ap (map first_desk) pushed)
 
-set_found : (bs : List BranchValue) (p : ℕ) (d : BranchValue) → p < length bs → slice_get bs p ≡ Some (get_or bs p d)
+pub set_found : (bs : List BranchValue) (p : ℕ) (d : BranchValue) → p < length bs → slice_get bs p ≡ Some (get_or bs p d)
 set_found [] p d few = absurd (omega arith)
 set_found (b ∷ bs) zero d few = refl
 set_found (b ∷ bs) (suc p) d few = set_found bs p d (omega arith)
@@ -102,13 +105,24 @@ set_found (b ∷ bs) (suc p) d few = set_found bs p d (omega arith)
 -- a submit has the lease made that its branch shows
 pub submit_leased : {J : Type 0} (made : ReadyData → Option J → Type 0) (config : ConfigData) (t quanta p : ℕ) (kind : Kind) (project : ProjectData)
     (bs : List BranchValue) (here then : BranchValue) → p ≡ purse_in config t → p < length bs → here ≡ get_or bs p here
-    → (search : Option J) × HasLeased made here (record { plan = record { project = project; kind = kind }; lease = empty_lease here.till t }) search then
-    → HasLeasedFor made config t (Submit kind quanta project) bs (set bs p then)
-submit_leased made config t quanta p kind project bs here then is few at leased = record {
+    → (found search : Option J) → found ≡ search → HasLeased made here (record { plan = record { project = project; kind = kind }; lease = lease_at here t }) found then
+    → HasLeasedFor made config t (Submit kind quanta project) search bs (set bs p then)
+submit_leased {J} made config t quanta p kind project bs here then is few at found search same leased = record {
   here = here;
   then = then;
-  search = leased.0;
   found = ap (slice_get bs) (sym is) ∙ set_found bs p here few ∙ ap Some (sym at);
-  leased = leased.1;
+  leased = subst (λ (s : Option J). HasLeased made here (record { plan = record { project = project; kind = kind }; lease = lease_at here t }) s then) same leased;
   after = ap (λ n. set bs n then) is;
 }
+
+-- the desks with which tills were opened are their first ones
+pub opened_first : (tills : List TillValue) → AreFirst (map first_desk tills)
+opened_first [] i d below = absurd (omega (arith, below))
+opened_first (t ∷ tills) zero d below = refl
+opened_first (t ∷ tills) (suc i) d below = opened_first tills i d (omega (arith, below))
+
+-- they still are once seats were made from them
+pub first_kept : (seats : ℕ) (old new : List DeskValue) → HaveSeated seats old new → AreFirst old → AreFirst new
+first_kept seats old new so first i d below =
+    let few : i < length old = omega (arith, so.count) in
+    ap (λ (x : DeskValue). x.depth) (so.each i d few) ∙ first i d few

@@ -2,7 +2,7 @@
 use Rattle.std.specs.Prelude.{◌≡◌, ◌⊎◌, ℕ, ◌+◌, ◌<◌, List, map, length, set, get_or, slice_get, Option, Some, None}
 use Rattle.strategy.specs.declared.plan.Plan.{Plan}
 use Rattle.quanta_till.specs.Desk.{DeskValue, new_desk}
-use Rattle.quanta_till.specs.Lease.{empty_lease}
+use Rattle.quanta_till.specs.Lease.{LeaseValue, empty_lease}
 use Rattle.quanta_till.specs.Till.{TillValue}
 use Rattle.farm_core.specs.Config.{ConfigData}
 use Rattle.farm_core.specs.World.{purse_in}
@@ -12,14 +12,20 @@ use Rattle.farm_session.specs.Ready.{ReadyData}
 use Rattle.farm_session.specs.declared.heard.Heard.{Heard}
 use Rattle.farm_session.specs.declared.heard.Heard.TheVariants.{Asked}
 
--- a branch: its till, and the seats that were made from its desk, one for each lease
+-- a branch: its till, the depth of its desk, and the seats that were made from the desk, one for
+-- each lease
 pub record BranchValue : Type 0 where
   pub till : TillValue
+  pub depth : ℕ
   pub seats : ℕ
 
--- a branch at which no lease was made yet
+-- a branch at which no lease was made yet. Its desk was made from the first one of the till
 abbrev pub new_branch : TillValue → BranchValue
-new_branch till = record { till = till; seats = 0 }
+new_branch till = record { till = till; depth = 1; seats = 0 }
+
+-- a new lease for a tenant, made from the desk of the branch
+abbrev pub lease_at : BranchValue → ℕ → LeaseValue
+lease_at b tenant = empty_lease b.till tenant (b.depth + 1)
 
 -- a branch after one more lease
 abbrev pub having_leased : BranchValue → BranchValue
@@ -31,7 +37,11 @@ tills_of branches = map (λ (b : BranchValue). b.till) branches
 
 -- the desk with which a till was opened: no seat was made from it
 abbrev pub first_desk : TillValue → DeskValue
-first_desk till = new_desk till.id 0 till.purse till.granted
+first_desk till = new_desk till.id 0 till.purse till.granted 0
+
+-- each of these desks is the first one of its till
+abbrev pub AreFirst : List DeskValue → Type 0
+AreFirst desks = (i : ℕ) (d : DeskValue) → i < length desks → (get_or desks i d).depth ≡ 0
 
 -- `seats` seats were made from each desk, and it did nothing else
 pub record HaveSeated (seats : ℕ) (old new : List DeskValue) : Type 0 where
@@ -45,22 +55,26 @@ module _ {J : Type 0} (made : ReadyData → Option J → Type 0) where
   HasLeased old ready (Some search) new = (new ≡ having_leased old) × made ready (Some search)
   HasLeased old ready None new = (new ≡ old) ⊎ ((new ≡ having_leased old) × made ready None)
 
-  -- a search of the plan was asked for, for tenant t, at the branch of purse p alone
-  pub record HasLeasedAt (p t : ℕ) (plan : Plan) (old new : List BranchValue) : Type 0 where
+  -- a search of the plan was asked for, for tenant t, at the branch of purse p alone. This search
+  -- came of it, or none
+  pub record HasLeasedAt (p t : ℕ) (plan : Plan) (search : Option J) (old new : List BranchValue) : Type 0 where
     pub here : BranchValue
     pub then : BranchValue
-    pub search : Option J
     pub found : slice_get old p ≡ Some here
-    pub leased : HasLeased here (record { plan = plan; lease = empty_lease here.till t }) search then
+    pub leased : HasLeased here (record { plan = plan; lease = lease_at here t }) search then
     pub after : new ≡ set old p then
 
-  -- a submit has a lease made for its search, at the branch of the tenant's purse; no other request
+  -- a submit has a lease made for this search, at the branch of the tenant's purse; no other request
   -- has one
-  abbrev pub HasLeasedFor : ConfigData → ℕ → What → List BranchValue → List BranchValue → Type 0
-  HasLeasedFor config t (Submit kind quanta project) old new = HasLeasedAt (purse_in config t) t (record { project = project; kind = kind }) old new
-  HasLeasedFor config t what old new = new ≡ old
+  abbrev pub HasLeasedFor : ConfigData → ℕ → What → Option J → List BranchValue → List BranchValue → Type 0
+  HasLeasedFor config t (Submit kind quanta project) search old new = HasLeasedAt (purse_in config t) t (record { project = project; kind = kind }) search old new
+  HasLeasedFor config t what search old new = new ≡ old
+
+  -- whichever the search is
+  abbrev pub HasLeasedOne : ConfigData → ℕ → What → List BranchValue → List BranchValue → Type 0
+  HasLeasedOne config t what old new = (search : Option J) × HasLeasedFor config t what search old new
 
   -- only a tenant's request has a lease made
   abbrev pub HasLeasedBy : ConfigData → Heard → List BranchValue → List BranchValue → Type 0
-  HasLeasedBy config (Asked t who what) old new = HasLeasedFor config t what old new
+  HasLeasedBy config (Asked t who what) old new = HasLeasedOne config t what old new
   HasLeasedBy config heard old new = new ≡ old

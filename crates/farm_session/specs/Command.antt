@@ -4,6 +4,8 @@ use Rattle.strategy.specs.Search.{Meaning}
 use Rattle.farm_core.specs.declared.entry.Event.{Event}
 use Rattle.farm_core.specs.declared.entry.Event.TheVariants as event
 use Rattle.farm_core.specs.Command.{event_of, IsFresh}
+use Rattle.farm_core.specs.declared.command.Command.{Command}
+use Rattle.farm_core.specs.declared.command.Command.TheVariants as command
 use Rattle.session_lines.specs.declared.request.What.{What}
 use Rattle.session_lines.specs.declared.request.What.TheVariants.{Submit, Fund, Status, Fetch, Cancel, Forget, Ledger, Take, Give, Turn}
 use Rattle.farm_session.specs.declared.errand.Errand.{Errand}
@@ -38,3 +40,13 @@ IsErrandOf request (Scripted same) = (same ≡ request) × (event_in request ≡
 abbrev pub HasFreshSearch : {J : Type 0} → (J → Meaning) → ℕ → Errand J → Type 0
 HasFreshSearch meaning t (Call command) = IsFresh meaning t command
 HasFreshSearch meaning t errand = ⊤
+
+-- the search that a command submits
+abbrev pub submitted_by : {J : Type 0} → Command J → Option J
+submitted_by (command.Submit plan quanta search) = Some search
+submitted_by other = None
+
+-- the search of an errand, if it is a submit
+abbrev pub search_in : {J : Type 0} → Errand J → Option J
+search_in (Call command) = submitted_by command
+search_in errand = None

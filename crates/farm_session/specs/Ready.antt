@@ -10,6 +10,8 @@ pub record ReadyData : Type 0 where
   pub plan : Plan
   pub lease : LeaseValue
 
--- each search made so is for the plan, of the lease's tenant, and has run and holds nothing
-abbrev pub MakesFresh : {J : Type 0} → (J → Meaning) → (ReadyData → Option J → Type 0) → Type 0
-MakesFresh meaning made = (ready : ReadyData) → (search : _) → made ready (Some search) → meaning search ≡ fresh_search ready.lease.tenant ready.plan
+-- each search made so is for the plan, of the lease's tenant, has run and holds nothing, and draws
+-- on this lease
+abbrev pub MakesFresh : {J : Type 0} → (J → Meaning) → (J → LeaseValue) → (ReadyData → Option J → Type 0) → Type 0
+MakesFresh meaning lease made =
+    (ready : ReadyData) → (search : _) → made ready (Some search) → (meaning search ≡ fresh_search ready.lease.tenant ready.plan) × (lease search ≡ ready.lease)

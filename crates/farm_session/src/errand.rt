@@ -1,8 +1,10 @@
-ghost use Rattle.std.specs.Prelude.{◌≡◌, ◌<◌, length};
+ghost use Rattle.std.specs.Prelude.{◌≡◌, ◌<◌, length, slice_get, IfSome};
+ghost use Rattle.quanta_till.specs.Lease.{LeaseValue};
 ghost use Rattle.strategy.specs.Search.{Meaning};
 ghost use Rattle.farm_core.specs.Tills.{AreTillsOf};
-ghost use Rattle.farm_session.specs.Branch.{tills_of, HasLeasedFor};
-ghost use Rattle.farm_session.specs.Command.{IsErrandOf, HasFreshSearch};
+ghost use Rattle.farm_core.specs.World.{purse_in};
+ghost use Rattle.farm_session.specs.Branch.{tills_of, lease_at, HasLeasedFor};
+ghost use Rattle.farm_session.specs.Command.{IsErrandOf, HasFreshSearch, search_in};
 ghost use Rattle.farm_session.specs.Ready.{MakesFresh};
 
 use crate::ready::{Ready, search_of};
@@ -31,7 +33,7 @@ pub enum Errand<J> {
 }
 
 /// The errand of a tenant's request. For a submit it makes the search, with a new lease of the
-/// purse's till.
+/// purse's till, on which the search draws.
 pub fn errand_of<J, M: Fn(Ready) -> Option<J>>(
     shop: &Workshop<'_, M>,
     branches: &mut [Branch<'_>],
@@ -42,10 +44,15 @@ pub fn errand_of<J, M: Fn(Ready) -> Option<J>>(
     requires tills { AreTillsOf shop.now.config.now (tills_of branches.old) }
     requires make { M.IsAlwaysCallable shop.now.make.now }
     ensures exact { IsErrandOf asked result }
-    ensures fresh { (meaning : J → Meaning) → MakesFresh meaning (M.post shop.now.make.now)
+    ensures fresh { (meaning : J → Meaning) (lease : J → LeaseValue)
+        → MakesFresh meaning lease (M.post shop.now.make.now)
         → HasFreshSearch meaning tenant result }
+    ensures drawn { (meaning : J → Meaning) (lease : J → LeaseValue)
+        → MakesFresh meaning lease (M.post shop.now.make.now)
+        → IfSome (slice_get branches.old (purse_in shop.now.config.now tenant))
+        (λ branch. IfSome (search_in result) (λ search. lease search ≡ lease_at branch tenant)) }
     ensures leased { HasLeasedFor (M.post shop.now.make.now)
-        shop.now.config.now tenant asked branches.old branches.new }
+        shop.now.config.now tenant asked (search_in result) branches.old branches.new }
 {
     match asked {
         What::Submit {

@@ -1,8 +1,8 @@
 ghost use Rattle.std.specs.Prelude.{◌≡◌, IfSome};
 ghost use Rattle.strategy.specs.declared.kind.Kind.TheVariants as kind;
-ghost use Rattle.quanta_till.specs.Lease.{IsEmpty, empty_lease};
+ghost use Rattle.quanta_till.specs.Lease.{IsEmpty};
 ghost use Rattle.job_table.specs.Job.{fresh_search};
-ghost use Rattle.farm_session.specs.Branch.{HasLeased};
+ghost use Rattle.farm_session.specs.Branch.{lease_at, HasLeased};
 ghost use Rattle.tree_search.specs.Search as tree_search;
 ghost use Rattle.rule_search.specs.Rule.{IsRule};
 ghost use Rattle.rule_search.specs.Search as rule_search;
@@ -55,6 +55,7 @@ impl Ready {
         requires { self.plan.kind ≡ kind.Tree }
         ensures made { IfSome result (λ search. search.value ≡ tree_search.fresh self.plan self.lease) }
         ensures fresh { IfSome result (λ search. search.value.0 ≡ fresh_search self.lease.tenant self.plan) }
+        ensures drawn { IfSome result (λ search. search.value.1 ≡ self.lease) }
     {
         let Ready { plan, lease } = self;
         let search = TreeSearch::new(alloc, plan, lease).ok()?;
@@ -66,6 +67,7 @@ impl Ready {
         requires { IsSample self.plan.kind }
         ensures made { IfSome result (λ search. search.value ≡ sample_search.fresh self.plan self.lease) }
         ensures fresh { IfSome result (λ search. search.value.0 ≡ fresh_search self.lease.tenant self.plan) }
+        ensures drawn { IfSome result (λ search. search.value.1 ≡ self.lease) }
     {
         let Ready { plan, lease } = self;
         let search = SampleSearch::new(alloc, plan, lease).ok()?;
@@ -77,6 +79,7 @@ impl Ready {
         requires { IsRule self.plan.kind }
         ensures made { IfSome result (λ search. search.value ≡ rule_search.fresh self.plan self.lease) }
         ensures fresh { IfSome result (λ search. search.value.0 ≡ fresh_search self.lease.tenant self.plan) }
+        ensures drawn { IfSome result (λ search. search.value.1 ≡ self.lease) }
     {
         let Ready { plan, lease } = self;
         let search = RuleSearch::new(alloc, plan, lease).ok()?;
@@ -94,7 +97,7 @@ pub(crate) fn search_of<J, M: Fn(Ready) -> Option<J>>(
 ) -> Option<J>
     requires { M.IsAlwaysCallable make.now }
     ensures { HasLeased (M.post make.now) branch.old
-        (record { plan = plan.now; lease = empty_lease branch.old.till tenant })
+        (record { plan = plan.now; lease = lease_at branch.old tenant })
         result branch.new }
 {
     let plan = plan.clone_in(alloc).ok()?;

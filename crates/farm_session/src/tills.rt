@@ -1,7 +1,6 @@
 ghost use Rattle.std.specs.Prelude.{◌≡◌, map, IfOk, OnOk, OnErr};
-ghost use Rattle.quanta_till.specs.Lease.{empty_lease};
 ghost use Rattle.farm_core.specs.Tills.{AreSeated, AreTillsOf};
-ghost use Rattle.farm_session.specs.Branch.{new_branch, having_leased, first_desk, HaveSeated};
+ghost use Rattle.farm_session.specs.Branch.{new_branch, lease_at, having_leased, first_desk, AreFirst, HaveSeated};
 
 use farm_core::Config;
 use quanta_till::{Desk, Lease, Till};
@@ -21,7 +20,7 @@ impl<'a> Model for Branch<'a> {
 
     ghost Value = { BranchValue };
 
-    ghost view = { λ c. record { till = c.till.now; seats = c.desk.seats } };
+    ghost view = { λ c. record { till = c.till.now; depth = c.desk.depth; seats = c.desk.seats } };
 
     ghost invariant = { λ c. c.desk.id ≡ c.till.now.id };
 }
@@ -29,7 +28,7 @@ impl<'a> Model for Branch<'a> {
 impl<'a> Branch<'a> {
     /// Makes an empty lease of this till for `tenant`. If there is no memory, no lease was made.
     pub fn lease(&mut self, tenant: u32) -> Result<Lease, AllocError>
-        ensures made { IfOk result (λ lease. lease ≡ empty_lease self.old.till tenant) }
+        ensures made { IfOk result (λ lease. lease ≡ lease_at self.old tenant) }
         ensures one { OnOk result (self.new ≡ having_leased self.old) }
         ensures none { OnErr result (self.new ≡ self.old) }
     {
@@ -59,7 +58,8 @@ pub fn branches<'a>(
     tills: &'a [Till],
     desks: &mut [Desk],
 ) -> Result<Vec<Branch<'a>>, AllocError>
-    requires { AreSeated tills.now desks.old }
+    requires seated { AreSeated tills.now desks.old }
+    requires first { AreFirst desks.old }
     ensures seated { AreSeated tills.entry.now desks.new }
     ensures unused { IfOk result (λ branches. branches.items ≡ map new_branch tills.entry.now) }
     ensures one { OnOk result (HaveSeated 1 desks.old desks.new) }

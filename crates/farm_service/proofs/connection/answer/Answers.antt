@@ -16,4 +16,4 @@ returns-in-Scripted-clause-said g c =
     said_nothing (g.D.Shared.tells c.args.office.now.shared.now c.args.token.now c.args.tenant) c.args.token.now c.args.token.now c.args.asked c.in-Scripted.ensures.exact.1
 
 pub call-requires-clause-fresh : goal.call-requires-clause-fresh
-call-requires-clause-fresh g c = c.in-Call.ensures.fresh g.D.Shared.means c.requires.fresh
+call-requires-clause-fresh g c = c.in-Call.ensures.fresh g.D.Shared.means g.D.Shared.leases c.requires.fresh

@@ -21,4 +21,4 @@ returns-in-NoMemory-clause-told g c =
     (subst (λ (k : ConfigData). c.args.tenant < length k.tenants) (sym c.requires.config) c.requires.known) c.in-NoMemory.ensures.exact
 
 pub command-requires-clause-fresh : goal.command-requires-clause-fresh
-command-requires-clause-fresh g c κs within = c.in-Call.ensures.fresh g.J.Strategy.meaning c.requires.fresh
+command-requires-clause-fresh g c κs within = c.in-Call.ensures.fresh g.J.Strategy.meaning g.J.Strategy.lease c.requires.fresh
