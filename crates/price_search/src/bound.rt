@@ -9,7 +9,10 @@ ghost use Rattle.price_search.specs.LowerBound.{TakesAtLeast};
 
 use crate::cases::{MOST_PIECE_STEPS, refute_by_cases};
 use crate::climb::{Answer, Climb};
+use crate::count::items_of;
+use crate::effort::Effort;
 use crate::laws::fitting_modes_decide;
+use crate::model::MOST_ITEMS;
 use crate::narrow::narrow;
 use crate::search::find_prices;
 use measures::Measures;
@@ -21,15 +24,20 @@ use std::alloc::{AllocError, Global};
 /// The most bounds that are asked of a project.
 pub const MOST_QUESTIONS: u32 = 256;
 
-/// The choices within a bound that are left. Returns `None` if there are too many for prices.
+/// The choices within a bound that are left. Returns `None` if there are more choices and rows than
+/// `most_items`, or too many starts for prices.
 fn table<'a>(
     alloc: Global,
     project: &'a Project,
     bound: u32,
+    most_items: usize,
 ) -> Result<Option<Barred<'a>>, AllocError>
     ensures project { IfOk result (λ table. IfSome table (λ barred. barred.project ≡ project.now)) }
     ensures bound { IfOk result (λ table. IfSome table (λ barred. barred.bound ≡ bound)) }
 {
+    if items_of(alloc, project, bound)? > most_items {
+        return Ok(None);
+    }
     match Barred::new(alloc, project, bound) {
         Ok(mut barred) => {
             narrow(alloc, project, &mut barred)?;
@@ -44,7 +52,7 @@ fn table<'a>(
 fn ask(alloc: Global, project: &Project, bound: u32, steps: u32) -> Result<Answer, AllocError>
     ensures { IfOk result (λ answer. IsTrue answer.refuted → EachExceeds project.now bound) }
 {
-    let Some(barred) = table(alloc, project, bound)? else {
+    let Some(barred) = table(alloc, project, bound, MOST_ITEMS)? else {
         return Ok(Answer {
             refuted: false,
             stretch: 0,
@@ -89,32 +97,32 @@ pub enum Barring<'a> {
     Refuted,
     /// The choices that are known to be in no feasible schedule within the bound.
     Open(Barred<'a>),
-    /// There are more starts than [`schedule_prices::MOST_STARTS`].
+    /// There are too many choices and rows, or more starts than [`schedule_prices::MOST_STARTS`].
     TooLarge,
 }
 
-/// Is `bar_choices` with `left` steps for pieces. Subtracts those that it takes.
+/// Is `bar_choices` with an effort, and with `left` steps for pieces. Subtracts those that it takes.
 fn bar_by_cases<'a>(
     alloc: Global,
     project: &'a Project,
     bound: u32,
-    steps: u32,
+    effort: Effort,
     left: &mut u32,
 ) -> Result<Barring<'a>, AllocError>
     ensures { IfOk result (IsBarring project.now bound) }
 {
-    let Some(mut barred) = table(alloc, project, bound)? else {
+    let Some(mut barred) = table(alloc, project, bound, effort.most_items)? else {
         return Ok(Barring::TooLarge);
     };
-    if refute_by_cases(alloc, project, &mut barred, steps, left)? {
+    if refute_by_cases(alloc, project, &mut barred, effort, left)? {
         return Ok(Barring::Refuted);
     }
     Ok(Barring::Open(barred))
 }
 
 /// Looks for prices that refute the bound, or bar choices within it, in at most `steps` steps, and
-/// for pieces in [`MOST_PIECE_STEPS`] more. Above [`crate::MOST_ITEMS`] choices and rows, only the
-/// bound, capacities and precedences bar choices.
+/// for pieces in [`MOST_PIECE_STEPS`] more. Above 8,000,000 choices and rows times `steps` there
+/// are fewer steps, and no pieces. Above 80,000 choices and rows nothing is barred.
 pub fn bar_choices<'a>(
     alloc: Global,
     project: &'a Project,
@@ -124,7 +132,7 @@ pub fn bar_choices<'a>(
     ensures { IfOk result (IsBarring project.now bound) }
 {
     let mut left = MOST_PIECE_STEPS;
-    bar_by_cases(alloc, project, bound, steps, &mut left)
+    bar_by_cases(alloc, project, bound, Effort::to_bar(steps), &mut left)
 }
 
 /// Goes up from a known lower bound while pieces refute.
@@ -138,6 +146,7 @@ fn climb_by_cases(
     ensures least { IfOk result (λ periods. TakesAtLeast project.now periods) }
     ensures known { IfOk result (λ periods. known ≤ periods) }
 {
+    let effort = Effort::to_refute(steps);
     let mut periods = known;
     let mut left = MOST_PIECE_STEPS;
     for _ in 0..MOST_QUESTIONS {
@@ -145,7 +154,7 @@ fn climb_by_cases(
         if left == 0 || periods > project.horizon() {
             break;
         }
-        match bar_by_cases(alloc, project, periods, steps, &mut left)? {
+        match bar_by_cases(alloc, project, periods, effort, &mut left)? {
             Barring::Refuted => periods = next,
             _ => break,
         }
@@ -186,7 +195,9 @@ pub fn exceeds(alloc: Global, project: &Project, bound: u32, steps: u32) -> Resu
     if measures.bound() > bound {
         return Ok(true);
     }
-    match bar_choices(alloc, project, bound, steps)? {
+    let effort = Effort::to_refute(steps);
+    let mut left = MOST_PIECE_STEPS;
+    match bar_by_cases(alloc, project, bound, effort, &mut left)? {
         Barring::Refuted => Ok(true),
         _ => Ok(false),
     }

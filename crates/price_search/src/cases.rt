@@ -2,11 +2,12 @@
 ghost use Rattle.std.specs.Prelude.{◌≡◌, IsTrue, IfOk};
 ghost use Rattle.schedule_prices.specs.Choices.{EachExceeds};
 
+use crate::effort::{Effort, LEAST_STRETCH};
 use crate::model::{Model, Question};
 use crate::pace::FIRST_THETA;
 use crate::pieces::{count_left, keep, leave_out, leave_out_all, marks_of, pieces_of};
 use crate::rounding::listed;
-use crate::slope::{ONE, Row};
+use crate::slope::Row;
 use crate::steps::{Ended, Steps};
 use mrcpsp::Project;
 use schedule_prices::{Barred, Piece};
@@ -22,9 +23,6 @@ const FIRST_STEPS: u32 = 20;
 const PIECE_THETA: i64 = 3_277;
 
 const ROUNDS: u32 = 3;
-
-/// Below this stretch, in parts of 2^24, pieces bar too little.
-const LEAST_STRETCH: i64 = ONE / 100 * 95;
 
 /// A `Cases` is a search for prices with the best ones so far, from which that of a piece begins.
 #[derive(Drop)]
@@ -216,17 +214,22 @@ fn try_cases(
     alloc: Global,
     barred: &mut Barred,
     cases: &mut Cases,
-    steps: u32,
+    effort: Effort,
 ) -> Result<(), AllocError>
     ensures project { barred.new.project ≡ barred.old.project }
     ensures bound { barred.new.bound ≡ barred.old.bound }
 {
-    let ended = cases.search.run(steps);
-    if ended == Ended::Refuted || cases.search.most < LEAST_STRETCH {
+    let items = cases.search.model.items();
+    let ended = cases.search.run(effort.steps_for(items));
+    let stretch = cases.search.most;
+    if ended == Ended::Refuted || stretch < LEAST_STRETCH {
         return Ok(());
     }
     reduce(alloc, barred, cases)?;
-    try_rounds(alloc, barred, cases, steps)
+    if !effort.tries_pieces(items, stretch) {
+        return Ok(());
+    }
+    try_rounds(alloc, barred, cases, effort.steps)
 }
 
 /// Whether prices and pieces refute the bound of the table. The table gets the choices that they
@@ -235,7 +238,7 @@ pub(crate) fn refute_by_cases(
     alloc: Global,
     project: &Project,
     barred: &mut Barred,
-    steps: u32,
+    effort: Effort,
     left: &mut u32,
 ) -> Result<bool, AllocError>
     ensures right { IfOk result (λ refuted. IsTrue refuted → EachExceeds barred.old.project barred.old.bound) }
@@ -254,7 +257,7 @@ pub(crate) fn refute_by_cases(
         marks,
         left: *left,
     };
-    try_cases(alloc, barred, &mut cases, steps)?;
+    try_cases(alloc, barred, &mut cases, effort)?;
     *left = cases.left;
     let prices = listed(alloc, &cases.search.model, &cases.search.rounded)?;
     barred.refute(alloc, &prices)

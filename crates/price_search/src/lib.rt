@@ -9,11 +9,13 @@
 //! Nothing is proved of the prices that come out. `schedule_prices` checks them, and
 //! [`lower_bound`], [`exceeds`], [`is_infeasible`] and [`bar_choices`] rest on its check alone.
 //!
+//! - `count`: how many choices and rows a bound has, without a table.
 //! - `narrow`, `windows`: the choices that capacities and precedences leave.
 //! - `model`: choices and rows within a bound.
 //! - `sums`, `usage`: what choices cost by prices, and what they take of the rows.
 //! - `pace`, `slope`, `steps`: the length of a step, its direction, and the steps.
 //! - `rounding`, `search`: prices of 24 bits, and `find_prices`.
+//! - `effort`: how much is tried at a bound.
 //! - `pieces`, `cases`: choices that prices of their own bar, and bounds refuted by them.
 //! - `climb`, `bound`: which bound is asked next; `lower_bound`, `exceeds`, `is_infeasible` and
 //!   `bar_choices`.
@@ -23,6 +25,8 @@
 mod bound;
 mod cases;
 mod climb;
+mod count;
+mod effort;
 pub mod laws;
 mod model;
 mod narrow;

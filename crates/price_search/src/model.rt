@@ -127,7 +127,7 @@ impl Model {
         for (before, activity) in project.activities().iter().enumerate() {
             model.add_arcs(before, activity, &spans)?;
         }
-        if bound == 0 || model.bars.len().saturating_add(model.limits.len()) > MOST_ITEMS {
+        if bound == 0 || model.items() > MOST_ITEMS {
             return Ok(Question::TooLarge);
         }
         Ok(Question::Open(model))
@@ -231,6 +231,11 @@ impl Model {
             }
         }
         Ok(())
+    }
+
+    /// The number of choices and rows.
+    pub(crate) fn items(&self) -> usize {
+        self.bars.len().saturating_add(self.limits.len())
     }
 
     pub(crate) fn stock_place(&self) -> usize {

@@ -6,7 +6,7 @@ use schedule_prices::{Barred, Piece, Price, PricedRow};
 use std::alloc::{AllocError, Global};
 
 /// The first renewable resource of which the mode takes more than there is.
-fn overused(project: &Project, way: &Mode) -> Option<usize> {
+pub(crate) fn overused(project: &Project, way: &Mode) -> Option<usize> {
     let mut overused = None;
     for (resource, capacity) in project.renewable().iter().enumerate() {
         if way.renewable.as_slice().get(resource).copied().unwrap_or(0) > *capacity {
