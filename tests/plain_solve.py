@@ -4,6 +4,8 @@
     plain_solve.py solve FILE KIND[,KIND..] NODES       the two lines of several searches, one after another
     plain_solve.py verify FILE SCHEDULE                 'feasible makespan M', or what is wrong, with status 1
     plain_solve.py scatter FILE N FOLDER                writes N random schedules, and says what `farm verify --all` says of each, with its status
+    plain_solve.py show FILE SCHEDULE                   the table of a feasible schedule
+    plain_solve.py compare FILE SCHEDULE FOLDER N       what differs between a schedule and each of N in a folder, which come first by turns, with the status
     plain_solve.py rows KIND[,KIND..] NODES FILE..      the rows of a bench, with a star for the seconds
 
 Each search is that of plain_searches.py. A schedule's text ends with words J:MODE:START, or is of lines J,MODE,START, or ends with JSON.
@@ -256,6 +258,49 @@ def titles(p, text):
     ]
 
 
+def table(p, text):
+    """The table of a feasible schedule, in columns."""
+    modes, starts = schedule_of(text)
+    chosen = [p.modes[j][mode - 1] for j, mode in enumerate(modes)]
+    lasts = [start + mode[0] for start, mode in zip(starts, chosen)]
+    kinds = [f"R{k + 1}" for k in range(len(p.capacities))] + [f"N{k + 1}" for k in range(len(p.stocks))]
+    lines = ["activity" + "".join(f" {it:>6}" for it in ["mode", "start", "finish", "slack", *kinds]) + "  predecessors"]
+    for j in range(p.n):
+        slack = min([max(lasts), *(starts[k] for k in p.successors[j])]) - lasts[j]
+        before = ";".join(str(i + 1) for i in range(p.n) if j in p.successors[i])
+        cells = [modes[j], starts[j], lasts[j], slack, *chosen[j][1], *chosen[j][2]]
+        lines.append(f"{j + 1:>8}" + "".join(f" {it:>6}" for it in cells) + f"  {before or '-'}")
+    return "\n".join(lines)
+
+
+def compared(p, texts):
+    """What is said of two schedules, and whether they are compared."""
+    told, plans = [], []
+    for name, text in zip(["before", "after"], texts):
+        holds, line = verified(p, text)
+        if line.split()[1] in ["Words", "TooLong"] or line.startswith(("breach Shape", "breach Mode")):
+            return False, f"farm: {'second schedule: ' if plans else ''}{line}"
+        modes, starts = schedule_of(text)
+        chosen = [p.modes[j][mode - 1] for j, mode in enumerate(modes)]
+        plans.append((modes, starts, [sum(mode[2][k] for mode in chosen) for k in range(len(p.stocks))]))
+        told.append(f"{name} makespan {max(start + mode[0] for start, mode in zip(starts, chosen))} {'feasible' if holds else line}")
+    (modes, starts, spent), (new_modes, new_starts, new_spent) = plans
+    moved = [j for j in range(p.n) if (modes[j], starts[j]) != (new_modes[j], new_starts[j])]
+    told += [f"activity {j + 1} mode {modes[j]} start {starts[j]} -> mode {new_modes[j]} start {new_starts[j]}" for j in moved]
+    told.append(f"moved {len(moved)} of {p.n}")
+    return True, "\n".join([*told, *(f"consumed N{k} {old} -> {new}" for k, (old, new) in enumerate(zip(spent, new_spent), 1))])
+
+
+def compare(p, path, folder, count):
+    for number in range(1, count + 1):
+        texts = []
+        for name in [f"{folder}/{number}", path][:: 1 if number % 2 else -1]:
+            with open(name, "rb") as file:
+                texts.append(file.read())
+        holds, told = compared(p, texts)
+        print(f"{told}\nstatus {0 if holds else 1}")
+
+
 def row(name, p, search, most):
     nodes, best, verdict = together(p, search.split(","), most)
     makespan = "none" if best is None else p.makespan(best)
@@ -272,6 +317,11 @@ def main():
             holds, line = verified(plain_searches.read(sys.argv[2]), file.read())
         print(line if holds else f"farm: {line}")
         sys.exit(0 if holds else 1)
+    elif task == "show":
+        with open(sys.argv[3], "rb") as file:
+            print(table(plain_searches.read(sys.argv[2]), file.read()))
+    elif task == "compare":
+        compare(plain_searches.read(sys.argv[2]), *sys.argv[3:5], int(sys.argv[5]))
     elif task == "scatter":
         scatter(plain_searches.read(sys.argv[2]), int(sys.argv[3]), sys.argv[4])
     else:

@@ -35,17 +35,21 @@ _farm() {
         COMPREPLY=($(compgen -W "number start" -- "$word"))
         return
         ;;
+    --unit)
+        COMPREPLY=($(compgen -W "hour shift day week" -- "$word"))
+        return
+        ;;
     --solver)
         COMPREPLY=($(compgen -W "cadical kissat" -- "$word"))
         return
         ;;
-    --port | --sessions | --nodes | --jobs | --seconds | --steps) return ;;
-    --config | --from | --keep | --optima)
+    --port | --sessions | --nodes | --jobs | --seconds | --start | --steps) return ;;
+    --config | --from | --keep | --names | --optima)
         mapfile -t COMPREPLY < <(compgen -f -- "$word")
         return
         ;;
     esac
-    local commands="check solve verify draw bench prove replay serve clauses certify bound infeasible"
+    local commands="check solve verify draw show compare bench prove replay serve clauses certify bound infeasible"
     if [ "$COMP_CWORD" = 1 ]; then
         words="$commands help --help --version"
     elif [[ $word == -* ]]; then
@@ -53,6 +57,7 @@ _farm() {
         solve) words="--search --nodes --json --progress --quiet --improvements --help" ;;
         verify) words="--all --help" ;;
         draw) words="--order --help" ;;
+        show) words="--csv --start --unit --names --help" ;;
         prove) words="--seconds --jobs --memory --conflicts --from --json --improvements --progress --quiet --keep --solver --help" ;;
         bench) words="--search --nodes --jobs --steps --prove --seconds --optima --schedules --resume --join --total --report --progress --quiet --help" ;;
         replay) words="--config --strict --help" ;;

@@ -1,5 +1,5 @@
 # Completion of farm's words in fish.
-set -l commands check solve verify draw bench prove replay serve clauses certify bound infeasible
+set -l commands check solve verify draw show compare bench prove replay serve clauses certify bound infeasible
 
 function __farm_searches
     set -l word (commandline -ct)
@@ -21,6 +21,10 @@ complete -c farm -n "__fish_seen_subcommand_from solve bench" -l quiet -d 'Tell 
 complete -c farm -n "__fish_seen_subcommand_from solve prove" -l improvements -d 'Print each better schedule'
 complete -c farm -n "__fish_seen_subcommand_from verify" -l all -d 'Tell each breach of the schedule'
 complete -c farm -n "__fish_seen_subcommand_from draw" -l order -x -a 'number start' -d 'The order of the rows'
+complete -c farm -n "__fish_seen_subcommand_from show" -l csv -d 'Write CSV'
+complete -c farm -n "__fish_seen_subcommand_from show" -l start -x -d 'When period 0 begins'
+complete -c farm -n "__fish_seen_subcommand_from show" -l unit -x -a 'hour shift day week' -d 'The length of a period'
+complete -c farm -n "__fish_seen_subcommand_from show" -l names -r -d 'Lines J,NAME'
 complete -c farm -n "__fish_seen_subcommand_from bench prove" -l jobs -x -d 'How many processes'
 complete -c farm -n "__fish_seen_subcommand_from bench" -l prove -d 'Run farm prove on each file'
 complete -c farm -n "__fish_seen_subcommand_from bench" -l optima -r -d 'Known optima'

@@ -16,6 +16,8 @@ _farm() {
         solve:'search for a short schedule'
         verify:'tell whether a schedule is feasible'
         draw:'draw a feasible schedule as SVG'
+        show:'print a feasible schedule as a table'
+        compare:'tell what differs between two schedules'
         bench:'rows of many files'
         prove:'look for a schedule and a proof that none is shorter'
         replay:'replay a script of requests'
@@ -42,6 +44,11 @@ _farm() {
         ;;
     verify) _arguments '--all[tell each breach]' '--help[help]' '1:file:_files -g "*.mm"' '2:schedule:_files' ;;
     draw) _arguments '--order[the order of the rows]:order:(number start)' '--help[help]' '1:file:_files -g "*.mm"' '2:schedule:_files' ;;
+    show)
+        _arguments '--csv[write CSV]' '--start[when period 0 begins]:date:' '--unit[the length of a period]:unit:(hour shift day week)' '--names[lines J,NAME]:file:_files' \
+            '--help[help]' '1:file:_files -g "*.mm"' '2:schedule:_files'
+        ;;
+    compare) _arguments '--help[help]' '1:file:_files -g "*.mm"' '2:before:_files' '3:after:_files' ;;
     bench)
         _arguments '--search[searches]:search:_farm_searches' '--nodes[nodes]:nodes:' '--jobs[processes]:jobs:' '--steps[steps for each bound]:steps:' '--prove[run farm prove]' \
             '--seconds[the most seconds of a file]:seconds:' '--optima[known optima]:file:_files' '--schedules[folder for schedules]:folder:_files -/' \

@@ -18,6 +18,23 @@ for file in first j10_1; do
     : >"$work/err"
     status=0
     says "verify --all: 200 schedules of $file" 0 "$(cat "$work/line")" ""
+    "$farm" solve --search rule:lft "$top/examples/$file.mm" 2>/dev/null </dev/null | tail -n 1 >"$work/schedule"
+    python3 "$top/tests/plain_solve.py" compare "$top/examples/$file.mm" "$work/schedule" "$work/random" 200 >"$work/line"
+    for number in $(seq 200); do
+        set -- "$work/random/$number" "$work/schedule"
+        [ "$((number % 2))" = 0 ] && set -- "$2" "$1"
+        FARM_EXPLAIN=0 "$farm" compare "$top/examples/$file.mm" "$@" </dev/null
+        echo "status $?"
+    done >"$work/out" 2>&1
+    says "compare: 200 schedules of $file" 0 "$(cat "$work/line")" ""
+done
+# The table of a schedule, by a second program.
+for file in first j10_1 j20_1 j30_1; do
+    "$farm" solve --search rule:lft "$top/examples/$file.mm" >"$work/schedule" 2>"$work/err" </dev/null
+    python3 "$top/tests/plain_solve.py" show "$top/examples/$file.mm" "$work/schedule" >"$work/line"
+    "$farm" show "$top/examples/$file.mm" "$work/schedule" >"$work/out" 2>"$work/err" </dev/null
+    status=$?
+    says "show: a schedule of $file" 0 "$(cat "$work/line")" ""
 done
 told "1 1 0"
 silent "verify --all: no schedule" "farm: no schedule Words" verify --all "$work/text" "$work/schedule"

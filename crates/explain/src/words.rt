@@ -4,11 +4,13 @@ use std::alloc::Global;
 use std::io::ErrorKind;
 
 /// All commands, also those of scripts and of the program of certificates.
-const COMMANDS: [&str; 13] = [
+const COMMANDS: [&str; 15] = [
     "check",
     "solve",
     "verify",
     "draw",
+    "show",
+    "compare",
     "bench",
     "prove",
     "replay",

@@ -1,5 +1,5 @@
-//! The program `farm`: the commands of `solve_cli` and `prove_cli` for one project, and of `farm_cli`
-//! for tenants.
+//! The program `farm`: the commands of `solve_cli`, `plan_cli` and `prove_cli` for one project, and of
+//! `farm_cli` for tenants.
 #![tactic(auto)]
 
 ghost use Rattle.std.specs.Prelude.{◌≤◌};
@@ -65,6 +65,8 @@ fn main(rt: HostRuntime) -> ExitCode {
         print_version(&rt)
     } else if solve_cli::is_command(words.as_slice()) {
         solve_cli::run_command(&rt, words.as_slice())
+    } else if plan_cli::is_plan(words.as_slice()) {
+        plan_cli::run_plan(&rt, words.as_slice())
     } else if prove_cli::is_prove(words.as_slice()) {
         prove_cli::run_prove(&rt, words.as_slice())
     } else if solve_cli::asks_for_help(words.as_slice()) {

@@ -30,6 +30,8 @@ On one project, without a configuration (farm COMMAND --help):
   verify  Tells whether a schedule is feasible, and how long it takes
   solve   Searches for a short schedule of one project
   draw    Draws a feasible schedule as an SVG picture
+  show    Prints a feasible schedule as a table
+  compare Tells what differs between two schedules
 
 Of many files, and with a proof (farm COMMAND --help):
   bench       Searches each of many files and prints a row of each

@@ -1,0 +1,4 @@
+pub mod SlackLemmas
+pub mod TableLemmas
+pub mod PlanLemmas
+pub mod CommandLemmas

@@ -1,0 +1,53 @@
+-- What a plan is, and why a text has none.
+use Rattle.std.specs.Prelude.{◌≡◌, ℕ, ◌<◌, ◌≤◌, ⊤, List, length, Ok, Option, Some, None}
+use Rattle.mrcpsp.specs.Project.{ProjectData}
+use Rattle.mrcpsp.specs.Schedule.{ScheduleData}
+use Rattle.mrcpsp.specs.Breach.{HasShape, HasModes, IsFirstBreach}
+use Rattle.psplib_mm.specs.Gives.{Fails}
+use Rattle.psplib_mm.specs.Reading.{reading}
+use Rattle.schedule_files.specs.ScheduleText.{Tells}
+use Rattle.schedule_files.specs.declared.reading.TheConstants.{MOST_BYTES}
+use Rattle.plan_cli.specs.Moves.{IsVerdict}
+use Rattle.plan_cli.specs.declared.plan.Plan.{Plan}
+use Rattle.plan_cli.specs.declared.plan.PlanFault.{PlanFault}
+use Rattle.plan_cli.specs.declared.plan.PlanFault.TheVariants as fault
+
+-- the plan is this schedule, with a mode and a start for each activity, and its verdict is true
+pub record IsPlanned (p : ProjectData) (s : ScheduleData) (plan : Plan) : Type 0 where
+  pub same : plan.schedule ≡ s
+  pub shape : HasShape p plan.schedule
+  pub modes : HasModes p plan.schedule
+  pub verdict : IsVerdict p plan.schedule plan.breach
+
+-- the text has the plan's schedule
+pub record IsPlan (p : ProjectData) (text : List ℕ) (plan : Plan) : Type 0 where
+  pub told : Tells text plan.schedule
+  pub is : IsPlanned p plan.schedule plan
+
+-- the fault is the first breach of the schedule
+abbrev pub IsBroken : ProjectData → ScheduleData → PlanFault → Type 0
+IsBroken p s (fault.File f) = ⊥
+IsBroken p s fault.Words = ⊥
+IsBroken p s fault.TooLong = ⊥
+IsBroken p s (fault.Breach b) = IsFirstBreach p s b
+IsBroken p s fault.NoMemory = ⊥
+
+-- why a text has no plan of a project
+abbrev pub IsUnplanned : ProjectData → List ℕ → PlanFault → Type 0
+IsUnplanned p text (fault.File f) = ⊥
+IsUnplanned p text fault.Words = length text ≤ MOST_BYTES
+IsUnplanned p text fault.TooLong = MOST_BYTES < length text
+IsUnplanned p text (fault.Breach b) = (s : ScheduleData) × Tells text s × IsFirstBreach p s b
+IsUnplanned p text fault.NoMemory = ⊤
+
+-- P holds of the project that the file is
+abbrev pub OfProject : List ℕ → (ProjectData → Type 0) → Type 0
+OfProject file P = (p : ProjectData) × (reading file ≡ Ok p) × P p
+
+-- why a file and a text have no plan
+abbrev pub IsAtFault : List ℕ → List ℕ → PlanFault → Type 0
+IsAtFault file text (fault.File f) = Fails f (reading file)
+IsAtFault file text fault.Words = OfProject file (λ p. IsUnplanned p text fault.Words)
+IsAtFault file text fault.TooLong = OfProject file (λ p. IsUnplanned p text fault.TooLong)
+IsAtFault file text (fault.Breach b) = OfProject file (λ p. IsUnplanned p text (fault.Breach b))
+IsAtFault file text fault.NoMemory = ⊤

@@ -1,0 +1,35 @@
+//! Commands that print schedules: `show`, a table, and `compare`, what differs between two.
+//!
+//! [`table`] returns the table of a feasible schedule (`specs/Table`, `specs/Slack`), and [`moves`]
+//! what differs between two (`specs/Moves`). [`show`] and [`compare`] do so of the bytes of files
+//! (`specs/Shown`). Dates and names in a table are only tested, as is which files a command opens.
+//!
+//! - `layout`: the cells of columns and of CSV.
+//! - `slack`, `tabling`, `comparing`: the slack of an activity; tables; what differs.
+//! - `plan`: the schedule that a text has, and what it breaks first.
+//! - `calendar`, `names`: dates of periods; names of activities.
+//! - `showing`, `commands`: what is written of a file; the commands over any readers and writer.
+//! - `arguments`, `program`: the words of a command line, and the commands on files.
+#![tactic(auto)]
+
+mod arguments;
+mod calendar;
+mod commands;
+mod comparing;
+mod layout;
+mod names;
+mod plan;
+mod program;
+mod showing;
+mod slack;
+mod tabling;
+
+pub use calendar::{Calendar, Unit};
+pub use commands::{compare_to, show_to};
+pub use comparing::moves;
+pub use layout::Layout;
+pub use names::{Name, names_of};
+pub use plan::{Plan, PlanFault, read_plan};
+pub use program::{is_plan, run_plan};
+pub use showing::{CompareFault, ShowOptions, compare, show};
+pub use tabling::{Extra, table};

@@ -1,0 +1,194 @@
+//! The commands on files, with an exit status.
+ghost use Rattle.std.specs.Prelude.{◌≡◌, ◌≤◌, IfErr};
+ghost use Rattle.std.specs.Process.{exit_status};
+
+use crate::arguments::{Comparing, PlanTask, Showing, plan_commands, task_of};
+use crate::calendar::{Calendar, Unit};
+use crate::commands::{compare_to, show_to};
+use crate::names::{Name, names_of};
+use crate::showing::ShowOptions;
+use explain::{CommandWatches, MOST_TEXT, Paths, end_no_memory, open_path, told, why_words};
+use jiff::civil::DateTime;
+use std::env::Env;
+use std::io;
+use std::io::{Eprint, Read};
+use std::process::ExitCode;
+use std::rt::Runtime;
+use watched_io::{Watch, tell_why};
+
+fn is_own(words: &[String], place: usize) -> bool {
+    match words.get(place) {
+        Some(word) => matches!(word.as_str(), "show" | "compare"),
+        None => false,
+    }
+}
+
+fn asks_for_help(words: &[String]) -> bool {
+    match words.get(1) {
+        Some(word) => matches!(word.as_str(), "help" | "--help" | "-h"),
+        None => false,
+    }
+}
+
+/// Whether the first word behind the program's name is a command of this crate or asks for its
+/// help.
+pub fn is_plan(words: &[String]) -> bool {
+    is_own(words, 1) || (asks_for_help(words) && is_own(words, 2))
+}
+
+/// Runs the command of `words`, the first of which is the program's name. The status is 0, or 2 for
+/// help and for a refused command line, or 1 for any fault.
+pub fn run_plan<R: Runtime + AllocGlobal>(rt: &R, words: &[String]) -> ExitCode
+    ensures { exit_status result ≤ 2 }
+{
+    let Ok(command) = plan_commands(rt.alloc()) else {
+        return end_no_memory(rt);
+    };
+    match command.try_get_matches_from(words) {
+        Ok(matches) => match task_of(&matches) {
+            Some(PlanTask::Show(showing)) => run_show(rt, showing),
+            Some(PlanTask::Compare(comparing)) => run_compare(rt, comparing),
+            None => ExitCode::from(2),
+        },
+        Err(error) => match error.print(rt) {
+            Ok(()) if error.kind() != clap::error::ErrorKind::OutOfMemory => {
+                if error.kind() != clap::error::ErrorKind::DisplayHelp {
+                    tell_why(rt, &why_words(rt.alloc(), words));
+                }
+                ExitCode::from(2)
+            }
+            _ => ExitCode::FAILURE,
+        },
+    }
+}
+
+/// Standard input gives its bytes only once.
+fn refuse_same<R: Eprint>(rt: &R) -> ExitCode
+    ensures { exit_status result ≡ 2 }
+{
+    let _ = eprintln!(rt; "farm: two inputs cannot both be standard input");
+    ExitCode::from(2)
+}
+
+/// An error is the status.
+fn calendar_of<R: Env + Eprint + AllocGlobal>(
+    rt: &R,
+    start: Option<&str>,
+    unit: Unit,
+) -> Result<Option<Calendar>, ExitCode>
+    ensures { IfErr result (λ status. exit_status status ≡ 2) }
+{
+    let Some(word) = start else {
+        return Ok(None);
+    };
+    match word.parse::<DateTime>() {
+        Ok(start) => Ok(Some(Calendar { start, unit })),
+        Err(_) => {
+            let _ = eprintln!(rt; "farm: no date {word}");
+            let why = "a date is as 2026-12-01, or with a time as 2026-12-01T06:00";
+            tell_why(rt, &String::from_str(rt.alloc(), why).ok());
+            Err(ExitCode::from(2))
+        }
+    }
+}
+
+/// An error is the status.
+fn read_names<R: Runtime + AllocGlobal>(
+    rt: &R,
+    path: Option<&str>,
+) -> Result<Option<Vec<Name>>, ExitCode>
+    ensures { IfErr result (λ status. exit_status status ≡ 1) }
+{
+    let Some(path) = path else {
+        return Ok(None);
+    };
+    let Some(file) = open_path(rt, path) else {
+        return Err(ExitCode::FAILURE);
+    };
+    let got = Watch::new().read_front(rt.alloc(), file, MOST_TEXT);
+    let Some(bytes) = told(rt, path, got) else {
+        return Err(ExitCode::FAILURE);
+    };
+    match names_of(rt.alloc(), &bytes) {
+        Ok(names) => Ok(Some(names)),
+        Err(_) => Err(end_no_memory(rt)),
+    }
+}
+
+fn run_show<R: Runtime + AllocGlobal>(rt: &R, showing: Showing<'_>) -> ExitCode
+    ensures { exit_status result ≤ 2 }
+{
+    if showing.file == "-" && showing.text == "-" {
+        return refuse_same(rt);
+    }
+    let calendar = match calendar_of(rt, showing.start, showing.unit) {
+        Ok(calendar) => calendar,
+        Err(status) => return status,
+    };
+    let names = match read_names(rt, showing.names) {
+        Ok(names) => names,
+        Err(status) => return status,
+    };
+    let Some(file) = open_path(rt, showing.file) else {
+        return ExitCode::FAILURE;
+    };
+    let Some(text) = open_path(rt, showing.text) else {
+        return ExitCode::FAILURE;
+    };
+    let asked = ShowOptions {
+        layout: showing.layout,
+        calendar,
+        names: match &names {
+            Some(names) => Some(names.as_slice()),
+            None => None,
+        },
+    };
+    let paths = Paths {
+        file: showing.file,
+        text: showing.text,
+        proof: showing.file,
+    };
+    let mut watches = CommandWatches::new();
+    show_to(
+        rt,
+        paths,
+        file,
+        text,
+        &asked,
+        &mut io::writer(rt),
+        &mut watches,
+    )
+}
+
+fn run_compare<R: Runtime + AllocGlobal>(rt: &R, comparing: Comparing<'_>) -> ExitCode
+    ensures { exit_status result ≤ 2 }
+{
+    let given = [comparing.file, comparing.before, comparing.after];
+    if given.iter().filter(|path| **path == "-").count() > 1 {
+        return refuse_same(rt);
+    }
+    let Some(file) = open_path(rt, comparing.file) else {
+        return ExitCode::FAILURE;
+    };
+    let Some(before) = open_path(rt, comparing.before) else {
+        return ExitCode::FAILURE;
+    };
+    let Some(after) = open_path(rt, comparing.after) else {
+        return ExitCode::FAILURE;
+    };
+    let paths = Paths {
+        file: comparing.file,
+        text: comparing.before,
+        proof: comparing.after,
+    };
+    let mut watches = CommandWatches::new();
+    compare_to(
+        rt,
+        paths,
+        file,
+        before,
+        after,
+        &mut io::writer(rt),
+        &mut watches,
+    )
+}

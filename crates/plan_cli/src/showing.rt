@@ -1,0 +1,171 @@
+//! What is written of a file and its schedules.
+ghost use Rattle.std.specs.Prelude.{◌<◌, IfOk, IfErr, string_bytes};
+ghost use Rattle.mrcpsp.specs.Project.{size};
+ghost use Rattle.mrcpsp.specs.Schedule.{IsFeasible};
+ghost use Rattle.mrcpsp.specs.Breach.{HasShape, HasModes};
+ghost use Rattle.plan_cli.specs.Plan.{IsAtFault};
+ghost use Rattle.plan_cli.specs.Table.{IsTable};
+ghost use Rattle.plan_cli.specs.Shown.{IsShown, IsComparison, IsCompareFault};
+
+use crate::calendar::{Calendar, put_date_titles, put_moment};
+use crate::comparing::moves;
+use crate::layout::Layout;
+use crate::names::{Name, longest, name_at, put_name};
+use crate::plan::{PlanFault, read_plan};
+use crate::slack::{finish_of, start_at};
+use crate::tabling::{Extra, table};
+use mrcpsp::{Project, Schedule};
+use psplib_mm::read;
+use std::alloc::{AllocError, Global};
+use thiserror::Error;
+
+/// A `ShowOptions` is the form of a table, and what it has beside its numbers: dates and names.
+#[derive(Clone, Copy)]
+pub struct ShowOptions<'a> {
+    pub layout: Layout,
+    pub calendar: Option<Calendar>,
+    pub names: Option<&'a [Name]>,
+}
+
+/// A `CompareFault` is why two schedules of a file are not compared: of the file and the first
+/// text, or of the second text.
+#[derive(Clone, Copy, Debug, PartialEq, Eq, Error)]
+pub enum CompareFault {
+    #[error("{0}")]
+    First(PlanFault),
+    #[error("second schedule: {0}")]
+    Second(PlanFault),
+}
+
+fn extra_titles(alloc: Global, asked: &ShowOptions<'_>) -> Result<String, AllocError> {
+    let mut text = String::new(alloc);
+    if let Some(calendar) = &asked.calendar {
+        put_date_titles(&mut text, asked.layout, calendar)?;
+    }
+    if let Some(names) = asked.names {
+        put_name(alloc, &mut text, asked.layout, longest(names), "name")?;
+    }
+    Ok(text)
+}
+
+fn extra_cell(
+    alloc: Global,
+    project: &Project,
+    schedule: &Schedule,
+    activity: usize,
+    asked: &ShowOptions<'_>,
+) -> Result<String, AllocError>
+    requires shape { HasShape project.now schedule.now }
+    requires modes { HasModes project.now schedule.now }
+    requires activity { activity < size project.now }
+{
+    let mut text = String::new(alloc);
+    let (start, finish) = (
+        start_at(project, schedule, activity),
+        finish_of(project, schedule, activity),
+    );
+    let size = project.size();
+    prove!(activity < size);
+    if let Some(calendar) = &asked.calendar {
+        put_moment(&mut text, asked.layout, calendar, start)?;
+        put_moment(&mut text, asked.layout, calendar, finish)?;
+    }
+    if let Some(names) = asked.names {
+        let name = name_at(names, activity + 1);
+        put_name(alloc, &mut text, asked.layout, longest(names), name)?;
+    }
+    Ok(text)
+}
+
+fn extra_of(
+    alloc: Global,
+    project: &Project,
+    schedule: &Schedule,
+    asked: &ShowOptions<'_>,
+) -> Result<Extra, AllocError>
+    requires shape { HasShape project.now schedule.now }
+    requires modes { HasModes project.now schedule.now }
+{
+    let mut cells = Vec::new(alloc);
+    for activity in 0..project.size() {
+        cells.push(extra_cell(alloc, project, schedule, activity, asked)?)?;
+    }
+    Ok(Extra {
+        title: extra_titles(alloc, asked)?,
+        cells,
+    })
+}
+
+fn tabled(
+    alloc: Global,
+    project: &Project,
+    schedule: &Schedule,
+    asked: &ShowOptions<'_>,
+) -> Result<String, AllocError>
+    requires shape { HasShape project.now schedule.now }
+    requires modes { HasModes project.now schedule.now }
+    requires feasible { IsFeasible project.now schedule.now }
+    ensures { IfOk result (λ text. IsTable asked.now.layout project.now schedule.now (string_bytes text)) }
+{
+    let extra = extra_of(alloc, project, schedule, asked)?;
+    table(alloc, asked.layout, project, schedule, &extra)
+}
+
+/// The table of the feasible schedule that `text` has of the project of `file`. Fails with the
+/// first fault, in the order of file, text and schedule.
+pub fn show(
+    alloc: Global,
+    file: &[u8],
+    text: &[u8],
+    asked: &ShowOptions<'_>,
+) -> Result<String, PlanFault>
+    ensures table { IfOk result (λ shown. IsShown asked.now.layout file.now text.now (string_bytes shown)) }
+    ensures fault { IfErr result (λ fault. IsAtFault file.now text.now fault) }
+{
+    let project = match read(alloc, file) {
+        Ok(project) => project,
+        Err(fault) => return Err(PlanFault::File(fault)),
+    };
+    let plan = match read_plan(alloc, &project, text) {
+        Ok(plan) => plan,
+        Err(fault) => return Err(fault),
+    };
+    if let Some(breach) = plan.breach {
+        return Err(PlanFault::Breach(breach));
+    }
+    match tabled(alloc, &project, &plan.schedule, asked) {
+        Ok(shown) => Ok(shown),
+        Err(_) => Err(PlanFault::NoMemory),
+    }
+}
+
+/// What differs between the schedules of two texts, each of the project of `file`. They may be not
+/// feasible. Fails with the first fault, in the order of file, first text and second text.
+pub fn compare(
+    alloc: Global,
+    file: &[u8],
+    text: &[u8],
+    other: &[u8],
+) -> Result<String, CompareFault>
+    ensures told { IfOk result (λ told. IsComparison file.now text.now other.now (string_bytes told)) }
+    ensures fault { IfErr result (λ fault. IsCompareFault file.now text.now other.now fault) }
+{
+    let project = match read(alloc, file) {
+        Ok(project) => project,
+        Err(fault) => return Err(CompareFault::First(PlanFault::File(fault))),
+    };
+    let before = match read_plan(alloc, &project, text) {
+        Ok(plan) => plan,
+        Err(fault) => return Err(CompareFault::First(fault)),
+    };
+    let after = match read_plan(alloc, &project, other) {
+        Ok(plan) => plan,
+        Err(PlanFault::NoMemory) => return Err(CompareFault::First(PlanFault::NoMemory)),
+        Err(fault) => return Err(CompareFault::Second(fault)),
+    };
+    let breaches = (before.breach, after.breach);
+    match moves(alloc, &project, &before.schedule, &after.schedule, breaches) {
+        Ok(told) => Ok(told),
+        Err(_) => Err(CompareFault::First(PlanFault::NoMemory)),
+    }
+}
