@@ -90,6 +90,10 @@ are-good-more p limit before after clauses c terms good extends valid so_far = r
 pub are-good-none : (p : ProjectData) (limit : Option ℕ) (a : List Fact) → AreGood p limit a []
 are-good-none p limit a = record { each = λ s short k d inside. absurd (omega arith) }
 
+-- more variables alone
+pub are-good-extends : (p : ProjectData) (limit : Option ℕ) (before after : List Fact) (clauses now : List (List ℕ)) → AreGood p limit before clauses → Extends before after → now ≡ clauses → AreGood p limit after now
+are-good-extends p limit before after clauses now good extends same = rw same (record { each = λ s short k d inside. good-extends p s before after (get_or clauses k d) extends (good.each s short k d inside) })
+
 pub ruleset add_rules = (extends-refl, extends-trans, good-none)
 
 pub ruleset new_rules = (are-good-none)

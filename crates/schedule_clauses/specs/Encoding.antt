@@ -5,6 +5,8 @@ use Rattle.mrcpsp.specs.Project.{ProjectData}
 use Rattle.mrcpsp.specs.Schedule.{ScheduleData}
 use Rattle.schedule_clauses.specs.Meaning.{IsWithin, holds}
 use Rattle.schedule_clauses.specs.declared.encoding.Encoding.{Encoding}
+use Rattle.schedule_clauses.specs.declared.formula.CapacityRow.{CapacityRow}
+use Rattle.schedule_clauses.specs.declared.formula.Kind.{Kind}
 use Rattle.schedule_clauses.specs.declared.meaning.Fact.{Fact}
 
 -- whether the fact of a variable holds; without a meaning it does not
@@ -29,10 +31,12 @@ pub record IsGood (p : ProjectData) (s : ScheduleData) (meanings : List Fact) (c
   pub told : IsTold p s meanings (slice_index clause place)
 
 -- the schedules of which clauses hold: the feasible ones of a project, and with a limit those of at
--- most this makespan
+-- most this makespan; the kinds of the sections that are ended, and the rows left out
 pub record ScopeData : Type 0 where
   pub project : ProjectData
   pub limit : Option ℕ
+  pub kinds : List Kind
+  pub left_out : List CapacityRow
 
 -- each clause is good, for each schedule within the limit
 pub record AreGood (p : ProjectData) (limit : Option ℕ) (meanings : List Fact) (clauses : List (List ℕ)) : Type 0 where
@@ -40,7 +44,7 @@ pub record AreGood (p : ProjectData) (limit : Option ℕ) (meanings : List Fact)
 
 -- each clause of an encoding is good
 abbrev pub AllGood : ProjectData → Option ℕ → Encoding → Type 0
-AllGood p limit encoding = AreGood p limit encoding.formula.meanings.items encoding.formula.clauses
+AllGood p limit encoding = AreGood p limit encoding.meanings.items encoding.clauses
 
 -- what had a meaning still has it
 pub record Extends (before after : List Fact) : Type 0 where

@@ -1,8 +1,10 @@
 //! Certificates: a schedule is optimal if the clauses of a shorter makespan cannot all be true.
-ghost use Rattle.std.specs.Prelude.{◌≡◌, ◌≤◌, IfOk, IfErr, MatchOption, Some, None};
+ghost use Rattle.std.specs.Prelude.{◌≡◌, ◌≤◌, IfOk, IfErr, IfSome, MatchOption, Some, None};
 ghost use Rattle.mrcpsp.specs.Project.{horizon};
 ghost use Rattle.mrcpsp.specs.Schedule.{IsOptimal, IsInfeasible, makespan};
 ghost use Rattle.schedule_clauses.specs.Encoding.{AreGood};
+ghost use Rattle.schedule_clauses.specs.LeftOut.{AreLeftOut};
+ghost use Rattle.schedule_clauses.specs.Sections.{AreSections, all_kinds, stock_kinds};
 ghost use Rattle.schedule_clauses.specs.Fault.{IsOfClauses, IsOfBound, IsOfStocks, IsOfSchedule};
 ghost use Rattle.schedule_clauses.specs.Size.{start_clauses};
 ghost use Rattle.price_search.specs.Barring.{IsBarring};
@@ -79,6 +81,10 @@ pub fn clauses(alloc: Global, project: &Project, bound: u32) -> Result<Formula, 
     ensures clauses { IfOk result (λ formula. SatisfiedByShort project.now bound formula.clauses) }
     ensures meanings { IfOk result (λ formula.
         AreGood project.now (Some bound) formula.meanings.items formula.clauses) }
+    ensures sections { IfOk result (λ formula.
+        AreSections all_kinds formula.sections.items formula.clauses) }
+    ensures left_out { IfOk result (λ formula.
+        AreLeftOut project.now (Some bound) formula.left_out.items) }
     ensures within { IfOk result (λ _. bound ≤ horizon project.now.activities) }
     ensures few { IfOk result (λ _. start_clauses project.now bound ≤ MOST_START_CLAUSES) }
     ensures fault { IfErr result (λ fault. IsOfClauses project.now bound fault) }
@@ -96,6 +102,12 @@ pub fn open_clauses(
 ) -> Result<Option<Formula>, CertificateFault>
     ensures clauses { IfOk result (λ made. MatchOption made (EachExceeds project.now bound)
         (λ formula. SatisfiedByShort project.now bound formula.clauses)) }
+    ensures meanings { IfOk result (λ made. IfSome made (λ formula.
+        AreGood project.now (Some bound) formula.meanings.items formula.clauses)) }
+    ensures sections { IfOk result (λ made. IfSome made (λ formula.
+        AreSections all_kinds formula.sections.items formula.clauses)) }
+    ensures left_out { IfOk result (λ made. IfSome made (λ formula.
+        AreLeftOut project.now (Some bound) formula.left_out.items)) }
     ensures within { IfOk result (λ _. bound ≤ horizon project.now.activities) }
     ensures few { IfOk result (λ _. start_clauses project.now bound ≤ MOST_START_CLAUSES) }
     ensures fault { IfErr result (λ fault. IsOfClauses project.now bound fault) }
@@ -113,6 +125,10 @@ pub fn stock_clauses(alloc: Global, project: &Project) -> Result<Formula, Certif
     ensures clauses { IfOk result (λ formula. SatisfiedByFeasible project.now formula.clauses) }
     ensures meanings { IfOk result (λ formula.
         AreGood project.now None formula.meanings.items formula.clauses) }
+    ensures sections { IfOk result (λ formula.
+        AreSections stock_kinds formula.sections.items formula.clauses) }
+    ensures left_out { IfOk result (λ formula.
+        AreLeftOut project.now None formula.left_out.items) }
     ensures fault { IfErr result (λ fault. fault ≡ CertificateFault.NoMemory) }
 {
     Ok(encode_stocks(alloc, project)?)

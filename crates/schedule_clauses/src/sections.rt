@@ -2,12 +2,14 @@
 ghost use Rattle.std.specs.Prelude.{IfOk, Some, None};
 ghost use Rattle.price_search.specs.Barring.{IsBarring};
 ghost use Rattle.schedule_clauses.specs.Encoding.{AreGood};
+ghost use Rattle.schedule_clauses.specs.LeftOut.{AreLeftOut};
+ghost use Rattle.schedule_clauses.specs.Sections.{AreSections, all_kinds, stock_kinds};
 
 mod barred;
 mod capacities;
 mod starts;
 
-use crate::formula::Formula;
+use crate::formula::{Formula, Kind};
 use crate::scope::{Clauses, Scope};
 use crate::sections::barred::barred_section;
 use crate::sections::capacities::{mode_section, nonrenewable_section, renewable_section};
@@ -25,31 +27,47 @@ pub(crate) fn encode(
     barring: &Barring<'_>,
 ) -> Result<Formula, AllocError>
     requires { IsBarring project.now bound barring.now }
-    ensures { IfOk result (λ formula.
+    ensures good { IfOk result (λ formula.
         AreGood project.now (Some bound) formula.meanings.items formula.clauses) }
+    ensures sections { IfOk result (λ formula.
+        AreSections all_kinds formula.sections.items formula.clauses) }
+    ensures left_out { IfOk result (λ formula.
+        AreLeftOut project.now (Some bound) formula.left_out.items) }
 {
     let measures = Measures::of(alloc, project)?;
     let windows = Windows::new(alloc, project, &measures, bound)?;
     let limit = Some(bound);
     let mut clauses = Clauses::new(alloc, Scope { project, limit })?;
     mode_section(&mut clauses)?;
+    clauses.end_section(Kind::Modes)?;
     start_section(&mut clauses, &windows)?;
+    clauses.end_section(Kind::Starts)?;
     end_section(&mut clauses, &measures, &windows)?;
+    clauses.end_section(Kind::Ends)?;
     precedence_section(&mut clauses, &measures, &windows)?;
+    clauses.end_section(Kind::Precedence)?;
     run_section(&mut clauses, &windows)?;
+    clauses.end_section(Kind::Runs)?;
     renewable_section(&mut clauses, &windows)?;
+    clauses.end_section(Kind::Renewable)?;
     nonrenewable_section(&mut clauses)?;
+    clauses.end_section(Kind::Nonrenewable)?;
     barred_section(&mut clauses, barring, bound, &measures, &windows)?;
-    Ok(clauses.into_formula())
+    clauses.into_formula(Kind::Barred)
 }
 
 pub(crate) fn encode_stocks(alloc: Global, project: &Project) -> Result<Formula, AllocError>
-    ensures { IfOk result (λ formula.
+    ensures good { IfOk result (λ formula.
         AreGood project.now None formula.meanings.items formula.clauses) }
+    ensures sections { IfOk result (λ formula.
+        AreSections stock_kinds formula.sections.items formula.clauses) }
+    ensures left_out { IfOk result (λ formula.
+        AreLeftOut project.now None formula.left_out.items) }
 {
     let limit = None;
     let mut clauses = Clauses::new(alloc, Scope { project, limit })?;
     mode_section(&mut clauses)?;
+    clauses.end_section(Kind::Modes)?;
     nonrenewable_section(&mut clauses)?;
-    Ok(clauses.into_formula())
+    clauses.into_formula(Kind::Nonrenewable)
 }

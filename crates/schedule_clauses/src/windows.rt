@@ -1,5 +1,5 @@
 //! The times at which an activity can start. They are hints: they decide which clauses there are.
-ghost use Rattle.std.specs.Prelude.{◌≡◌, ◌<◌};
+ghost use Rattle.std.specs.Prelude.{◌≡◌, ◌<◌, IfOk};
 ghost use Rattle.mrcpsp.specs.Project.{size};
 ghost use Rattle.mrcpsp.specs.Values.{tail, shortest};
 ghost use Rattle.measures.specs.Measures.{measures_of};
@@ -59,6 +59,7 @@ impl Windows {
         bound: u32,
     ) -> Result<Windows, AllocError>
         requires { measures.now ≡ measures_of project.now }
+        ensures { IfOk result (λ windows. windows.bound ≡ bound) }
     {
         let first = heads_of(alloc, project, measures)?;
         let mut last = Vec::new(alloc);

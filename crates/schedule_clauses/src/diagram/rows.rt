@@ -1,5 +1,6 @@
 //! The clauses of a capacity row, by its diagram.
-ghost use Rattle.std.specs.Prelude.{◌≡◌};
+ghost use Rattle.std.specs.Prelude.{◌≡◌, ◌||◌, cond, min, nat_lt, IfOk};
+ghost use Rattle.schedule_clauses.specs.LeftOut.{AreBefore, IsRowOf, with_row};
 
 use crate::diagram::{Demand, Diagram, Level, in_order};
 use crate::forms::amounts::{Descent, all, fewer, take};
@@ -113,7 +114,9 @@ impl Room {
         }
     }
 
-    pub(crate) fn most(&self) -> usize {
+    pub(crate) fn most(&self) -> usize
+        ensures { result ≡ min self.now.each self.now.left }
+    {
         self.each.min(self.left)
     }
 
@@ -157,7 +160,11 @@ pub(crate) fn row_clauses(
     diagram: &Diagram,
     room: &mut Room,
 ) -> Result<(), AllocError>
-    ensures { clauses.new ≡ clauses.old }
+    requires row { IsRowOf clauses.old.project clauses.old.limit row }
+    requires before { AreBefore clauses.old.left_out row }
+    ensures { IfOk result (λ _. clauses.new
+        ≡ cond (diagram.now.is_too_large || nat_lt (min room.old.each room.old.left) diagram.now.most_clauses)
+        (with_row row clauses.old) clauses.old) }
 {
     if diagram.is_too_large || diagram.most_clauses > room.most() {
         return clauses.leave_out(row);

@@ -5,7 +5,6 @@ ghost use Rattle.measures.specs.Measures.{measures_of};
 ghost use Rattle.price_search.specs.Barring.{IsBarring};
 
 use crate::forms::barred::starts_outside;
-use crate::formula::Kind;
 use crate::scope::Clauses;
 use crate::windows::{Window, Windows, rest_of};
 use measures::Measures;
@@ -108,5 +107,5 @@ pub(crate) fn barred_section(
     if let Barring::Open(barred) = barring {
         all_clauses(clauses, barred, measures, windows)?;
     }
-    clauses.end_section(Kind::Barred)
+    Ok(())
 }

@@ -1,12 +1,13 @@
 //! Clauses on modes and capacities, section by section. Which numbers are in a clause is a hint.
-ghost use Rattle.std.specs.Prelude.{◌≡◌, ◌<◌};
+ghost use Rattle.std.specs.Prelude.{◌≡◌, ◌+◌, ◌<◌, [], IfOk, Some};
 ghost use Rattle.mrcpsp.specs.Project.{size, mode_count, renewables};
+ghost use Rattle.schedule_clauses.specs.LeftOut.{AreBefore, KeepsSections};
 
 use crate::chains::Chains;
 use crate::diagram::rows::{Room, row_clauses};
 use crate::diagram::{Demand, Diagram};
 use crate::forms::modes::{exclude, executable, modes};
-use crate::formula::{CapacityRow, Kind};
+use crate::formula::CapacityRow;
 use crate::scope::Clauses;
 use crate::windows::Windows;
 use mrcpsp::Project;
@@ -50,7 +51,7 @@ pub(crate) fn mode_section(clauses: &mut Clauses<'_>) -> Result<(), AllocError>
     for activity in 0..scope.project.size() {
         mode_clauses(clauses, activity)?;
     }
-    clauses.end_section(Kind::Modes)
+    Ok(())
 }
 
 fn use_demands(
@@ -108,6 +109,7 @@ fn stock_demands(
 }
 
 /// A chain of activities is a level. Periods in which equal modes can run share their diagram.
+#[tactic(auto, using(crate::proofs::LeftOutLemmas::row_rules))]
 fn use_section(
     clauses: &mut Clauses<'_>,
     windows: &Windows,
@@ -116,7 +118,11 @@ fn use_section(
     room: &mut Room,
 ) -> Result<(), AllocError>
     requires resource { resource < renewables clauses.old.project }
-    ensures { clauses.new ≡ clauses.old }
+    requires bound { clauses.old.limit ≡ Some windows.now.bound }
+    requires before { AreBefore clauses.old.left_out (CapacityRow.Use resource 0) }
+    ensures keeps { IfOk result (λ _. KeepsSections clauses.old clauses.new) }
+    ensures before { IfOk result (λ _.
+        AreBefore clauses.new.left_out (CapacityRow.Use (resource + 1) 0)) }
 {
     let scope = clauses.scope();
     let project = scope.project;
@@ -135,11 +141,15 @@ fn use_section(
     Ok(())
 }
 
+#[tactic(auto, using(crate::proofs::LeftOutLemmas::row_rules))]
 pub(crate) fn renewable_section(
     clauses: &mut Clauses<'_>,
     windows: &Windows,
 ) -> Result<(), AllocError>
-    ensures { clauses.new ≡ clauses.old }
+    requires bound { clauses.old.limit ≡ Some windows.now.bound }
+    requires none { clauses.old.left_out ≡ [] }
+    ensures keeps { IfOk result (λ _. KeepsSections clauses.old clauses.new) }
+    ensures before { IfOk result (λ _. AreBefore clauses.new.left_out (CapacityRow.Stock 0)) }
 {
     let scope = clauses.scope();
     let resources = scope.project.renewables();
@@ -148,11 +158,13 @@ pub(crate) fn renewable_section(
     for resource in 0..resources {
         use_section(clauses, windows, &chains, resource, &mut room)?;
     }
-    clauses.end_section(Kind::Renewable)
+    Ok(())
 }
 
+#[tactic(auto, using(crate::proofs::LeftOutLemmas::row_rules))]
 pub(crate) fn nonrenewable_section(clauses: &mut Clauses<'_>) -> Result<(), AllocError>
-    ensures { clauses.new ≡ clauses.old }
+    requires { AreBefore clauses.old.left_out (CapacityRow.Stock 0) }
+    ensures { IfOk result (λ _. KeepsSections clauses.old clauses.new) }
 {
     let scope = clauses.scope();
     let project = scope.project;
@@ -164,5 +176,5 @@ pub(crate) fn nonrenewable_section(clauses: &mut Clauses<'_>) -> Result<(), Allo
         let row = CapacityRow::Stock { resource };
         row_clauses(clauses, row, &diagram, &mut room)?;
     }
-    clauses.end_section(Kind::Nonrenewable)
+    Ok(())
 }

@@ -5,7 +5,6 @@ ghost use Rattle.mrcpsp.specs.Values.{tail, shortest};
 ghost use Rattle.measures.specs.Measures.{measures_of};
 
 use crate::forms::starts::{end, later, latest, precedence, runs, shortest_precedence};
-use crate::formula::Kind;
 use crate::scope::Clauses;
 use crate::windows::{Window, Windows, least_of, rest_of, start_for};
 use measures::Measures;
@@ -33,7 +32,7 @@ pub(crate) fn start_section(clauses: &mut Clauses<'_>, windows: &Windows) -> Res
     for activity in 0..scope.project.size() {
         order_clauses(clauses, activity, windows.of(activity))?;
     }
-    clauses.end_section(Kind::Starts)
+    Ok(())
 }
 
 fn end_clauses(
@@ -75,7 +74,7 @@ pub(crate) fn end_section(
         let least = least_of(scope.project, measures, activity);
         end_clauses(clauses, windows, activity, rest, least)?;
     }
-    clauses.end_section(Kind::Ends)
+    Ok(())
 }
 
 /// For each mode of `before`, and for the shortest.
@@ -143,7 +142,7 @@ pub(crate) fn precedence_section(
             }
         }
     }
-    clauses.end_section(Kind::Precedence)
+    Ok(())
 }
 
 fn does_use(project: &Project, activity: usize, mode: usize) -> bool {
@@ -190,5 +189,5 @@ pub(crate) fn run_section(clauses: &mut Clauses<'_>, windows: &Windows) -> Resul
     for activity in 0..scope.project.size() {
         run_clauses(clauses, windows, activity)?;
     }
-    clauses.end_section(Kind::Runs)
+    Ok(())
 }

@@ -1,5 +1,6 @@
-use Rattle.std.proofs.Common.{◌≡◌}
+use Rattle.schedule_clauses.specs.LeftOut.{KeepsSections, AreBefore}
+use Rattle.schedule_clauses.specs.declared.formula.CapacityRow.TheVariants.{Use}
 use Rattle.schedule_clauses.proofs.sections.capacities.renewable_section.Given as goal
 
 abbrev pub invariant-loop-resource : goal.invariant-loop-resource
-invariant-loop-resource l = l.clauses ≡ l.initial.clauses
+invariant-loop-resource l = KeepsSections l.initial.clauses l.clauses × AreBefore l.clauses.left_out (Use l.resource 0)
