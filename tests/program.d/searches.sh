@@ -159,4 +159,4 @@ fi
 grep -o '^  [a-z]* ' "$work/line" | tr -d ' ' | tr '\n' ' ' >"$work/out"
 : >"$work/err"
 status=0
-says "the commands that help lists" 0 "check replay serve help verify solve draw bench prove clauses certify bound infeasible " ""
+says "the commands that help lists" 0 "check replay serve help verify solve draw show compare bench prove clauses certify bound infeasible " ""
