@@ -3,6 +3,7 @@ ghost use Rattle.std.specs.Prelude.{◌≤◌, vec_len};
 
 use crate::analysis::{Analysis, Lesson};
 use crate::averages::Average;
+use crate::exchange::Exchange;
 use crate::extension::Extension;
 use crate::stable::Stable;
 use clause_kernel::{Formula, Kernel};
@@ -61,6 +62,7 @@ pub struct Engine {
     pub stable: Stable,
     /// Decisions are those of `stable`.
     pub is_stable: bool,
+    pub exchange: Exchange,
     pub variables: u32,
 }
 
@@ -91,6 +93,7 @@ impl Engine {
             extension: Extension::new(alloc),
             stable: Stable::new(alloc, variables)?,
             is_stable: false,
+            exchange: Exchange::new(alloc),
             variables,
         })
     }
@@ -238,6 +241,7 @@ impl Engine {
             self.is_crowded = true;
             return Ok(());
         }
+        self.exchange.note(number, glue)?;
         self.learned.push(clause)?;
         self.watches.attach(&self.arena, clause)?;
         self.trail.assign(first, clause);

@@ -5,6 +5,7 @@
 mod analysis;
 mod averages;
 pub mod engine;
+pub mod exchange;
 pub mod extension;
 mod reduction;
 mod root;

@@ -71,6 +71,7 @@ impl Engine {
         is_crowded: bool,
     ) -> Result<(), AllocError> {
         self.reductions = self.reductions.saturating_add(1);
+        self.exchange.clear();
         self.mark_reasons(true);
         let candidates = self.candidates(is_crowded)?;
         for place in candidates.len() / KEPT..candidates.len() {

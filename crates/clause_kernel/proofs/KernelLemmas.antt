@@ -145,6 +145,14 @@ entailed-freed formula k trusted = record {
   refuted = trusted.refuted;
 }
 
+pub entailed-at : (formula : List (List ℕ)) (k : Held) (n : ℕ) (c : List ℕ) → IsEntailed formula k → clause_at k.clauses n ≡ Some c → Entails formula c
+entailed-at formula k n c trusted h = trusted.clauses n c h
+
+pub entailed-literal : (formula : List (List ℕ)) (k : Held) (l : ℕ) → IsEntailed formula k → is_fixed k.fixed l ≡ true → Entails formula (l ∷ [])
+entailed-literal formula k l trusted h = trusted.fixed l h
+
+pub ruleset lemma_rules = (entailed-at, entailed-literal)
+
 pub ruleset new_rules = (entailed-none)
 
 pub ruleset given_rules = (entails-own)

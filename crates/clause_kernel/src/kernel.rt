@@ -55,6 +55,14 @@ pub struct Lemma<F: Formula> {
     pub ghost entailed: { Entails F.clauses clause.items },
 }
 
+fn copied(alloc: Global, clause: &[u32]) -> Result<Vec<u32>, AllocError>
+    ensures { IfOk result (λ copy. copy.items ≡ clause.now) }
+{
+    let mut copy = Vec::with_capacity(alloc, clause.len())?;
+    copy.extend_from_slice(clause)?;
+    Ok(copy)
+}
+
 fn lemma_of<F: Formula>(clause: Vec<u32>) -> Lemma<F>
     requires { Entails F.clauses clause.items }
     ensures { result.clause ≡ clause }
@@ -212,19 +220,30 @@ impl<F: Formula> Kernel<F> {
         self.is_refuted
     }
 
-    /// Learns a clause and returns it as a message to other kernels.
-    pub fn learn_to_share(
-        &mut self,
-        clause: Vec<u32>,
-        hints: &[u32],
-    ) -> Result<Option<Lemma<F>>, AllocError>
-        ensures exact { IfOk result (λ lemma. is_some lemma ≡ follows_by self.old.clauses self.old.fixed clause.items hints.now) }
-        ensures clause { IfOk result (λ lemma. IfSome lemma (λ l. l.clause ≡ clause)) }
+    /// The clause of a number as a message to other kernels; none if the number is free.
+    #[tactic(auto, using(crate::proofs::KernelLemmas::lemma_rules))]
+    pub fn lemma(&self, number: u32) -> Result<Option<Lemma<F>>, AllocError>
+        ensures free { IfOk result (λ lemma. is_some lemma ≡ is_some (clause_at self.now.clauses number)) }
+        ensures clause { IfOk result (λ lemma. IfSome lemma (λ l. clause_at self.now.clauses number ≡ Some l.clause.items)) }
     {
-        if self.learn(&clause, hints)?.is_some() {
-            return Ok(Some(lemma_of(clause)));
+        match self.store.get(number) {
+            Some(clause) => Ok(Some(lemma_of(copied(self.store.alloc(), clause)?))),
+            None => Ok(None),
         }
-        Ok(None)
+    }
+
+    /// A literal as a message to other kernels; none if it is no clause of its own.
+    #[tactic(auto, using(crate::proofs::KernelLemmas::lemma_rules))]
+    pub fn unit(&self, literal: u32) -> Result<Option<Lemma<F>>, AllocError>
+        ensures fixed { IfOk result (λ lemma. is_some lemma ≡ is_fixed self.now.fixed literal) }
+        ensures clause { IfOk result (λ lemma. IfSome lemma (λ l. l.clause.items ≡ literal ∷ [])) }
+    {
+        if !self.is_fixed(literal) {
+            return Ok(None);
+        }
+        let mut clause = Vec::with_capacity(self.store.alloc(), 1)?;
+        clause.push(literal)?;
+        Ok(Some(lemma_of(clause)))
     }
 
     /// Adds the clause of another kernel, without a check. Returns its number.

@@ -52,6 +52,10 @@ impl Store {
         }
     }
 
+    pub(crate) fn alloc(&self) -> Global {
+        self.alloc
+    }
+
     /// The number after the last one that was ever given.
     pub(crate) fn count(&self) -> usize
         ensures { result ≡ length self.now }

@@ -11,4 +11,5 @@ mod search;
 mod simplifier;
 mod subsumption;
 
+pub use clause_engine::exchange::Message;
 pub use search::{Answer, Limits, Search};

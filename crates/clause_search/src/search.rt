@@ -3,6 +3,7 @@ ghost use Rattle.std.specs.Prelude.{◌≡◌, ◌+◌, ◌≤◌, true, IfOk};
 
 use crate::simplifier::simplify;
 use clause_engine::engine::{Engine, Progress};
+use clause_engine::exchange::Message;
 use clause_engine::stable::set_each;
 use clause_kernel::{ClauseList, Formula, Kernel};
 use clause_store::arena::{NO_CLAUSE, short};
@@ -177,6 +178,49 @@ impl Search {
         let variables = self.engine.variables;
         self.engine.is_stable = true;
         set_each(&mut self.engine.trail, variables, true);
+    }
+
+    /// Begins each variable as true, and not as false. To be called before the first run.
+    pub fn begin_with_true(&mut self)
+        ensures { self.new ≡ self.old }
+    {
+        let variables = self.engine.variables;
+        set_each(&mut self.engine.trail, variables, true);
+    }
+
+    /// Tells of learned clauses of literals of at most `glue` levels from now on.
+    pub fn tell_up_to(&mut self, glue: u32)
+        ensures { self.new ≡ self.old }
+    {
+        self.engine.exchange.tell_up_to(glue);
+    }
+
+    /// What was learned since the last call, for other searches of the formula.
+    pub fn tell<F: Formula>(&mut self, kernel: &Kernel<F>) -> Result<Vec<Message<F>>, AllocError>
+        ensures { self.new ≡ self.old }
+    {
+        self.engine.exchange.tell(&self.engine.trail, kernel)
+    }
+
+    /// Takes what another search of the formula has told, if this one has begun.
+    pub fn take<F: Formula>(
+        &mut self,
+        kernel: &mut Kernel<F>,
+        message: &Message<F>,
+    ) -> Result<(), AllocError>
+        ensures conflicts { self.new.conflicts ≡ self.old.conflicts }
+        ensures memory { self.new.words ≤ self.new.most_words }
+        ensures limits { self.new.most_words ≡ self.old.most_words }
+    {
+        let can_take = self.is_whole && self.engine.is_watched() && !kernel.is_refuted();
+        let taken = if can_take {
+            self.engine.take(kernel, message)
+        } else {
+            Ok(())
+        };
+        self.engine.keep_within(self.limits.words);
+        self.is_whole = self.is_whole && taken.is_ok();
+        taken
     }
 
     /// The conflicts counted so far.

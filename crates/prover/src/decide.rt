@@ -61,7 +61,7 @@ fn note(modes: &mut [u32], starts: &mut [u32], fact: Fact) {
 }
 
 /// The schedule that the values of variables describe. It is not checked.
-fn schedule_of(
+pub(crate) fn schedule_of(
     alloc: Global,
     size: usize,
     meanings: &[Fact],
@@ -89,7 +89,7 @@ fn schedule_of(
 }
 
 /// The decision that values describe: a schedule that is feasible and within the bound, or nothing.
-fn found_by(project: &Project, bound: u32, schedule: Schedule) -> Decision
+pub(crate) fn found_by(project: &Project, bound: u32, schedule: Schedule) -> Decision
     ensures { IsDecided project.now bound result }
 {
     match check(project, &schedule) {

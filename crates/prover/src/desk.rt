@@ -12,9 +12,13 @@ use crate::known::{Best, Known, Question, Subject};
 use crate::task::{Deadline, Limits};
 use mrcpsp::{Project, Schedule, check};
 use std::alloc::{AllocError, Global};
-use std::sync::atomic::{AtomicU64, Ordering};
+use std::sync::atomic::{AtomicBool, AtomicU64, Ordering};
 use std::sync::{Mutex, Wait};
-use std::time::Clock;
+use std::thread;
+use std::time::{Clock, Duration};
+
+/// How long a worker that has nothing to ask waits between two looks, in milliseconds.
+const WAIT: u64 = 20;
 
 /// A `Desk` is what the workers of a project share.
 #[derive(Drop)]
@@ -26,6 +30,10 @@ pub(crate) struct Desk<'a, F: Subject, R, H> {
     pub(crate) conflicts: &'a AtomicU64,
     pub(crate) deadline: Deadline<'a, R>,
     pub(crate) limits: Limits,
+    /// How many workers there are.
+    pub(crate) jobs: usize,
+    /// A team asks for a schedule a period shorter than the best one.
+    pub(crate) is_teamed: &'a AtomicBool,
     /// A schedule to begin with.
     pub(crate) first: Option<&'a Schedule>,
     pub(crate) herald: &'a H,
@@ -57,6 +65,34 @@ impl<F: Subject, R: Wait + Clock, H: Herald> Desk<'_, F, R, H> {
     pub(crate) fn gap(&self) -> (u32, Option<u32>) {
         let known = self.known.lock(self.deadline.rt);
         (known.bound(), known.makespan())
+    }
+
+    /// Whether at most so many makespans below the best one are open.
+    pub(crate) fn is_gap_at_most(&self, gap: u32) -> bool {
+        match self.gap() {
+            (bound, Some(makespan)) => makespan.saturating_sub(bound) <= gap,
+            (_, None) => gap == u32::MAX,
+        }
+    }
+
+    /// Whether the team asks all that is left, if at most so many periods are open.
+    pub(crate) fn is_left_to_the_team(&self, gap: u32) -> bool {
+        self.is_teamed.load(Ordering::SeqCst) && self.is_gap_at_most(gap) && !self.is_decided()
+    }
+
+    /// Waits for a moment.
+    pub(crate) fn wait(&self) {
+        thread::sleep(self.deadline.rt, Duration::from_millis(WAIT));
+    }
+
+    /// Waits while all that is left is asked by the team.
+    pub(crate) fn rest(&self, gap: u32) {
+        for _ in self.deadline.rt.forever() {
+            if self.deadline.is_over() || !self.is_left_to_the_team(gap) {
+                return;
+            }
+            self.wait();
+        }
     }
 
     /// Keeps a schedule if it is shorter than the best one.

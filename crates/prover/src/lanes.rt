@@ -6,10 +6,13 @@ use crate::desk::{Desk, Taken};
 use crate::herald::Herald;
 use crate::improver::Improver;
 use crate::known::{Question, Subject};
+use crate::team::ask_together;
 use price_search::lower_bound;
 use schedule_clauses::CertificateFault;
 use std::alloc::AllocError;
 use std::sync::Wait;
+use std::sync::atomic::Ordering;
+use std::thread::Threads;
 use std::time::Clock;
 
 /// A `Lane` is what a worker does.
@@ -17,12 +20,24 @@ use std::time::Clock;
 pub enum Lane {
     /// Prices, then bounds from below by clauses.
     Low,
-    /// A schedule a period shorter than the best one, by clauses.
+    /// A schedule a period shorter than the best one, by a team of searches of clauses.
     High,
     /// A schedule halfway between the bound and the best one, by clauses.
     Middle,
     /// Local search.
     Improve,
+}
+
+impl Lane {
+    /// The most open periods with which the lane leaves all to a team: its question is asked by the
+    /// team or by another lane. 0 if it never does.
+    fn last_gap(self) -> u32 {
+        match self {
+            Lane::Low => 1,
+            Lane::Middle => 2,
+            Lane::High | Lane::Improve => 0,
+        }
+    }
 }
 
 /// A `Worker` is a lane with the seed of its local search.
@@ -48,6 +63,7 @@ pub(crate) const LEAP: u64 = 2_000;
 #[derive(Drop)]
 struct Shift<'a, 'b, F: Subject, R, H> {
     desk: &'a Desk<'b, F, R, H>,
+    lane: Lane,
     improver: Improver,
     question: Question,
     /// The most conflicts of the question.
@@ -58,7 +74,10 @@ struct Shift<'a, 'b, F: Subject, R, H> {
 impl<F: Subject, R: Wait + Clock, H: Herald> Watch for Shift<'_, '_, F, R, H> {
     fn look(&mut self, conflicts: u64) -> u64 {
         let desk = self.desk;
-        if desk.deadline.is_over() || desk.is_moot(self.question) {
+        if desk.deadline.is_over()
+            || desk.is_moot(self.question)
+            || desk.is_left_to_the_team(self.lane.last_gap())
+        {
             return 0;
         }
         SLICE.min(self.most.saturating_sub(conflicts))
@@ -156,6 +175,7 @@ fn step<F: Subject, R: Wait + Clock, H: Herald>(
     left: u64,
 ) -> Result<Option<u32>, AllocError> {
     let desk = shift.desk;
+    desk.rest(Lane::Low.last_gap());
     let (bound, makespan) = desk.gap();
     let Some(question) = question_of(Lane::Low, bound, makespan, stride) else {
         return Ok(None);
@@ -166,7 +186,8 @@ fn step<F: Subject, R: Wait + Clock, H: Herald>(
     shift.question = question;
     shift.most = if stride > 1 { LEAP.min(left) } else { left };
     let taken = ask(shift)?;
-    if taken == Taken::Nothing && stride <= 1 && !desk.is_moot(question) {
+    let is_left = desk.is_left_to_the_team(Lane::Low.last_gap());
+    if taken == Taken::Nothing && stride <= 1 && !desk.is_moot(question) && !is_left {
         return Ok(None);
     }
     Ok(Some(stride_after(stride, taken, shift.conflicts)))
@@ -206,33 +227,57 @@ fn improve_once<F: Subject, R: Wait + Clock, H: Herald>(
     Ok(goes_on)
 }
 
-/// Asks for shorter schedules until nothing is open, or a question ends without an answer.
-fn descend<F: Subject, R: Wait + Clock, H: Herald>(
+/// Asks the question of the lane. Returns false if it was left open.
+fn ask_of_lane<F: Subject + Send + Sync, R: Threads + Wait + Clock + Sync, H: Herald + Sync>(
     shift: &mut Shift<'_, '_, F, R, H>,
-    lane: Lane,
+    question: Question,
+) -> Result<bool, AllocError> {
+    let desk = shift.desk;
+    shift.question = question;
+    shift.most = desk.limits.conflicts;
+    if shift.lane == Lane::High {
+        ask_together(desk, question)?;
+        return Ok(desk.is_moot(question));
+    }
+    let is_answered = ask(shift)? != Taken::Nothing;
+    Ok(is_answered || desk.is_moot(question) || desk.is_left_to_the_team(shift.lane.last_gap()))
+}
+
+/// Asks for shorter schedules until nothing is open, or a question ends without an answer.
+fn descend<F: Subject + Send + Sync, R: Threads + Wait + Clock + Sync, H: Herald + Sync>(
+    shift: &mut Shift<'_, '_, F, R, H>,
 ) -> Result<(), AllocError> {
     let desk = shift.desk;
     for _ in desk.deadline.rt.forever() {
+        desk.rest(shift.lane.last_gap());
         let (bound, makespan) = desk.gap();
-        let Some(question) = question_of(lane, bound, makespan, 1) else {
+        let Some(question) = question_of(shift.lane, bound, makespan, 1) else {
             return Ok(());
         };
         if desk.deadline.is_over() || desk.is_decided() {
             return Ok(());
         }
-        if makespan.is_none() {
-            if !improve_once(shift)? {
-                return Ok(());
-            }
+        let goes_on = if makespan.is_none() {
+            improve_once(shift)?
         } else {
-            shift.question = question;
-            shift.most = desk.limits.conflicts;
-            if ask(shift)? == Taken::Nothing && !desk.is_moot(question) {
-                return Ok(());
-            }
+            ask_of_lane(shift, question)?
+        };
+        if !goes_on {
+            return Ok(());
         }
     }
     Ok(())
+}
+
+/// Asks for schedules a period shorter, by a team.
+fn lead<F: Subject + Send + Sync, R: Threads + Wait + Clock + Sync, H: Herald + Sync>(
+    shift: &mut Shift<'_, '_, F, R, H>,
+) -> Result<(), AllocError> {
+    let is_teamed = shift.desk.is_teamed;
+    is_teamed.store(true, Ordering::SeqCst);
+    let descended = descend(shift);
+    is_teamed.store(false, Ordering::SeqCst);
+    descended
 }
 
 /// Searches for shorter schedules until nothing is open.
@@ -250,17 +295,17 @@ fn improve<F: Subject, R: Wait + Clock, H: Herald>(
 
 /// Does what the lane says, and then, if there is a time limit, improves. Without one, all workers
 /// end with the one that raises the bound: its conflicts or its memory are used up.
-fn run_lane<F: Subject, R: Wait + Clock, H: Herald>(
+fn run_lane<F: Subject + Send + Sync, R: Threads + Wait + Clock + Sync, H: Herald + Sync>(
     shift: &mut Shift<'_, '_, F, R, H>,
-    lane: Lane,
 ) -> Result<(), AllocError> {
-    match lane {
+    match shift.lane {
         Lane::Low => {
             let climbed = climb(shift);
             shift.desk.deadline.end();
             climbed?;
         }
-        Lane::High | Lane::Middle => descend(shift, lane)?,
+        Lane::High => lead(shift)?,
+        Lane::Middle => descend(shift)?,
         Lane::Improve => improve(shift)?,
     }
     if shift.desk.limits.time.is_some() {
@@ -275,6 +320,7 @@ fn shift_at<'a, 'b, F: Subject, R, H>(
 ) -> Shift<'a, 'b, F, R, H> {
     Shift {
         desk,
+        lane: worker.lane,
         improver: Improver::new(worker.seed),
         question: Question { within: u32::MAX },
         most: desk.limits.conflicts,
@@ -283,10 +329,10 @@ fn shift_at<'a, 'b, F: Subject, R, H>(
 }
 
 /// Works until nothing is open, the limits are met, or memory is wanting.
-pub(crate) fn work<F: Subject, R: Wait + Clock, H: Herald>(
+pub(crate) fn work<F: Subject + Send + Sync, R: Threads + Wait + Clock + Sync, H: Herald + Sync>(
     desk: &Desk<'_, F, R, H>,
     worker: Worker,
 ) {
     let mut shift = shift_at(desk, worker);
-    let _ = run_lane(&mut shift, worker.lane);
+    let _ = run_lane(&mut shift);
 }

@@ -5,10 +5,12 @@
 //! - `task`, `herald`: what is asked for, and who hears of what is proved.
 //! - `desk`: what the workers share; `improver`: local search in runs.
 //! - `lanes`: what each worker does; `threads`: the workers in threads.
+//! - `team`: searches of one question that tell each other what they learn, on a `board`.
 //! - `alone`: one worker without threads, locks or a clock. It returns, whatever it is given.
 #![tactic(auto)]
 
 mod alone;
+mod board;
 mod decide;
 mod desk;
 mod herald;
@@ -16,6 +18,7 @@ mod improver;
 mod known;
 mod lanes;
 mod task;
+mod team;
 mod threads;
 
 pub use alone::{Allowance, Overseer, prove_alone};

@@ -14,7 +14,7 @@ use crate::task::{Deadline, Pace, Proved, Task};
 use mrcpsp::Project;
 use std::alloc::{AllocError, Global};
 use std::marker::Brand;
-use std::sync::atomic::AtomicU64;
+use std::sync::atomic::{AtomicBool, AtomicU64};
 use std::sync::{Mutex, Wait};
 use std::thread;
 use std::thread::Threads;
@@ -101,6 +101,7 @@ fn prove_together<'a, F: Subject + Send + Sync, R: Threads + Wait + Clock + Sync
     let rt = deadline.rt;
     let known = Mutex::new(Known::<F>::new());
     let conflicts = AtomicU64::new(0);
+    let is_teamed = AtomicBool::new(false);
     let desk = Desk {
         alloc,
         project,
@@ -108,6 +109,8 @@ fn prove_together<'a, F: Subject + Send + Sync, R: Threads + Wait + Clock + Sync
         conflicts: &conflicts,
         deadline,
         limits: task.limits,
+        jobs: task.jobs,
+        is_teamed: &is_teamed,
         first: task.first,
         herald,
     };

@@ -18,7 +18,7 @@ struct Outcome {
     refused: u64,
 }
 
-fn packed(values: &[bool]) -> u64 {
+pub(crate) fn packed(values: &[bool]) -> u64 {
     let mut bits = 0u64;
     let mut bit = 1u64;
     for value in values {

@@ -1,0 +1,233 @@
+//! One question, asked by several searches that tell each other what they learn (Hamadi, Jabbour and
+//! Sais 2009).
+ghost use Rattle.std.specs.Prelude.{◌≡◌, IfOk, IfSome};
+ghost use Rattle.clause_kernel.specs.Clauses.{IsUnsatisfiable};
+ghost use Rattle.schedule_prices.specs.Choices.{EachExceeds};
+ghost use Rattle.schedule_clauses.specs.Satisfied.{SatisfiedByShort};
+ghost use Rattle.prover.specs.Decided.{IsDecided};
+
+use crate::board::Board;
+use crate::decide::{Decision, found_by, schedule_of};
+use crate::desk::Desk;
+use crate::herald::Herald;
+use crate::known::{Question, Subject};
+use crate::lanes::SLICE;
+use clause_kernel::Kernel;
+use clause_search::{Answer, Limits, Search};
+use schedule_clauses::{CertificateFault, Formula, open_clauses};
+use std::alloc::AllocError;
+use std::marker::Brand;
+use std::sync::{Mutex, Wait};
+use std::thread;
+use std::thread::Threads;
+use std::time::Clock;
+
+/// The most levels of the literals of a clause that searches tell each other.
+const MOST_GLUE: u32 = 8;
+
+/// How a search of a team begins.
+#[derive(Clone, Copy, Debug, PartialEq, Eq)]
+enum Style {
+    /// Variables are false first.
+    Plain,
+    /// They are true first.
+    TrueFirst,
+    /// It aims at values.
+    Values,
+}
+
+/// A `Member` is a search of a team, and how few periods are open when it begins.
+#[derive(Clone, Copy, Debug)]
+struct Member {
+    place: usize,
+    style: Style,
+    gap: u32,
+}
+
+/// The members of a team in the order of their places: as the gap closes, the workers of the other
+/// lanes of clauses have nothing else to ask.
+const MEMBERS: [Member; 3] = [
+    Member {
+        place: 0,
+        style: Style::Plain,
+        gap: u32::MAX,
+    },
+    Member {
+        place: 1,
+        style: Style::TrueFirst,
+        gap: 1,
+    },
+    Member {
+        place: 2,
+        style: Style::Values,
+        gap: 2,
+    },
+];
+
+/// A `Team` is what the searches of a question share.
+#[derive(Drop)]
+struct Team<'a, 'b, F: Subject, L: clause_kernel::Formula, R, H> {
+    desk: &'a Desk<'b, F, R, H>,
+    question: Question,
+    formula: &'a Formula,
+    board: &'a Mutex<Board<L>>,
+    ghost clauses: { formula.now.clauses ≡ L.clauses },
+    ghost refutes: { IsUnsatisfiable L.clauses → EachExceeds F.project question.within },
+}
+
+fn prepare(search: &mut Search, style: Style) {
+    search.tell_up_to(MOST_GLUE);
+    match style {
+        Style::Plain => {}
+        Style::TrueFirst => search.begin_with_true(),
+        Style::Values => search.prefer_values(),
+    }
+}
+
+impl<F: Subject, L: clause_kernel::Formula, R: Wait + Clock, H: Herald> Team<'_, '_, F, L, R, H> {
+    /// What a search has come to, or `None` if it goes on.
+    fn decision_of(
+        &self,
+        kernel: &Kernel<L>,
+        search: &Search,
+        answer: Answer,
+    ) -> Result<Option<Decision>, AllocError>
+        ensures { IfOk result (λ decision. IfSome decision (IsDecided F.project self.now.question.within)) }
+    {
+        if kernel.is_refuted() {
+            return Ok(Some(Decision::None));
+        }
+        if answer == Answer::Satisfied {
+            let (alloc, project) = (self.desk.alloc, self.desk.project);
+            let meanings = &self.formula.meanings;
+            let schedule = schedule_of(alloc, project.size(), meanings, search.values())?;
+            return Ok(Some(found_by(project, self.question.within, schedule)));
+        }
+        let has_ended = answer == Answer::Full
+            || search.refused() > 0
+            || search.conflicts() >= self.desk.limits.conflicts;
+        Ok(if has_ended {
+            Some(Decision::Open)
+        } else {
+            None
+        })
+    }
+
+    /// Tells the others what a search has learned, and takes what they have told. Returns how many
+    /// messages were ever told.
+    fn exchange(
+        &self,
+        place: usize,
+        search: &mut Search,
+        kernel: &mut Kernel<L>,
+        seen: u64,
+    ) -> Result<u64, AllocError> {
+        let desk = self.desk;
+        let told = search.tell(kernel)?;
+        let mut board = self.board.lock(desk.deadline.rt);
+        for sent in board.since(seen) {
+            if sent.sender != place {
+                search.take(kernel, &sent.message)?;
+            }
+        }
+        board.post(place, told)?;
+        Ok(board.count())
+    }
+
+    /// Searches until the question is decided or moot, or the limits are met.
+    fn search(&self, member: Member) -> Result<(), AllocError> {
+        let desk = self.desk;
+        let clauses = &self.formula.clauses;
+        let words = desk.limits.words;
+        let mut kernel = Kernel::<L>::new(desk.alloc, clauses)?;
+        let mut search = Search::new(desk.alloc, clauses, Limits { words })?;
+        prepare(&mut search, member.style);
+        let mut seen = 0;
+        for _ in desk.deadline.rt.forever() {
+            if desk.deadline.is_over() || desk.is_moot(self.question) {
+                break;
+            }
+            let left = desk.limits.conflicts.saturating_sub(search.conflicts());
+            let answer = search.run(&mut kernel, SLICE.min(left))?;
+            if let Some(decision) = self.decision_of(&kernel, &search, answer)? {
+                desk.take_in(self.question, decision);
+                break;
+            }
+            seen = self.exchange(member.place, &mut search, &mut kernel, seen)?;
+        }
+        desk.count(search.conflicts());
+        Ok(())
+    }
+
+    /// Waits until so few periods are open that a member is wanted. False if that never happens.
+    fn is_wanted(&self, member: Member) -> bool {
+        let desk = self.desk;
+        for _ in desk.deadline.rt.forever() {
+            if desk.deadline.is_over() || desk.is_moot(self.question) {
+                return false;
+            }
+            if desk.is_gap_at_most(member.gap) {
+                return true;
+            }
+            desk.wait();
+        }
+        false
+    }
+
+    /// Want of memory ends a member alone.
+    fn join(&self, member: Member) {
+        if self.is_wanted(member) {
+            let _ = self.search(member);
+        }
+    }
+}
+
+#[tactic(auto, using(crate::proofs::DecideLemmas::decide_rules))]
+fn ask_as<
+    F: Subject + Send + Sync,
+    L: clause_kernel::Formula + Send + Sync,
+    R: Threads + Wait + Clock + Sync,
+    H: Herald + Sync,
+>(desk: &Desk<'_, F, R, H>, question: Question, formula: &Formula) -> Result<(), AllocError>
+    requires clauses { formula.now.clauses ≡ L.clauses }
+    requires short { SatisfiedByShort F.project question.within L.clauses }
+{
+    let mut members = Vec::with_capacity(desk.alloc, MEMBERS.len())?;
+    for member in MEMBERS {
+        if member.place + 1 < desk.jobs {
+            members.push(member)?;
+        }
+    }
+    let board = Mutex::new(Board::<L>::new(desk.alloc));
+    let team = Team {
+        desk,
+        question,
+        formula,
+        board: &board,
+    };
+    let team = &team;
+    thread::map_vec(
+        desk.deadline.rt,
+        members,
+        &|member: Member| -> () { team.join(member) },
+    )?;
+    Ok(())
+}
+
+/// Asks the question by a search, which others join as the gap closes. Only want of memory is an
+/// error; a question of too many clauses tells nothing.
+pub(crate) fn ask_together<
+    F: Subject + Send + Sync,
+    R: Threads + Wait + Clock + Sync,
+    H: Herald + Sync,
+>(desk: &Desk<'_, F, R, H>, question: Question) -> Result<(), AllocError> {
+    match open_clauses(desk.alloc, desk.project, question.within) {
+        Ok(Some(formula)) => ask_as::<F, Brand, R, H>(desk, question, &formula),
+        Ok(None) => {
+            desk.take_in(question, Decision::None);
+            Ok(())
+        }
+        Err(CertificateFault::NoMemory) => Err(AllocError),
+        Err(_) => Ok(()),
+    }
+}
