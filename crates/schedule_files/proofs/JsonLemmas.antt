@@ -1,7 +1,7 @@
 -- The places of a schedule as JSON, and the lines of a text.
 use Rattle.std.proofs.Common.{◌≡◌, ⊎_elim, inl, inr, ℕ, ◌+◌, ◌-◌, ◌<◌, ◌≤◌, List, [], ◌∷◌, ◌++◌, length, take, drop, get_or, refl, sym, ap, ◌∙◌, arith, subst, Option, Some, None, Result, Ok, Err, IfOk, IfSome, IfNone}
 use Rattle.std.proofs.lemmas.List.{take_more}
-use Rattle.schedule_files.specs.Places.{placed_from}
+use Rattle.schedule_files.specs.Places.{placed_from, IsUntold}
 use Rattle.schedule_files.proofs.OrderLemmas.{split}
 use Rattle.mrcpsp.specs.Schedule.{ScheduleData}
 use Rattle.schedule_files.specs.ScheduleJson.{BeginsLastLine, IsJsonOf, TellsJson}
@@ -37,22 +37,22 @@ one_last_line text a b one other =
     (split a b)
 
 -- what a text or its last line tells
-pub json_told : {E : Type 0} (text line : List ℕ) (r : Result (Option ScheduleData) E) → IfOk r (λ found. IfSome found (λ s. IsJsonOf line s))
+pub json_told : {E : Type 0} (text line : List ℕ) (r : Result (Option ScheduleData) E) → IsUntold (IsJsonOf text) → IfOk r (λ found. IfSome found (λ s. IsJsonOf line s))
     → (0 < length text → (start : ℕ) × BeginsLastLine text start × (line ≡ drop start text)) → (length text ≡ 0 → line ≡ text) → IfOk r (λ found. IfSome found (λ s. TellsJson text s))
-json_told [] line (Ok (Some s)) told at empty = inl (subst (λ l. IsJsonOf l s) (empty refl) told)
-json_told (x ∷ text) line (Ok (Some s)) told at empty =
+json_told [] line (Ok (Some s)) whole told at empty = inl (subst (λ l. IsJsonOf l s) (empty refl) told)
+json_told (x ∷ text) line (Ok (Some s)) whole told at empty =
     let (start, begins, is) = at (omega arith) in
-    inr (start, begins, subst (λ l. IsJsonOf l s) is told)
-json_told text line (Ok None) told at empty = tt
-json_told text line (Err e) told at empty = tt
+    inr (whole, (start, begins, subst (λ l. IsJsonOf l s) is told))
+json_told text line (Ok None) whole told at empty = tt
+json_told text line (Err e) whole told at empty = tt
 
-pub json_none : {E : Type 0} (text line : List ℕ) (r : Result (Option ScheduleData) E) → ((s : ScheduleData) → IsJsonOf text s → ⊥)
-    → IfOk r (λ found. IfNone found ((s : ScheduleData) → IsJsonOf line s → ⊥)) → (0 < length text → (start : ℕ) × BeginsLastLine text start × (line ≡ drop start text))
-    → IfOk r (λ found. IfNone found ((s : ScheduleData) → TellsJson text s → ⊥))
+pub json_none : {E : Type 0} (text line : List ℕ) (r : Result (Option ScheduleData) E) → IsUntold (IsJsonOf text)
+    → IfOk r (λ found. IfNone found (IsUntold (IsJsonOf line))) → (0 < length text → (start : ℕ) × BeginsLastLine text start × (line ≡ drop start text))
+    → IfOk r (λ found. IfNone found (IsUntold (TellsJson text)))
 json_none text line (Ok (Some s)) whole last at = tt
 json_none text line (Ok None) whole last at = λ s t.
     ⊎_elim (λ (j : IsJsonOf text s). whole s j)
-    (λ (start, begins, json).
+    (λ (untold, (start, begins, json)).
     let (first, other, is) = at (omega (arith, begins.inside)) in
     let same = one_last_line text start first begins other in
     last s (subst (λ l. IsJsonOf l s) (ap (λ n. drop n text) same ∙ sym is) json))

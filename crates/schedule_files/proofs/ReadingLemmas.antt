@@ -1,18 +1,18 @@
 -- Words and rows of a text: that a text which tells a schedule is found to tell one.
-use Rattle.std.proofs.Common.{◌≡◌, ◌⊎◌, ⊎_elim, ℕ, zero, suc, ◌+◌, ◌-◌, ◌<◌, List, [], ◌∷◌, ◌++◌, length, length-append, take, drop, get_or, refl, sym, ap, ◌∙◌, arith, subst, Option, Some, None, IfSome, IfNone, Result, Ok, Err, IfOk}
+use Rattle.std.proofs.Common.{◌≡◌, ◌⊎◌, ⊎_elim, inr, ℕ, zero, suc, ◌+◌, ◌-◌, ◌<◌, List, [], ◌∷◌, ◌++◌, length, length-append, take, drop, get_or, refl, sym, ap, ◌∙◌, arith, subst, Option, Some, None, IfSome, IfNone, Result, Ok, Err, IfOk}
 use Rattle.std.proofs.lemmas.List.{get_or-append_right, take-append-drop}
 use Rattle.std.proofs.lemmas.List.Sorted.{length_permutation}
 use Rattle.std.proofs.lemmas.Option.{none-some}
 use Rattle.std.specs.Option.{option_map_or}
 use Rattle.mrcpsp.specs.Schedule.{ScheduleData}
-use Rattle.schedule_files.specs.Places.{◌>>=◌, placed_from, ArePlaces, IsStrayAt}
+use Rattle.schedule_files.specs.Places.{◌>>=◌, placed_from, ArePlaces, IsStrayAt, IsUntold}
 use Rattle.schedule_files.specs.ScheduleRows.{words_of, rows_of, place_at, places_at, last_number, last_words}
 use Rattle.schedule_files.specs.ScheduleJson.{TellsJson}
-use Rattle.schedule_files.specs.ScheduleText.{TellsWords, TellsRows, Tells}
+use Rattle.schedule_files.specs.ScheduleText.{TellsWords, TellsRows, TellsSomehow, Tells}
 use Rattle.schedule_files.specs.declared.places.ScheduleEntry.{ScheduleEntry}
 use Rattle.schedule_files.proofs.OrderLemmas.{placed_length, placed_number, no_stray}
 
-some_of : {A : Type 0} (d x y : A) → Some x ≡ Some y → x ≡ y
+pub some_of : {A : Type 0} (d x y : A) → Some x ≡ Some y → x ≡ y
 some_of d x y e = ap (λ o. option_map_or (λ v. v) o d) e
 
 some_is_not_none : {A : Type 0} (x : A) → Some x ≡ None → ⊥
@@ -141,17 +141,25 @@ rows_none text rows entries (Some x) None is read never told none = λ s t.
     let empty : length x.modes ≡ 0 = none in
     absurd (omega (arith, a, b, c, empty, t.some))
 
+-- what a text tells as JSON, if it tells nothing as words or rows
+pub json_way : {E : Type 0} (text : List ℕ) (r : Result (Option ScheduleData) E) → IsUntold (TellsWords text) → IsUntold (TellsRows text) → IfOk r (λ found. IfSome found (λ s. TellsJson text s))
+    → IfOk r (λ found. IfSome found (λ s. TellsSomehow text s))
+json_way text (Ok (Some s)) words rows json = inr (words, inr (rows, json))
+json_way text (Ok None) words rows json = tt
+json_way text (Err e) words rows json = tt
+
 -- a text that tells nothing as words, rows or JSON tells nothing
-pub no_way : {E : Type 0} (text : List ℕ) (r : Result (Option ScheduleData) E) → ((s : ScheduleData) → TellsWords text s → ⊥) → ((s : ScheduleData) → TellsRows text s → ⊥)
-    → IfOk r (λ found. IfNone found ((s : ScheduleData) → TellsJson text s → ⊥))
-    → IfOk r (λ found. IfNone found ((s : ScheduleData) → TellsWords text s ⊎ (TellsRows text s ⊎ TellsJson text s) → ⊥))
+pub no_way : {E : Type 0} (text : List ℕ) (r : Result (Option ScheduleData) E) → IsUntold (TellsWords text) → IsUntold (TellsRows text) → IfOk r (λ found. IfNone found (IsUntold (TellsJson text)))
+    → IfOk r (λ found. IfNone found (IsUntold (TellsSomehow text)))
 no_way text (Ok (Some s)) words rows json = tt
-no_way text (Ok None) words rows json = λ s t. ⊎_elim (λ (w : TellsWords text s). words s w) (λ (o : TellsRows text s ⊎ TellsJson text s). ⊎_elim (λ (x : TellsRows text s). rows s x) (λ (j : TellsJson text s). json s j) o) t
+no_way text (Ok None) words rows json = λ s t.
+    ⊎_elim (λ (w : TellsWords text s). words s w)
+    (λ (o : IsUntold (TellsWords text) × (TellsRows text s ⊎ (IsUntold (TellsRows text) × TellsJson text s))).
+    ⊎_elim (λ (x : TellsRows text s). rows s x) (λ (j : IsUntold (TellsRows text) × TellsJson text s). json s j.1) o.1)
+    t
 no_way text (Err e) words rows json = tt
 
-pub one_way : {E : Type 0} (text : List ℕ) (r : Result (Option ScheduleData) E)
-    → IfOk r (λ found. IfNone found ((s : ScheduleData) → TellsWords text s ⊎ (TellsRows text s ⊎ TellsJson text s) → ⊥))
-    → IfOk r (λ found. IfNone found ((s : ScheduleData) → Tells text s → ⊥))
+pub one_way : {E : Type 0} (text : List ℕ) (r : Result (Option ScheduleData) E) → IfOk r (λ found. IfNone found (IsUntold (TellsSomehow text))) → IfOk r (λ found. IfNone found (IsUntold (Tells text)))
 one_way text (Ok (Some s)) never = tt
 one_way text (Ok None) never = λ s t. never s t.ways
 one_way text (Err e) never = tt

@@ -2,3 +2,4 @@ pub mod Places
 pub mod ScheduleRows
 pub mod ScheduleText
 pub mod ScheduleJson
+pub mod Laws

@@ -5,7 +5,7 @@ use Rattle.serde_json.specs.Data.{Data, Items, no_items, item}
 use Rattle.serde_json.specs.Read.{read}
 use Rattle.serde_json.specs.Find.{get, as_number, as_u64, as_array}
 use Rattle.mrcpsp.specs.Schedule.{ScheduleData}
-use Rattle.schedule_files.specs.Places.{◌>>=◌, counted, ArePlaces}
+use Rattle.schedule_files.specs.Places.{◌>>=◌, counted, ArePlaces, IsUntold}
 use Rattle.schedule_files.specs.declared.places.ScheduleEntry.{ScheduleEntry}
 
 -- the natural number at a key
@@ -53,6 +53,6 @@ pub record BeginsLastLine (text : List ℕ) (start : ℕ) : Type 0 where
   pub behind : (before : ℕ) → start ≡ before + 1 → get_or text before 0 ≡ 10
   pub last : (k : ℕ) → start ≤ k → k + 1 < length text → get_or text k 0 ≡ 10 → ⊥
 
--- the text, or else its last line, is the JSON of the schedule
+-- the text is the JSON of the schedule; or, if it is no schedule's, its last line is
 abbrev pub TellsJson : List ℕ → ScheduleData → Type 0
-TellsJson text s = IsJsonOf text s ⊎ ((start : ℕ) × BeginsLastLine text start × IsJsonOf (drop start text) s)
+TellsJson text s = IsJsonOf text s ⊎ (IsUntold (IsJsonOf text) × ((start : ℕ) × BeginsLastLine text start × IsJsonOf (drop start text) s))

@@ -2,7 +2,7 @@
 -- between them. Words with other white space, rows with commas, and JSON are read too.
 use Rattle.std.specs.Prelude.{◌≡◌, ◌⊎◌, ℕ, ◌+◌, ◌<◌, ◌≤◌, List, [], ◌∷◌, ◌++◌, length, Some, codes, decimal}
 use Rattle.mrcpsp.specs.Schedule.{ScheduleData}
-use Rattle.schedule_files.specs.Places.{placed_from, ArePlaces}
+use Rattle.schedule_files.specs.Places.{placed_from, ArePlaces, IsUntold}
 use Rattle.schedule_files.specs.ScheduleJson.{TellsJson}
 use Rattle.schedule_files.specs.ScheduleRows.{words_of, rows_of, places_at}
 use Rattle.schedule_files.specs.declared.places.ScheduleEntry.{ScheduleEntry}
@@ -38,7 +38,11 @@ pub record TellsRows (text : List ℕ) (s : ScheduleData) : Type 0 where
   pub each : ArePlaces places s
   pub some : 0 < length s.modes
 
+-- the words of the text tell the schedule; or, if they tell none, its rows do; or else it is JSON
+abbrev pub TellsSomehow : List ℕ → ScheduleData → Type 0
+TellsSomehow text s = TellsWords text s ⊎ (IsUntold (TellsWords text) × (TellsRows text s ⊎ (IsUntold (TellsRows text) × TellsJson text s)))
+
 -- a text of at most 1,048,576 bytes writes the schedule as words, as rows or as JSON
 pub record Tells (text : List ℕ) (s : ScheduleData) : Type 0 where
   pub short : length text ≤ MOST_BYTES
-  pub ways : TellsWords text s ⊎ (TellsRows text s ⊎ TellsJson text s)
+  pub ways : TellsSomehow text s

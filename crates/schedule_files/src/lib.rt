@@ -2,12 +2,12 @@
 //!
 //! The text of a schedule is the words `J:MODE:START` of its activities. Activities and modes are
 //! numbered from 1, periods from 0. [`put_schedule`] adds these words to a text. [`read_schedule`]
-//! returns only a schedule that the text has (`specs/ScheduleText`). That it finds one if there is
-//! one is only tested.
+//! returns the one schedule that a text tells, if it tells one (`specs/ScheduleText`, `laws`).
 //!
 //! - `words`: the words of a schedule.
 //! - `places`, `rows`: the places of activities, and how words and lines write them.
 //! - `reading`, `json`: the schedule that a text has, and that of a JSON text.
+//! - `laws`: a text tells at most one schedule, and what is written is told.
 //!
 //! A picture of a schedule is an SVG text. What it shows is in no contract: `tests/picture`
 //! compares bars, outlines and words with the schedule.
@@ -20,6 +20,7 @@ mod bars;
 mod chain;
 mod drawing;
 mod json;
+pub mod laws;
 mod places;
 mod reading;
 mod rows;

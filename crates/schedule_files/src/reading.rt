@@ -1,9 +1,8 @@
 //! The schedule that a text has.
-ghost use Rattle.std.specs.Prelude.{◌≡◌, ◌⊎◌, ◌<◌, length, map, Some, IfOk, IfSome, IfNone};
+ghost use Rattle.std.specs.Prelude.{◌≡◌, ◌<◌, length, map, Some, IfOk, IfSome, IfNone};
 ghost use Rattle.mrcpsp.specs.Schedule.{ScheduleData};
 ghost use Rattle.schedule_files.specs.ScheduleRows.{last_number, last_words};
-ghost use Rattle.schedule_files.specs.ScheduleJson.{TellsJson};
-ghost use Rattle.schedule_files.specs.ScheduleText.{TellsWords, TellsRows, Tells};
+ghost use Rattle.schedule_files.specs.ScheduleText.{TellsWords, TellsRows, TellsSomehow, Tells};
 
 use crate::json::read_json;
 use crate::places::{in_order, scheduled};
@@ -65,12 +64,10 @@ fn read_rows(alloc: Global, text: &[u8]) -> Result<Option<Schedule>, AllocError>
     Ok(filled(schedule))
 }
 
-#[tactic(auto, using(crate::proofs::ReadingLemmas::no_way))]
+#[tactic(auto, using(crate::proofs::ReadingLemmas::no_way, crate::proofs::ReadingLemmas::json_way))]
 fn read_any(alloc: Global, text: &[u8]) -> Result<Option<Schedule>, AllocError>
-    ensures told { IfOk result (λ found. IfSome found (λ schedule.
-        TellsWords text.now schedule ⊎ (TellsRows text.now schedule ⊎ TellsJson text.now schedule))) }
-    ensures none { IfOk result (λ found. IfNone found ((s : ScheduleData)
-        → TellsWords text.now s ⊎ (TellsRows text.now s ⊎ TellsJson text.now s) → ⊥)) }
+    ensures told { IfOk result (λ found. IfSome found (λ schedule. TellsSomehow text.now schedule)) }
+    ensures none { IfOk result (λ found. IfNone found ((s : ScheduleData) → TellsSomehow text.now s → ⊥)) }
 {
     match read_words(alloc, text)? {
         Some(schedule) => Ok(Some(schedule)),

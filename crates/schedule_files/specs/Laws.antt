@@ -1,0 +1,26 @@
+-- A text tells at most one schedule, and a text that ends with a schedule's words tells it.
+use Rattle.std.specs.Prelude.{◌≡◌, ℕ, ◌<◌, ◌≤◌, ◌++◌, ◌∷◌, [], List, length}
+use Rattle.mrcpsp.specs.Schedule.{ScheduleData}
+use Rattle.schedule_files.specs.ScheduleText.{Tells, schedule_text}
+use Rattle.schedule_files.specs.declared.reading.TheConstants.{MOST_BYTES}
+
+-- schedules that a text tells are equal
+abbrev pub TellsOne : Type 0
+TellsOne = (text : List ℕ) (s t : ScheduleData) → Tells text s → Tells text t → s ≡ t
+
+-- each number of a list is at most 4,294,967,295
+abbrev pub AreCounted : List ℕ → Type 0
+AreCounted [] = Unit {0}
+AreCounted (n ∷ ns) = (n ≤ 4294967295) × AreCounted ns
+
+-- a schedule that can be written: a mode and a start for each activity, at least one, of 32 bits
+pub record IsWritable (s : ScheduleData) : Type 0 where
+  pub even : length s.modes ≡ length s.starts
+  pub some : 0 < length s.modes
+  pub few : length s.modes ≤ 4294967295
+  pub modes : AreCounted s.modes
+  pub starts : AreCounted s.starts
+
+-- a text of any front, a schedule's words and a line feed tells the schedule, if it is short
+abbrev pub WordsAreTold : Type 0
+WordsAreTold = (front : List ℕ) (s : ScheduleData) → IsWritable s → length (front ++ (schedule_text s ++ 10 ∷ [])) ≤ MOST_BYTES → Tells (front ++ (schedule_text s ++ 10 ∷ [])) s
