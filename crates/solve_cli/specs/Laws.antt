@@ -1,12 +1,16 @@
--- Why the result of several searches is true, and the result of one search is its own. The limits
--- of the texts, in figures.
-use Rattle.std.specs.Prelude.{◌≡◌, ℕ, List, [], ◌∷◌, IsTrue}
+-- Why the result of several searches is true, the result of one search is its own, and the lines of
+-- a result tell its best schedule. The limits of the texts, in figures.
+use Rattle.std.specs.Prelude.{◌≡◌, ◌≤◌, ℕ, List, [], ◌∷◌, length, IsTrue, Some}
 use Rattle.mrcpsp.specs.Project.{ProjectData, is_project}
+use Rattle.mrcpsp.specs.Schedule.{ScheduleData}
 use Rattle.strategy.specs.declared.kind.Kind.{Kind}
 use Rattle.psplib_mm.specs.declared.reading.TheConstants as file
 use Rattle.schedule_files.specs.declared.reading.TheConstants as schedule
 use Rattle.explain.specs.declared.inputs.TheConstants.{MOST_TEXT}
+use Rattle.schedule_files.specs.Laws.{IsWritable}
+use Rattle.schedule_files.specs.ScheduleText.{Tells}
 use Rattle.solve_cli.specs.Found.{IsFound}
+use Rattle.solve_cli.specs.FoundText.{found_text, better_line}
 use Rattle.solve_cli.specs.Several.{IsFoundByEach, IsTrueOf}
 use Rattle.solve_cli.specs.declared.search_kinds.SearchKind.{SearchKind}
 use Rattle.solve_cli.specs.declared.search_kinds.SearchKind.TheVariants.{Planned}
@@ -19,6 +23,14 @@ SeveralAreTrue = (p : ProjectData) → IsTrue (is_project p) → (kinds : List S
 -- the result of one search is what that search finds
 abbrev pub OneIsItself : Type 0
 OneIsItself = (p : ProjectData) (kind : Kind) (most : ℕ) (found : SearchResult) → IsFoundByEach p (Planned kind ∷ []) most found → IsFound (record { project = p; kind = kind }) most found
+
+-- the lines of a result tell its best schedule, if its numbers have 32 bits and the lines are short
+abbrev pub LinesTellTheBest : Type 0
+LinesTellTheBest = (found : SearchResult) (best : ScheduleData) → found.best ≡ Some best → IsWritable best → length (found_text found) ≤ schedule.MOST_BYTES → Tells (found_text found) best
+
+-- the line of a better schedule tells it, likewise
+abbrev pub BetterLineTells : Type 0
+BetterLineTells = (makespan : ℕ) (best : ScheduleData) → IsWritable best → length (better_line makespan best) ≤ schedule.MOST_BYTES → Tells (better_line makespan best) best
 
 -- a project's file has at most 1,048,576 bytes
 abbrev pub FilesAreLimited : Type 0

@@ -6,3 +6,4 @@ pub mod Laws
 pub mod Several
 pub mod Verified
 pub mod SearchWord
+pub mod SearchList

@@ -1,6 +1,6 @@
 //! Laws of several searches and of limits, each the proved contract of a function.
 ghost use Rattle.std.specs.Prelude.{◌≡◌};
-ghost use Rattle.solve_cli.specs.Laws.{SeveralAreTrue, OneIsItself, FilesAreLimited, SchedulesAreLimited, ReadsAreLimited};
+ghost use Rattle.solve_cli.specs.Laws.{SeveralAreTrue, OneIsItself, LinesTellTheBest, BetterLineTells, FilesAreLimited, SchedulesAreLimited, ReadsAreLimited};
 
 use crate::searching::MOST_NODES;
 use crate::several::MOST_SEARCHES;
@@ -14,6 +14,12 @@ pub fn what_several_tell_is_true()
 /// What is written of a single search is what it finds by itself.
 pub fn one_search_tells_itself()
     ensures { OneIsItself }
+{}
+
+/// `verify` reads the best schedule of a result in its lines, and a better one in its line.
+pub fn what_is_written_is_told()
+    ensures best { LinesTellTheBest }
+    ensures better { BetterLineTells }
 {}
 
 /// The limits of texts. All other contracts cite the constants, and would hold of any other number.
