@@ -9,5 +9,6 @@ pub mod Examples
 pub mod BeginLemmas
 pub mod ByteLemmas
 pub mod NumberLemmas
+pub mod CuttingLemmas
 pub mod ClosingLemmas
 pub mod NameLemmas

@@ -2,6 +2,7 @@ pub mod Begins
 pub mod Bytes
 pub mod Closing
 pub mod Counts
+pub mod Cutting
 pub mod Floor
 pub mod Headline
 pub mod Isolation

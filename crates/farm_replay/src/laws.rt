@@ -1,10 +1,17 @@
-//! Laws of the outputs of scripts, each the proved contract of a function.
+//! Laws of scripts and of their outputs, each the proved contract of a function.
 ghost use Rattle.farm_replay.specs.Begins.{LinesTellWhose};
 ghost use Rattle.farm_replay.specs.Bytes.{LinesAreReplies, EachPurseHasNames, EachOutputIsAlone, OutputsAreIsolated};
+ghost use Rattle.farm_replay.specs.Cutting.{EachLineHasItsText};
 ghost use Rattle.farm_replay.specs.Isolation.{EachReplaysAlone, ReplaysAreIsolated, EachLoneReplaysAlone};
 ghost use Rattle.farm_replay.specs.Truth.{EachLineIsTrue};
 
 use psplib_mm::laws::what_is_read_is_a_project;
+
+/// Each line of a script is a request, unless it is blank. A submit's line has as many of the lines
+/// behind it as it names, or is cut off by the end of the script.
+pub fn each_line_has_its_text()
+    ensures { EachLineHasItsText }
+{}
 
 /// In each output the lines of a purse's members are the output of their requests alone.
 pub fn each_replays_alone()
