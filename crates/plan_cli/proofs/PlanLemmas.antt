@@ -1,5 +1,5 @@
 -- Why there is no plan, by what is known of the schedule and of the file.
-use Rattle.std.proofs.Common.{◌≡◌, ℕ, List, Ok, refl, sym, subst}
+use Rattle.std.proofs.Common.{◌≡◌, ℕ, List, Result, Ok, Err, IfOk, refl, sym, subst}
 use Rattle.mrcpsp.specs.Project.{ProjectData}
 use Rattle.mrcpsp.specs.Schedule.{ScheduleData}
 use Rattle.psplib_mm.specs.Reading.{reading}
@@ -15,6 +15,10 @@ is_plan p s text plan told is = record {
   told = subst (Tells text) (sym is.same) told;
   is = record { same = refl; shape = is.shape; modes = is.modes; verdict = is.verdict };
 }
+
+pub is_plan_ok : (p : ProjectData) (s : ScheduleData) (text : List ℕ) (r : Result Plan PlanFault) → Tells text s → IfOk r (IsPlanned p s) → IfOk r (IsPlan p text)
+is_plan_ok p s text (Ok plan) told is = is_plan p s text plan told is
+is_plan_ok p s text (Err f) told is = tt
 
 pub unplanned : (p : ProjectData) (s : ScheduleData) (text : List ℕ) (f : PlanFault) → Tells text s → IsBroken p s f → IsUnplanned p text f
 unplanned p s text (fault.File x) told b = b

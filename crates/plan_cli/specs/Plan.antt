@@ -1,5 +1,5 @@
 -- What a plan is, and why a text has none.
-use Rattle.std.specs.Prelude.{◌≡◌, ℕ, ◌<◌, ◌≤◌, ⊤, List, length, Ok, Option, Some, None}
+use Rattle.std.specs.Prelude.{◌≡◌, ℕ, ◌<◌, ◌≤◌, ⊤, List, length, Ok}
 use Rattle.mrcpsp.specs.Project.{ProjectData}
 use Rattle.mrcpsp.specs.Schedule.{ScheduleData}
 use Rattle.mrcpsp.specs.Breach.{HasShape, HasModes, IsFirstBreach}
@@ -35,7 +35,7 @@ IsBroken p s fault.NoMemory = ⊥
 -- why a text has no plan of a project
 abbrev pub IsUnplanned : ProjectData → List ℕ → PlanFault → Type 0
 IsUnplanned p text (fault.File f) = ⊥
-IsUnplanned p text fault.Words = length text ≤ MOST_BYTES
+IsUnplanned p text fault.Words = (length text ≤ MOST_BYTES) × ((s : ScheduleData) → Tells text s → ⊥)
 IsUnplanned p text fault.TooLong = MOST_BYTES < length text
 IsUnplanned p text (fault.Breach b) = (s : ScheduleData) × Tells text s × IsFirstBreach p s b
 IsUnplanned p text fault.NoMemory = ⊤
