@@ -26,7 +26,7 @@ use crate::sending::{send_before_nodes, send_before_wait};
 use crate::watches::ReplayWatches;
 use farm_core::laws::farms_are_replayed;
 use farm_core::{Config, Farm, Name};
-use farm_session::{Branch, Heard, Ready, Workshop, branches, hear, open_tills};
+use farm_session::{Branch, Heard, Ready, Workshop, boxed_search, branches, hear, open_tills};
 use session_lines::laws::requests_come_in_turn;
 use session_lines::{LineFault, Request, Said, read_request, write_reply};
 use std::alloc::Global;
@@ -216,22 +216,7 @@ pub fn replay<R: Read + Drop, W: Write>(
         ensures { IfSome result (λ search.
             ((Strategy-box search).meaning search.value ≡ fresh_search ready.lease.tenant ready.plan)
             × ((Strategy-box search).lease search.value ≡ ready.lease)) }
-    {
-        match ready.kind() {
-            Kind::Tree => {
-                let search: Box<dyn Strategy> = ready.tree(alloc)?;
-                Some(search)
-            }
-            Kind::Sample(_) => {
-                let search: Box<dyn Strategy> = ready.sample(alloc)?;
-                Some(search)
-            }
-            _ => {
-                let search: Box<dyn Strategy> = ready.rule(alloc)?;
-                Some(search)
-            }
-        }
-    };
+    { boxed_search!(ready, alloc) };
     let shop = Workshop {
         alloc,
         config,

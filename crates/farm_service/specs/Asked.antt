@@ -7,13 +7,6 @@ use Rattle.farm_core.specs.declared.reply.Reply.TheVariants as reply
 use Rattle.session_lines.specs.declared.said.Said.{Said}
 use Rattle.session_lines.specs.declared.said.Said.TheVariants as said
 
--- a call that needs no search
-abbrev pub IsSearchless : Event → Type 0
-IsSearchless (event.Submit plan quanta) = ⊥
-IsSearchless (event.Take seq slice) = ⊥
-IsSearchless (event.Give seq ran) = ⊥
-IsSearchless e = ⊤
-
 -- a submit was answered; or there was no memory for its search, and no call was made
 abbrev pub IsSubmitted : {T : Type 0} → (Event → Reply → T → Type 0) → T → Event → Reply → T → Type 0
 IsSubmitted tells old e answer new = tells e answer new ⊎ ((answer ≡ reply.NoMemory) × (new ≡ old))

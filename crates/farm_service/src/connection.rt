@@ -14,7 +14,7 @@ ghost use Rattle.farm_core.specs.Tills.{AreTillsOf};
 
 use crate::lobby::Lobby;
 use crate::shared::Shared;
-use farm_core::{Command, Config, Event, Reply};
+use farm_core::{Command, Config, Reply};
 use farm_session::{Branch, Errand, Heard, Ready, Workshop, errand_of, hear};
 use session_lines::{LineFault, Request, Said, What, WriteFault, read_request, write_reply};
 use std::io::{BufRead, Write};
@@ -79,28 +79,12 @@ fn call<D: Shared, R: Wait, M>(
     ensures told { D.tells office.now.shared.now
         token.old tenant (event_of command) result token.new }
 {
-    let (rt, shared) = (office.rt, office.shared);
-    match command {
-        Command::Submit {
-            plan,
-            quanta,
-            search,
-        } => {
-            let reply = shared.submit(rt, token, tenant, plan, quanta, search);
-            office.lobby.ring(rt);
-            reply
-        }
-        Command::Fund { seq, quanta } => {
-            let reply = shared.ask(rt, token, tenant, Event::Fund(seq, quanta));
-            office.lobby.ring(rt);
-            reply
-        }
-        Command::Status(seq) => shared.ask(rt, token, tenant, Event::Status(seq)),
-        Command::Fetch(seq) => shared.ask(rt, token, tenant, Event::Fetch(seq)),
-        Command::Cancel(seq) => shared.ask(rt, token, tenant, Event::Cancel(seq)),
-        Command::Forget(seq) => shared.ask(rt, token, tenant, Event::Forget(seq)),
-        Command::Ledger => shared.ask(rt, token, tenant, Event::Ledger),
+    let is_work = matches!(command, Command::Submit { .. } | Command::Fund { .. });
+    let reply = office.shared.call(token, tenant, command);
+    if is_work {
+        office.lobby.ring(office.rt);
     }
+    reply
 }
 
 fn answer<D: Shared, R: Wait, M: Fn(Ready) -> Option<D::Search>>(

@@ -1,7 +1,7 @@
 //! The desks of a service's connections.
-ghost use Rattle.std.specs.Prelude.{◌≡◌, length, map, All, IfOk, OnOk};
+ghost use Rattle.std.specs.Prelude.{◌≡◌, length, All, IfOk, OnOk};
 ghost use Rattle.farm_core.specs.Tills.{AreSeated};
-ghost use Rattle.farm_session.specs.Branch.{new_branch, AreFirst, HaveSeated};
+ghost use Rattle.farm_session.specs.Branch.{AreNew, HaveSeated};
 
 use farm_session::{Branch, branches};
 use quanta_till::{Desk, Till};
@@ -14,9 +14,8 @@ pub(crate) fn places<'a>(
     count: u64,
 ) -> Result<Vec<Vec<Branch<'a>>>, AllocError>
     requires seated { AreSeated tills.now desks.old }
-    requires first { AreFirst desks.old }
     ensures seated { AreSeated tills.entry.now desks.new }
-    ensures unused { IfOk result (λ places. All (λ own. own.items ≡ map new_branch tills.entry.now) places.items) }
+    ensures new { IfOk result (λ places. All (λ own. AreNew tills.entry.now desks.old own.items) places.items) }
     ensures count { IfOk result (λ places. length places.items ≡ count) }
     ensures each { OnOk result (HaveSeated count desks.old desks.new) }
 {

@@ -13,11 +13,11 @@ ghost use Rattle.farm_service.specs.Tills.{IsSettled};
 use crate::connection::{Office, session};
 use crate::lobby::{Lobby, Nobody, Seat};
 use crate::places::places;
-use crate::shared::{OfShared, Shared, keep, promise_of, take_in};
+use crate::shared::{OfShared, PoolAt, Shared, keep, promise_of, take_in};
 use crate::wire::{Incoming, Outgoing};
 use farm_core::{Config, Farm};
 use farm_pool::{Pool, Settled, finish};
-use farm_session::{Branch, Ready, Workshop, open_tills};
+use farm_session::{Branch, Ready, Workshop, boxed_search, open_tills};
 use quanta_till::{Desk, Till};
 use std::alloc::Global;
 use std::cell::RefCell;
@@ -102,7 +102,7 @@ fn play_role<'a, D: Shared, R: Wait + Clock, M: Fn(Ready) -> Option<D::Search>>(
     match role {
         Role::Worker => {
             let seat = Seat::new(office.rt, office.lobby);
-            office.shared.work(office.rt, &mut token, &seat);
+            office.shared.work(&mut token, &seat);
             (token, Role::Worker)
         }
         Role::Client(mut own, stream) => {
@@ -288,25 +288,11 @@ pub fn serve<R: Threads + Wait + Clock + Sync>(
         ensures { IfSome result (λ search.
             ((Strategy-box search).meaning search.value ≡ fresh_search ready.lease.tenant ready.plan)
             × ((Strategy-box search).lease search.value ≡ ready.lease)) }
-    {
-        match ready.kind() {
-            Kind::Tree => {
-                let search: Box<dyn Strategy> = ready.tree(alloc)?;
-                Some(search)
-            }
-            Kind::Sample(_) => {
-                let search: Box<dyn Strategy> = ready.sample(alloc)?;
-                Some(search)
-            }
-            _ => {
-                let search: Box<dyn Strategy> = ready.rule(alloc)?;
-                Some(search)
-            }
-        }
-    };
+    { boxed_search!(ready, alloc) };
+    let shared = PoolAt { rt, pool: &pool };
     let office = Office {
         rt,
-        shared: &pool,
+        shared: &shared,
         lobby: &lobby,
         shop: Workshop {
             alloc,

@@ -6,19 +6,17 @@ ghost use Rattle.std.specs.Prelude.{◌≡◌, ℕ, ◌<◌, All, length};
 ghost use Rattle.std.specs.Vec.{vec_len, vec_capacity};
 ghost use Rattle.quanta_till.specs.Lease.{LeaseValue};
 ghost use Rattle.strategy.specs.Search.{Meaning};
-ghost use Rattle.job_table.specs.Job.{fresh_search};
+ghost use Rattle.farm_core.specs.Command.{event_of, IsFresh};
 ghost use Rattle.farm_core.specs.Config.{ConfigData};
 ghost use Rattle.farm_core.specs.declared.entry.Event.{Event};
-ghost use Rattle.farm_core.specs.declared.entry.Event.TheVariants as event;
 ghost use Rattle.farm_core.specs.declared.reply.Reply.{Reply};
-ghost use Rattle.farm_service.specs.Asked.{IsSearchless};
 
-use farm_core::{Event, Reply};
-use farm_pool::{Command, Gate, Pool, PoolPass};
+use farm_core::{Command, Reply};
+use farm_pool::{Gate, Pool, PoolPass};
 use std::snapshot::Snapshot;
 use std::sync::Wait;
 use std::thread::{Promise, PromisedHandle, Threads};
-use strategy::{Plan, Strategy};
+use strategy::Strategy;
 
 /// A `Shared` is a pool as its threads see it. Each thread makes calls with a token of its own.
 pub(crate) trait Shared {
@@ -38,30 +36,15 @@ pub(crate) trait Shared {
 
     ghost works: { Self → Self.Token → Self.Token → Type 0 };
 
-    fn submit<R: Wait>(
-        &self,
-        rt: &R,
-        token: &mut Self::Token,
-        tenant: u32,
-        plan: Plan,
-        quanta: u64,
-        search: Self::Search,
-    ) -> Reply
+    /// Makes the call that a tenant asks for.
+    fn call(&self, token: &mut Self::Token, tenant: u32, command: Command<Self::Search>) -> Reply
         requires own { owns self.now token.old }
         requires known { tenant < length (config self.now).tenants }
-        requires fresh { means search ≡ fresh_search tenant plan }
+        requires fresh { IsFresh means tenant command }
         ensures own { owns self.now token.new }
-        ensures told { tells self.now token.old tenant (event.Submit plan quanta) result token.new };
+        ensures told { tells self.now token.old tenant (event_of command) result token.new };
 
-    /// Makes the call of an event without a search.
-    fn ask<R: Wait>(&self, rt: &R, token: &mut Self::Token, tenant: u32, asked: Event) -> Reply
-        requires own { owns self.now token.old }
-        requires known { tenant < length (config self.now).tenants }
-        requires searchless { IsSearchless asked }
-        ensures own { owns self.now token.new }
-        ensures told { tells self.now token.old tenant asked result token.new };
-
-    fn work<R: Wait, G: Gate>(&self, rt: &R, token: &mut Self::Token, gate: &G)
+    fn work<G: Gate>(&self, token: &mut Self::Token, gate: &G)
         requires { owns self.now token.old }
         ensures own { owns self.now token.new }
         ensures worked { works self.now token.old token.new };
@@ -77,7 +60,14 @@ pub(crate) trait Shared {
         ensures { owns self.now token.new };
 }
 
-impl Shared for Pool {
+/// A `PoolAt` is a pool with the runtime at which its threads wait for the lock.
+#[derive(Drop)]
+pub(crate) struct PoolAt<'a, R> {
+    pub(crate) rt: &'a R,
+    pub(crate) pool: &'a Pool,
+}
+
+impl<'a, R: Wait> Shared for PoolAt<'a, R> {
     type Search = Box<dyn Strategy>;
 
     type Token = PoolPass;
@@ -90,60 +80,41 @@ impl Shared for Pool {
     ghost use Rattle.farm_pool.specs.Worked.{Worked};
     ghost use Rattle.std.specs.Prelude.{ℕ};
 
-    ghost config = { λ pool. pool.lock.opening };
+    ghost config = { λ at. at.pool.now.lock.opening };
 
     ghost means = { λ b. (Strategy-box b).meaning b.value };
 
     ghost leases = { λ b. (Strategy-box b).lease b.value };
 
-    ghost owns = { λ pool pass. IsPassOf pool.lock pass };
+    ghost owns = { λ at pass. IsPassOf at.pool.now.lock pass };
 
-    ghost tells = { λ pool pass t e r new. Called Served pass.view (said.Asked t e) (told.Replied r) new.view };
+    ghost tells = { λ at pass t e r new. Called Served pass.view (said.Asked t e) (told.Replied r) new.view };
 
-    ghost works = { λ pool pass new.
-        (turns : ℕ) × (strangers : ℕ) × Worked pool.slice pass.view turns strangers new.view };
+    ghost works = { λ at pass new.
+        (turns : ℕ) × (strangers : ℕ) × Worked at.pool.now.slice pass.view turns strangers new.view };
 
-    fn submit<R: Wait>(
-        &self,
-        rt: &R,
-        token: &mut PoolPass,
-        tenant: u32,
-        plan: Plan,
-        quanta: u64,
-        search: Box<dyn Strategy>,
-    ) -> Reply {
-        let command = Command::Submit {
-            plan,
-            quanta,
-            search,
-        };
-        self.call(rt, token, tenant, command)
+    // (the kit takes a command of boxes only with the clauses said again)
+    fn call(&self, token: &mut PoolPass, tenant: u32, command: Command<Box<dyn Strategy>>) -> Reply
+        requires own { IsPassOf self.now.pool.now.lock token.old }
+        requires known { tenant < length self.now.pool.now.lock.opening.tenants }
+        requires fresh { IsFresh (λ b. (Strategy-box b).meaning b.value) tenant command }
+        ensures own { IsPassOf self.now.pool.now.lock token.new }
+        ensures told { Called Served token.old.view
+            (said.Asked tenant (event_of command)) (told.Replied result) token.new.view }
+    {
+        self.pool.call(self.rt, token, tenant, command)
     }
 
-    fn ask<R: Wait>(&self, rt: &R, token: &mut PoolPass, tenant: u32, asked: Event) -> Reply {
-        match asked {
-            Event::Fund(seq, quanta) => {
-                self.call(rt, token, tenant, Command::Fund { seq, quanta })
-            }
-            Event::Status(seq) => self.call(rt, token, tenant, Command::Status(seq)),
-            Event::Fetch(seq) => self.call(rt, token, tenant, Command::Fetch(seq)),
-            Event::Cancel(seq) => self.call(rt, token, tenant, Command::Cancel(seq)),
-            Event::Forget(seq) => self.call(rt, token, tenant, Command::Forget(seq)),
-            Event::Ledger => self.call(rt, token, tenant, Command::Ledger),
-            Event::Submit(..) | Event::Take(..) | Event::Give(..) => unreachable!(),
-        }
-    }
-
-    fn work<R: Wait, G: Gate>(&self, rt: &R, token: &mut PoolPass, gate: &G) {
-        Pool::work(self, rt, token, gate);
+    fn work<G: Gate>(&self, token: &mut PoolPass, gate: &G) {
+        self.pool.work(self.rt, token, gate);
     }
 
     fn split(&self, token: &mut PoolPass) -> PoolPass {
-        self.split_pass(token)
+        self.pool.split_pass(token)
     }
 
     fn join(&self, token: &mut PoolPass, other: PoolPass) {
-        self.join_pass(token, other);
+        self.pool.join_pass(token, other);
     }
 }
 

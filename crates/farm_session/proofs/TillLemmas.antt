@@ -1,7 +1,7 @@
 -- The tills of purses, by their numbers.
 use Rattle.std.proofs.Common.{◌≡◌, ℕ, zero, suc, ◌+◌, ◌<◌, List, [], ◌∷◌, ◌++◌, length, map, get_or, set, Option, Some, None, refl, sym, ap, ◌∙◌, subst, arith, ⊎_elim}
 use Rattle.std.specs.Prelude.{slice_get}
-use Rattle.std.proofs.lemmas.List.{map-append, get_or-map, length-map}
+use Rattle.std.proofs.lemmas.List.{map-append, get_or-map, length-map, same_lists}
 use Rattle.std.proofs.lemmas.List.FromFn.{map-range_with_len_more, get_or-map-range_with_len}
 use Rattle.std.specs.List.{range_with_len}
 use Rattle.quanta_till.specs.Desk.{DeskValue, new_desk}
@@ -14,7 +14,7 @@ use Rattle.mrcpsp.specs.Project.{ProjectData}
 use Rattle.strategy.specs.declared.kind.Kind.{Kind}
 use Rattle.session_lines.specs.declared.request.What.{What}
 use Rattle.session_lines.specs.declared.request.What.TheVariants.{Submit}
-use Rattle.farm_session.specs.Branch.{BranchValue, new_branch, lease_at, tills_of, first_desk, AreFirst, HaveSeated, HasLeased, HasLeasedFor, HasLeasedOne, HasLeasedBy}
+use Rattle.farm_session.specs.Branch.{BranchValue, new_branch, AreNew, lease_at, tills_of, first_desk, HaveSeated, HasLeased, HasLeasedFor, HasLeasedOne, HasLeasedBy}
 use Rattle.farm_session.specs.Ready.{ReadyData}
 use Rattle.farm_session.specs.declared.heard.Heard.{Heard}
 use Rattle.farm_session.specs.declared.heard.Heard.TheVariants.{Asked}
@@ -42,10 +42,18 @@ opened_for config p granted till made exact =
 
 -- ---- branches
 
--- branches at which no lease was made yet are at their tills
-pub tills_new : (tills : List TillValue) → tills_of (map new_branch tills) ≡ tills
-tills_new [] = refl
-tills_new (t ∷ tills) = ap (λ (ts : List TillValue). t ∷ ts) (tills_new tills)
+new_at : (tills : List TillValue) (desks : List DeskValue) (branches : List BranchValue) → AreNew tills desks branches
+    → (k : ℕ) (t : TillValue) → k < length (tills_of branches) → get_or (tills_of branches) k t ≡ get_or tills k t
+new_at tills desks branches new k t few =
+    let b : BranchValue = record { till = t; depth = 0; seats = 0 } in
+    let inside : k < length branches = omega (arith, few, length-map branches (λ (x : BranchValue). x.till)) in
+    get_or-map (λ (x : BranchValue). x.till) branches k b t inside
+    ∙ ap (λ (x : BranchValue). x.till) (new.each k t (first_desk t) b (omega (arith, inside, new.count)))
+
+-- new branches are at their tills
+pub tills_new : (tills : List TillValue) (desks : List DeskValue) (branches : List BranchValue) → AreNew tills desks branches → tills_of branches ≡ tills
+tills_new tills desks branches new =
+    same_lists (tills_of branches) tills (length-map branches (λ (b : BranchValue). b.till) ∙ new.count) (new_at tills desks branches new)
 
 -- the till of a branch of that number is the purse's
 pub own_branch : (config : ConfigData) (branches : List BranchValue) (p : ℕ) (b : BranchValue) → AreTillsOf config (tills_of branches) → p < purses_in config
@@ -115,14 +123,11 @@ submit_leased {J} made config t quanta p kind project bs here then is few at fou
   after = ap (λ n. set bs n then) is;
 }
 
--- the desks with which tills were opened are their first ones
-pub opened_first : (tills : List TillValue) → AreFirst (map first_desk tills)
-opened_first [] i d below = absurd (omega (arith, below))
-opened_first (t ∷ tills) zero d below = refl
-opened_first (t ∷ tills) (suc i) d below = opened_first tills i d (omega (arith, below))
-
--- they still are once seats were made from them
-pub first_kept : (seats : ℕ) (old new : List DeskValue) → HaveSeated seats old new → AreFirst old → AreFirst new
-first_kept seats old new so first i d below =
-    let few : i < length old = omega (arith, so.count) in
-    ap (λ (x : DeskValue). x.depth) (so.each i d few) ∙ first i d few
+-- branches that are new at desks are so at the desks before some seats were made from these
+pub new_before : (seats : ℕ) (tills : List TillValue) (old desks : List DeskValue) (branches : List BranchValue) → length old ≡ length tills → HaveSeated seats old desks
+    → AreNew tills desks branches → AreNew tills old branches
+new_before seats tills old desks branches even seated new = record {
+  count = new.count;
+  each = λ p t d b few.
+      new.each p t d b few ∙ ap (λ (x : DeskValue). new_branch (get_or tills p t) x) (seated.each p d (omega (arith, even, few)));
+}

@@ -19,9 +19,14 @@ pub record BranchValue : Type 0 where
   pub depth : ℕ
   pub seats : ℕ
 
--- a branch at which no lease was made yet. Its desk was made from the first one of the till
-abbrev pub new_branch : TillValue → BranchValue
-new_branch till = record { till = till; depth = 1; seats = 0 }
+-- a branch at which no lease was made yet. Its desk was made from the given one of the till
+abbrev pub new_branch : TillValue → DeskValue → BranchValue
+new_branch till desk = record { till = till; depth = desk.depth + 1; seats = 0 }
+
+-- a new branch at each till, made from the desk of its number
+pub record AreNew (tills : List TillValue) (desks : List DeskValue) (branches : List BranchValue) : Type 0 where
+  pub count : length branches ≡ length tills
+  pub each : (p : ℕ) (t : TillValue) (d : DeskValue) (b : BranchValue) → p < length tills → get_or branches p b ≡ new_branch (get_or tills p t) (get_or desks p d)
 
 -- a new lease for a tenant, made from the desk of the branch
 abbrev pub lease_at : BranchValue → ℕ → LeaseValue
@@ -38,10 +43,6 @@ tills_of branches = map (λ (b : BranchValue). b.till) branches
 -- the desk with which a till was opened: no seat was made from it
 abbrev pub first_desk : TillValue → DeskValue
 first_desk till = new_desk till.id 0 till.purse till.granted 0
-
--- each of these desks is the first one of its till
-abbrev pub AreFirst : List DeskValue → Type 0
-AreFirst desks = (i : ℕ) (d : DeskValue) → i < length desks → (get_or desks i d).depth ≡ 0
 
 -- `seats` seats were made from each desk, and it did nothing else
 pub record HaveSeated (seats : ℕ) (old new : List DeskValue) : Type 0 where

@@ -2,7 +2,8 @@
 //!
 //! - `heard`: whose a request is.
 //! - `errand`: what is to be done for it: the farm's call, with the search of a submit.
-//! - `ready`: a plan with an empty lease, and the searches that are made of it.
+//! - `ready`: a plan with an empty lease, and the searches that are made of it; `boxed_search!` is
+//!   the box of whichever its kind names.
 //! - `tills`: a till for each purse, and the desks at which leases are made.
 #![tactic(auto)]
 

@@ -87,6 +87,28 @@ impl Ready {
     }
 }
 
+/// The boxed search of a `Ready`, or `None` if there is no memory for it. (A function may not make
+/// such a box and return it.)
+#[macro_export]
+macro_rules! boxed_search {
+    ($ready:expr, $alloc:expr) => {
+        match $ready.kind() {
+            Kind::Tree => {
+                let search: Box<dyn Strategy> = $ready.tree($alloc)?;
+                Some(search)
+            }
+            Kind::Sample(_) => {
+                let search: Box<dyn Strategy> = $ready.sample($alloc)?;
+                Some(search)
+            }
+            _ => {
+                let search: Box<dyn Strategy> = $ready.rule($alloc)?;
+                Some(search)
+            }
+        }
+    };
+}
+
 /// Makes a search of a copy of `plan` with a new lease. `None` if there is no memory for it.
 pub(crate) fn search_of<J, M: Fn(Ready) -> Option<J>>(
     alloc: Global,

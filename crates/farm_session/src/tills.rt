@@ -1,6 +1,6 @@
 ghost use Rattle.std.specs.Prelude.{◌≡◌, map, IfOk, OnOk, OnErr};
 ghost use Rattle.farm_core.specs.Tills.{AreSeated, AreTillsOf};
-ghost use Rattle.farm_session.specs.Branch.{new_branch, lease_at, having_leased, first_desk, AreFirst, HaveSeated};
+ghost use Rattle.farm_session.specs.Branch.{lease_at, having_leased, first_desk, AreNew, HaveSeated};
 
 use farm_core::Config;
 use quanta_till::{Desk, Lease, Till};
@@ -59,9 +59,8 @@ pub fn branches<'a>(
     desks: &mut [Desk],
 ) -> Result<Vec<Branch<'a>>, AllocError>
     requires seated { AreSeated tills.now desks.old }
-    requires first { AreFirst desks.old }
     ensures seated { AreSeated tills.entry.now desks.new }
-    ensures unused { IfOk result (λ branches. branches.items ≡ map new_branch tills.entry.now) }
+    ensures new { IfOk result (λ branches. AreNew tills.entry.now desks.old branches.items) }
     ensures one { OnOk result (HaveSeated 1 desks.old desks.new) }
 {
     let mut branches = Vec::new(alloc);

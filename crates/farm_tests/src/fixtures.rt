@@ -3,7 +3,7 @@ ghost use Rattle.std.specs.Prelude.{◌≡◌, IfOk};
 ghost use Rattle.quanta_till.specs.Lease.{IsEmpty};
 
 use farm_core::{Config, Farm, Name, TenantLine};
-use farm_session::Ready;
+use farm_session::{Ready, boxed_search};
 use mrcpsp::Sequence;
 use psplib_mm::read;
 use quanta_till::{Desk, Lease, Till};
@@ -153,20 +153,7 @@ fn search_of(alloc: Global, plan: &Plan, lease: Lease) -> Option<Box<dyn Strateg
     requires { IsEmpty lease }
 {
     let ready = Ready::new(plan.clone_in(alloc).ok()?, lease);
-    match ready.kind() {
-        Kind::Tree => {
-            let search: Box<dyn Strategy> = ready.tree(alloc)?;
-            Some(search)
-        }
-        Kind::Sample(_) => {
-            let search: Box<dyn Strategy> = ready.sample(alloc)?;
-            Some(search)
-        }
-        _ => {
-            let search: Box<dyn Strategy> = ready.rule(alloc)?;
-            Some(search)
-        }
-    }
+    boxed_search!(ready, alloc)
 }
 
 /// A submit: whose, of which kind, and for which project.

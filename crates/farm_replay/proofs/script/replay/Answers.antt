@@ -1,19 +1,16 @@
 use Rattle.std.specs.Prelude.{is_some, IfSome, OnOk, IfErr}
 use Rattle.std.proofs.Common.{◌∙◌, map, ap, sym, subst}
 use Rattle.farm_core.specs.Tills.{opening_of}
-use Rattle.farm_session.specs.Branch.{tills_of, AreFirst}
-use Rattle.farm_session.proofs.TillLemmas.{tills_new, opened_first}
+use Rattle.farm_session.specs.Branch.{tills_of}
+use Rattle.farm_session.proofs.TillLemmas.{tills_new}
 use Rattle.farm_replay.specs.Reader.{script_rest}
 use Rattle.farm_replay.specs.Output.{IsCutOff}
 use Rattle.farm_replay.proofs.HeadlineLemmas.{led_written, led_headline}
 use Rattle.farm_replay.proofs.script.replay.Goals as goal
 
-pub branches-requires-clause-first : goal.branches-requires-clause-first
-branches-requires-clause-first g c = subst AreFirst (sym (c.deref_mut.ensures.value ∙ c.in-Ok-open_tills.ensures.unused)) (opened_first c.in-Ok-open_tills.tills.items)
-
 pub play_out-ended-requires-clause-tills : goal.play_out-ended-requires-clause-tills
 play_out-ended-requires-clause-tills g c κs within =
-    ap (map opening_of) (ap tills_of (c.deref_mut-2.ensures.value ∙ c.in-Ok-branches.ensures.unused) ∙ tills_new _ ∙ c.deref.ensures.value)
+    ap (map opening_of) (ap tills_of c.deref_mut-2.ensures.value ∙ tills_new _ _ _ c.in-Ok-branches.ensures.new ∙ c.deref.ensures.value)
     ∙ c.in-Ok-open_tills.ensures.tills
 
 pub returns-clause-written : goal.returns-clause-written

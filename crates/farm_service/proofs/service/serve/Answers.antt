@@ -1,19 +1,16 @@
 use Rattle.std.proofs.Common.{◌≡◌, ◌∙◌, None, map, ap, sym, subst}
 use Rattle.farm_core.specs.Tills.{opening_of, AreSeated}
-use Rattle.farm_session.specs.Branch.{tills_of, AreFirst, HaveSeated}
-use Rattle.farm_session.proofs.TillLemmas.{tills_new, opened_first}
+use Rattle.farm_session.specs.Branch.{HaveSeated}
+use Rattle.farm_session.proofs.TillLemmas.{tills_new}
 use Rattle.farm_pool.specs.Settle.{books_of, words_at, first_unsettled}
 use Rattle.farm_pool.specs.Worked.{Worked}
 use Rattle.farm_service.specs.Tills.{IsSettled}
 use Rattle.farm_service.proofs.SettledLemmas.{on_ok}
 use Rattle.farm_service.proofs.service.serve.Goals as goal
 
-pub places-requires-clause-first : goal.places-requires-clause-first
-places-requires-clause-first g c = subst AreFirst (sym (c.as_mut_slice-desks.ensures.value ∙ c.in-Ok-open_tills.ensures.unused)) (opened_first c.in-Ok-open_tills.tills.items)
-
 pub attend-requires-clause-tills : goal.attend-requires-clause-tills
 attend-requires-clause-tills g c κs within k d few =
-    ap (map opening_of) (ap tills_of (c.in-Ok-places.ensures.unused k d few) ∙ tills_new _ ∙ c.as_slice-tills.ensures.value) ∙ c.in-Ok-open_tills.ensures.tills
+    ap (map opening_of) (tills_new _ _ _ (c.in-Ok-places.ensures.new k d few) ∙ c.as_slice-tills.ensures.value) ∙ c.in-Ok-open_tills.ensures.tills
 
 pub returns-in-Some-close : goal.returns-in-Some-close
 returns-in-Some-close g c =

@@ -1,14 +1,16 @@
-use Rattle.std.proofs.Common.{◌≡◌, ℕ, ◌<◌, ◌≤◌, get_or, map, take}
+use Rattle.std.proofs.Common.{◌≡◌, ℕ, ◌<◌, ◌≤◌, get_or, length}
 use Rattle.quanta_till.specs.Desk.{DeskValue, after_seat}
+use Rattle.quanta_till.specs.Till.{TillValue}
 use Rattle.farm_core.specs.Tills.{AreSeated}
-use Rattle.farm_session.specs.Branch.{new_branch}
+use Rattle.farm_session.specs.Branch.{BranchValue, new_branch}
 use Rattle.farm_session.proofs.tills.branches.Given as goal
 
 -- the desks so far have one seat more, and those behind them are as they were
 abbrev pub invariant-loop-i : goal.invariant-loop-i
 invariant-loop-i l = record {
   seated : AreSeated l.tills l.desks;
-  unused : l.branches.items ≡ map new_branch (take l.i l.tills);
+  count : length l.branches.items ≡ l.i;
+  new : (k : ℕ) (t : TillValue) (d : DeskValue) (b : BranchValue) → k < l.i → get_or l.branches.items k b ≡ new_branch (get_or l.tills k t) (get_or l.fn.desks k d);
   done : (k : ℕ) (d : DeskValue) → k < l.i → get_or l.desks k d ≡ after_seat (get_or l.fn.desks k d);
   rest : (k : ℕ) (d : DeskValue) → l.i ≤ k → get_or l.desks k d ≡ get_or l.fn.desks k d;
 }
