@@ -4,6 +4,7 @@ use Rattle.mrcpsp.specs.Project.{ProjectData}
 use Rattle.mrcpsp.specs.Schedule.{ScheduleData}
 use Rattle.psplib_mm.specs.Gives.{Fails}
 use Rattle.psplib_mm.specs.Reading.{reading}
+use Rattle.schedule_files.specs.Places.{IsUntold}
 use Rattle.schedule_files.specs.ScheduleText.{Tells}
 use Rattle.schedule_files.specs.declared.reading.TheConstants.{MOST_BYTES}
 use Rattle.schedule_clauses.specs.declared.certificate.CertificateFault.{CertificateFault}
@@ -40,10 +41,10 @@ pub record IsUncertified (file text : List ℕ) (fault : CertificateFault) : Typ
   pub told : Tells text schedule
   pub of_schedule : IsOfSchedule project schedule fault
 
--- a fault of the certificate is that of the schedule
+-- a text without a schedule tells none; a fault of the certificate is that of the schedule
 abbrev pub IsOfText : CertifyFault → List ℕ → List ℕ → Type 0
 IsOfText (why.File fault) file text = ⊤
-IsOfText why.Words file text = length text ≤ MOST_BYTES
+IsOfText why.Words file text = (length text ≤ MOST_BYTES) × IsUntold (Tells text)
 IsOfText why.TooLong file text = MOST_BYTES < length text
 IsOfText (why.Certificate fault) file text = IsUncertified file text fault
 IsOfText why.NoMemory file text = ⊤

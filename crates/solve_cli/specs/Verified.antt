@@ -6,6 +6,7 @@ use Rattle.mrcpsp.specs.Breach.{HasShape, IsFirstBreach}
 use Rattle.mrcpsp.specs.declared.breach.Breach.{Breach}
 use Rattle.psplib_mm.specs.Gives.{Fails}
 use Rattle.psplib_mm.specs.Reading.{reading}
+use Rattle.schedule_files.specs.Places.{IsUntold}
 use Rattle.schedule_files.specs.ScheduleText.{Tells}
 use Rattle.schedule_files.specs.declared.reading.TheConstants.{MOST_BYTES}
 use Rattle.solve_cli.specs.declared.verifying.Verified.{Verified}
@@ -34,10 +35,10 @@ pub record IsToldBroken (file text : List ℕ) (b : Breach) : Type 0 where
   pub told : Tells text schedule
   pub first : IsFirstBreach project schedule b
 
--- why a file and a text are no verified schedule
+-- why a file and a text are no verified schedule. A text without a schedule tells none
 abbrev pub IsAtFault : List ℕ → List ℕ → VerifyFault → Type 0
 IsAtFault file text (fault.File f) = Fails f (reading file)
-IsAtFault file text fault.Words = IsFile file × (length text ≤ MOST_BYTES)
+IsAtFault file text fault.Words = IsFile file × (length text ≤ MOST_BYTES) × IsUntold (Tells text)
 IsAtFault file text fault.TooLong = IsFile file × (MOST_BYTES < length text)
 IsAtFault file text (fault.Breach b) = IsToldBroken file text b
 IsAtFault file text fault.NoMemory = ⊤
