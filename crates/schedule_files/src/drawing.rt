@@ -6,6 +6,7 @@ use crate::chain::mark_chain;
 use crate::svg::{Picture, Size};
 use mrcpsp::{Project, Schedule};
 use std::alloc::{AllocError, Global};
+use std::fmt;
 
 /// An `Order` is the order of a picture's rows.
 #[derive(Clone, Copy, Debug, PartialEq, Eq)]
@@ -15,13 +16,32 @@ pub enum Order {
     Start,
 }
 
+/// A `Ground` is what shows a lower bound.
+#[derive(Clone, Copy, Debug, PartialEq, Eq)]
+pub enum Ground {
+    /// The longest chain of activities by shortest modes.
+    Chain,
+    /// A refutation of each shorter makespan.
+    Proof,
+}
+
+impl fmt::Display for Ground {
+    fn fmt<W: fmt::Write>(&self, f: &mut fmt::Formatter<W>) -> fmt::Result {
+        match self {
+            Ground::Chain => write!(f, "the longest chain"),
+            Ground::Proof => write!(f, "a proof"),
+        }
+    }
+}
+
 /// A `Heading` is what is known of a schedule above its picture.
 #[derive(Clone, Copy, Debug)]
 pub struct Heading {
     /// In periods.
     pub makespan: u32,
-    /// The longest chain of activities by shortest modes, in periods.
-    pub chain: u32,
+    /// No feasible schedule takes fewer periods.
+    pub bound: u32,
+    pub ground: Ground,
 }
 
 /// Returns an SVG picture of a feasible schedule: a bar for each activity, and the use of each

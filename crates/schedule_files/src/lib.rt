@@ -28,6 +28,6 @@ mod scale;
 mod svg;
 mod words;
 
-pub use drawing::{Heading, Order, draw};
+pub use drawing::{Ground, Heading, Order, draw};
 pub use reading::{MOST_BYTES, read_schedule};
 pub use words::put_schedule;

@@ -21,6 +21,9 @@ const ROOM: u64 = 500;
 
 const BOTTOM: u64 = 450;
 
+/// How many stocks of seven digits have room in a line.
+const STOCKS_IN_LINE: usize = 4;
+
 /// The fills of modes 1 to 10, which readers with any kind of colour vision can tell apart.
 const FILLS: [&str; 10] = [
     "#88ccee", "#ddcc77", "#cc6677", "#44aa99", "#aa4499", "#999933", "#332288", "#117733",
@@ -73,12 +76,12 @@ impl Picture {
         let (rows, span) = (self.size.rows, self.size.span);
         let width = LEFT.saturating_add(WIDTH).saturating_add(RIGHT);
         let height = self.size.bottom().saturating_add(BOTTOM);
-        let (most, least) = (width / 10, width / 14);
+        let (across, down) = (width / 10, height / 10);
         let activities = plural(rows as u64, "activity", "activities");
         let periods = plural(u64::from(span), "period", "periods");
         write!(
             self.text,
-            "<svg xmlns=\"http://www.w3.org/2000/svg\" role=\"img\" aria-labelledby=\"title\" width=\"100%\" style=\"max-width:{most}px;min-width:{least}px\" "
+            "<svg xmlns=\"http://www.w3.org/2000/svg\" role=\"img\" aria-labelledby=\"title\" width=\"{across}\" height=\"{down}\" style=\"max-width:100%;height:auto\" "
         )?;
         write!(
             self.text,
@@ -101,11 +104,11 @@ impl Picture {
             self.text,
             "<text x=\"{LEFT}\" y=\"260\" font-size=\"180\">{rows} {activities}, makespan {makespan}"
         )?;
-        if makespan == heading.chain {
-            self.text.push_str(", optimal by the longest chain")?;
+        let (bound, ground) = (heading.bound, heading.ground);
+        if makespan == bound {
+            write!(self.text, ", optimal by {ground}")?;
         } else {
-            let chain = heading.chain;
-            write!(self.text, " (at least {chain} by the longest chain)")?;
+            write!(self.text, " (at least {bound} by {ground})")?;
         }
         self.text.push_str("</text>\n")
     }
@@ -118,7 +121,7 @@ impl Picture {
         if stocks.is_empty() {
             return Ok(());
         }
-        write!(self.text, "<text x=\"{LEFT}\" y=\"480\">")?;
+        write!(self.text, "<text x=\"{LEFT}\" y=\"430\">")?;
         for place in 0..stocks.len() {
             let (number, used, stock) = (
                 place.saturating_add(1),
@@ -126,7 +129,12 @@ impl Picture {
                 stocks[place],
             );
             let comma = if place == 0 { "" } else { ", " };
-            write!(self.text, "{comma}N {number}: {used} of {stock}")?;
+            if place == STOCKS_IN_LINE {
+                write!(self.text, "</text>\n<text x=\"{LEFT}\" y=\"560\">")?;
+                write!(self.text, "N {number}: {used} of {stock}")?;
+            } else {
+                write!(self.text, "{comma}N {number}: {used} of {stock}")?;
+            }
         }
         self.text.push_str("</text>\n")
     }
@@ -219,7 +227,7 @@ impl Picture {
     fn put_shape(&mut self, bar: &Bar<'_>, y: u64) -> Result<(), AllocError> {
         let fill = fill_of(bar.mode);
         let x = self.size.at(bar.start);
-        let stroke = if bar.is_critical { 30 } else { 8 };
+        let stroke: u64 = if bar.is_critical { 30 } else { 8 };
         if bar.start == bar.finish {
             write!(
                 self.text,
@@ -227,6 +235,7 @@ impl Picture {
             )
         } else {
             let width = self.size.at(bar.finish).saturating_sub(x).max(20);
+            let stroke = stroke.min(width / 3);
             write!(
                 self.text,
                 "<rect x=\"{x}\" y=\"{y}\" width=\"{width}\" height=\"140\" fill=\"{fill}\" stroke=\"#000\" stroke-width=\"{stroke}\"/>"
@@ -281,6 +290,31 @@ impl Picture {
         )
     }
 
+    /// A darker field where all of the capacity is used.
+    fn put_full(
+        &mut self,
+        bars: &[Bar<'_>],
+        times: &[u32],
+        place: usize,
+        capacity: u32,
+    ) -> Result<(), AllocError> {
+        let base = self.size.base_at(place);
+        let top = base.saturating_sub(HEIGHT);
+        for (at, time) in times.iter().enumerate() {
+            let Some(next) = times.get(at.saturating_add(1)) else {
+                break;
+            };
+            if use_at(bars, place, *time) == capacity && capacity > 0 {
+                let (from, to) = (self.size.at(*time), self.size.at(*next));
+                write!(
+                    self.text,
+                    "<path d=\"M{from} {base}V{top}H{to}V{base}Z\" fill=\"#678\"/>"
+                )?;
+            }
+        }
+        Ok(())
+    }
+
     fn put_profile(
         &mut self,
         bars: &[Bar<'_>],
@@ -301,6 +335,7 @@ impl Picture {
             "<text x=\"{LEFT}\" y=\"{over}\">renewable resource {number}: at most {most} of {capacity}</text>"
         )?;
         self.put_outline(bars, times, place, capacity)?;
+        self.put_full(bars, times, place, capacity)?;
         self.put_frame(top, base)?;
         write!(
             self.text,

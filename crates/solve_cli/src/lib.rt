@@ -21,6 +21,7 @@ mod arguments;
 mod executable;
 mod explaining;
 mod fault;
+mod heading;
 mod improvements;
 mod kinds;
 pub mod laws;

@@ -4,7 +4,7 @@ ghost use Rattle.std.specs.Process.{exit_status};
 ghost use Rattle.mrcpsp.specs.Schedule.{IsFeasible};
 
 use crate::arguments::{Listing, ProjectTask, Solving, solve_commands, task_of};
-use crate::explaining::chain_of;
+use crate::heading::heading_of;
 use crate::improvements::{Improvements, Style};
 use crate::kinds::{SearchFault, kinds_of};
 use crate::progress::{Progress, Telling};
@@ -15,7 +15,7 @@ use crate::showing::{draw_to, verify_to};
 use crate::solving::{SolveOptions, solve_to};
 use crate::verifying::Verified;
 use explain::{CommandWatches, Paths, end_no_memory, open_path, why_no_search, why_words};
-use schedule_files::{Heading, Order, draw};
+use schedule_files::{Order, draw};
 use std::alloc::{AllocError, Global};
 use std::env::Env;
 use std::io;
@@ -106,10 +106,7 @@ fn refuse_one<R: Eprint>(rt: &R) -> ExitCode
 fn picture(alloc: Global, verified: &Verified, order: Order) -> Result<String, AllocError>
     requires { IsFeasible verified.now.project verified.now.schedule }
 {
-    let heading = Heading {
-        makespan: verified.makespan,
-        chain: chain_of(alloc, &verified.project)?,
-    };
+    let heading = heading_of(alloc, verified, None)?;
     draw(alloc, &verified.project, &verified.schedule, heading, order)
 }
 

@@ -1,5 +1,5 @@
 //! Running a search that proves what it finds.
-ghost use Rattle.std.specs.Prelude.{◌≡◌, IfSome, Some, None};
+ghost use Rattle.std.specs.Prelude.{◌≡◌, IfSome, Some, None, false};
 ghost use Rattle.std.specs.Option.{option_copied};
 ghost use Rattle.price_search.specs.LowerBound.{TakesAtLeast};
 ghost use Rattle.prover.specs.Answers.{IsAnswer};
@@ -75,6 +75,17 @@ fn found_by(_project: &Project, proved: Proved) -> SearchResult
     }
 }
 
+fn allowed(most: u64) -> Allowance
+    ensures conflicts { result.conflicts ≡ most }
+    ensures ends { result.is_endless ≡ false }
+{
+    Allowance {
+        words: WORDS,
+        conflicts: most,
+        is_endless: false,
+    }
+}
+
 /// Searches within `most` conflicts, beginning with `first` if that is feasible. Want of memory ends
 /// it with what is known then.
 pub fn prove_within<W: Observer>(
@@ -86,11 +97,46 @@ pub fn prove_within<W: Observer>(
 ) -> SearchResult
     ensures { IsTrueWithin project.now most result }
 {
-    let allowance = Allowance {
-        words: WORDS,
-        conflicts: most,
-        is_endless: false,
-    };
-    let proved = prove_alone(alloc, project, allowance, first, Looks { observer });
+    let proved = prove_alone(alloc, project, allowed(most), first, Looks { observer });
     found_by(project, proved)
+}
+
+/// An observer that sees nothing.
+#[derive(Drop)]
+struct Unseen;
+
+impl Overseer for Unseen {
+    fn look(
+        &mut self,
+        _project: &Project,
+        _conflicts: u64,
+        _best: Option<&Best>,
+        _bound: u32,
+    ) -> bool {
+        true
+    }
+
+    fn pace(&self) -> Option<Pace> {
+        None
+    }
+}
+
+fn bound_of(_project: &Project, answer: Answer) -> u32
+    requires { IsAnswer _project.now answer }
+    ensures { TakesAtLeast _project.now result }
+{
+    match answer {
+        Answer::Optimal(best) => best.makespan,
+        Answer::Gap(_, bound) | Answer::AtLeast(bound) => bound,
+        Answer::Infeasible => 0,
+    }
+}
+
+/// The periods that each feasible schedule takes, as far as `most` conflicts show it. `first` is a
+/// feasible schedule.
+pub(crate) fn bound_within(alloc: Global, project: &Project, most: u64, first: &Schedule) -> u32
+    ensures { TakesAtLeast project.now result }
+{
+    let proved = prove_alone(alloc, project, allowed(most), Some(first), Unseen);
+    bound_of(project, proved.answer)
 }
