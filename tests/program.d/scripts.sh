@@ -255,6 +255,29 @@ printf '{"tenants":[{"name":"a","quanta":1,"jobs":1,"entries":1},{"name":"B","qu
 tells "Name(1)" "tenants[1].name: 1 to 32 of a-z, 0-9, _ and - are allowed, a letter first, and no name twice"
 printf '{"tenants":[{"name":"a","quanta":1,"jobs":1,"entries":1}],"slice":0}' >"$work/config"
 tells "Range(slice)" "slice: 1 to 1000000 are allowed"
+# (each limit as it is told)
+while read -r fault place said; do
+    IFS= read -r config
+    printf '%s' "$config" >"$work/config"
+    tells "$fault" "$place $said"
+done <<'END'
+Tenants tenants: 1 to 64 are allowed
+{"tenants":[]}
+Range(quanta) tenants[0].quanta: 0 to 1000000000000 are allowed
+{"tenants":[{"name":"a","quanta":1000000000001,"jobs":1,"entries":1}]}
+Range(jobs) tenants[0].jobs: 1 to 1000 are allowed
+{"tenants":[{"name":"a","quanta":1,"jobs":1001,"entries":1}]}
+Range(entries) tenants[0].entries: 1 to 1000000 are allowed
+{"tenants":[{"name":"a","quanta":1,"jobs":1,"entries":1000001}]}
+Range(workers) workers: 1 to 16 are allowed
+{"tenants":[{"name":"a","quanta":1,"jobs":1,"entries":1}],"workers":17}
+Range(slice) slice: 1 to 1000000 are allowed
+{"tenants":[{"name":"a","quanta":1,"jobs":1,"entries":1}],"slice":1000001}
+Range(purse) tenants[0].purse: 0 to 1000000000000 quanta are allowed for its tenants together
+{"tenants":[{"name":"a","quanta":1000000000000,"jobs":1,"entries":1,"purse":"p"},{"name":"b","quanta":1,"jobs":1,"entries":1,"purse":"p"}]}
+Name(0) tenants[0].purse: 1 to 32 of a-z, 0-9, _ and - are allowed, a letter first
+{"tenants":[{"name":"a","quanta":1,"jobs":1,"entries":1,"purse":"P"}]}
+END
 : >"$work/config"
 printf '{"tenants":["\377"]}' >"$work/config"
 configs "a configuration that is not UTF-8" Json

@@ -1,5 +1,5 @@
 //! By how much a schedule breaks a condition.
-use mrcpsp::{Breach, Mode, Project, Schedule, breaches_of};
+use mrcpsp::{Breach, MOST_START, Mode, Project, Schedule, breaches_of};
 use schedule_files::read_schedule;
 use std::alloc::{AllocError, Global};
 
@@ -26,8 +26,8 @@ fn tell_shape(alloc: Global, project: &Project, schedule: &Schedule) -> Result<S
     let mut number = 0usize;
     for start in schedule.starts.as_slice() {
         number = number.saturating_add(1);
-        if *start > 1_000_000_000 {
-            return format!(in alloc; "activity {number} starts above period 1000000000");
+        if *start > MOST_START {
+            return format!(in alloc; "activity {number} starts above period {MOST_START}");
         }
     }
     format!(in alloc; "activities of the project: {wanted}")

@@ -1,11 +1,11 @@
 //! Why a text is of no project.
 use crate::head::{DOUBLY, JOBS, Label, NONRENEWABLE, PROJECTS, RENEWABLE, Value, value_of};
 use crate::limits::why_limit;
-use crate::lines::{Count, Piece, count_lines, number, shown_word};
+use crate::lines::{Count, Piece, count_lines, first_word, number, shown_word};
 use crate::rows::{FileRow, Misfit, first_misfit, misnumbered, number_at};
-use crate::sections::lines_below;
+use crate::sections::{lines_below, near_title};
 use crate::sheet::{Sheet, sheet_of};
-use psplib_mm::{MmFault, SectionName};
+use psplib_mm::{MOST_BYTES, MmFault, SectionName};
 use std::alloc::{AllocError, Global};
 
 fn put_row(text: &mut String, row: &FileRow) -> Result<(), AllocError> {
@@ -221,6 +221,13 @@ fn why_label(
     }
 }
 
+fn begins_with_number(lines: &[Piece<'_>]) -> bool {
+    match lines.iter().find_map(|line| first_word(line.bytes)) {
+        Some(word) => number(word).is_some(),
+        None => false,
+    }
+}
+
 /// The first count without a number, or else that of jobs, which is missing.
 fn why_head(alloc: Global, text: &[u8], sheet: &Sheet<'_>) -> Result<Option<String>, AllocError> {
     let head = sheet.head.as_slice();
@@ -239,6 +246,10 @@ fn why_head(alloc: Global, text: &[u8], sheet: &Sheet<'_>) -> Result<Option<Stri
         told.push_str("; the file is empty")?;
     } else if text.contains(&0) || text.starts_with(b"\xEF\xBB\xBF") {
         told.push_str("; the file is no plain text, or begins with a byte order mark")?;
+    } else if begins_with_number(&sheet.lines) {
+        told.push_str(
+            "; it begins with a number, as files of Patterson's layout (.rcp) do, which is not read",
+        )?;
     } else {
         write!(told, ", in lines 1 to {count}")?;
     }
@@ -280,11 +291,15 @@ fn why_section(
         None => lines,
     };
     let from = lines.len().saturating_sub(rest.len());
-    Ok(Some(if from == 0 {
+    let mut told = if from == 0 {
         format!(in alloc; "none of its {all} lines is '{name}:'")?
     } else {
         format!(in alloc; "no line below line {from} is '{name}:'")?
-    }))
+    };
+    if let Some(line) = near_title(alloc, rest, name)? {
+        write!(told, "; line {line} is near: capitals and the colon count")?;
+    }
+    Ok(Some(told))
 }
 
 fn told(alloc: Global, text: &[u8], fault: MmFault) -> Result<Option<String>, AllocError> {
@@ -307,7 +322,7 @@ fn told(alloc: Global, text: &[u8], fault: MmFault) -> Result<Option<String>, Al
 /// is what `psplib_mm::read` returned of `text`.
 pub fn why_file(alloc: Global, text: &[u8], fault: MmFault) -> Option<String> {
     match fault {
-        MmFault::TooLong => { String::from_str(alloc, "the file has more than 1048576 bytes").ok() }
+        MmFault::TooLong => format!(in alloc; "the file has more than {MOST_BYTES} bytes").ok(),
         MmFault::NoMemory => None,
         _ => told(alloc, text, fault).ok().flatten(),
     }

@@ -43,4 +43,7 @@ pub use inputs::{MOST_TEXT, Paths, open_path, told, words_of};
 pub use near::nearest;
 pub use schedules::why_no_schedule;
 pub use watches::CommandWatches;
-pub use words::{why_no_port, why_no_search, why_words};
+pub use words::{
+    LEAST_MEMORY, MOST_CONFLICTS, MOST_JOBS, MOST_MEMORY, MOST_NODES, MOST_SECONDS, MOST_SESSIONS,
+    why_no_port, why_no_search, why_words,
+};

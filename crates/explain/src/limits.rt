@@ -3,6 +3,9 @@ use crate::head::{JOBS, NONRENEWABLE, RENEWABLE, count_of, line_of};
 use crate::lines::{Count, Piece, number};
 use crate::rows::{FileRow, number_at};
 use crate::sheet::Sheet;
+use mrcpsp::{
+    MOST_ACTIVITIES, MOST_AMOUNT, MOST_DURATION, MOST_HORIZON, MOST_MODES, MOST_RESOURCES,
+};
 use psplib_mm::LimitName;
 use std::alloc::{AllocError, Global};
 
@@ -38,7 +41,12 @@ fn duration_place(row: &FileRow) -> usize {
 fn long_mode(words: &[Piece<'_>], rows: &[FileRow]) -> Option<(FileRow, Excess)> {
     for row in rows {
         if row.mode.is_some()
-            && let Some(excess) = first_above(words, duration_place(row), 1, 1_000)
+            && let Some(excess) = first_above(
+                words,
+                duration_place(row),
+                1,
+                u64::from(MOST_DURATION),
+            )
         {
             return Some((*row, excess));
         }
@@ -54,7 +62,7 @@ fn great_request(
     for row in rows {
         let from = duration_place(row).saturating_add(1);
         if row.mode.is_some()
-            && let Some(excess) = first_above(words, from, resources, 1_000_000)
+            && let Some(excess) = first_above(words, from, resources, u64::from(MOST_AMOUNT))
         {
             return Some((*row, excess));
         }
@@ -66,7 +74,7 @@ fn odd_job(words: &[Piece<'_>], rows: &[FileRow]) -> Option<(FileRow, Excess)> {
     for row in rows {
         let place = row.start.saturating_add(1);
         let found = number_at(words, place);
-        if found == 0 || found > 10 {
+        if found == 0 || found > MOST_MODES as u64 {
             let line = words.get(place)?.line;
             return Some((*row, Excess { line, found }));
         }
@@ -93,7 +101,7 @@ fn tell_mode(
     alloc: Global,
     told: Option<(FileRow, Excess)>,
     what: &str,
-    most: u64,
+    most: u32,
 ) -> Result<Option<String>, AllocError> {
     let Some((row, excess)) = told else {
         return Ok(None);
@@ -110,11 +118,12 @@ fn tell_count(
     line: usize,
     count: u64,
     what: &str,
-    allowed: &str,
+    least: usize,
+    most: usize,
 ) -> Result<Option<String>, AllocError> {
     let found = Count(count);
     Ok(Some(format!(in alloc;
-        "line {line}: {what}: {found} are found, and {allowed} are allowed"
+        "line {line}: {what}: {found} are found, and {least} to {most} are allowed"
     )?))
 }
 
@@ -127,21 +136,28 @@ pub(crate) fn why_limit(
     match limit {
         LimitName::Jobs => {
             let (line, jobs) = (line_of(head, JOBS), count_of(head, JOBS));
-            tell_count(alloc, line, jobs, "jobs", "1 to 202")
+            tell_count(alloc, line, jobs, "jobs", 1, MOST_ACTIVITIES)
         }
         LimitName::Renewable => {
             let (line, count) = (line_of(head, RENEWABLE), count_of(head, RENEWABLE));
-            tell_count(alloc, line, count, "renewable resources", "0 to 8")
+            tell_count(alloc, line, count, "renewable resources", 0, MOST_RESOURCES)
         }
         LimitName::Nonrenewable => {
             let (line, count) = (line_of(head, NONRENEWABLE), count_of(head, NONRENEWABLE));
-            tell_count(alloc, line, count, "nonrenewable resources", "0 to 8")
+            tell_count(
+                alloc,
+                line,
+                count,
+                "nonrenewable resources",
+                0,
+                MOST_RESOURCES,
+            )
         }
         LimitName::Modes => match odd_job(&sheet.precedence, &sheet.jobs) {
             Some((row, excess)) => {
                 let (job, line, found) = (row.job, excess.line, Count(excess.found));
                 Ok(Some(format!(in alloc;
-                    "line {line}: modes of job {job}: {found} are found, and 1 to 10 are allowed"
+                    "line {line}: modes of job {job}: {found} are found, and 1 to {MOST_MODES} are allowed"
                 )?))
             }
             None => Ok(None),
@@ -158,17 +174,18 @@ fn why_amount(
     match limit {
         LimitName::Duration => {
             let told = long_mode(&sheet.requests, &sheet.modes);
-            tell_mode(alloc, told, "duration", 1_000)
+            tell_mode(alloc, told, "duration", MOST_DURATION)
         }
         LimitName::Request => {
             let told = great_request(&sheet.requests, &sheet.modes, sheet.resources);
-            tell_mode(alloc, told, "request", 1_000_000)
+            tell_mode(alloc, told, "request", MOST_AMOUNT)
         }
         LimitName::Capacity => {
-            match first_above(&sheet.availabilities, 0, sheet.resources, 1_000_000) {
+            let most = u64::from(MOST_AMOUNT);
+            match first_above(&sheet.availabilities, 0, sheet.resources, most) {
                 Some(excess) => {
                     let (line, found) = (excess.line, Count(excess.found));
-                    Ok(Some(format!(in alloc; "line {line}: capacity {found} is above 1000000")?))
+                    Ok(Some(format!(in alloc; "line {line}: capacity {found} is above {most}")?))
                 }
                 None => Ok(None),
             }
@@ -176,7 +193,7 @@ fn why_amount(
         _ => {
             let total = Count(horizon_of(&sheet.requests, &sheet.modes));
             Ok(Some(format!(in alloc;
-                "the longest durations of all jobs sum to {total}, which is above 20000"
+                "the longest durations of all jobs sum to {total}, which is above {MOST_HORIZON}"
             )?))
         }
     }

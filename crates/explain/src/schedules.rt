@@ -209,11 +209,9 @@ fn begins_json(text: &[u8]) -> bool {
 /// form.
 pub fn why_no_schedule(alloc: Global, text: &[u8]) -> Option<String> {
     if text.len() > MOST_BYTES {
-        return String::from_str(
-            alloc,
-            "the text has more than 1048576 bytes; the last line of a log is enough: tail -n 1",
-        )
-        .ok();
+        return format!(in alloc;
+            "the text has more than {MOST_BYTES} bytes; the last line of a log is enough: tail -n 1"
+        ).ok();
     }
     if begins_json(text) {
         return tell_json(alloc, text).ok();

@@ -2,6 +2,13 @@
 use crate::lines::{Piece, is_rule, push_words, spells};
 use psplib_mm::SectionName;
 use std::alloc::{AllocError, Global};
+use strsim::levenshtein;
+
+/// The most letters of a line that is compared with a title.
+const MOST_LETTERS: usize = 40;
+
+/// The most letters by which a line that is near a title differs from it.
+const MOST_EDITS: usize = 3;
 
 fn title(name: SectionName) -> &'static [u8] {
     match name {
@@ -56,6 +63,32 @@ pub(crate) fn lines_below<'b, 'a>(
         return Some(requests);
     }
     below(requests, name)
+}
+
+fn letters(alloc: Global, bytes: &[u8]) -> Result<String, AllocError> {
+    let mut text = String::new(alloc);
+    for b in bytes {
+        if b.is_ascii_alphabetic() {
+            text.push(char::from(b.to_ascii_uppercase()))?;
+        }
+    }
+    Ok(text)
+}
+
+/// The number of the first line that has nearly the letters of a title, whatever their case.
+pub(crate) fn near_title(
+    alloc: Global,
+    lines: &[Piece<'_>],
+    name: SectionName,
+) -> Result<Option<usize>, AllocError> {
+    let wanted = letters(alloc, title(name))?;
+    for line in lines {
+        let found = letters(alloc, line.bytes)?;
+        if found.len() <= MOST_LETTERS && levenshtein(alloc, &found, &wanted)? <= MOST_EDITS {
+            return Ok(Some(line.line));
+        }
+    }
+    Ok(None)
 }
 
 /// The words below the line of the columns' heads.

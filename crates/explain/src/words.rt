@@ -1,7 +1,28 @@
 //! Why a word of a command line is refused.
 use crate::near::nearest;
 use std::alloc::Global;
+use std::fmt;
 use std::io::ErrorKind;
+
+/// The most nodes of a search of `solve`.
+pub const MOST_NODES: u64 = 1_000_000_000_000;
+
+/// The most connections of a service.
+pub const MOST_SESSIONS: u64 = 64;
+
+/// The most seconds of a proof.
+pub const MOST_SECONDS: u64 = 10_000_000;
+
+/// The most workers of a proof.
+pub const MOST_JOBS: u64 = 256;
+
+/// The least and the most memory of a proof, in megabytes.
+pub const LEAST_MEMORY: u64 = 16;
+
+pub const MOST_MEMORY: u64 = 100_000_000;
+
+/// The most conflicts of a proof.
+pub const MOST_CONFLICTS: u64 = 1_000_000_000_000;
 
 /// All commands, also those of scripts and of the program of certificates.
 const COMMANDS: [&str; 15] = [
@@ -99,46 +120,83 @@ fn is_within(word: &str, least: u64, most: u64) -> bool {
     }
 }
 
-/// Options with a number: name, least, most, and what they take.
-const NUMBERS: [(&str, u64, u64, &str); 7] = [
-    (
-        "--nodes",
-        1,
-        1_000_000_000_000,
-        "--nodes takes a whole number, 1 to 1000000000000, in digits alone",
-    ),
-    (
-        "--port",
-        0,
-        65_535,
-        "--port takes a whole number, 0 to 65535, and 0 for a free port",
-    ),
-    (
-        "--sessions",
-        1,
-        64,
-        "--sessions takes a whole number, 1 to 64",
-    ),
-    (
-        "--seconds",
-        1,
-        10_000_000,
-        "--seconds takes a whole number, 1 to 10000000",
-    ),
-    ("--jobs", 1, 256, "--jobs takes a whole number, 1 to 256"),
-    (
-        "--memory",
-        16,
-        100_000_000,
-        "--memory takes a whole number of megabytes, 16 to 100000000",
-    ),
-    (
-        "--conflicts",
-        1,
-        1_000_000_000_000,
-        "--conflicts takes a whole number, 1 to 1000000000000",
-    ),
+/// A `NumberOption` is an option with a whole number from `least` to `most`.
+#[derive(Clone, Copy)]
+struct NumberOption {
+    name: &'static str,
+    unit: &'static str,
+    least: u64,
+    most: u64,
+    more: &'static str,
+}
+
+const NUMBERS: [NumberOption; 7] = [
+    NumberOption {
+        name: "--nodes",
+        unit: "",
+        least: 1,
+        most: MOST_NODES,
+        more: ", in digits alone",
+    },
+    NumberOption {
+        name: "--port",
+        unit: "",
+        least: 0,
+        most: u16::MAX as u64,
+        more: ", and 0 for a free port",
+    },
+    NumberOption {
+        name: "--sessions",
+        unit: "",
+        least: 1,
+        most: MOST_SESSIONS,
+        more: "",
+    },
+    NumberOption {
+        name: "--seconds",
+        unit: "",
+        least: 1,
+        most: MOST_SECONDS,
+        more: "",
+    },
+    NumberOption {
+        name: "--jobs",
+        unit: "",
+        least: 1,
+        most: MOST_JOBS,
+        more: "",
+    },
+    NumberOption {
+        name: "--memory",
+        unit: " of megabytes",
+        least: LEAST_MEMORY,
+        most: MOST_MEMORY,
+        more: "",
+    },
+    NumberOption {
+        name: "--conflicts",
+        unit: "",
+        least: 1,
+        most: MOST_CONFLICTS,
+        more: "",
+    },
 ];
+
+impl fmt::Display for NumberOption {
+    fn fmt<W: fmt::Write>(&self, f: &mut fmt::Formatter<W>) -> fmt::Result {
+        let NumberOption {
+            name,
+            unit,
+            least,
+            most,
+            more,
+        } = self;
+        write!(
+            f,
+            "{name} takes a whole number{unit}, {least} to {most}{more}"
+        )
+    }
+}
 
 /// Why `words` are refused, as far as they show it. The first one is the program's name.
 pub fn why_words(alloc: Global, words: &[String]) -> Option<String> {
@@ -149,11 +207,11 @@ pub fn why_words(alloc: Global, words: &[String]) -> Option<String> {
     if words.iter().any(|word| is_time(command, word.as_str())) {
         return String::from_str(alloc, why_no_time(command)).ok();
     }
-    for (name, least, most, text) in NUMBERS {
-        if let Some(value) = value_of(words, name)
-            && !is_within(value, least, most)
+    for option in NUMBERS {
+        if let Some(value) = value_of(words, option.name)
+            && !is_within(value, option.least, option.most)
         {
-            return String::from_str(alloc, text).ok();
+            return option.to_string(alloc).ok();
         }
     }
     None

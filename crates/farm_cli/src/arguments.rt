@@ -8,7 +8,7 @@ use clap::builder::ValueParser;
 use clap::{Arg, ArgAction, ArgMatches, Command, Error};
 use std::alloc::{AllocError, Global};
 
-const MOST_SESSIONS: u64 = 64;
+const MOST_SESSIONS: u64 = explain::MOST_SESSIONS;
 
 /// A `Task` is what the words of a command line ask for.
 #[derive(Clone, Copy, Debug, PartialEq, Eq)]

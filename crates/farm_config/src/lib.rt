@@ -18,5 +18,5 @@ mod place;
 mod read;
 
 pub use fault::{ConfigFault, Key};
-pub use place::{ConfigPart, ConfigPlace, place_of};
+pub use place::{ConfigPart, ConfigPlace, Wanted, place_of};
 pub use read::read_config;

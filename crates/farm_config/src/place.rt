@@ -6,7 +6,9 @@ use crate::draft::{LineDraft, draft_of};
 use crate::fault::{ConfigFault, Key};
 use crate::judge::first_out_of_line;
 use crate::read::value_of;
-use farm_core::Name;
+use farm_core::{
+    MOST_ENTRIES, MOST_JOBS, MOST_NAME, MOST_QUANTA, MOST_SLICE, MOST_TENANTS, MOST_WORKERS, Name,
+};
 use serde_json::Value;
 use std::alloc::Global;
 use std::fmt;
@@ -56,41 +58,73 @@ impl fmt::Display for ConfigPlace {
     }
 }
 
-fn kind_of(part: ConfigPart) -> &'static str {
-    match part {
-        ConfigPart::Whole => "an object is wanted",
-        ConfigPart::Tenants => "a list is wanted",
-        ConfigPart::Name | ConfigPart::Purse => "a string is wanted",
-        ConfigPart::Number(_) => "a natural number below 2^64 is wanted, in digits alone",
+const NAME_SIGNS: &str = "of a-z, 0-9, _ and - are allowed, a letter first";
+
+/// A `Wanted` is what a place of a configuration may have. It writes itself as a sentence.
+#[derive(Clone, Copy, Debug, PartialEq, Eq)]
+pub enum Wanted {
+    /// A value of this JSON type.
+    Json(&'static str),
+    Number,
+    /// A number from the first to the second, or as many tenants.
+    Range(u64, u64),
+    /// At most so many quanta of a purse's tenants together.
+    PurseQuanta(u64),
+    PurseName,
+    /// A name that no other tenant has.
+    TenantName,
+    /// A JSON text.
+    Text,
+}
+
+impl fmt::Display for Wanted {
+    fn fmt<W: fmt::Write>(&self, f: &mut fmt::Formatter<W>) -> fmt::Result {
+        match self {
+            Wanted::Json(kind) => write!(f, "{kind} is wanted"),
+            Wanted::Number => write!(f, "a natural number below 2^64 is wanted, in digits alone"),
+            Wanted::Range(least, most) => write!(f, "{least} to {most} are allowed"),
+            Wanted::PurseQuanta(most) => write!(
+                f,
+                "0 to {most} quanta are allowed for its tenants together"
+            ),
+            Wanted::PurseName => write!(f, "1 to {MOST_NAME} {NAME_SIGNS}"),
+            Wanted::TenantName => write!(f, "1 to {MOST_NAME} {NAME_SIGNS}, and no name twice"),
+            Wanted::Text => write!(f, "this is no JSON text"),
+        }
     }
 }
 
-fn range_of(key: Key) -> &'static str {
+fn kind_of(part: ConfigPart) -> Wanted {
+    match part {
+        ConfigPart::Whole => Wanted::Json("an object"),
+        ConfigPart::Tenants => Wanted::Json("a list"),
+        ConfigPart::Name | ConfigPart::Purse => Wanted::Json("a string"),
+        ConfigPart::Number(_) => Wanted::Number,
+    }
+}
+
+fn range_of(key: Key) -> Wanted {
     match key {
-        Key::Quanta => "0 to 1000000000000 are allowed",
-        Key::Jobs => "1 to 1000 are allowed",
-        Key::Entries => "1 to 1000000 are allowed",
-        Key::Workers => "1 to 16 are allowed",
-        Key::Slice => "1 to 1000000 are allowed",
-        Key::Purse => "0 to 1000000000000 quanta are allowed for its tenants together",
+        Key::Quanta => Wanted::Range(0, MOST_QUANTA),
+        Key::Jobs => Wanted::Range(1, MOST_JOBS),
+        Key::Entries => Wanted::Range(1, MOST_ENTRIES),
+        Key::Workers => Wanted::Range(1, MOST_WORKERS),
+        Key::Slice => Wanted::Range(1, MOST_SLICE),
+        Key::Purse => Wanted::PurseQuanta(MOST_QUANTA),
     }
 }
 
 impl ConfigPlace {
     /// What is wanted at the place of `fault`.
-    pub fn wanted(self, fault: ConfigFault) -> &'static str {
+    pub fn wanted(self, fault: ConfigFault) -> Wanted {
         match (fault, self) {
             (ConfigFault::Shape, ConfigPlace::Whole(part) | ConfigPlace::Tenant(_, part)) =>
                 kind_of(part),
-            (ConfigFault::Tenants, _) => "1 to 64 are allowed",
-            (ConfigFault::Name(_), ConfigPlace::Tenant(_, ConfigPart::Purse)) => {
-                "1 to 32 of a-z, 0-9, _ and - are allowed, a letter first"
-            }
-            (ConfigFault::Name(_), _) => {
-                "1 to 32 of a-z, 0-9, _ and - are allowed, a letter first, and no name twice"
-            }
+            (ConfigFault::Tenants, _) => Wanted::Range(1, MOST_TENANTS as u64),
+            (ConfigFault::Name(_), ConfigPlace::Tenant(_, ConfigPart::Purse)) => Wanted::PurseName,
+            (ConfigFault::Name(_), _) => Wanted::TenantName,
             (ConfigFault::Range(key), _) => range_of(key),
-            _ => "this is no JSON text",
+            _ => Wanted::Text,
         }
     }
 }

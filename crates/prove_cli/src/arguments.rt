@@ -1,21 +1,8 @@
 //! The words of a command line.
 use clap::builder::ValueParser;
 use clap::{Arg, ArgAction, ArgMatches, Command};
+use explain::{LEAST_MEMORY, MOST_CONFLICTS, MOST_JOBS, MOST_MEMORY, MOST_SECONDS};
 use std::alloc::{AllocError, Global};
-
-/// The most seconds of a run.
-const MOST_SECONDS: u64 = 10_000_000;
-
-/// The most workers.
-const MOST_JOBS: u64 = 256;
-
-/// The least and the most megabytes.
-const LEAST_MEMORY: u64 = 16;
-
-const MOST_MEMORY: u64 = 100_000_000;
-
-/// The most conflicts of a worker.
-pub(crate) const MOST_CONFLICTS: u64 = 1_000_000_000_000;
 
 /// The words of `prove`.
 #[derive(Clone, Copy, Debug)]

@@ -15,7 +15,7 @@ use thiserror::Error;
 pub enum SearchFault<'a> {
     #[error("no search {0}")]
     Unknown(&'a str),
-    #[error("more than 1000 searches")]
+    #[error("more than {} searches", MOST_SEARCHES)]
     TooMany,
     #[error("no memory")]
     NoMemory,

@@ -16,7 +16,7 @@ use strategy::{Kind, Plan, Strategy, Verdict};
 use tree_search::TreeSearch;
 
 /// The most nodes of a search.
-pub const MOST_NODES: u64 = 1_000_000_000_000;
+pub const MOST_NODES: u64 = explain::MOST_NODES;
 
 /// The most nodes between two looks of an observer: it looks after 1, 3, 7 and so on.
 pub(crate) const CHUNK: u64 = 65_536;
