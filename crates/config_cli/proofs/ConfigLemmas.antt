@@ -1,0 +1,1 @@
+-- The bytes that were read of a reader.

@@ -1,0 +1,2 @@
+pub mod ConfigText
+pub mod Configured
