@@ -17,11 +17,11 @@ use Rattle.schedule_files.specs.ScheduleJson.{IsJsonOf}
 use Rattle.schedule_files.specs.ScheduleText.{Tells}
 use Rattle.schedule_files.specs.declared.reading.TheConstants.{MOST_BYTES}
 use Rattle.schedule_files.proofs.ObjectLemmas.{numeral, schedule_tree, schedule_data, array_printed, tree_numbers, tree_depth, tree_read, object_is, line_of}
-use Rattle.schedule_files.proofs.ToldLemmas.{is_odd, IsPlain, plain, decimal_plain, number_plain, schedule_plain, then_plain, line_utf8, brace, line_told}
+use Rattle.schedule_files.proofs.ToldLemmas.{is_odd, IsPlain, plain, decimal_plain, number_plain, schedule_plain, then_plain, line_utf8, IsObject, AreObjects, with_feeds, lines_told}
 use Rattle.strategy.specs.declared.verdict.Verdict.{Verdict}
 use Rattle.strategy.specs.declared.verdict.Verdict.TheVariants.{Going, Optimal, Infeasible, Ended}
 use Rattle.solve_cli.specs.FoundText.{verdict_text, object_json, found_json}
-use Rattle.solve_cli.specs.Laws.{JsonTellsTheBest, BetterJsonTells}
+use Rattle.solve_cli.specs.Laws.{Improvement, improvements_json, CanBeWritten, JsonTellsTheBest, BetterJsonTells, AllJsonTells}
 
 -- ---- numbers that may be missing
 
@@ -111,20 +111,34 @@ object_plain nodes makespan word s n m w can =
 some_below : (makespan : Option ℕ) → IfSome makespan (λ m. m < 2 ^ 64) → (m : ℕ) → makespan ≡ Some m → m < 2 ^ 64
 some_below makespan h m is = subst (λ (o : Option ℕ). IfSome o (λ x. x < 2 ^ 64)) is h
 
+-- the object is on a line, and its value is the schedule's
+is_object : (nodes : ℕ) (makespan : Option ℕ) (word : List ℕ) (s : ScheduleData) → nodes < 2 ^ 64 → IfSome makespan (λ m. m < 2 ^ 64) → escape word ≡ word → list_any is_odd word ≡ false → IsWritable s
+    → IsObject (object_text nodes makespan word s)
+is_object nodes makespan word s n m same odd can = record {
+  members = members_of nodes makespan word s;
+  numbers = (IsNumber-decimal nodes n, (number_is makespan m, (tt, (tree_numbers s can, tt))));
+  shallow = let a = number_flat makespan in let b = tree_depth s in omega (arith, a, b);
+  printed = object_printed nodes makespan word s same;
+  rest = drop 1 (object_text nodes makespan word s);
+  begins = refl;
+  plain = object_plain nodes makespan word s n (some_below makespan m) odd can;
+}
+
+is_json : (nodes : ℕ) (makespan : Option ℕ) (word : List ℕ) (s : ScheduleData) → nodes < 2 ^ 64 → IfSome makespan (λ m. m < 2 ^ 64) → escape word ≡ word → list_any is_odd word ≡ false → IsWritable s
+    → IsJsonOf (object_text nodes makespan word s ++ 10 ∷ []) s
+is_json nodes makespan word s n m same odd can =
+    let text = object_text nodes makespan word s in
+    let o = is_object nodes makespan word s n m same odd can in
+    let utf8 : IsUtf8 (line_of (json.object o.members)) = subst (λ (l : List ℕ). IsUtf8 (l ++ 10 ∷ [])) (sym o.printed) (line_utf8 text o.plain) in
+    let found = put (codes "schedule") (schedule_data s) (front_data nodes makespan word) in
+    let json = object_is o.members found s can utf8 o.numbers o.shallow (members_read nodes makespan word s n m can) (get_member-put (codes "schedule") (schedule_data s) (front_data nodes makespan word)) in
+    subst (λ (l : List ℕ). IsJsonOf (l ++ 10 ∷ []) s) o.printed json
+
 -- the object of a result with a best schedule tells this
-pub object_tells : (nodes : ℕ) (makespan : Option ℕ) (word : List ℕ) (s : ScheduleData) → nodes < 2 ^ 64 → IfSome makespan (λ m. m < 2 ^ 64) → escape word ≡ word → list_any is_odd word ≡ false
+object_tells : (nodes : ℕ) (makespan : Option ℕ) (word : List ℕ) (s : ScheduleData) → nodes < 2 ^ 64 → IfSome makespan (λ m. m < 2 ^ 64) → escape word ≡ word → list_any is_odd word ≡ false
     → IsWritable s → length (object_json nodes makespan word (Some s)) ≤ MOST_BYTES → Tells (object_json nodes makespan word (Some s)) s
 object_tells nodes makespan word s n m same odd can short =
-    let text = object_text nodes makespan word s in
-    let members = members_of nodes makespan word s in
-    let printed = object_printed nodes makespan word s same in
-    let shown = object_plain nodes makespan word s n (some_below makespan m) odd can in
-    let utf8 : IsUtf8 (line_of (json.object members)) = subst (λ (l : List ℕ). IsUtf8 (l ++ 10 ∷ [])) (sym printed) (line_utf8 text shown) in
-    let numbers : MembersHaveNumbers members = (IsNumber-decimal nodes n, (number_is makespan m, (tt, (tree_numbers s can, tt)))) in
-    let shallow : members_depth members ≤ 126 = let a = number_flat makespan in let b = tree_depth s in omega (arith, a, b) in
-    let found = put (codes "schedule") (schedule_data s) (front_data nodes makespan word) in
-    let json = object_is members found s can utf8 numbers shallow (members_read nodes makespan word s n m can) (get_member-put (codes "schedule") (schedule_data s) (front_data nodes makespan word)) in
-    line_told 123 (drop 1 text) s brace shown short (subst (λ (l : List ℕ). IsJsonOf (l ++ 10 ∷ []) s) printed json)
+    lines_told [] (object_text nodes makespan word s) s tt (is_object nodes makespan word s n m same odd can) short (is_json nodes makespan word s n m same odd can)
 
 -- ---- a result and a better schedule
 
@@ -150,3 +164,31 @@ json_tells found best is can nodes makespan short =
 
 pub better_json_tells : BetterJsonTells
 better_json_tells nodes makespan best can n m short = object_tells nodes (Some makespan) (codes "open") best n m (word_unescaped Going) (word_plain Going) can short
+
+-- ---- better schedules, and a result behind them
+
+abbrev texts : List Improvement → List (List ℕ)
+texts [] = []
+texts (b ∷ bs) = object_text b.nodes (Some b.makespan) (codes "open") b.schedule ∷ texts bs
+
+are_objects : (bs : List Improvement) → CanBeWritten bs → AreObjects (texts bs)
+are_objects [] h = tt
+are_objects (b ∷ bs) h = (is_object b.nodes (Some b.makespan) (codes "open") b.schedule h.0.0 h.0.1 (word_unescaped Going) (word_plain Going) h.0.2, are_objects bs h.1)
+
+lines_are : (bs : List Improvement) → improvements_json bs ≡ with_feeds (texts bs)
+lines_are [] = refl
+lines_are (b ∷ bs) =
+    let text = object_text b.nodes (Some b.makespan) (codes "open") b.schedule in
+    append_assoc text (10 ∷ []) (improvements_json bs) ∙ ap (λ l. text ++ 10 ∷ l) (lines_are bs)
+
+pub all_json_tells : AllJsonTells
+all_json_tells before found best is each can n m short =
+    let word = verdict_text found.verdict in
+    let text = object_text found.nodes found.makespan word best in
+    let front = lines_are before in
+    let same : improvements_json before ++ found_json found ≡ with_feeds (texts before) ++ (text ++ 10 ∷ []) =
+    ap (λ (o : Option ScheduleData). improvements_json before ++ object_json found.nodes found.makespan word o) is ∙ ap (λ l. l ++ (text ++ 10 ∷ [])) front in
+    subst (λ (l : List ℕ). Tells l best) (sym same)
+    (lines_told (texts before) text best (are_objects before each) (is_object found.nodes found.makespan word best n m (word_unescaped found.verdict) (word_plain found.verdict) can)
+    (subst (λ (l : List ℕ). length l ≤ MOST_BYTES) same short)
+    (is_json found.nodes found.makespan word best n m (word_unescaped found.verdict) (word_plain found.verdict) can))

@@ -1,6 +1,6 @@
 -- Why the result of several searches is true, the result of one search is its own, and the lines and
 -- the JSON of a result tell its best schedule. The limits of the texts, in figures.
-use Rattle.std.specs.Prelude.{◌≡◌, ◌<◌, ◌≤◌, ◌^◌, ℕ, List, [], ◌∷◌, length, IsTrue, Some, IfSome, codes}
+use Rattle.std.specs.Prelude.{◌≡◌, ◌<◌, ◌≤◌, ◌^◌, ℕ, List, [], ◌∷◌, ◌++◌, length, IsTrue, Some, IfSome, codes}
 use Rattle.mrcpsp.specs.Project.{ProjectData, is_project}
 use Rattle.mrcpsp.specs.Schedule.{ScheduleData}
 use Rattle.strategy.specs.declared.kind.Kind.{Kind}
@@ -42,6 +42,27 @@ JsonTellsTheBest = (found : SearchResult) (best : ScheduleData) → found.best �
 abbrev pub BetterJsonTells : Type 0
 BetterJsonTells = (nodes makespan : ℕ) (best : ScheduleData) → IsWritable best → nodes < 2 ^ 64 → makespan < 2 ^ 64
     → length (object_json nodes (Some makespan) (codes "open") (Some best)) ≤ schedule.MOST_BYTES → Tells (object_json nodes (Some makespan) (codes "open") (Some best)) best
+
+-- a better schedule that is printed before a result
+pub record Improvement : Type 0 where
+  pub nodes : ℕ
+  pub makespan : ℕ
+  pub schedule : ScheduleData
+
+-- the JSON of better schedules, a line for each
+abbrev pub improvements_json : List Improvement → List ℕ
+improvements_json [] = []
+improvements_json (b ∷ bs) = object_json b.nodes (Some b.makespan) (codes "open") (Some b.schedule) ++ improvements_json bs
+
+-- the numbers of better schedules have 64 bits, and those of the schedules 32
+abbrev pub CanBeWritten : List Improvement → Type 0
+CanBeWritten [] = Unit {0}
+CanBeWritten (b ∷ bs) = ((b.nodes < 2 ^ 64) × (b.makespan < 2 ^ 64) × IsWritable b.schedule) × CanBeWritten bs
+
+-- the JSON of better schedules and of a result tells the result's best schedule, likewise
+abbrev pub AllJsonTells : Type 0
+AllJsonTells = (before : List Improvement) (found : SearchResult) (best : ScheduleData) → found.best ≡ Some best → CanBeWritten before → IsWritable best → found.nodes < 2 ^ 64
+    → IfSome found.makespan (λ makespan. makespan < 2 ^ 64) → length (improvements_json before ++ found_json found) ≤ schedule.MOST_BYTES → Tells (improvements_json before ++ found_json found) best
 
 -- a project's file has at most 1,048,576 bytes
 abbrev pub FilesAreLimited : Type 0
