@@ -15,7 +15,7 @@ use Rattle.schedule_files.proofs.OrderLemmas.{placed_length, placed_number, no_s
 pub some_of : {A : Type 0} (d x y : A) → Some x ≡ Some y → x ≡ y
 some_of d x y e = ap (λ o. option_map_or (λ v. v) o d) e
 
-some_is_not_none : {A : Type 0} (x : A) → Some x ≡ None → ⊥
+pub some_is_not_none : {A : Type 0} (x : A) → Some x ≡ None → ⊥
 some_is_not_none x e = none-some x (sym e)
 
 -- the first part of a list that is read is read, and so are the others
@@ -123,7 +123,7 @@ rows_told text rows entries None (Some s) is read told some = absurd (some_is_no
 rows_told text rows entries (Some x) (Some s) is read told some =
     record { places = entries; rows = ap (places_at 44) (sym is) ∙ read; each = subst (λ (y : ScheduleData). ArePlaces entries y) (some_of s x s some.0) told; some = some.1 }
 
-same_size : (entries : List ScheduleEntry) (s : ScheduleData) → ArePlaces entries s → length entries ≡ length s.modes
+pub same_size : (entries : List ScheduleEntry) (s : ScheduleData) → ArePlaces entries s → length entries ≡ length s.modes
 same_size entries s told = sym (length_permutation entries (placed_from 1 s.modes s.starts) told.whole) ∙ placed_length 1 s.modes s.starts told.even
 
 row_entries : (text : List ℕ) (rows : List (List ℕ)) (entries : List ScheduleEntry) (s : ScheduleData) → rows ≡ rows_of text → places_at 44 rows ≡ Some entries → (t : TellsRows text s) → t.places ≡ entries

@@ -25,7 +25,7 @@ pub fails_append : (p : ℕ → Bool) (xs ys : List ℕ) → Fails p xs → Fail
 fails_append p [] ys h k = k
 fails_append p (x ∷ xs) ys h k = (h.0, fails_append p xs ys h.1 k)
 
-fails_digits : (p : ℕ → Bool) → ((c : ℕ) → digit_value c < 10 → p c ≡ false) → (ds : List ℕ) → AllDigits 10 ds → Fails p ds
+pub fails_digits : (p : ℕ → Bool) → ((c : ℕ) → digit_value c < 10 → p c ≡ false) → (ds : List ℕ) → AllDigits 10 ds → Fails p ds
 fails_digits p each [] h = tt
 fails_digits p each (d ∷ ds) h = (each d h.0, fails_digits p each ds h.1)
 

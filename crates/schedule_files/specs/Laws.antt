@@ -1,6 +1,8 @@
--- A text tells at most one schedule, and a text that ends with a schedule's words tells it.
-use Rattle.std.specs.Prelude.{◌≡◌, ℕ, ◌<◌, ◌≤◌, ◌++◌, ◌∷◌, [], List, length}
+-- A text tells at most one schedule. A text that ends with a schedule's words tells it, and so does
+-- the schedule's JSON.
+use Rattle.std.specs.Prelude.{◌≡◌, ℕ, ◌<◌, ◌≤◌, ◌++◌, ◌∷◌, [], List, length, Some}
 use Rattle.mrcpsp.specs.Schedule.{ScheduleData}
+use Rattle.schedule_json.specs.ScheduleJson.{schedule_json}
 use Rattle.schedule_files.specs.ScheduleText.{Tells, schedule_text}
 use Rattle.schedule_files.specs.declared.reading.TheConstants.{MOST_BYTES}
 
@@ -24,3 +26,7 @@ pub record IsWritable (s : ScheduleData) : Type 0 where
 -- a text of any front, a schedule's words and a line feed tells the schedule, if it is short
 abbrev pub WordsAreTold : Type 0
 WordsAreTold = (front : List ℕ) (s : ScheduleData) → IsWritable s → length (front ++ (schedule_text s ++ 10 ∷ [])) ≤ MOST_BYTES → Tells (front ++ (schedule_text s ++ 10 ∷ [])) s
+
+-- the JSON array of a schedule and a line feed tell the schedule, if they are short
+abbrev pub ArrayIsTold : Type 0
+ArrayIsTold = (s : ScheduleData) → IsWritable s → length (schedule_json (Some s) ++ 10 ∷ []) ≤ MOST_BYTES → Tells (schedule_json (Some s) ++ 10 ∷ []) s

@@ -1,5 +1,5 @@
 //! Laws of texts of schedules, each the proved contract of a function that does nothing.
-ghost use Rattle.schedule_files.specs.Laws.{TellsOne, WordsAreTold};
+ghost use Rattle.schedule_files.specs.Laws.{ArrayIsTold, TellsOne, WordsAreTold};
 
 /// Two schedules that one text tells are equal.
 pub fn a_text_tells_one_schedule()
@@ -10,4 +10,10 @@ pub fn a_text_tells_one_schedule()
 /// has at most `MOST_BYTES` bytes.
 pub fn written_words_are_told()
     ensures { WordsAreTold }
+{}
+
+/// The JSON array of a schedule and a line feed tell the schedule, if they have at most
+/// `MOST_BYTES` bytes.
+pub fn a_written_array_is_told()
+    ensures { ArrayIsTold }
 {}

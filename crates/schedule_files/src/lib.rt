@@ -6,7 +6,7 @@
 //!
 //! - `words`: the words of a schedule.
 //! - `places`, `rows`: the places of activities, and how words and lines write them.
-//! - `reading`, `json`: the schedule that a text has, and that of a JSON text.
+//! - `reading`, `objects`: the schedule that a text has, and that of a JSON text.
 //! - `laws`: a text tells at most one schedule, and what is written is told.
 //!
 //! A picture of a schedule is an SVG text. What it shows is in no contract: `tests/picture`
@@ -19,7 +19,7 @@
 mod bars;
 mod chain;
 mod drawing;
-mod json;
+mod objects;
 pub mod laws;
 mod places;
 mod reading;

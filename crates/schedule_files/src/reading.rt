@@ -4,7 +4,7 @@ ghost use Rattle.mrcpsp.specs.Schedule.{ScheduleData};
 ghost use Rattle.schedule_files.specs.ScheduleRows.{last_number, last_words};
 ghost use Rattle.schedule_files.specs.ScheduleText.{TellsWords, TellsRows, TellsSomehow, Tells};
 
-use crate::json::read_json;
+use crate::objects::read_json;
 use crate::places::{in_order, scheduled};
 use crate::rows::{place_at, places_at, rows_of, words_of};
 use mrcpsp::Schedule;

@@ -5,3 +5,4 @@ pub mod CommandLemmas
 pub mod KindLemmas
 pub mod Examples
 pub mod TellingLemmas
+pub mod JsonLemmas

@@ -1,6 +1,6 @@
--- Why the result of several searches is true, the result of one search is its own, and the lines of
--- a result tell its best schedule. The limits of the texts, in figures.
-use Rattle.std.specs.Prelude.{◌≡◌, ◌≤◌, ℕ, List, [], ◌∷◌, length, IsTrue, Some}
+-- Why the result of several searches is true, the result of one search is its own, and the lines and
+-- the JSON of a result tell its best schedule. The limits of the texts, in figures.
+use Rattle.std.specs.Prelude.{◌≡◌, ◌<◌, ◌≤◌, ◌^◌, ℕ, List, [], ◌∷◌, ◌++◌, length, IsTrue, Some, IfSome, codes}
 use Rattle.mrcpsp.specs.Project.{ProjectData, is_project}
 use Rattle.mrcpsp.specs.Schedule.{ScheduleData}
 use Rattle.strategy.specs.declared.kind.Kind.{Kind}
@@ -10,7 +10,7 @@ use Rattle.explain.specs.declared.inputs.TheConstants.{MOST_TEXT}
 use Rattle.schedule_files.specs.Laws.{IsWritable}
 use Rattle.schedule_files.specs.ScheduleText.{Tells}
 use Rattle.solve_cli.specs.Found.{IsFound}
-use Rattle.solve_cli.specs.FoundText.{found_text, better_line}
+use Rattle.solve_cli.specs.FoundText.{found_text, found_json, better_line, object_json}
 use Rattle.solve_cli.specs.Several.{IsFoundByEach, IsTrueOf}
 use Rattle.solve_cli.specs.declared.search_kinds.SearchKind.{SearchKind}
 use Rattle.solve_cli.specs.declared.search_kinds.SearchKind.TheVariants.{Planned}
@@ -31,6 +31,38 @@ LinesTellTheBest = (found : SearchResult) (best : ScheduleData) → found.best �
 -- the line of a better schedule tells it, likewise
 abbrev pub BetterLineTells : Type 0
 BetterLineTells = (makespan : ℕ) (best : ScheduleData) → IsWritable best → length (better_line makespan best) ≤ schedule.MOST_BYTES → Tells (better_line makespan best) best
+
+-- the JSON of a result tells its best schedule, if its numbers have 64 bits, and those of the
+-- schedule 32, and the text is short
+abbrev pub JsonTellsTheBest : Type 0
+JsonTellsTheBest = (found : SearchResult) (best : ScheduleData) → found.best ≡ Some best → IsWritable best → found.nodes < 2 ^ 64 → IfSome found.makespan (λ makespan. makespan < 2 ^ 64)
+    → length (found_json found) ≤ schedule.MOST_BYTES → Tells (found_json found) best
+
+-- the JSON of a better schedule tells it, likewise
+abbrev pub BetterJsonTells : Type 0
+BetterJsonTells = (nodes makespan : ℕ) (best : ScheduleData) → IsWritable best → nodes < 2 ^ 64 → makespan < 2 ^ 64
+    → length (object_json nodes (Some makespan) (codes "open") (Some best)) ≤ schedule.MOST_BYTES → Tells (object_json nodes (Some makespan) (codes "open") (Some best)) best
+
+-- a better schedule that is printed before a result
+pub record Improvement : Type 0 where
+  pub nodes : ℕ
+  pub makespan : ℕ
+  pub schedule : ScheduleData
+
+-- the JSON of better schedules, a line for each
+abbrev pub improvements_json : List Improvement → List ℕ
+improvements_json [] = []
+improvements_json (b ∷ bs) = object_json b.nodes (Some b.makespan) (codes "open") (Some b.schedule) ++ improvements_json bs
+
+-- the numbers of better schedules have 64 bits, and those of the schedules 32
+abbrev pub CanBeWritten : List Improvement → Type 0
+CanBeWritten [] = Unit {0}
+CanBeWritten (b ∷ bs) = ((b.nodes < 2 ^ 64) × (b.makespan < 2 ^ 64) × IsWritable b.schedule) × CanBeWritten bs
+
+-- the JSON of better schedules and of a result tells the result's best schedule, likewise
+abbrev pub AllJsonTells : Type 0
+AllJsonTells = (before : List Improvement) (found : SearchResult) (best : ScheduleData) → found.best ≡ Some best → CanBeWritten before → IsWritable best → found.nodes < 2 ^ 64
+    → IfSome found.makespan (λ makespan. makespan < 2 ^ 64) → length (improvements_json before ++ found_json found) ≤ schedule.MOST_BYTES → Tells (improvements_json before ++ found_json found) best
 
 -- a project's file has at most 1,048,576 bytes
 abbrev pub FilesAreLimited : Type 0

@@ -1,6 +1,7 @@
 //! Laws of several searches and of limits, each the proved contract of a function.
 ghost use Rattle.std.specs.Prelude.{◌≡◌};
-ghost use Rattle.solve_cli.specs.Laws.{SeveralAreTrue, OneIsItself, LinesTellTheBest, BetterLineTells, FilesAreLimited, SchedulesAreLimited, ReadsAreLimited};
+ghost use Rattle.solve_cli.specs.Laws.{SeveralAreTrue, OneIsItself, LinesTellTheBest, BetterLineTells, JsonTellsTheBest, BetterJsonTells, AllJsonTells};
+ghost use Rattle.solve_cli.specs.Laws.{FilesAreLimited, SchedulesAreLimited, ReadsAreLimited};
 
 use crate::searching::MOST_NODES;
 use crate::several::MOST_SEARCHES;
@@ -16,10 +17,14 @@ pub fn one_search_tells_itself()
     ensures { OneIsItself }
 {}
 
-/// `verify` reads the best schedule of a result in its lines, and a better one in its line.
+/// `verify` reads the best schedule of a result in its lines or its JSON, and a better one in its
+/// line or its JSON. It reads the best in the JSON behind that of better ones, too.
 pub fn what_is_written_is_told()
     ensures best { LinesTellTheBest }
     ensures better { BetterLineTells }
+    ensures json { JsonTellsTheBest }
+    ensures better_json { BetterJsonTells }
+    ensures all_json { AllJsonTells }
 {}
 
 /// The limits of texts. All other contracts cite the constants, and would hold of any other number.

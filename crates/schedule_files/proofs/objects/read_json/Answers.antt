@@ -2,7 +2,7 @@ use Rattle.std.proofs.Common.{subst, IfNone}
 use Rattle.schedule_files.specs.Places.{IsUntold}
 use Rattle.schedule_files.specs.ScheduleJson.{IsJsonOf}
 use Rattle.schedule_files.proofs.JsonLemmas.{json_told, json_none}
-use Rattle.schedule_files.proofs.json.read_json.Goals as goal
+use Rattle.schedule_files.proofs.objects.read_json.Goals as goal
 
 pub returns-in-None-clause-told : goal.returns-in-None-clause-told
 returns-in-None-clause-told c =

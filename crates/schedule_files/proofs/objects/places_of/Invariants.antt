@@ -1,7 +1,7 @@
 use Rattle.std.proofs.Common.{◌≡◌, ◌++◌, map, drop, option_map}
 use Rattle.serde_json.specs.View.{view, items_of}
 use Rattle.schedule_files.specs.ScheduleJson.{places_of}
-use Rattle.schedule_files.proofs.json.places_of.Given as goal
+use Rattle.schedule_files.proofs.objects.places_of.Given as goal
 
 -- the places so far, and then those of the rest
 abbrev pub invariant-loop-value : goal.invariant-loop-value

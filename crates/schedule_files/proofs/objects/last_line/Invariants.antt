@@ -1,5 +1,5 @@
 use Rattle.std.proofs.Common.{◌≡◌, ℕ, ◌<◌, ◌≤◌, ◌+◌, get_or, length}
-use Rattle.schedule_files.proofs.json.last_line.Given as goal
+use Rattle.schedule_files.proofs.objects.last_line.Given as goal
 
 -- the line begins the text, or behind a line feed of it, and no line feed stands behind that so far
 abbrev pub invariant-loop-place : goal.invariant-loop-place
