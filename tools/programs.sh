@@ -6,20 +6,63 @@ dist_line() {
     [ "$(uname -s) $(uname -m)" = "Linux x86_64" ] && [ -x "$top/dist/farm" ] && grep "^farm " "$top/dist/programs" 2>/dev/null
 }
 
-# Sets `program` to one that was built from the sources as they are, and `origin` to what it is.
+# Sets `program` to one that was built from the sources as they are, and `origin` to what it is. It notes what it found in the user's cache, and takes that from
+# the note if no file has changed since.
 find_program() {
+    note=
+    case ${XDG_CACHE_HOME-} in
+    /*) note=$XDG_CACHE_HOME/tepchoum$top/program ;;
+    *) [ -z "${HOME-}" ] || note=$HOME/.cache/tepchoum$top/program ;;
+    esac
+    noted_program && return
+    listing=$(list_files)
     sources=$("$top/tools/digest" farm) || return 1
     program=$top/dist/farm
     if line=$(dist_line) && [ "$(echo "$line" | cut -d ' ' -f 3)" = "$sources" ]; then
         if [ "$(sha256sum <"$program" | cut -d ' ' -f 1)" = "$(echo "$line" | cut -d ' ' -f 2)" ]; then
             origin="dist/farm, sha256 $(echo "$line" | cut -d ' ' -f 2)"
+            note_program
             return 0
         fi
         echo "farm: dist/farm is not the file that dist/programs describes, and is not used" >&2
+        listing=
     fi
     program=$top/crates/farm/out/farm
     origin="crates/farm/out/farm, built here"
-    [ -x "$program" ] && [ -r "$program.sources" ] && [ "$sources" = "$(cat "$program.sources")" ]
+    [ -x "$program" ] && [ -r "$program.sources" ] && [ "$sources" = "$(cat "$program.sources")" ] || return 1
+    note_program
+}
+
+# Prints a line of each file that find_program reads, in the order of the folders: name, size, times of the last write and the last change in nanoseconds, number on
+# the disk, rights. Words are further conditions of `find`.
+list_files() {
+    (
+        cd -- "$top" && find -H crates.txt HANDLES tools/digest tools/programs.sh dist crates/farm/out/farm crates/farm/out/farm.sources crates \
+            -name out -prune -o -type f \( -name '*.rt' -o -name '*.antt' -o ! -path 'crates/*' -o -path 'crates/farm/out/*' \) "$@" -printf '%p %s %T@ %C@ %i %m\n'
+    ) 2>/dev/null
+}
+
+# Whether `program` and `origin` could be taken from the note. It has them, the machine, and the files.
+noted_program() {
+    { read -r found && read -r origin; } 2>/dev/null <"$note" || return 1
+    [ "$found" = dist/farm ] || [ "$found" = crates/farm/out/farm ] || return 1
+    { printf '%s\n%s\n' "$found" "$origin" && uname -s -m && list_files; } | cmp -s - "$note" 2>/dev/null || return 1
+    program=$top/$found
+}
+
+# Writes the note, if `listing` has the files. It writes none if a file changed in the last two seconds: a further change within one tick of the disk's clock
+# would not show.
+note_program() {
+    case $note$listing in
+    /*"crates.txt "*) [ -z "$(list_files \( -newermt '2 seconds ago' -o -newerct '2 seconds ago' \))" ] || return 0 ;;
+    *) return 0 ;;
+    esac
+    {
+        mkdir -p "${note%/*}" &&
+            printf '%s\n%s\n%s\n%s\n' "${program#"$top/"}" "$origin" "$(uname -s -m)" "$listing" >"$note.$$" &&
+            mv -f "$note.$$" "$note" || rm -f "$note.$$"
+    } 2>/dev/null
+    return 0
 }
 
 need_kit() {
