@@ -1,4 +1,4 @@
-"""Bent proofs in DRAT form for small projects, and what the program of certificates has to say of them: a part of fuzz.
+"""Bent proofs in DRAT form for small projects, and what the commands of certificates have to say of them: a part of fuzz.
 
 The clauses are those that the program writes. A refutation of them is found by going over values, as long as that is short, and then bent. Where the first fault of
 `plain_proofs.py` is, the program has to tell it, or to show that what it rests on holds without that step; what is not so it never accepts. Of a step that repeats a

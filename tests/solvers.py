@@ -6,7 +6,7 @@ import sys
 import tempfile
 
 TOP = os.path.dirname(os.path.dirname(os.path.realpath(__file__)))
-# (the path of the program of certificates; `find_programs` sets it)
+# (the path of the program; `find_program` sets it)
 PROGRAM = ""
 # The words of each solver for a file of clauses and the proof that it writes.
 SOLVERS = {
@@ -20,10 +20,10 @@ def fail(text):
     sys.exit("certificates: " + text)
 
 
-def find_programs():
+def find_program():
     """Finds the program, which is proved and built first if that is owed."""
     global PROGRAM
-    told = subprocess.run([os.path.join(TOP, "farm"), "where", "certify"], stdin=subprocess.DEVNULL, stdout=subprocess.PIPE, text=True)
+    told = subprocess.run([os.path.join(TOP, "farm"), "where"], stdin=subprocess.DEVNULL, stdout=subprocess.PIPE, text=True)
     if told.returncode:
         sys.exit(1)
     PROGRAM = told.stdout.strip()

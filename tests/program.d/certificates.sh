@@ -1,6 +1,6 @@
 # What certificates and services tell on a second line. A part of tests/program, which has what is used here.
 
-# What the program of certificates tells on a second line.
+# What the commands of certificates tell on a second line.
 FARM_EXPLAIN=1
 # uncertified NAME ERR WORDS..
 uncertified() {

@@ -159,4 +159,13 @@ fi
 grep -o '^  [a-z]* ' "$work/line" | tr -d ' ' | tr '\n' ' ' >"$work/out"
 : >"$work/err"
 status=0
-says "the commands that help lists" 0 "check replay serve help verify solve draw show compare bench prove clauses certify bound infeasible " ""
+says "the commands that help lists" 0 "solve verify draw show compare prove certify bound infeasible clauses check replay serve help bench " ""
+for word in solve verify draw show compare prove certify bound infeasible clauses check replay serve; do
+    "$farm" help "$word" >"$work/line" 2>"$work/err" </dev/null
+    "$farm" "$word" --help >"$work/out" 2>>"$work/err" </dev/null
+    status=$?
+    says "the help of $word" 2 "$(cat "$work/line")" ""
+    grep -q "^Usage: farm $word " "$work/out"
+    status=$?
+    says "the usage of $word" 0 "$(cat "$work/line")" ""
+done

@@ -1,13 +1,15 @@
 //! The commands on files: each ends with the status 0, or 1 and its fault on standard error.
-ghost use Rattle.std.specs.Prelude.{◌≡◌, ◌≤◌};
+ghost use Rattle.std.specs.Prelude.{◌≡◌, ◌≤◌, IfSome};
 ghost use Rattle.std.specs.Process.{exit_status};
 ghost use Rattle.certify_cli.specs.Commands.{clauses_status};
 
+use crate::arguments::{CertificateTask, task_of};
 use crate::bound_commands::{bound_to, least_to};
 use crate::certifying::write_clauses;
 use crate::commands::{certify_to, infeasible_to};
 use crate::explaining::why_uncertified;
 use crate::fault::CertifyFault;
+use clap::ArgMatches;
 use explain::{CommandWatches, MOST_TEXT, Paths, open_path, told};
 use std::env::Env;
 use std::io;
@@ -15,6 +17,33 @@ use std::io::{BufWriter, Eprint, Write};
 use std::process::ExitCode;
 use std::rt::Runtime;
 use watched_io::{Source, Watch, explains, tell_why};
+
+/// Runs the command of `matches`, or returns `None` if it is none of this crate. The status is 0, or
+/// 1 for any fault.
+pub fn run_command<R: Runtime + AllocGlobal>(rt: &R, matches: &ArgMatches<'_>) -> Option<ExitCode>
+    ensures { IfSome result (λ status. exit_status status ≤ 1) }
+{
+    match task_of(matches) {
+        Some(CertificateTask::Clauses { file, bound }) => Some(run_clauses(rt, file, bound)),
+        Some(
+            CertificateTask::Certify {
+                file,
+                schedule,
+                proof,
+            },
+        ) => Some(run_certify(rt, file, schedule, proof)),
+        Some(CertificateTask::Infeasible { file, proof }) => Some(run_infeasible(rt, file, proof)),
+        Some(
+            CertificateTask::Bound {
+                file,
+                bound,
+                proof,
+                steps,
+            },
+        ) => Some(run_bound(rt, file, bound, proof, steps)),
+        None => None,
+    }
+}
 
 fn end<R: Eprint>(rt: &R, ended: Result<(), CertifyFault>) -> ExitCode
     ensures exact { exit_status result ≡ clauses_status ended }

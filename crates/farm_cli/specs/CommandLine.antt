@@ -44,9 +44,13 @@ serve_app =
 abbrev pub asking : App → App
 asking a = record a { top = record a.top { subcommand_required = true } }
 
+-- a command with the three subcommands
+abbrev pub with_three : App → App
+with_three a = with_subcommand (with_subcommand (with_subcommand a check_app.top) replay_app.top) serve_app.top
+
 -- farm, with one of the three subcommands
 abbrev pub farm_app : App
-farm_app = with_subcommand (with_subcommand (with_subcommand (asking (new_app (codes "farm"))) check_app.top) replay_app.top) serve_app.top
+farm_app = with_three (asking (new_app (codes "farm")))
 
 -- the task is a check of this file
 abbrev pub Checks : Text → Task → Type 0

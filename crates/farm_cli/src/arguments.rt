@@ -1,7 +1,7 @@
 //! The words of a command line.
 ghost use Rattle.std.specs.Prelude.{◌≡◌, ◌<◌, ◌≤◌, false, IfOk, IsOkAnd, length, map, codes, string_bytes};
 ghost use Rattle.clap.specs.Words.{app_of, fault_of, rule_of, subcommand_of, subcommand_rows_of, with_subcommand, FailsBy};
-ghost use Rattle.farm_cli.specs.CommandLine.{flag_rule, option_rule, number_rule, serve_app, farm_app, Checks, Asks};
+ghost use Rattle.farm_cli.specs.CommandLine.{flag_rule, option_rule, number_rule, serve_app, with_three, farm_app, Checks, Asks};
 
 use crate::help::{CHECK_HELP, CONFIG_HELP, REPLAY_HELP, SERVE_HELP, STRICT_HELP};
 use clap::builder::ValueParser;
@@ -99,9 +99,9 @@ fn with_serve<'a>(alloc: Global, command: Command<'a>) -> Result<Command<'a>, Al
     command.subcommand(serve)
 }
 
-/// The command `farm` with its subcommands, or an error if there is no memory for it.
-pub fn farm_command<'a>(alloc: Global) -> Result<Command<'a>, AllocError>
-    ensures { IfOk result (λ command. app_of command ≡ farm_app) }
+/// `command` with the subcommands `check`, `replay` and `serve`. Fails for want of memory.
+pub fn with_commands<'a>(alloc: Global, command: Command<'a>) -> Result<Command<'a>, AllocError>
+    ensures { IfOk result (λ whole. app_of whole ≡ with_three (app_of command.entry)) }
 {
     let file = Arg::new(alloc, "FILE")
         .help("A PSPLIB multi-mode file, or - for standard input")
@@ -121,12 +121,15 @@ pub fn farm_command<'a>(alloc: Global) -> Result<Command<'a>, AllocError>
         .arg(config)?
         .arg(script)?
         .arg(strict)?;
-    let farm = Command::new(alloc, "farm")
-        .about("Schedules multi-mode projects for several tenants")
-        .subcommand_required(true)
-        .subcommand(check)?
-        .subcommand(replay)?;
+    let farm = command.subcommand(check)?.subcommand(replay)?;
     with_serve(alloc, farm)
+}
+
+/// The command `farm` with these three subcommands. Fails for want of memory.
+pub fn farm_command<'a>(alloc: Global) -> Result<Command<'a>, AllocError>
+    ensures { IfOk result (λ command. app_of command ≡ farm_app) }
+{
+    with_commands(alloc, Command::new(alloc, "farm").subcommand_required(true))
 }
 
 /// Returns the task of `words`, the first of which is the program's name; alone it is `check -`.

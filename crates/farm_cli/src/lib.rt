@@ -24,12 +24,12 @@ mod program;
 mod replaying;
 mod summary;
 
-pub use arguments::{Task, farm_command, parse_words};
+pub use arguments::{Task, farm_command, parse_words, with_commands};
 pub use checking::{CheckFault, check, check_to};
 pub use farm_config::{ConfigFault, Key, read_config};
 pub use farm_replay::{Notes, ReplayFault, ReplayWatches, replay};
 pub use farm_service::{ServeFault, serve};
 pub use input::read_whole;
-pub use program::{run_words, tell_refused};
+pub use program::{end_refused, is_own, run_words};
 pub use replaying::{ReplayLog, ReplayStop, replay_text, replay_to};
 pub use summary::{Summary, summarize};

@@ -6,6 +6,8 @@ use crate::checking::check_to;
 use crate::entries::{tell_large_journal, tell_scarce_entries};
 use crate::input::read_whole;
 use crate::replaying::{ReplayLog, replay_to, tell_config_fault};
+use clap::Error;
+use clap::error::ErrorKind;
 use explain::{CommandWatches, open_path, told, why_no_port, why_words};
 use farm_config::read_config;
 use farm_core::Config;
@@ -13,7 +15,7 @@ use farm_pool::Settled;
 use farm_replay::{Notes, ReplayWatches};
 use farm_service::{ServeFault, serve};
 use std::env::Env;
-use std::io::{BufWriter, Eprint, ErrorKind, Print, Read};
+use std::io::{BufWriter, Eprint, Print, Read};
 use std::net::{Ipv4Addr, Net, SocketAddr, TcpListener, TcpStream};
 use std::process::ExitCode;
 use std::rt::{Files, Runtime};
@@ -50,15 +52,16 @@ pub fn run_words<
                 sessions,
             },
         ) => run_serve(rt, config, port, sessions),
-        Err(error) => match error.print(rt) {
-            Ok(()) if error.kind() != clap::error::ErrorKind::OutOfMemory => {
-                if error.kind() != clap::error::ErrorKind::DisplayHelp {
-                    tell_refused(rt, words);
-                }
-                ExitCode::from(2)
-            }
-            _ => ExitCode::FAILURE,
-        },
+        Err(error) => end_refused(rt, words, &error),
+    }
+}
+
+/// Whether `words` are for [`run_words`]: the program's name alone, or a command of this crate
+/// behind it.
+pub fn is_own(words: &[String]) -> bool {
+    match words.get(1) {
+        Some(word) => matches!(word.as_str(), "check" | "replay" | "serve"),
+        None => true,
     }
 }
 
@@ -70,9 +73,21 @@ fn without_help(words: &[String]) -> &[String] {
     }
 }
 
-/// Writes on standard error why `words` are refused, if that is asked for and known.
-pub fn tell_refused<R: AllocGlobal + Env + Eprint>(rt: &R, words: &[String]) {
-    tell_why(rt, &why_words(rt.alloc(), without_help(words)));
+/// Writes the help that `words` ask for, or why they are refused. The status is 2, or 1 if there is
+/// no memory or the text cannot be written.
+pub fn end_refused<R: Runtime + AllocGlobal>(rt: &R, words: &[String], error: &Error) -> ExitCode
+    ensures few { exit_status result ≤ 2 }
+    ensures failed { 1 ≤ exit_status result }
+{
+    match error.print(rt) {
+        Ok(()) if error.kind() != ErrorKind::OutOfMemory => {
+            if error.kind() != ErrorKind::DisplayHelp {
+                tell_why(rt, &why_words(rt.alloc(), without_help(words)));
+            }
+            ExitCode::from(2)
+        }
+        _ => ExitCode::FAILURE,
+    }
 }
 
 /// On `None` the reason is on standard error.
@@ -189,7 +204,7 @@ fn run_serve<
     end_serve(rt, serve(rt, rt.alloc(), &config, listener, sessions))
 }
 
-fn end_unbound<R: Print + Env + Eprint>(rt: &R, port: u16, kind: ErrorKind) -> ExitCode
+fn end_unbound<R: Print + Env + Eprint>(rt: &R, port: u16, kind: io::ErrorKind) -> ExitCode
     ensures { exit_status result ≡ 1 }
 {
     let status = end_serve(rt, Err(ServeFault::Listen));

@@ -93,10 +93,9 @@ fn compare_command<'a>(alloc: Global) -> Result<Command<'a>, AllocError> {
         .arg(schedule_arg(alloc, "AFTER"))
 }
 
-pub(crate) fn plan_commands<'a>(alloc: Global) -> Result<Command<'a>, AllocError> {
-    Command::new(alloc, "farm")
-        .about("Prints schedules of one multi-mode project")
-        .subcommand_required(true)
+/// `command` with the subcommands `show` and `compare`. Fails for want of memory.
+pub fn with_commands<'a>(alloc: Global, command: Command<'a>) -> Result<Command<'a>, AllocError> {
+    command
         .subcommand(show_command(alloc)?)?
         .subcommand(compare_command(alloc)?)
 }

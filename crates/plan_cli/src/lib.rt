@@ -24,12 +24,13 @@ mod showing;
 mod slack;
 mod tabling;
 
+pub use arguments::with_commands;
 pub use calendar::{Calendar, Unit};
 pub use commands::{compare_to, show_to};
 pub use comparing::moves;
 pub use layout::Layout;
 pub use names::{Name, names_of};
 pub use plan::{Plan, PlanFault, read_plan};
-pub use program::{is_plan, run_plan};
+pub use program::run_command;
 pub use showing::{CompareFault, ShowOptions, compare, show};
 pub use tabling::{Extra, table};

@@ -1,13 +1,14 @@
 //! The commands on files, with an exit status.
-ghost use Rattle.std.specs.Prelude.{◌≡◌, ◌≤◌, IfErr};
+ghost use Rattle.std.specs.Prelude.{◌≡◌, ◌≤◌, IfErr, IfSome};
 ghost use Rattle.std.specs.Process.{exit_status};
 
-use crate::arguments::{Comparing, PlanTask, Showing, plan_commands, task_of};
+use crate::arguments::{Comparing, PlanTask, Showing, task_of};
 use crate::calendar::{Calendar, Unit};
 use crate::commands::{compare_to, show_to};
 use crate::names::{Name, names_of};
 use crate::showing::ShowOptions;
-use explain::{CommandWatches, MOST_TEXT, Paths, end_no_memory, open_path, told, why_words};
+use clap::ArgMatches;
+use explain::{CommandWatches, MOST_TEXT, Paths, end_no_memory, open_path, told};
 use jiff::civil::DateTime;
 use std::env::Env;
 use std::io;
@@ -16,49 +17,15 @@ use std::process::ExitCode;
 use std::rt::Runtime;
 use watched_io::{Watch, tell_why};
 
-fn is_own(words: &[String], place: usize) -> bool {
-    match words.get(place) {
-        Some(word) => matches!(word.as_str(), "show" | "compare"),
-        None => false,
-    }
-}
-
-fn asks_for_help(words: &[String]) -> bool {
-    match words.get(1) {
-        Some(word) => matches!(word.as_str(), "help" | "--help" | "-h"),
-        None => false,
-    }
-}
-
-/// Whether the first word behind the program's name is a command of this crate or asks for its
-/// help.
-pub fn is_plan(words: &[String]) -> bool {
-    is_own(words, 1) || (asks_for_help(words) && is_own(words, 2))
-}
-
-/// Runs the command of `words`, the first of which is the program's name. The status is 0, or 2 for
-/// help and for a refused command line, or 1 for any fault.
-pub fn run_plan<R: Runtime + AllocGlobal>(rt: &R, words: &[String]) -> ExitCode
-    ensures { exit_status result ≤ 2 }
+/// Runs the command of `matches`, or returns `None` if it is none of this crate. The status is 0, or
+/// 2 for refused words, or 1 for any fault.
+pub fn run_command<R: Runtime + AllocGlobal>(rt: &R, matches: &ArgMatches<'_>) -> Option<ExitCode>
+    ensures { IfSome result (λ status. exit_status status ≤ 2) }
 {
-    let Ok(command) = plan_commands(rt.alloc()) else {
-        return end_no_memory(rt);
-    };
-    match command.try_get_matches_from(words) {
-        Ok(matches) => match task_of(&matches) {
-            Some(PlanTask::Show(showing)) => run_show(rt, showing),
-            Some(PlanTask::Compare(comparing)) => run_compare(rt, comparing),
-            None => ExitCode::from(2),
-        },
-        Err(error) => match error.print(rt) {
-            Ok(()) if error.kind() != clap::error::ErrorKind::OutOfMemory => {
-                if error.kind() != clap::error::ErrorKind::DisplayHelp {
-                    tell_why(rt, &why_words(rt.alloc(), words));
-                }
-                ExitCode::from(2)
-            }
-            _ => ExitCode::FAILURE,
-        },
+    match task_of(matches) {
+        Some(PlanTask::Show(showing)) => Some(run_show(rt, showing)),
+        Some(PlanTask::Compare(comparing)) => Some(run_compare(rt, comparing)),
+        None => None,
     }
 }
 

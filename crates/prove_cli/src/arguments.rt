@@ -44,7 +44,7 @@ fn number<'a>(
         .value_parser(within)
 }
 
-pub(crate) fn prove_command<'a>(alloc: Global) -> Result<Command<'a>, AllocError> {
+fn prove_command<'a>(alloc: Global) -> Result<Command<'a>, AllocError> {
     let file = Arg::new(alloc, "FILE")
         .help("A PSPLIB multi-mode file, or - for standard input")
         .required(true);
@@ -111,11 +111,9 @@ pub(crate) fn prove_command<'a>(alloc: Global) -> Result<Command<'a>, AllocError
         ))
 }
 
-pub(crate) fn commands<'a>(alloc: Global) -> Result<Command<'a>, AllocError> {
-    Command::new(alloc, "farm")
-        .about("Proves how good a schedule of one multi-mode project is")
-        .subcommand_required(true)
-        .subcommand(prove_command(alloc)?)
+/// `command` with the subcommand `prove`. Fails for want of memory.
+pub fn with_commands<'a>(alloc: Global, command: Command<'a>) -> Result<Command<'a>, AllocError> {
+    command.subcommand(prove_command(alloc)?)
 }
 
 pub(crate) fn proving_of<'a>(matches: &ArgMatches<'a>) -> Option<Proving<'a>> {

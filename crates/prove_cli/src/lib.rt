@@ -21,8 +21,9 @@ mod reporting;
 mod stopping;
 mod telling;
 
+pub use arguments::with_commands;
 pub use cost::Cost;
 pub use fault::ProveFault;
-pub use program::{is_prove, run_prove};
+pub use program::run_command;
 pub use proving::{Ended, ProveOptions, prove_read};
 pub use telling::{tell, tell_gap_json, tell_json};

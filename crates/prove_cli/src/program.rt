@@ -1,14 +1,14 @@
 //! The command on files, with an exit status.
-ghost use Rattle.std.specs.Prelude.{◌≤◌, IfErr};
+ghost use Rattle.std.specs.Prelude.{◌≤◌, IfErr, IfSome};
 ghost use Rattle.std.specs.Process.{exit_status};
 
-use crate::arguments::{Proving, commands, proving_of};
+use crate::arguments::{Proving, proving_of};
 use crate::proving::{Ended, ProveOptions, prove_read};
 use crate::reporting::{Reporter, Style};
 use crate::stopping::stop_at_end_of_input;
+use clap::ArgMatches;
 use explain::{
     CommandWatches, MOST_TEXT, Paths, end_command, end_no_memory, open_path, told, why_no_schedule,
-    why_words,
 };
 use mrcpsp::Schedule;
 use prover::Limits;
@@ -29,28 +29,9 @@ const WORDS: u64 = 125_000;
 /// The status of a run that leaves a gap.
 const GAP: u8 = 3;
 
-fn is_word(words: &[String], place: usize) -> bool {
-    match words.get(place) {
-        Some(word) => word.as_str() == "prove",
-        None => false,
-    }
-}
-
-fn asks_for_help(words: &[String]) -> bool {
-    match words.get(1) {
-        Some(word) => matches!(word.as_str(), "help" | "--help" | "-h"),
-        None => false,
-    }
-}
-
-/// Whether the first word behind the program's name is `prove`, or asks for its help.
-pub fn is_prove(words: &[String]) -> bool {
-    is_word(words, 1) || (asks_for_help(words) && is_word(words, 2))
-}
-
-/// Runs the command of `words`, the first of which is the program's name. The status is 0, or 3 if
-/// a gap is left, or 2 for help and for a refused command line, or 1 for any fault.
-pub fn run_prove<
+/// Runs the command of `matches`, or returns `None` if it is not `prove`. The status is 0, or 3 if a
+/// gap is left, or 2 for refused words, or 1 for any fault.
+pub fn run_command<
     R: Runtime
         + AllocGlobal
         + Threads
@@ -60,26 +41,12 @@ pub fn run_prove<
         + Send
         + Input<Reader = StdinLock<'static>>
         + 'static,
->(rt: &R, words: &[String]) -> ExitCode
-    ensures { exit_status result ≤ 3 }
+>(rt: &R, matches: &ArgMatches<'_>) -> Option<ExitCode>
+    ensures { IfSome result (λ status. exit_status status ≤ 3) }
 {
-    let Ok(command) = commands(rt.alloc()) else {
-        return end_no_memory(rt);
-    };
-    match command.try_get_matches_from(words) {
-        Ok(matches) => match proving_of(&matches) {
-            Some(proving) => run(rt, proving),
-            None => ExitCode::from(2),
-        },
-        Err(error) => match error.print(rt) {
-            Ok(()) if error.kind() != clap::error::ErrorKind::OutOfMemory => {
-                if error.kind() != clap::error::ErrorKind::DisplayHelp {
-                    tell_why(rt, &why_words(rt.alloc(), words));
-                }
-                ExitCode::from(2)
-            }
-            _ => ExitCode::FAILURE,
-        },
+    match proving_of(matches) {
+        Some(proving) => Some(run(rt, proving)),
+        None => None,
     }
 }
 

@@ -118,12 +118,11 @@ fn solve_command<'a>(alloc: Global) -> Result<Command<'a>, AllocError> {
         ))
 }
 
-pub(crate) fn solve_commands<'a>(alloc: Global) -> Result<Command<'a>, AllocError> {
-    Command::new(alloc, "farm")
-        .about("Schedules one multi-mode project")
-        .subcommand_required(true)
-        .subcommand(verify_command(alloc)?)?
+/// `command` with the subcommands `solve`, `verify` and `draw`. Fails for want of memory.
+pub fn with_commands<'a>(alloc: Global, command: Command<'a>) -> Result<Command<'a>, AllocError> {
+    command
         .subcommand(solve_command(alloc)?)?
+        .subcommand(verify_command(alloc)?)?
         .subcommand(draw_command(alloc)?)
 }
 

@@ -37,10 +37,11 @@ mod solving;
 mod telling;
 mod verifying;
 
+pub use arguments::with_commands;
 pub use fault::VerifyFault;
 pub use kinds::{SearchFault, kinds_of};
 pub use local::improve;
-pub use program::{COMMANDS_HELP, asks_for_help, is_command, run_command};
+pub use program::run_command;
 pub use proof::prove_within;
 pub use search_kinds::SearchKind;
 pub use searching::{MOST_NODES, Observer, SearchResult, solve};

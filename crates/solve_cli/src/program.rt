@@ -1,9 +1,9 @@
 //! The commands on files, with an exit status.
-ghost use Rattle.std.specs.Prelude.{◌≡◌, ◌≤◌, IfOk, IfErr, vec_len};
+ghost use Rattle.std.specs.Prelude.{◌≡◌, ◌≤◌, IfOk, IfErr, IfSome, vec_len};
 ghost use Rattle.std.specs.Process.{exit_status};
 ghost use Rattle.mrcpsp.specs.Schedule.{IsFeasible};
 
-use crate::arguments::{Listing, ProjectTask, Solving, solve_commands, task_of};
+use crate::arguments::{Listing, ProjectTask, Solving, task_of};
 use crate::heading::heading_of;
 use crate::improvements::{Improvements, Style};
 use crate::kinds::{SearchFault, kinds_of};
@@ -14,7 +14,8 @@ use crate::several::MOST_SEARCHES;
 use crate::showing::{draw_to, verify_to};
 use crate::solving::{SolveOptions, solve_to};
 use crate::verifying::Verified;
-use explain::{CommandWatches, Paths, end_no_memory, open_path, why_no_search, why_words};
+use clap::ArgMatches;
+use explain::{CommandWatches, Paths, end_no_memory, open_path, why_no_search};
 use schedule_files::{Order, draw};
 use std::alloc::{AllocError, Global};
 use std::env::Env;
@@ -24,70 +25,14 @@ use std::process::ExitCode;
 use std::rt::Runtime;
 use watched_io::{explains, tell_why};
 
-/// The help on the commands that need no configuration.
-pub const COMMANDS_HELP: &str = "\
-On one project, without a configuration (farm COMMAND --help):
-  verify  Tells whether a schedule is feasible, and how long it takes
-  solve   Searches for a short schedule of one project
-  draw    Draws a feasible schedule as an SVG picture
-  show    Prints a feasible schedule as a table
-  compare Tells what differs between two schedules
-
-Of many files, and with a proof (farm COMMAND --help):
-  bench       Searches each of many files and prints a row of each
-  prove       Looks for a schedule and for a proof that none is shorter
-  clauses     Writes the clauses of a project and a bound in DIMACS form
-  certify     Checks a schedule and a proof that none is shorter
-  bound       Checks a proof that no schedule is shorter than a number of periods
-  infeasible  Checks a proof that no schedule is feasible
-
-Example:
-
-  $ farm solve examples/j10_1.mm";
-
-fn is_own(words: &[String], place: usize) -> bool {
-    match words.get(place) {
-        Some(word) => matches!(word.as_str(), "verify" | "solve" | "draw"),
-        None => false,
-    }
-}
-
-/// Whether the first word behind the program's name is a command of this crate or asks for its
-/// help.
-pub fn is_command(words: &[String]) -> bool {
-    is_own(words, 1) || (asks_for_help(words) && is_own(words, 2))
-}
-
-/// Whether the first word behind the program's name asks for help.
-pub fn asks_for_help(words: &[String]) -> bool {
-    match words.get(1) {
-        Some(word) => matches!(word.as_str(), "help" | "--help" | "-h"),
-        None => false,
-    }
-}
-
-/// Runs the command of `words`, the first of which is the program's name. The status is 0, or 2 for
-/// help and for a refused command line, or 1 for any fault.
-pub fn run_command<R: Runtime + AllocGlobal>(rt: &R, words: &[String]) -> ExitCode
-    ensures { exit_status result ≤ 2 }
+/// Runs the command of `matches`, or returns `None` if it is none of this crate. The status is 0, or
+/// 2 for refused words, or 1 for any fault.
+pub fn run_command<R: Runtime + AllocGlobal>(rt: &R, matches: &ArgMatches<'_>) -> Option<ExitCode>
+    ensures { IfSome result (λ status. exit_status status ≤ 2) }
 {
-    let Ok(command) = solve_commands(rt.alloc()) else {
-        return end_no_memory(rt);
-    };
-    match command.try_get_matches_from(words) {
-        Ok(matches) => match task_of(&matches) {
-            Some(task) => run_task(rt, task),
-            None => ExitCode::from(2),
-        },
-        Err(error) => match error.print(rt) {
-            Ok(()) if error.kind() != clap::error::ErrorKind::OutOfMemory => {
-                if error.kind() != clap::error::ErrorKind::DisplayHelp {
-                    tell_why(rt, &why_words(rt.alloc(), words));
-                }
-                ExitCode::from(2)
-            }
-            _ => ExitCode::FAILURE,
-        },
+    match task_of(matches) {
+        Some(task) => Some(run_task(rt, task)),
+        None => None,
     }
 }
 
