@@ -17,7 +17,7 @@ complete -c farm -n "__fish_seen_subcommand_from solve bench" -l search -x -a '(
 complete -c farm -n "__fish_seen_subcommand_from solve bench" -l nodes -x -d 'The most nodes of each search'
 complete -c farm -n "__fish_seen_subcommand_from solve prove" -l json -d 'Print one JSON object'
 complete -c farm -n "__fish_seen_subcommand_from solve bench prove" -l progress -d 'Tell how far the search is'
-complete -c farm -n "__fish_seen_subcommand_from solve bench" -l quiet -d 'Tell nothing of that'
+complete -c farm -n "__fish_seen_subcommand_from solve bench" -l quiet -d 'Print no progress'
 complete -c farm -n "__fish_seen_subcommand_from solve prove" -l improvements -d 'Print each better schedule'
 complete -c farm -n "__fish_seen_subcommand_from verify" -l all -d 'Tell each breach of the schedule'
 complete -c farm -n "__fish_seen_subcommand_from draw" -l order -x -a 'number start' -d 'The order of the rows'

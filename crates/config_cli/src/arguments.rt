@@ -1,5 +1,5 @@
 //! The words of the command line.
-use clap::{Arg, Command};
+use clap::{Arg, ArgMatches, Command};
 use std::alloc::{AllocError, Global};
 
 const HELP: &str = "\
@@ -13,8 +13,7 @@ Example:
 
 docs/CONFIGURATION.md has the keys and the faults.";
 
-/// The command `config`, or an error if there is no memory for it.
-pub fn config_command<'a>(alloc: Global) -> Result<Command<'a>, AllocError> {
+fn config_command<'a>(alloc: Global) -> Result<Command<'a>, AllocError> {
     let file = Arg::new(alloc, "FILE")
         .help("A farm's configuration, a JSON file, or - for standard input")
         .required(true);
@@ -22,4 +21,17 @@ pub fn config_command<'a>(alloc: Global) -> Result<Command<'a>, AllocError> {
         .about("Prints what a configuration means")
         .after_help(HELP)
         .arg(file)
+}
+
+/// `command` with the subcommand `config`. Fails for want of memory.
+pub fn with_commands<'a>(alloc: Global, command: Command<'a>) -> Result<Command<'a>, AllocError> {
+    command.subcommand(config_command(alloc)?)
+}
+
+/// The path that is chosen, if the command is `config`.
+pub(crate) fn path_of<'a>(matches: &ArgMatches<'a>) -> Option<&'a str> {
+    match matches.subcommand() {
+        Some(("config", chosen)) => chosen.get_str("FILE"),
+        _ => None,
+    }
 }

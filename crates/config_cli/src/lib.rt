@@ -16,7 +16,7 @@ mod meaning;
 mod program;
 mod unread;
 
-pub use arguments::config_command;
+pub use arguments::with_commands;
 pub use command::{ConfigRefusal, config_to};
 pub use meaning::config_text;
-pub use program::run_config;
+pub use program::run_command;

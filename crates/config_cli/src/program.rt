@@ -1,15 +1,17 @@
 //! The command on a file, with an exit status.
-ghost use Rattle.std.specs.Prelude.{◌≤◌};
+ghost use Rattle.std.specs.Prelude.{◌≤◌, IfSome};
 ghost use Rattle.std.specs.Process.{exit_status};
 
+use crate::arguments::path_of;
 use crate::command::config_to;
+use clap::ArgMatches;
 use explain::{CommandWatches, open_path};
 use std::io;
 use std::process::ExitCode;
 use std::rt::Runtime;
 
 /// Prints what the configuration at a path, or of standard input for `-`, means.
-pub fn run_config<R: Runtime + AllocGlobal>(rt: &R, path: &str) -> ExitCode
+fn run_config<R: Runtime + AllocGlobal>(rt: &R, path: &str) -> ExitCode
     ensures { exit_status result ≤ 1 }
 {
     let Some(file) = open_path(rt, path) else {
@@ -17,4 +19,12 @@ pub fn run_config<R: Runtime + AllocGlobal>(rt: &R, path: &str) -> ExitCode
     };
     let mut output = io::writer(rt);
     config_to(rt, path, file, &mut output, &mut CommandWatches::new())
+}
+
+/// Runs the command that is chosen, if it is `config`. The status is 0, or 1 for any fault.
+pub fn run_command<R: Runtime + AllocGlobal>(rt: &R, matches: &ArgMatches<'_>) -> Option<ExitCode>
+    ensures { IfSome result (λ status. exit_status status ≤ 1) }
+{
+    let path = path_of(matches)?;
+    Some(run_config(rt, path))
 }

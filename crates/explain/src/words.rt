@@ -24,8 +24,8 @@ pub const MOST_MEMORY: u64 = 100_000_000;
 /// The most conflicts of a proof.
 pub const MOST_CONFLICTS: u64 = 1_000_000_000_000;
 
-/// All commands, also those of scripts and of the program of certificates.
-const COMMANDS: [&str; 15] = [
+/// All commands, also those of scripts.
+const COMMANDS: [&str; 16] = [
     "check",
     "solve",
     "verify",
@@ -36,6 +36,7 @@ const COMMANDS: [&str; 15] = [
     "prove",
     "replay",
     "serve",
+    "config",
     "clauses",
     "certify",
     "bound",

@@ -42,7 +42,8 @@ fn farm_command<'a>(alloc: Global) -> Result<Command<'a>, AllocError> {
     let farm = plan_cli::with_commands(alloc, farm)?;
     let farm = prove_cli::with_commands(alloc, farm)?;
     let farm = certify_cli::with_commands(alloc, farm)?;
-    farm_cli::with_commands(alloc, farm)
+    let farm = farm_cli::with_commands(alloc, farm)?;
+    config_cli::with_commands(alloc, farm)
 }
 
 fn asks_for_version(words: &[String]) -> bool {
@@ -81,6 +82,8 @@ fn run_chosen<
     } else if let Some(status) = prove_cli::run_command(rt, matches) {
         status
     } else if let Some(status) = certify_cli::run_command(rt, matches) {
+        status
+    } else if let Some(status) = config_cli::run_command(rt, matches) {
         status
     } else {
         ExitCode::FAILURE

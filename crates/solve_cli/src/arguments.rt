@@ -2,7 +2,7 @@
 use crate::searching::MOST_NODES;
 use clap::builder::ValueParser;
 use clap::{Arg, ArgAction, ArgMatches, Command};
-use explain::Paths;
+use explain::{MOST_CONFLICTS, Paths};
 use schedule_files::Order;
 use std::alloc::{AllocError, Global};
 
@@ -10,7 +10,14 @@ use std::alloc::{AllocError, Global};
 pub(crate) enum ProjectTask<'a> {
     Verify(Paths<'a>, Listing),
     Solve(Solving<'a>),
-    Draw(Paths<'a>, Order),
+    Draw(Paths<'a>, Drawing),
+}
+
+#[derive(Clone, Copy, Debug, PartialEq, Eq)]
+pub(crate) struct Drawing {
+    pub(crate) order: Order,
+    /// The most conflicts in which the heading's bound is proved, if that is asked for.
+    pub(crate) conflicts: Option<u64>,
 }
 
 #[derive(Clone, Copy, Debug, PartialEq, Eq)]
@@ -76,12 +83,18 @@ fn draw_command<'a>(alloc: Global) -> Result<Command<'a>, AllocError> {
         .help("The order of the rows")
         .value_parser(ValueParser::Names(&ORDERS))
         .default_value("number");
+    let prove = Arg::new(alloc, "prove")
+        .long("prove")
+        .value_name("C")
+        .help("Prove the heading's bound, in at most C conflicts")
+        .value_parser(ValueParser::unsigned(1, MOST_CONFLICTS));
     Command::new(alloc, "draw")
         .about("Draws a feasible schedule as an SVG picture")
         .after_help(DRAW_HELP)
         .arg(file_arg(alloc))?
         .arg(schedule_arg(alloc))?
-        .arg(order)
+        .arg(order)?
+        .arg(prove)
 }
 
 fn solve_command<'a>(alloc: Global) -> Result<Command<'a>, AllocError> {
@@ -108,13 +121,13 @@ fn solve_command<'a>(alloc: Global) -> Result<Command<'a>, AllocError> {
         .arg(flag(
             alloc,
             "progress",
-            "Tell on standard error, once a second, how far the search is",
+            "Print on standard error, once a second, how far the search is",
         ))?
-        .arg(flag(alloc, "quiet", "Tell nothing of that, also with --progress"))?
+        .arg(flag(alloc, "quiet", "Print no progress, even with --progress"))?
         .arg(flag(
             alloc,
             "improvements",
-            "Look every 65,536 nodes and at the end of each search, and print a better schedule, before the lines of the best",
+            "Print each better schedule as it is found, looked for every 65,536 nodes at the latest, before the lines of the best",
         ))
 }
 
@@ -132,6 +145,15 @@ fn order_of(word: Option<&str>) -> Order {
     match word {
         Some("start") => Order::Start,
         _ => Order::Number,
+    }
+}
+
+fn drawing_of(chosen: &ArgMatches<'_>) -> Drawing {
+    Drawing {
+        order: order_of(chosen.get_str("order")),
+        conflicts: chosen
+            .get_str("prove")
+            .and_then(|word| word.parse::<u64>().ok()),
     }
 }
 
@@ -166,7 +188,7 @@ pub(crate) fn task_of<'a>(matches: &ArgMatches<'a>) -> Option<ProjectTask<'a>> {
         })),
         Some(("draw", chosen)) => {
             let paths = paths_of(chosen)?;
-            Some(ProjectTask::Draw(paths, order_of(chosen.get_str("order"))))
+            Some(ProjectTask::Draw(paths, drawing_of(chosen)))
         }
         _ => None,
     }
@@ -201,7 +223,8 @@ resource against its capacity. With --order start the rows are in the order of t
 chain leads from the end back to the beginning: each of its activities begins when the one before it ends,
 a predecessor of it or one that uses a resource of it. The heading says 'optimal by the longest chain'
 only if the makespan is the length of the longest chain of activities by shortest durations, and
-otherwise tells that length. No verdict is taken from the schedule's text. A schedule that is not
+otherwise tells that length. With --prove it looks for a proof of a better bound, and says 'optimal by a
+proof' if no schedule is shorter. No verdict is taken from the schedule's text. A schedule that is not
 feasible is not drawn; it ends as in verify.
 
 Example:

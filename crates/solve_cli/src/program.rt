@@ -3,7 +3,7 @@ ghost use Rattle.std.specs.Prelude.{◌≡◌, ◌≤◌, IfOk, IfErr, IfSome, v
 ghost use Rattle.std.specs.Process.{exit_status};
 ghost use Rattle.mrcpsp.specs.Schedule.{IsFeasible};
 
-use crate::arguments::{Listing, ProjectTask, Solving, task_of};
+use crate::arguments::{Drawing, Listing, ProjectTask, Solving, task_of};
 use crate::heading::heading_of;
 use crate::improvements::{Improvements, Style};
 use crate::kinds::{SearchFault, kinds_of};
@@ -16,7 +16,7 @@ use crate::solving::{SolveOptions, solve_to};
 use crate::verifying::Verified;
 use clap::ArgMatches;
 use explain::{CommandWatches, Paths, end_no_memory, open_path, why_no_search};
-use schedule_files::{Order, draw};
+use schedule_files::draw;
 use std::alloc::{AllocError, Global};
 use std::env::Env;
 use std::io;
@@ -48,11 +48,17 @@ fn refuse_one<R: Eprint>(rt: &R) -> ExitCode
     ExitCode::from(2)
 }
 
-fn picture(alloc: Global, verified: &Verified, order: Order) -> Result<String, AllocError>
+fn picture(alloc: Global, verified: &Verified, asked: Drawing) -> Result<String, AllocError>
     requires { IsFeasible verified.now.project verified.now.schedule }
 {
-    let heading = heading_of(alloc, verified, None)?;
-    draw(alloc, &verified.project, &verified.schedule, heading, order)
+    let heading = heading_of(alloc, verified, asked.conflicts)?;
+    draw(
+        alloc,
+        &verified.project,
+        &verified.schedule,
+        heading,
+        asked.order,
+    )
 }
 
 fn run_task<R: Runtime + AllocGlobal>(rt: &R, task: ProjectTask<'_>) -> ExitCode
@@ -63,7 +69,7 @@ fn run_task<R: Runtime + AllocGlobal>(rt: &R, task: ProjectTask<'_>) -> ExitCode
         ProjectTask::Draw(paths, _) if are_one(paths) => refuse_one(rt),
         ProjectTask::Verify(paths, told) => run_verify(rt, paths, told),
         ProjectTask::Solve(solving) => run_solve(rt, solving),
-        ProjectTask::Draw(paths, order) => run_draw(rt, paths, order),
+        ProjectTask::Draw(paths, asked) => run_draw(rt, paths, asked),
     }
 }
 
@@ -81,7 +87,7 @@ fn run_verify<R: Runtime + AllocGlobal>(rt: &R, paths: Paths<'_>, told: Listing)
     verify_to(rt, paths, file, text, &mut io::writer(rt), &mut watches)
 }
 
-fn run_draw<R: Runtime + AllocGlobal>(rt: &R, paths: Paths<'_>, order: Order) -> ExitCode
+fn run_draw<R: Runtime + AllocGlobal>(rt: &R, paths: Paths<'_>, asked: Drawing) -> ExitCode
     ensures { exit_status result ≤ 1 }
 {
     let Some(file) = open_path(rt, paths.file) else {
@@ -99,7 +105,7 @@ fn run_draw<R: Runtime + AllocGlobal>(rt: &R, paths: Paths<'_>, order: Order) ->
         text,
         &mut io::writer(rt),
         &mut watches,
-        |verified| picture(alloc, &verified, order),
+        |verified| picture(alloc, &verified, asked),
     )
 }
 
