@@ -19,8 +19,8 @@
 mod bars;
 mod chain;
 mod drawing;
-mod objects;
 pub mod laws;
+mod objects;
 mod places;
 mod reading;
 mod rows;
