@@ -49,14 +49,14 @@ _farm() {
         return
         ;;
     esac
-    local commands="check solve verify draw show compare bench prove replay serve clauses certify bound infeasible"
+    local commands="check solve verify draw show compare bench prove replay serve config clauses certify bound infeasible"
     if [ "$COMP_CWORD" = 1 ]; then
         words="$commands help --help --version"
     elif [[ $word == -* ]]; then
         case ${COMP_WORDS[1]} in
         solve) words="--search --nodes --json --progress --quiet --improvements --help" ;;
         verify) words="--all --help" ;;
-        draw) words="--order --help" ;;
+        draw) words="--order --prove --help" ;;
         show) words="--csv --start --unit --names --help" ;;
         prove) words="--seconds --jobs --memory --conflicts --from --json --improvements --progress --quiet --keep --solver --help" ;;
         bench) words="--search --nodes --jobs --steps --prove --seconds --optima --schedules --resume --join --total --report --progress --quiet --help" ;;

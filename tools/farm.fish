@@ -1,5 +1,5 @@
 # Completion of farm's words in fish.
-set -l commands check solve verify draw show compare bench prove replay serve clauses certify bound infeasible
+set -l commands check solve verify draw show compare bench prove replay serve config clauses certify bound infeasible
 
 function __farm_searches
     set -l word (commandline -ct)
@@ -21,6 +21,7 @@ complete -c farm -n "__fish_seen_subcommand_from solve bench" -l quiet -d 'Print
 complete -c farm -n "__fish_seen_subcommand_from solve prove" -l improvements -d 'Print each better schedule'
 complete -c farm -n "__fish_seen_subcommand_from verify" -l all -d 'Tell each breach of the schedule'
 complete -c farm -n "__fish_seen_subcommand_from draw" -l order -x -a 'number start' -d 'The order of the rows'
+complete -c farm -n "__fish_seen_subcommand_from draw" -l prove -x -d 'Prove the bound, in at most C conflicts'
 complete -c farm -n "__fish_seen_subcommand_from show" -l csv -d 'Write CSV'
 complete -c farm -n "__fish_seen_subcommand_from show" -l start -x -d 'When period 0 begins'
 complete -c farm -n "__fish_seen_subcommand_from show" -l unit -x -a 'hour shift day week' -d 'The length of a period'

@@ -22,6 +22,7 @@ _farm() {
         prove:'look for a schedule and a proof that none is shorter'
         replay:'replay a script of requests'
         serve:'answer requests over connections'
+        config:'print what a configuration means'
         clauses:'write the clauses of a project and a bound'
         certify:'check a schedule and a proof'
         bound:'find a lower bound, or check a proof of one'
@@ -40,10 +41,10 @@ _farm() {
     help) _describe -t commands command commands ;;
     solve)
         _arguments '--search[searches with commas between them]:search:_farm_searches' '--nodes[the most nodes of each search]:nodes:' '--json[print one JSON object]' \
-            '--progress[tell how far the search is]' '--quiet[tell nothing of that]' '--improvements[print each better schedule]' '--help[help]' '1:file:_files -g "*.mm"'
+            '--progress[tell how far the search is]' '--quiet[print no progress]' '--improvements[print each better schedule]' '--help[help]' '1:file:_files -g "*.mm"'
         ;;
     verify) _arguments '--all[tell each breach]' '--help[help]' '1:file:_files -g "*.mm"' '2:schedule:_files' ;;
-    draw) _arguments '--order[the order of the rows]:order:(number start)' '--help[help]' '1:file:_files -g "*.mm"' '2:schedule:_files' ;;
+    draw) _arguments '--order[the order of the rows]:order:(number start)' '--prove[prove the bound within conflicts]:conflicts:' '--help[help]' '1:file:_files -g "*.mm"' '2:schedule:_files' ;;
     show)
         _arguments '--csv[write CSV]' '--start[when period 0 begins]:date:' '--unit[the length of a period]:unit:(hour shift day week)' '--names[lines J,NAME]:file:_files' \
             '--help[help]' '1:file:_files -g "*.mm"' '2:schedule:_files'
