@@ -153,7 +153,7 @@ if [ -c /dev/full ]; then
     "$farm" solve "$long" >/dev/full 2>"$work/err" </dev/null
     status=$?
     : >"$work/out"
-    says "solve: a full standard output" 1 "" ""
+    says "solve: a full standard output" 1 "" "farm: cannot write"
 fi
 "$farm" --help >"$work/line" 2>&1 </dev/null
 grep -o '^  [a-z]* ' "$work/line" | tr -d ' ' | tr '\n' ' ' >"$work/out"

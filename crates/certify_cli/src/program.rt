@@ -58,12 +58,14 @@ fn end<R: Eprint>(rt: &R, ended: Result<(), CertifyFault>) -> ExitCode
     }
 }
 
-fn end_unbounded<R: Env + Eprint>(rt: &R, bound: &str, wanted: &str) -> ExitCode
+/// `others` is what a bound may be beside a number.
+fn end_unbounded<R: Env + Eprint>(rt: &R, bound: &str, others: &str) -> ExitCode
     ensures { exit_status result ≡ 1 }
 {
     let _ = eprintln!(rt; "farm: no bound {bound}");
     if explains(rt) {
-        let _ = eprintln!(rt; "farm: why: {wanted}");
+        let most = u32::MAX;
+        let _ = eprintln!(rt; "farm: why: the bound is a whole number, 0 to {most}{others}");
     }
     ExitCode::FAILURE
 }
@@ -160,7 +162,7 @@ pub fn run_bound<R: Runtime + AllocGlobal>(
         return run_least(rt, file, steps);
     };
     let Ok(periods) = bound.parse::<u32>() else {
-        return end_unbounded(rt, bound, "the bound is a whole number below 4294967296");
+        return end_unbounded(rt, bound, "");
     };
     let paths = Paths {
         file,
@@ -194,11 +196,7 @@ pub fn run_clauses<R: Runtime + AllocGlobal>(rt: &R, file: &str, bound: &str) ->
         Ok(number) => Some(number),
         Err(_) if bound == "none" => None,
         Err(_) => {
-            return end_unbounded(
-                rt,
-                bound,
-                "the bound is a whole number below 4294967296, or none",
-            );
+            return end_unbounded(rt, bound, ", or none");
         }
     };
     let Some(source) = open_path(rt, file) else {

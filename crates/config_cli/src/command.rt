@@ -72,7 +72,7 @@ fn config_read<S: Read + Drop, W: Write>(
 }
 
 /// Writes what the configuration of `reader` means. It reads at most `MOST_TEXT` bytes; a longer
-/// input is refused. The status is 0 or 1. Standard error has each fault but `Write`, names `path` if
+/// input is refused. The status is 0 or 1. Standard error has each fault, names `path` if
 /// that is not read, and explains a key that is not read.
 pub fn config_to<R: AllocGlobal + Env + Eprint, S: Read + Drop, W: Write>(
     rt: &R,

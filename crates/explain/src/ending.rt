@@ -21,7 +21,6 @@ pub enum CommandFault<F> {
     Text(ErrorKind),
     Proof(ErrorKind),
     Refused(F),
-    /// Nothing is told of it.
     Write,
 }
 
@@ -45,8 +44,7 @@ fn tell_more<R: Env + Eprint, S, T, P, W>(rt: &R, watches: &CommandWatches<S, T,
     }
 }
 
-/// Returns the status of a command that `ended` so: 0, or 1 with the fault on standard error. It
-/// says nothing of `Write`.
+/// Returns the status of a command that `ended` so: 0, or 1 with the fault on standard error.
 pub fn end_command<R: Env + Eprint, F: Display + Copy, S, T, P, W>(
     rt: &R,
     paths: Paths<'_>,
@@ -67,7 +65,9 @@ pub fn end_command<R: Env + Eprint, F: Display + Copy, S, T, P, W>(
             let _ = eprintln!(rt; "farm: {fault}");
             tell_more(rt, watches);
         }
-        Err(CommandFault::Write) => {}
+        Err(CommandFault::Write) => {
+            let _ = eprintln!(rt; "farm: cannot write");
+        }
     }
     ExitCode::FAILURE
 }

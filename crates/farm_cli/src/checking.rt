@@ -70,5 +70,8 @@ pub fn check_to<R: AllocGlobal + Env + Eprint, S: Read + Drop, W: Write>(
         (exit_status result) }
 {
     let ended = check(rt.alloc(), reader, writer, watches);
+    if let Err(CommandFault::Write) = ended {
+        return ExitCode::FAILURE;
+    }
     end_command(rt, Paths::of(path), ended, watches)
 }

@@ -14,6 +14,7 @@ use farm_core::Config;
 use farm_pool::Settled;
 use farm_replay::{Notes, ReplayWatches};
 use farm_service::{ServeFault, serve};
+use psplib_mm::MOST_BYTES;
 use std::env::Env;
 use std::io::{BufWriter, Eprint, Print, Read};
 use std::net::{Ipv4Addr, Net, SocketAddr, TcpListener, TcpStream};
@@ -90,6 +91,12 @@ pub fn end_refused<R: Runtime + AllocGlobal>(rt: &R, words: &[String], error: &E
     }
 }
 
+fn tell_too_long<R: AllocGlobal + Env + Eprint>(rt: &R, path: &str) {
+    if let Ok(why) = format!(in rt.alloc(); "it has more than {MOST_BYTES} bytes") {
+        tell_unread(rt, path, why.as_str());
+    }
+}
+
 /// On `None` the reason is on standard error.
 fn bytes_at<R: Files + AllocGlobal + Env + Eprint>(rt: &R, path: &str) -> Option<Vec<u8>> {
     let read = match fs::open(rt, path) {
@@ -98,7 +105,7 @@ fn bytes_at<R: Files + AllocGlobal + Env + Eprint>(rt: &R, path: &str) -> Option
     };
     let bytes = told(rt, path, read)?;
     if bytes.is_none() {
-        tell_unread(rt, path, "it has more than 1048576 bytes");
+        tell_too_long(rt, path);
     }
     bytes
 }

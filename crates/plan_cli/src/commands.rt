@@ -73,7 +73,7 @@ fn show_read<S: Read + Drop, T: Read + Drop, W: Write>(
 }
 
 /// Writes the table of the feasible schedule that `text` has of the project of `file`. The status is
-/// 0 or 1. Standard error has each fault except `Write`.
+/// 0 or 1. Standard error has each fault.
 pub fn show_to<R: AllocGlobal + Env + Eprint, S: Read + Drop, T: Read + Drop, W: Write>(
     rt: &R,
     paths: Paths<'_>,
@@ -131,7 +131,7 @@ fn compare_read<S: Read + Drop, T: Read + Drop, P: Read + Drop, W: Write>(
 }
 
 /// Writes what differs between the schedules of `text` and `other`, each of the project of `file`.
-/// The status is 0 or 1. Standard error has each fault except `Write`.
+/// The status is 0 or 1. Standard error has each fault.
 pub fn compare_to<
     R: AllocGlobal + Env + Eprint,
     S: Read + Drop,

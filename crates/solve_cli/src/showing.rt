@@ -122,7 +122,7 @@ pub fn draw_read<
     Ok(())
 }
 
-/// Is `verify_read` with a status, 0 or 1. Standard error has each fault except `Write`.
+/// Is `verify_read` with a status, 0 or 1. Standard error has each fault.
 pub fn verify_to<R: AllocGlobal + Env + Eprint, S: Read + Drop, T: Read + Drop, W: Write>(
     rt: &R,
     paths: Paths<'_>,
@@ -141,7 +141,7 @@ pub fn verify_to<R: AllocGlobal + Env + Eprint, S: Read + Drop, T: Read + Drop, 
     end_command(rt, paths, ended, watches)
 }
 
-/// Is `draw_read` with a status, 0 or 1. Standard error has each fault except `Write`.
+/// Is `draw_read` with a status, 0 or 1. Standard error has each fault.
 pub fn draw_to<
     R: AllocGlobal + Env + Eprint,
     S: Read + Drop,

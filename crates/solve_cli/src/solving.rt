@@ -102,7 +102,7 @@ pub fn solve_read<S: Read + Drop, W: Write, L: Observer>(
     }
 }
 
-/// Is `solve_read` with a status, 0 or 1. Standard error has each fault except `Write`.
+/// Is `solve_read` with a status, 0 or 1. Standard error has each fault.
 pub fn solve_to<R: AllocGlobal + Env + Eprint, S: Read + Drop, W: Write, L: Observer>(
     rt: &R,
     path: &str,
