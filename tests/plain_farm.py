@@ -151,6 +151,26 @@ def config_of(data):
     return tenants
 
 
+def meaning_of(data):
+    """The lines that `farm config` prints. Raises the first Fault."""
+    tenants = config_of(data)
+    fields = value_of(data)
+    workers, turn = natural(fields, "workers", 2), natural(fields, "slice", 1000)
+    purses = []
+    for t in tenants:
+        own = next((it for it in purses if t.purse is not None and it[0].purse == t.purse), None)
+        if own is None:
+            purses.append([t])
+        else:
+            own.append(t)
+    granted = {t.name: sum(s.quanta for s in own) for own in purses for t in own}
+    lines = [f"tenants {len(tenants)} purses {len(purses)} workers {workers} slice {turn}"]
+    lines += [f"purse {own[0].purse or '-'} quanta {granted[own[0].name]} tenants {' '.join(t.name for t in own)}" for own in purses]
+    lines += [f"tenant {t.name} jobs {t.jobs} entries {t.entries} needs {granted[t.name] // turn * 2 + 4}" for t in tenants]
+    entries = sum(t.entries for t in tenants)
+    return [*lines, f"entries {entries} kilobytes {104 * entries}"]
+
+
 # Searches
 
 
@@ -498,9 +518,20 @@ def main_fault(path):
             print(fault.lines(), end="")
 
 
+def main_meaning(path):
+    with open(path, "rb") as config:
+        try:
+            print("\n".join(meaning_of(config.read())))
+        except Fault as fault:
+            sys.exit(fault.lines().partition("\n")[0])
+
+
 if __name__ == "__main__":
     if sys.argv[1] == "--fault":
         main_fault(sys.argv[2])
+        sys.exit()
+    if sys.argv[1] == "--means":
+        main_meaning(sys.argv[2])
         sys.exit()
     with open(sys.argv[1], "rb") as config, open(sys.argv[2], "rb") as script:
         try:

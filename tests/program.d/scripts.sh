@@ -232,7 +232,32 @@ configs() {
     else
         replays "$1" 0 "" ""
     fi
+    wanted=$(python3 "$top/tests/plain_farm.py" --means "$work/config" 2>&1)
+    for file in "$work/config" -; do
+        FARM_EXPLAIN=0 "$farm" config "$file" >"$work/line" 2>&1 <"$work/config"
+        status=$?
+        is_fault=0
+        [ -n "$2" ] && is_fault=1
+        cp "$work/line" "$work/out"
+        : >"$work/err"
+        says "what it means: $1" "$is_fault" "$wanted" ""
+    done
 }
+# explains WHY: the second line of `config` on the configuration in $work/config
+explains() {
+    FARM_EXPLAIN=1 "$farm" config "$work/config" 2>"$work/err" >"$work/line" </dev/null
+    status=$?
+    : >"$work/out"
+    says "config: $1" 0 "" "$1"
+}
+printf '{"tenants":[{"name":"a","quanta":1,"jobs":1,"entries":1}],"wokers":2}' >"$work/config"
+explains "farm: why: wokers is not read; workers is near"
+printf '{"tenants":[{"name":"a","quanta":1,"jobs":1,"entries":1},{"name":"b","quanta":1,"jobs":1,"entries":1,"puse":"p"}]}' >"$work/config"
+explains "farm: why: tenants[1].puse is not read; purse is near"
+printf '{"tenants":[{"name":"a","quanta":1,"jobs":1,"entries":1}],"about":{}}' >"$work/config"
+explains "farm: why: about is not read"
+printf '{"tenants":[{"name":"a","quanta":1,"jobs":1,"entries":1}]}' >"$work/config"
+explains ""
 : >"$work/script"
 while IFS='	' read -r text fault; do
     printf '%s\n' "$text" >"$work/config"
