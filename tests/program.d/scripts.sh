@@ -350,6 +350,9 @@ replays "the longest configuration" 0 "$ledger" ""
 fills $((1048577 - ${#two})) ' ' "$two" >"$work/config"
 replays "a configuration too long" 1 "" "farm: cannot read $work/config
 farm: why: it has more than 1048576 bytes"
+"$farm" config "$work/config" >"$work/out" 2>"$work/err" </dev/null
+status=$?
+says "what a configuration too long means" 1 "" "farm: config TooLong"
 if [ -c /dev/full ]; then
     echo "$two" >"$work/config"
     "$farm" replay --config "$work/config" "$work/script" >/dev/full 2>"$work/err" </dev/null
