@@ -26,6 +26,7 @@ mod reading;
 mod rows;
 mod scale;
 mod svg;
+mod table;
 mod words;
 
 pub use drawing::{Heading, Order, draw};
