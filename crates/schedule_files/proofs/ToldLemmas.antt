@@ -179,7 +179,7 @@ line_told x xs s o h short json =
     let text = (x ∷ xs) ++ 10 ∷ [] in
     let words = no_words text (x ∷ xs) [] (one_word x xs h) (no_place x 58 xs o o.colon) in
     let rows = no_row x xs text (has_digit (x ∷ xs)) (rows_of text) o (one_row x xs h) in
-    record { short = short; ways = inr (words, inr (rows, inl json)) }
+    record { short = short; ways = inr (words, inr (rows, inl (inl json))) }
 
 -- ---- several lines
 

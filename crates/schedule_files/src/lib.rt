@@ -7,6 +7,7 @@
 //! - `words`: the words of a schedule.
 //! - `places`, `rows`: the places of activities, and how words and lines write them.
 //! - `reading`, `objects`: the schedule that a text has, and that of a JSON text.
+//! - `table`: the places in a table of CSV, as spreadsheets write it.
 //! - `laws`: a text tells at most one schedule, and what is written is told.
 //!
 //! A picture of a schedule is an SVG text. What it shows is in no contract: `tests/picture`
@@ -19,8 +20,8 @@
 mod bars;
 mod chain;
 mod drawing;
-mod objects;
 pub mod laws;
+mod objects;
 mod places;
 mod reading;
 mod rows;

@@ -4,7 +4,8 @@ ghost use Rattle.std.specs.Char.{to_ascii_lowercase};
 ghost use Rattle.std.specs.List.{filter, list_any, position};
 ghost use Rattle.csv.specs.Records.{fields_of};
 ghost use Rattle.schedule_files.specs.ScheduleRows.{has_digit};
-ghost use Rattle.schedule_files.specs.ScheduleTable.{mark_of, is_mark, AreRowsOf, cell_at, is_named, columns_of, or_first, is_row, place_in, places_in, places_under, table_places};
+ghost use Rattle.schedule_files.specs.ScheduleTable.{is_mark, mark_of, AreRowsOf, cell_at, is_named, columns_of};
+ghost use Rattle.schedule_files.specs.ScheduleTable.{or_first, is_row, place_in, places_in, table_places};
 
 use crate::places::ScheduleEntry;
 use crate::rows::{has_digit, number_in};
@@ -25,17 +26,23 @@ fn is_mark(b: u8) -> bool
     b == b',' || b == b';' || b == b'\t'
 }
 
+fn mark_place(text: &[u8]) -> Option<usize>
+    ensures { result ≡ position is_mark text.now }
+{
+    text.iter().position(|b| is_mark(*b))
+}
+
 fn mark_of(text: &[u8]) -> u8
     ensures { result ≡ mark_of text.now }
 {
-    match text.iter().position(|b| is_mark(*b)) {
+    match mark_place(text) {
         Some(place) => text[place],
         None => b',',
     }
 }
 
 /// An error of the reader is want of memory: records may have any length, and bytes are no text.
-fn rows_of(alloc: Global, text: &[u8]) -> Result<Vec<ByteRecord>, AllocError>
+pub(crate) fn table_rows(alloc: Global, text: &[u8]) -> Result<Vec<ByteRecord>, AllocError>
     ensures { IfOk result (λ rows. AreRowsOf text.now (map fields_of rows.items)) }
 {
     let reader = ReaderBuilder::new()
@@ -187,7 +194,7 @@ fn places_in(
     Ok(Some(places))
 }
 
-fn table_places(
+pub(crate) fn table_places(
     alloc: Global,
     rows: &[ByteRecord],
 ) -> Result<Option<Vec<ScheduleEntry>>, AllocError>

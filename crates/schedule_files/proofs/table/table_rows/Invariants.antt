@@ -4,7 +4,7 @@ use Rattle.csv.specs.Records.{fields_of}
 use Rattle.csv.specs.declared.parser.State.TheVariants as st
 use Rattle.csv.specs.declared.reader.Trim.TheVariants as trim
 use Rattle.schedule_files.specs.ScheduleTable.{config_of, mark_of}
-use Rattle.schedule_files.proofs.table.rows_of.Given as goal
+use Rattle.schedule_files.proofs.table.table_rows.Given as goal
 
 -- the rows so far take the reader from the text's beginning to what it has left
 abbrev pub invariant-loop-row : goal.invariant-loop-row
