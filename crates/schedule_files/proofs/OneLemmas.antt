@@ -129,7 +129,7 @@ one_somehow text s t (inr (none, a)) (inl b) = absurd (none t b)
 one_somehow text s t (inr (none, inl a)) (inr (never, inl b)) = one_of_rows text s t a b
 one_somehow text s t (inr (none, inl a)) (inr (never, inr (unread, b))) = absurd (unread s a)
 one_somehow text s t (inr (none, inr (unread, a))) (inr (never, inl b)) = absurd (unread t b)
-one_somehow text s t (inr (none, inr (unread, a))) (inr (never, inr (unseen, b))) = one_in_json text s t a b
+one_somehow text s t (inr (none, inr (unread, a))) (inr (never, inr (unseen, b))) = one_in_either text s t a b
 
 pub tells_one : (text : List ℕ) (s t : ScheduleData) → Tells text s → Tells text t → s ≡ t
 tells_one text s t a b = one_somehow text s t a.ways b.ways
