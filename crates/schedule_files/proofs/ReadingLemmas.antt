@@ -7,7 +7,6 @@ use Rattle.std.specs.Option.{option_map_or}
 use Rattle.mrcpsp.specs.Schedule.{ScheduleData}
 use Rattle.schedule_files.specs.Places.{◌>>=◌, placed_from, ArePlaces, IsStrayAt, IsUntold}
 use Rattle.schedule_files.specs.ScheduleRows.{words_of, rows_of, place_at, places_at, last_number, last_words}
-use Rattle.schedule_files.specs.ScheduleJson.{TellsJson}
 use Rattle.schedule_files.specs.ScheduleText.{TellsWords, TellsRows, TellsJsonOrTable, TellsSomehow, Tells}
 use Rattle.schedule_files.specs.declared.places.ScheduleEntry.{ScheduleEntry}
 use Rattle.schedule_files.proofs.OrderLemmas.{placed_length, placed_number, no_stray}

@@ -1,4 +1,4 @@
-use Rattle.std.proofs.Common.{rules, List, ℕ, map, subst, sym}
+use Rattle.std.proofs.Common.{rules, List, map, subst, sym}
 use Rattle.csv.specs.Records.{Row, fields_of}
 use Rattle.schedule_files.specs.ScheduleTable.{AreRowsOf}
 use Rattle.schedule_files.proofs.TableLemmas.{table_unread, table_none}

@@ -1,4 +1,4 @@
-use Rattle.std.proofs.Common.{sym, ◌∙◌}
+use Rattle.std.proofs.Common.{sym}
 use Rattle.schedule_files.proofs.CellLemmas.{mark_some, mark_none}
 use Rattle.schedule_files.proofs.table.mark_of.Goals as goal
 
