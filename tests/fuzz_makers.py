@@ -433,6 +433,26 @@ KINDS = ["tree", "rule:lft", "rule:mts", "rule:spt", "sample:1", "sample:77"]
 NO_SEARCHES = ["tre", "rule:LFT", "sample:x"]
 
 
+def table_text(r, numbers):
+    """A table of CSV of the places of a schedule, as spreadsheets write it."""
+    columns = ["activity", "mode", "start", *r.sample(["finish", "R1", "name"], r.choice([0, 0, 1, 3]))]
+    if r.random() < 0.4:
+        r.shuffle(columns)
+    mark = r.choice([",", ";", ";", "\t"])
+
+    def cell(text):
+        return '"' + text.replace('"', '""') + '"' if mark in text or '"' in text or r.random() < 0.2 else text
+
+    names = {"finish": "7", "R1": "", "name": r.choice(["Dig, deep", 'a "b"', "x;y", "\u00fc"])}
+    rows = [[str(dict(zip(["activity", "mode", "start"], place)).get(it, names.get(it, ""))) for it in columns] for place in numbers]
+    if r.random() < 0.7:
+        rows.insert(0, [r.choice([it, it.upper(), f" {it} "]) for it in columns])
+    if r.random() < 0.3:
+        rows.insert(r.randrange(len(rows) + 1), r.choice([["total", "", "4"], [], [""], ["", ""], ["4"], ["run 2"]]))
+    lines = [mark.join(cell(it) for it in row) for row in rows]
+    return (r.choice(["", "", "\ufeff"]) + r.choice(["\n", "\r\n"]).join([*lines, *r.choice([[], [""]])])).encode()
+
+
 def schedule_text(r, project):
     """A schedule of a project, mostly feasible, in some form."""
     kind = r.choice(["tree", "rule:lft", "sample:3"])
@@ -445,7 +465,9 @@ def schedule_text(r, project):
     if numbers and r.random() < 0.3:
         r.choice(numbers)[r.randrange(3)] += r.choice([-1, 1, 1, 2**32, 1000000000])
     words = " ".join(":".join(str(n) for n in place) for place in numbers)
-    form = r.randrange(7)
+    form = r.randrange(9)
+    if form >= 7:
+        return table_text(r, numbers)
     if form == 0:
         return (words + r.choice(["", "\n"])).encode()
     if form == 1:

@@ -8,8 +8,10 @@
     plain_solve.py compare FILE SCHEDULE FOLDER N       what differs between a schedule and each of N in a folder, which come first by turns, with the status
     plain_solve.py rows KIND[,KIND..] NODES FILE..      the rows of a bench, with a star for the seconds
 
-Each search is that of plain_searches.py. A schedule's text ends with words J:MODE:START, or is of lines J,MODE,START, or ends with JSON.
+Each search is that of plain_searches.py. A schedule's text ends with words J:MODE:START, or is of lines J,MODE,START, or ends with JSON, or is a table of CSV.
 """
+import csv
+import io
 import json
 import math
 import os
@@ -28,6 +30,8 @@ MOST_START = 1_000_000_000
 MOST_TEXT = 1_048_576
 # A greater number of a schedule counts as this.
 MOST_NUMBER = 2**32 - 1
+# The names of a heading.
+NAMES = [b"activity", b"mode", b"start"]
 BLANKS = b" \t\n\x0c\r"
 
 
@@ -174,10 +178,31 @@ def row_schedule(text):
     return in_order(places) if places and None not in places else None
 
 
+def table_schedule(text):
+    """Modes and starts of a table of CSV with commas, semicolons or tabs, by a heading or in the first three columns, or None."""
+    text = text.removeprefix(b"\xef\xbb\xbf")
+    marks = re.search(rb"[,;\t]", text)
+    mark = marks.group().decode() if marks else ","
+    csv.field_size_limit(MOST_TEXT)
+    rows = [it for it in csv.reader(io.StringIO(text.decode("latin-1"), newline=""), delimiter=mark) if it]
+    rows = [[cell.encode("latin-1").strip(BLANKS) for cell in row] for row in rows]
+    names = [cell.lower() for cell in rows[0]] if rows else []
+    if all(name in names for name in NAMES):
+        columns = [names.index(name) for name in NAMES]
+        rows = [row for row in rows if columns[0] < len(row) and re.fullmatch(rb"[0-9]+", row[columns[0]])]
+    else:
+        columns = [0, 1, 2]
+        rows = [row for row in rows if any(re.search(rb"[0-9]", cell) for cell in row)]
+    cells = [[row[it] if it < len(row) else b"" for it in columns] for row in rows]
+    if not cells or not all(re.fullmatch(rb"[0-9]+", cell) for row in cells for cell in row):
+        return None
+    return in_order([[counts_as(cell) for cell in row] for row in cells])
+
+
 def schedule_of(text):
     lines = text[:-1].split(b"\n")
     last = lines[-1] + text[-1:]
-    for told in [word_schedule(text), row_schedule(text), json_schedule(text), json_schedule(last)]:
+    for told in [word_schedule(text), row_schedule(text), json_schedule(text), json_schedule(last), table_schedule(text)]:
         if told is not None:
             return told
     return None

@@ -1,21 +1,20 @@
 -- The JSON of a schedule, and that it is read as the schedule's places.
-use Rattle.std.proofs.Common.{◌≡◌, ℕ, zero, suc, ◌+◌, ◌<◌, ◌≤◌, ◌^◌, ◌==◌, Bool, true, false, cond, min, max, List, [], ◌∷◌, ◌++◌, length, refl, sym, ap, ◌∙◌, arith, append_assoc, append-nil, ne_eqb, Option, Some, None, codes, decimal, option_map, option_and_then, IsUtf8}
-use Rattle.std.specs.List.Sorted.{IsPermutation}
+use Rattle.std.proofs.Common.{◌≡◌, ℕ, ◌+◌, ◌<◌, ◌≤◌, ◌^◌, Bool, true, false, cond, List, [], ◌∷◌, ◌++◌, length, refl, sym, ap, ◌∙◌, arith, append_assoc, ne_eqb, Some, codes, decimal, option_map, option_and_then, IsUtf8}
 use Rattle.std.proofs.lemmas.List.Sorted.{IsPermutation-refl}
 use Rattle.json.specs.Token.{Token}
 use Rattle.json.specs.Json as json
 use Rattle.json.specs.Print.{escape_byte, print_from, print}
-use Rattle.json.specs.Tree.{json_tokens, items_tokens, members_tokens, depth, items_depth, members_depth, HasNumbers, ItemsHaveNumbers, MembersHaveNumbers}
+use Rattle.json.specs.Tree.{json_tokens, items_tokens, depth, items_depth, members_depth, HasNumbers, ItemsHaveNumbers, MembersHaveNumbers}
 use Rattle.json.proofs.Printed.Decimals.{IsNumber-decimal}
 use Rattle.serde_json.specs.Data.{Data, unsigned, number, array, object, Items, no_items, item, Members, no_members, member}
-use Rattle.serde_json.specs.Read.{of_json, of_items, of_members, number_of, max_depth, read}
+use Rattle.serde_json.specs.Read.{of_json, of_items, of_members}
 use Rattle.serde_json.specs.Find.{get_member}
 use Rattle.serde_json.proofs.Numbers.{number_of-decimal}
 use Rattle.mrcpsp.specs.Schedule.{ScheduleData}
-use Rattle.schedule_json.specs.ScheduleJson.{place_json, places_json, comma_before, next_json}
+use Rattle.schedule_json.specs.ScheduleJson.{place_json, places_json, comma_before}
 use Rattle.schedule_files.specs.Laws.{AreCounted, IsWritable}
-use Rattle.schedule_files.specs.Places.{◌>>=◌, counted, placed_from, ArePlaces}
-use Rattle.schedule_files.specs.ScheduleJson.{number_at, place_of, places_of, array_of, IsJsonOf}
+use Rattle.schedule_files.specs.Places.{◌>>=◌, counted, placed_from}
+use Rattle.schedule_files.specs.ScheduleJson.{place_of, places_of, IsJsonOf}
 use Rattle.schedule_files.specs.declared.places.ScheduleEntry.{ScheduleEntry}
 use Rattle.schedule_files.proofs.LineLemmas.{line_read}
 

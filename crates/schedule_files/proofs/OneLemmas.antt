@@ -10,7 +10,9 @@ use Rattle.mrcpsp.specs.Schedule.{ScheduleData}
 use Rattle.schedule_files.specs.Places.{placed_from, ArePlaces}
 use Rattle.schedule_files.specs.ScheduleRows.{places_at}
 use Rattle.schedule_files.specs.ScheduleJson.{BeginsLastLine, IsJsonOf, TellsJson, places_of, array_of}
-use Rattle.schedule_files.specs.ScheduleText.{TellsWords, TellsRows, TellsSomehow, Tells}
+use Rattle.schedule_files.specs.ScheduleText.{TellsWords, TellsRows, TellsJsonOrTable, TellsSomehow, Tells}
+use Rattle.schedule_files.specs.ScheduleTable.{TellsTable, table_places}
+use Rattle.schedule_files.proofs.TableLemmas.{one_table}
 use Rattle.schedule_files.specs.declared.places.ScheduleEntry.{ScheduleEntry}
 use Rattle.schedule_files.proofs.OrderLemmas.{placed_length}
 use Rattle.schedule_files.proofs.JsonLemmas.{one_last_line}
@@ -108,6 +110,18 @@ one_in_json text s t (inl a) (inr (none, (start, begins, b))) = absurd (none s a
 one_in_json text s t (inr (none, (start, begins, a))) (inl b) = absurd (none t b)
 one_in_json text s t (inr (none, (x, begins, a))) (inr (never, (y, others, b))) = one_of_lines text x y s t begins others a b
 
+one_of_table : (text : List ℕ) (s t : ScheduleData) → TellsTable text s → TellsTable text t → s ≡ t
+one_of_table text s t one other =
+    let rows = one_table text other.rows one.rows other.are one.are in
+    let places : other.places ≡ one.places = some_of [] other.places one.places (sym other.told ∙ ap table_places rows ∙ one.told) in
+    one_of_places one.places s t one.each (subst (λ (l : List ScheduleEntry). ArePlaces l t) places other.each)
+
+one_in_either : (text : List ℕ) (s t : ScheduleData) → TellsJsonOrTable text s → TellsJsonOrTable text t → s ≡ t
+one_in_either text s t (inl a) (inl b) = one_in_json text s t a b
+one_in_either text s t (inl a) (inr (none, b)) = absurd (none s a)
+one_in_either text s t (inr (none, a)) (inl b) = absurd (none t b)
+one_in_either text s t (inr (none, a)) (inr (never, b)) = one_of_table text s t a b
+
 one_somehow : (text : List ℕ) (s t : ScheduleData) → TellsSomehow text s → TellsSomehow text t → s ≡ t
 one_somehow text s t (inl a) (inl b) = one_of_words text s t a b
 one_somehow text s t (inl a) (inr (none, b)) = absurd (none s a)
@@ -115,7 +129,7 @@ one_somehow text s t (inr (none, a)) (inl b) = absurd (none t b)
 one_somehow text s t (inr (none, inl a)) (inr (never, inl b)) = one_of_rows text s t a b
 one_somehow text s t (inr (none, inl a)) (inr (never, inr (unread, b))) = absurd (unread s a)
 one_somehow text s t (inr (none, inr (unread, a))) (inr (never, inl b)) = absurd (unread t b)
-one_somehow text s t (inr (none, inr (unread, a))) (inr (never, inr (unseen, b))) = one_in_json text s t a b
+one_somehow text s t (inr (none, inr (unread, a))) (inr (never, inr (unseen, b))) = one_in_either text s t a b
 
 pub tells_one : (text : List ℕ) (s t : ScheduleData) → Tells text s → Tells text t → s ≡ t
 tells_one text s t a b = one_somehow text s t a.ways b.ways

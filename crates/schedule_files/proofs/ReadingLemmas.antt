@@ -7,8 +7,7 @@ use Rattle.std.specs.Option.{option_map_or}
 use Rattle.mrcpsp.specs.Schedule.{ScheduleData}
 use Rattle.schedule_files.specs.Places.{◌>>=◌, placed_from, ArePlaces, IsStrayAt, IsUntold}
 use Rattle.schedule_files.specs.ScheduleRows.{words_of, rows_of, place_at, places_at, last_number, last_words}
-use Rattle.schedule_files.specs.ScheduleJson.{TellsJson}
-use Rattle.schedule_files.specs.ScheduleText.{TellsWords, TellsRows, TellsSomehow, Tells}
+use Rattle.schedule_files.specs.ScheduleText.{TellsWords, TellsRows, TellsJsonOrTable, TellsSomehow, Tells}
 use Rattle.schedule_files.specs.declared.places.ScheduleEntry.{ScheduleEntry}
 use Rattle.schedule_files.proofs.OrderLemmas.{placed_length, placed_number, no_stray}
 
@@ -141,21 +140,21 @@ rows_none text rows entries (Some x) None is read never told none = λ s t.
     let empty : length x.modes ≡ 0 = none in
     absurd (omega (arith, a, b, c, empty, t.some))
 
--- what a text tells as JSON, if it tells nothing as words or rows
-pub json_way : {E : Type 0} (text : List ℕ) (r : Result (Option ScheduleData) E) → IsUntold (TellsWords text) → IsUntold (TellsRows text) → IfOk r (λ found. IfSome found (λ s. TellsJson text s))
+-- what a text tells as JSON or as a table, if it tells nothing as words or rows
+pub json_way : {E : Type 0} (text : List ℕ) (r : Result (Option ScheduleData) E) → IsUntold (TellsWords text) → IsUntold (TellsRows text) → IfOk r (λ found. IfSome found (λ s. TellsJsonOrTable text s))
     → IfOk r (λ found. IfSome found (λ s. TellsSomehow text s))
 json_way text (Ok (Some s)) words rows json = inr (words, inr (rows, json))
 json_way text (Ok None) words rows json = tt
 json_way text (Err e) words rows json = tt
 
--- a text that tells nothing as words, rows or JSON tells nothing
-pub no_way : {E : Type 0} (text : List ℕ) (r : Result (Option ScheduleData) E) → IsUntold (TellsWords text) → IsUntold (TellsRows text) → IfOk r (λ found. IfNone found (IsUntold (TellsJson text)))
+-- a text that tells nothing in any way tells nothing
+pub no_way : {E : Type 0} (text : List ℕ) (r : Result (Option ScheduleData) E) → IsUntold (TellsWords text) → IsUntold (TellsRows text) → IfOk r (λ found. IfNone found (IsUntold (TellsJsonOrTable text)))
     → IfOk r (λ found. IfNone found (IsUntold (TellsSomehow text)))
 no_way text (Ok (Some s)) words rows json = tt
 no_way text (Ok None) words rows json = λ s t.
     ⊎_elim (λ (w : TellsWords text s). words s w)
-    (λ (o : IsUntold (TellsWords text) × (TellsRows text s ⊎ (IsUntold (TellsRows text) × TellsJson text s))).
-    ⊎_elim (λ (x : TellsRows text s). rows s x) (λ (j : IsUntold (TellsRows text) × TellsJson text s). json s j.1) o.1)
+    (λ (o : IsUntold (TellsWords text) × (TellsRows text s ⊎ (IsUntold (TellsRows text) × TellsJsonOrTable text s))).
+    ⊎_elim (λ (x : TellsRows text s). rows s x) (λ (j : IsUntold (TellsRows text) × TellsJsonOrTable text s). json s j.1) o.1)
     t
 no_way text (Err e) words rows json = tt
 

@@ -1,9 +1,8 @@
 -- A line of JSON tells nothing as words or as rows, and so tells the schedule that its value has.
-use Rattle.std.proofs.Common.{◌≡◌, inl, inr, ℕ, zero, suc, ◌+◌, ◌-◌, ◌<◌, ◌≤◌, ◌^◌, ◌==◌, ◌&&◌, not, Bool, true, false, cond, List, [], ◌∷◌, ◌++◌, length, length-append, take, drop, get_or, append_assoc, refl, sym, ap, ◌∙◌, arith, ne_eqb, Option, Some, None, IsUtf8, codes, decimal, slice_index, subst}
+use Rattle.std.proofs.Common.{◌≡◌, inl, inr, ℕ, zero, suc, ◌+◌, ◌-◌, ◌<◌, ◌≤◌, ◌^◌, ◌==◌, not, Bool, true, false, cond, List, [], ◌∷◌, ◌++◌, length, length-append, take, drop, get_or, append_assoc, refl, sym, ap, ◌∙◌, arith, ne_eqb, Option, Some, None, IsUtf8, codes, decimal, slice_index, subst}
 use Rattle.std.specs.Char.{is_ascii_digit, is_ascii_whitespace, is_ascii_graphic, digit_value}
-use Rattle.std.specs.List.{filter, list_any, list_all, slice_split, position_or_len, suffix_len}
+use Rattle.std.specs.List.{filter, list_any, slice_split, position_or_len, suffix_len}
 use Rattle.std.specs.Option.{option_map_or}
-use Rattle.std.specs.Str.Parse.{AllDigits}
 use Rattle.std.proofs.lemmas.Bool.{or_parts, eqb-false}
 use Rattle.std.proofs.lemmas.Bool.Decides.{nat_tests}
 use Rattle.std.proofs.lemmas.Fmt.{decimal_is_IsNumeral}
@@ -18,13 +17,13 @@ use Rattle.serde_json.specs.Read.{read}
 use Rattle.schedule_files.specs.Laws.{AreCounted, IsWritable, ArrayIsTold}
 use Rattle.schedule_files.specs.Places.{placed_from, IsUntold}
 use Rattle.schedule_files.specs.ScheduleJson.{BeginsLastLine, IsJsonOf, TellsJson}
-use Rattle.schedule_files.specs.ScheduleRows.{has_digit, words_of, rows_of, number_of, number_in, before, place_at, places_at, last_number, last_words, trimmed}
+use Rattle.schedule_files.specs.ScheduleRows.{has_digit, words_of, rows_of, number_of, number_in, before, place_at, places_at, last_number, last_words}
 use Rattle.schedule_files.specs.ScheduleText.{TellsWords, TellsRows, Tells}
 use Rattle.schedule_files.specs.declared.places.ScheduleEntry.{ScheduleEntry}
 use Rattle.schedule_files.specs.declared.reading.TheConstants.{MOST_BYTES}
 use Rattle.schedule_files.proofs.OrderLemmas.{placed_length}
 use Rattle.schedule_files.proofs.LineLemmas.{two_unread}
-use Rattle.schedule_files.proofs.ObjectLemmas.{items_tree, schedule_tree, array_printed, array_is, line_of}
+use Rattle.schedule_files.proofs.ObjectLemmas.{schedule_tree, array_printed, array_is, line_of}
 use Rattle.schedule_files.proofs.ReadingLemmas.{some_of, some_is_not_none, told_last, same_size}
 use Rattle.schedule_files.proofs.WrittenLemmas.{Fails, fails_append, fails_digits, split_mid, split_whole, words_mid, words_whole}
 
@@ -179,7 +178,7 @@ line_told x xs s o h short json =
     let text = (x ∷ xs) ++ 10 ∷ [] in
     let words = no_words text (x ∷ xs) [] (one_word x xs h) (no_place x 58 xs o o.colon) in
     let rows = no_row x xs text (has_digit (x ∷ xs)) (rows_of text) o (one_row x xs h) in
-    record { short = short; ways = inr (words, inr (rows, inl json)) }
+    record { short = short; ways = inr (words, inr (rows, inl (inl json))) }
 
 -- ---- several lines
 
@@ -311,7 +310,7 @@ lines_told lines last s h o short is =
     let text = lines_text lines last in
     let words = no_words text last lines (words_in lines last h o) (ap (place_at 58) o.begins ∙ no_place 123 58 o.rest brace refl) in
     let rows = no_braced text (filter has_digit (lines ++ last ∷ [] ∷ [])) (ap (filter has_digit) (lines_in lines last h o)) (rows_braced lines last h o) in
-    record { short = short; ways = inr (words, inr (rows, in_json lines last s h o is)) }
+    record { short = short; ways = inr (words, inr (rows, inl (in_json lines last s h o is))) }
 
 -- ---- the array alone
 

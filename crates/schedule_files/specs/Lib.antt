@@ -2,4 +2,5 @@ pub mod Places
 pub mod ScheduleRows
 pub mod ScheduleText
 pub mod ScheduleJson
+pub mod ScheduleTable
 pub mod Laws

@@ -1,9 +1,10 @@
 -- The text of a schedule: for each activity a word of its number, mode and start, with colons
--- between them. Words with other white space, rows with commas, and JSON are read too.
+-- between them. Words with other white space, rows with commas, JSON and tables are read too.
 use Rattle.std.specs.Prelude.{◌≡◌, ◌⊎◌, ℕ, ◌+◌, ◌<◌, ◌≤◌, List, [], ◌∷◌, ◌++◌, length, Some, codes, decimal}
 use Rattle.mrcpsp.specs.Schedule.{ScheduleData}
 use Rattle.schedule_files.specs.Places.{placed_from, ArePlaces, IsUntold}
 use Rattle.schedule_files.specs.ScheduleJson.{TellsJson}
+use Rattle.schedule_files.specs.ScheduleTable.{TellsTable}
 use Rattle.schedule_files.specs.ScheduleRows.{words_of, rows_of, places_at}
 use Rattle.schedule_files.specs.declared.places.ScheduleEntry.{ScheduleEntry}
 use Rattle.schedule_files.specs.declared.reading.TheConstants.{MOST_BYTES}
@@ -38,11 +39,16 @@ pub record TellsRows (text : List ℕ) (s : ScheduleData) : Type 0 where
   pub each : ArePlaces places s
   pub some : 0 < length s.modes
 
--- the words of the text tell the schedule; or, if they tell none, its rows do; or else it is JSON
-abbrev pub TellsSomehow : List ℕ → ScheduleData → Type 0
-TellsSomehow text s = TellsWords text s ⊎ (IsUntold (TellsWords text) × (TellsRows text s ⊎ (IsUntold (TellsRows text) × TellsJson text s)))
+-- the text is JSON of the schedule; or, if it is no schedule's, a table of CSV
+abbrev pub TellsJsonOrTable : List ℕ → ScheduleData → Type 0
+TellsJsonOrTable text s = TellsJson text s ⊎ (IsUntold (TellsJson text) × TellsTable text s)
 
--- a text of at most 1,048,576 bytes writes the schedule as words, as rows or as JSON
+-- the words of the text tell the schedule; or, if they tell none, its rows do; or else it is JSON or
+-- a table
+abbrev pub TellsSomehow : List ℕ → ScheduleData → Type 0
+TellsSomehow text s = TellsWords text s ⊎ (IsUntold (TellsWords text) × (TellsRows text s ⊎ (IsUntold (TellsRows text) × TellsJsonOrTable text s)))
+
+-- a text of at most 1,048,576 bytes writes the schedule as words, as rows, as JSON or as a table
 pub record Tells (text : List ℕ) (s : ScheduleData) : Type 0 where
   pub short : length text ≤ MOST_BYTES
   pub ways : TellsSomehow text s

@@ -7,6 +7,7 @@
 //! - `words`: the words of a schedule.
 //! - `places`, `rows`: the places of activities, and how words and lines write them.
 //! - `reading`, `objects`: the schedule that a text has, and that of a JSON text.
+//! - `table`: the places in a table of CSV, as spreadsheets write it.
 //! - `laws`: a text tells at most one schedule, and what is written is told.
 //!
 //! A picture of a schedule is an SVG text. What it shows is in no contract: `tests/picture`
@@ -26,6 +27,7 @@ mod reading;
 mod rows;
 mod scale;
 mod svg;
+mod table;
 mod words;
 
 pub use drawing::{Ground, Heading, Order, draw};

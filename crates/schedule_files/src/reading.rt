@@ -2,11 +2,13 @@
 ghost use Rattle.std.specs.Prelude.{◌≡◌, ◌<◌, length, map, Some, IfOk, IfSome, IfNone};
 ghost use Rattle.mrcpsp.specs.Schedule.{ScheduleData};
 ghost use Rattle.schedule_files.specs.ScheduleRows.{last_number, last_words};
-ghost use Rattle.schedule_files.specs.ScheduleText.{TellsWords, TellsRows, TellsSomehow, Tells};
+ghost use Rattle.schedule_files.specs.ScheduleText.{TellsWords, TellsRows, TellsJsonOrTable, TellsSomehow, Tells};
+ghost use Rattle.schedule_files.specs.ScheduleTable.{TellsTable};
 
 use crate::objects::read_json;
 use crate::places::{in_order, scheduled};
 use crate::rows::{place_at, places_at, rows_of, words_of};
+use crate::table::{table_places, table_rows};
 use mrcpsp::Schedule;
 use std::alloc::{AllocError, Global};
 
@@ -64,6 +66,30 @@ fn read_rows(alloc: Global, text: &[u8]) -> Result<Option<Schedule>, AllocError>
     Ok(filled(schedule))
 }
 
+#[tactic(auto, using(crate::proofs::TableLemmas::table_unread, crate::proofs::TableLemmas::table_told, crate::proofs::TableLemmas::table_none))]
+fn read_table(alloc: Global, text: &[u8]) -> Result<Option<Schedule>, AllocError>
+    ensures told { IfOk result (λ found. IfSome found (λ schedule. TellsTable text.now schedule)) }
+    ensures none { IfOk result (λ found. IfNone found ((s : ScheduleData) → TellsTable text.now s → ⊥)) }
+{
+    let rows = table_rows(alloc, text)?;
+    let Some(places) = table_places(alloc, rows.as_slice())? else {
+        return Ok(None);
+    };
+    let schedule = scheduled(alloc, places)?;
+    Ok(filled(schedule))
+}
+
+#[tactic(auto, using(crate::proofs::TableLemmas::table_way, crate::proofs::TableLemmas::neither_way))]
+fn read_json_or_table(alloc: Global, text: &[u8]) -> Result<Option<Schedule>, AllocError>
+    ensures told { IfOk result (λ found. IfSome found (λ schedule. TellsJsonOrTable text.now schedule)) }
+    ensures none { IfOk result (λ found. IfNone found ((s : ScheduleData) → TellsJsonOrTable text.now s → ⊥)) }
+{
+    match read_json(alloc, text)? {
+        Some(schedule) => Ok(Some(schedule)),
+        None => read_table(alloc, text),
+    }
+}
+
 #[tactic(auto, using(crate::proofs::ReadingLemmas::no_way, crate::proofs::ReadingLemmas::json_way))]
 fn read_any(alloc: Global, text: &[u8]) -> Result<Option<Schedule>, AllocError>
     ensures told { IfOk result (λ found. IfSome found (λ schedule. TellsSomehow text.now schedule)) }
@@ -73,7 +99,7 @@ fn read_any(alloc: Global, text: &[u8]) -> Result<Option<Schedule>, AllocError>
         Some(schedule) => Ok(Some(schedule)),
         None => match read_rows(alloc, text)? {
             Some(schedule) => Ok(Some(schedule)),
-            None => read_json(alloc, text),
+            None => read_json_or_table(alloc, text),
         },
     }
 }
@@ -81,12 +107,14 @@ fn read_any(alloc: Global, text: &[u8]) -> Result<Option<Schedule>, AllocError>
 /// The most bytes of a schedule's text.
 pub const MOST_BYTES: usize = 1_048_576;
 
-/// Returns the schedule of `text`, in one of three forms. A number above 4,294,967,295 counts as
+/// Returns the schedule of `text`, in one of four forms. A number above 4,294,967,295 counts as
 /// that. `None`: no such form, or more than 1,048,576 bytes. An error is want of memory.
 ///
 /// - a farm's result line, or its words `J:MODE:START` alone, in the order of activities
 /// - rows `J,MODE,START` in any order, and lines without a digit
 /// - what `solve --json` prints, or its array alone, in any order
+/// - a table of CSV with commas, semicolons or tabs, and with a heading in any order of columns or
+///   without one
 #[tactic(auto, using(crate::proofs::ReadingLemmas::one_way))]
 pub fn read_schedule(alloc: Global, text: &[u8]) -> Result<Option<Schedule>, AllocError>
     ensures told { IfOk result (λ found. IfSome found (λ schedule. Tells text.now schedule)) }

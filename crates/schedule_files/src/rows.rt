@@ -41,7 +41,7 @@ fn lines_of(alloc: Global, text: &[u8]) -> Result<Vec<&[u8]>, AllocError>
     text.split(|b| *b == b'\n').collect(alloc)
 }
 
-fn has_digit(line: &[u8]) -> bool
+pub(crate) fn has_digit(line: &[u8]) -> bool
     ensures { result ≡ has_digit line.now }
 {
     line.iter().any(|b| b.is_ascii_digit())
@@ -87,7 +87,7 @@ fn number_of(word: &[u8]) -> Option<u32>
     Some(value)
 }
 
-fn number_in(text: &[u8]) -> Option<u32>
+pub(crate) fn number_in(text: &[u8]) -> Option<u32>
     ensures { result ≡ number_in text.now }
 {
     number_of(text.trim_ascii())
