@@ -44,10 +44,7 @@ fn number<'a>(
         .value_parser(within)
 }
 
-fn prove_command<'a>(alloc: Global) -> Result<Command<'a>, AllocError> {
-    let file = Arg::new(alloc, "FILE")
-        .help("A PSPLIB multi-mode file, or - for standard input")
-        .required(true);
+fn with_limits<'a>(alloc: Global, command: Command<'a>) -> Result<Command<'a>, AllocError> {
     let seconds = number(
         alloc,
         "seconds",
@@ -78,37 +75,47 @@ fn prove_command<'a>(alloc: Global) -> Result<Command<'a>, AllocError> {
         ValueParser::unsigned(1, MOST_CONFLICTS),
     )
     .default_value("1000000000000");
+    command.arg(seconds)?.arg(jobs)?.arg(memory)?.arg(conflicts)
+}
+
+fn with_output<'a>(alloc: Global, command: Command<'a>) -> Result<Command<'a>, AllocError> {
+    let improvements = flag(
+        alloc,
+        "improvements",
+        "Print each better schedule when it is found, before the lines of the best",
+    );
+    let progress = flag(
+        alloc,
+        "progress",
+        "Tell each better schedule and bound on standard error, as it does by itself",
+    );
+    let quiet = flag(alloc, "quiet", "Print nothing while it runs").conflicts_with("progress")?;
+    command
+        .arg(flag(alloc, "json", "Print one JSON object"))?
+        .arg(improvements)?
+        .arg(progress)?
+        .arg(quiet)
+}
+
+fn prove_command<'a>(alloc: Global) -> Result<Command<'a>, AllocError> {
+    let file = Arg::new(alloc, "FILE")
+        .help("A PSPLIB multi-mode file, or - for standard input")
+        .required(true);
     let from = Arg::new(alloc, "from")
         .long("from")
         .value_name("SCHEDULE")
         .help("A schedule to begin with, as verify reads it; one that is broken begins the search");
-    let quiet = flag(alloc, "quiet", "Tell nothing while it runs").conflicts_with("progress")?;
-    Command::new(alloc, "prove")
+    let watching = flag(
+        alloc,
+        "until-input-ends",
+        "End with the best when the standard input ends",
+    );
+    let prove = Command::new(alloc, "prove")
         .about("Looks for the shortest schedule of a project and proves how good it is")
         .after_help(PROVE_HELP)
-        .arg(file)?
-        .arg(seconds)?
-        .arg(jobs)?
-        .arg(memory)?
-        .arg(conflicts)?
-        .arg(from)?
-        .arg(flag(alloc, "json", "Print one JSON object"))?
-        .arg(flag(
-            alloc,
-            "improvements",
-            "Print each better schedule when it is found, before the lines of the best",
-        ))?
-        .arg(flag(
-            alloc,
-            "progress",
-            "Tell each better schedule and bound on standard error, as it does by itself",
-        ))?
-        .arg(quiet)?
-        .arg(flag(
-            alloc,
-            "until-input-ends",
-            "End with the best when the standard input ends",
-        ))
+        .arg(file)?;
+    let prove = with_limits(alloc, prove)?.arg(from)?;
+    with_output(alloc, prove)?.arg(watching)
 }
 
 /// `command` with the subcommand `prove`. Fails for want of memory.
