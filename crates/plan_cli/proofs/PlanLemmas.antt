@@ -4,7 +4,7 @@ use Rattle.mrcpsp.specs.Project.{ProjectData}
 use Rattle.mrcpsp.specs.Schedule.{ScheduleData}
 use Rattle.psplib_mm.specs.Reading.{reading}
 use Rattle.schedule_files.specs.ScheduleText.{Tells}
-use Rattle.plan_cli.specs.Plan.{IsPlanned, IsPlan, IsBroken, IsUnplanned, IsAtFault}
+use Rattle.plan_cli.specs.Plan.{IsPlanned, IsPlan, IsBroken, IsUnplanned, IsNoPlan, IsAtFault}
 use Rattle.plan_cli.specs.declared.plan.Plan.{Plan}
 use Rattle.plan_cli.specs.declared.plan.PlanFault.{PlanFault}
 use Rattle.plan_cli.specs.declared.plan.PlanFault.TheVariants as fault
@@ -24,12 +24,19 @@ pub unplanned : (p : ProjectData) (s : ScheduleData) (text : List ℕ) (f : Plan
 unplanned p s text (fault.File x) told b = b
 unplanned p s text fault.Words told b = absurd b
 unplanned p s text fault.TooLong told b = absurd b
-unplanned p s text (fault.Breach x) told b = (s, told, b)
+unplanned p s text (fault.Breach x) told b = (s, told, b.0, b.1)
 unplanned p s text fault.NoMemory told b = tt
 
 pub at_fault : (file text : List ℕ) (p : ProjectData) (f : PlanFault) → reading file ≡ Ok p → IsUnplanned p text f → IsAtFault file text f
 at_fault file text p (fault.File x) read u = absurd u
 at_fault file text p fault.Words read u = (p, read, u)
 at_fault file text p fault.TooLong read u = (p, read, u)
-at_fault file text p (fault.Breach x) read u = (p, read, u)
+at_fault file text p (fault.Breach x) read u = (p, read, (u.0, u.1.0, u.1.1.0))
 at_fault file text p fault.NoMemory read u = tt
+
+pub no_plan : (file text : List ℕ) (p : ProjectData) (f : PlanFault) → reading file ≡ Ok p → IsUnplanned p text f → IsNoPlan file text f
+no_plan file text p (fault.File x) read u = absurd u
+no_plan file text p fault.Words read u = (p, read, u)
+no_plan file text p fault.TooLong read u = (p, read, u)
+no_plan file text p (fault.Breach x) read u = (p, read, u)
+no_plan file text p fault.NoMemory read u = tt

@@ -4,7 +4,7 @@ use Rattle.mrcpsp.specs.Project.{ProjectData}
 use Rattle.mrcpsp.specs.Schedule.{IsFeasible}
 use Rattle.psplib_mm.specs.Reading.{reading}
 use Rattle.plan_cli.specs.Moves.{moves_text}
-use Rattle.plan_cli.specs.Plan.{IsPlan, IsUnplanned, OfProject, IsAtFault}
+use Rattle.plan_cli.specs.Plan.{IsPlan, IsUnplanned, OfProject, IsNoPlan}
 use Rattle.plan_cli.specs.Table.{IsTable}
 use Rattle.plan_cli.specs.declared.layout.Layout.{Layout}
 use Rattle.plan_cli.specs.declared.plan.Plan.{Plan}
@@ -30,7 +30,11 @@ pub record IsComparison (file text other told : List ℕ) : Type 0 where
   pub is_after : IsPlan project other after
   pub tells : told ≡ moves_text project before.schedule after.schedule before.breach after.breach
 
--- why two texts are not compared
+-- the text has a plan of the project
+abbrev pub HasPlan : ProjectData → List ℕ → Type 0
+HasPlan p text = (plan : Plan) × IsPlan p text plan
+
+-- why two texts are not compared: the first has no plan, or else the second has none
 abbrev pub IsCompareFault : List ℕ → List ℕ → List ℕ → CompareFault → Type 0
-IsCompareFault file text other (First fault) = IsAtFault file text fault
-IsCompareFault file text other (Second fault) = OfProject file (λ p. IsUnplanned p other fault)
+IsCompareFault file text other (First fault) = IsNoPlan file text fault
+IsCompareFault file text other (Second fault) = OfProject file (λ p. HasPlan p text × IsUnplanned p other fault)

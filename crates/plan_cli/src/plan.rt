@@ -1,7 +1,7 @@
 //! The project of a file, and the schedule that a text has.
 ghost use Rattle.std.specs.Prelude.{◌≡◌, ◌↔◌, IsTrue, IfOk, IfErr};
 ghost use Rattle.mrcpsp.specs.Breach.{HasShape, HasModes};
-ghost use Rattle.plan_cli.specs.Plan.{IsPlanned, IsBroken, IsPlan, IsUnplanned};
+ghost use Rattle.plan_cli.specs.Plan.{IsWhole, IsPlanned, IsBroken, IsPlan, IsUnplanned};
 
 use mrcpsp::{Breach, MOST_START, Project, Schedule, check};
 use psplib_mm::MmFault;
@@ -50,7 +50,7 @@ fn has_shape(project: &Project, schedule: &Schedule) -> bool
 #[tactic(auto, unfolding(mrcpsp::specs::Schedule::mode_of))]
 fn has_modes(project: &Project, schedule: &Schedule) -> bool
     requires { HasShape project.now schedule.now }
-    ensures { IsTrue result → HasModes project.now schedule.now }
+    ensures { IsTrue result ↔ HasModes project.now schedule.now }
 {
     for activity in 0..project.size() {
         let number = schedule.mode(activity) as usize;
@@ -62,7 +62,7 @@ fn has_modes(project: &Project, schedule: &Schedule) -> bool
 }
 
 fn is_whole(project: &Project, schedule: &Schedule) -> bool
-    ensures { IsTrue result → (HasShape project.now schedule.now × HasModes project.now schedule.now) }
+    ensures { IsTrue result ↔ IsWhole project.now schedule.now }
 {
     has_shape(project, schedule) && has_modes(project, schedule)
 }

@@ -85,7 +85,8 @@ fn read_names<R: Runtime + AllocGlobal>(
 fn run_show<R: Runtime + AllocGlobal>(rt: &R, showing: Showing<'_>) -> ExitCode
     ensures { exit_status result ≤ 2 }
 {
-    if showing.file == "-" && showing.text == "-" {
+    let given = [showing.file, showing.text, showing.names.unwrap_or("")];
+    if given.iter().filter(|path| **path == "-").count() > 1 {
         return refuse_same(rt);
     }
     let calendar = match calendar_of(rt, showing.start, showing.unit) {
