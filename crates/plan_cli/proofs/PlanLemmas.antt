@@ -31,7 +31,7 @@ pub at_fault : (file text : List ℕ) (p : ProjectData) (f : PlanFault) → read
 at_fault file text p (fault.File x) read u = absurd u
 at_fault file text p fault.Words read u = (p, read, u)
 at_fault file text p fault.TooLong read u = (p, read, u)
-at_fault file text p (fault.Breach x) read u = (p, read, (u.0, u.1.0, u.1.1.0))
+at_fault file text p (fault.Breach x) read u = (p, read, (u.0, u.1, u.2))
 at_fault file text p fault.NoMemory read u = tt
 
 pub no_plan : (file text : List ℕ) (p : ProjectData) (f : PlanFault) → reading file ≡ Ok p → IsUnplanned p text f → IsNoPlan file text f

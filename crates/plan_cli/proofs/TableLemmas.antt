@@ -3,7 +3,7 @@ use Rattle.std.proofs.Common.{◌≡◌, ℕ, suc, ◌+◌, Bool, true, false, c
 use Rattle.std.proofs.lemmas.List.{append-nil}
 use Rattle.mrcpsp.specs.Project.{ProjectData, precedes}
 use Rattle.mrcpsp.specs.Schedule.{ScheduleData}
-use Rattle.plan_cli.specs.Table.{predecessors, behind, joined, is_empty, next_number, concat_below, IsLine, AreLines}
+use Rattle.plan_cli.specs.Table.{predecessors, behind, joined, is_empty, next_number, concat_below, IsBare, IsLine, AreLines}
 use Rattle.plan_cli.specs.declared.layout.Layout.{Layout}
 
 pub next_predecessor : (p : ProjectData) (j n : ℕ) → precedes p n j ≡ true → predecessors p j (n + 1) ≡ predecessors p j n ++ (n + 1) ∷ []
@@ -38,8 +38,9 @@ concat_more f n =
     subst P next refl
 
 -- one more line
-pub lines_more : (layout : Layout) (p : ProjectData) (s : ScheduleData) (n : ℕ) (before line : List ℕ) → AreLines layout p s n before → IsLine layout p s n line → AreLines layout p s (n + 1) (before ++ line)
-lines_more layout p s n before line are is =
+pub lines_more : (layout : Layout) (p : ProjectData) (s : ScheduleData) (plain : Bool) (n : ℕ) (before line more : List ℕ) → IsBare plain more → AreLines layout p s plain n before
+    → IsLine layout p s n more line → AreLines layout p s plain (n + 1) (before ++ line)
+lines_more layout p s plain n before line more bare are is =
     let next : suc n ≡ n + 1 = omega arith in
-    let P : ℕ → Type 0 = λ k. AreLines layout p s k (before ++ line) in
-    subst P next (before, line, are, is, refl)
+    let P : ℕ → Type 0 = λ k. AreLines layout p s plain k (before ++ line) in
+    subst P next (before, line, more, bare, are, is, refl)

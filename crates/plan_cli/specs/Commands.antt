@@ -1,5 +1,5 @@
 -- What `show` and `compare` write of readers, and how they end.
-use Rattle.std.specs.Prelude.{◌≡◌, ℕ, List, ⊤, Option, Result, IfSome, take, ◌++◌}
+use Rattle.std.specs.Prelude.{◌≡◌, ℕ, Bool, List, ⊤, Option, Result, IfSome, take, ◌++◌}
 use Rattle.std.specs.Io.KnownBytes.{Appends}
 use Rattle.explain.specs.Counts.{CommandCounts}
 use Rattle.explain.specs.Ending.{IsEndOf, IsUnwritten, file_and_text, all_inputs}
@@ -23,10 +23,10 @@ OfAll file text other P = IfSome other (λ others. OfBoth file text (λ bytes wo
 abbrev pub IsWritten : (List ℕ → Type 0) → Option (List ℕ) → Option (List ℕ) → Type 0
 IsWritten Tells before after = (shown : List ℕ) × Tells shown × Appends before after shown
 
--- the end of `show`
-abbrev pub IsShowOf : Layout → Result ⊤ (CommandFault PlanFault) → CommandCounts → CommandCounts → Option (List ℕ) → Option (List ℕ) → Option (List ℕ) → Option (List ℕ) → Type 0
-IsShowOf layout ended from seen file text before after =
-    IsEndOf file_and_text (OfBoth file text (λ bytes words. IsWritten (IsShown layout bytes words) before after))
+-- the end of `show`, with a plain table or one with more
+abbrev pub IsShowOf : Layout → Bool → Result ⊤ (CommandFault PlanFault) → CommandCounts → CommandCounts → Option (List ℕ) → Option (List ℕ) → Option (List ℕ) → Option (List ℕ) → Type 0
+IsShowOf layout plain ended from seen file text before after =
+    IsEndOf file_and_text (OfBoth file text (λ bytes words. IsWritten (IsShown layout plain bytes words) before after))
     (λ why. IsUnwritten from seen before after × OfBoth file text (λ bytes words. IsAtFault bytes words why)) ended from seen before after
 
 -- the end of `compare`, which counts its second text as a proof

@@ -1,5 +1,5 @@
 -- What `show` and `compare` write of the bytes that they read, and why they stop.
-use Rattle.std.specs.Prelude.{◌≡◌, ℕ, List, Ok, None}
+use Rattle.std.specs.Prelude.{◌≡◌, ℕ, Bool, List, Ok, None}
 use Rattle.mrcpsp.specs.Project.{ProjectData}
 use Rattle.mrcpsp.specs.Schedule.{IsFeasible}
 use Rattle.psplib_mm.specs.Reading.{reading}
@@ -12,13 +12,13 @@ use Rattle.plan_cli.specs.declared.showing.CompareFault.{CompareFault}
 use Rattle.plan_cli.specs.declared.showing.CompareFault.TheVariants.{First, Second}
 
 -- a table of the feasible schedule that the text has of the file's project
-pub record IsShown (layout : Layout) (file text shown : List ℕ) : Type 0 where
+pub record IsShown (layout : Layout) (plain : Bool) (file text shown : List ℕ) : Type 0 where
   pub project : ProjectData
   pub read : reading file ≡ Ok project
   pub plan : Plan
   pub is : IsPlan project text plan
   pub feasible : IsFeasible project plan.schedule
-  pub table : IsTable layout project plan.schedule shown
+  pub table : IsTable layout project plan.schedule plain shown
 
 -- what differs between the schedules of two texts
 pub record IsComparison (file text other told : List ℕ) : Type 0 where

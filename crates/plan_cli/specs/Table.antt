@@ -1,5 +1,5 @@
 -- The table of a plan: a line of titles, and one for each activity.
-use Rattle.std.specs.Prelude.{◌≡◌, ℕ, zero, suc, ◌+◌, Bool, true, false, cond, List, [], ◌∷◌, ◌++◌, get_or, codes, decimal}
+use Rattle.std.specs.Prelude.{◌≡◌, ℕ, zero, suc, ◌+◌, Bool, true, false, IsTrue, cond, List, [], ◌∷◌, ◌++◌, get_or, codes, decimal}
 use Rattle.mrcpsp.specs.Project.{ProjectData, size, renewables, nonrenewables, request, consumption, precedes}
 use Rattle.mrcpsp.specs.Schedule.{ScheduleData, mode_of, start_of, finish}
 use Rattle.plan_cli.specs.Layout.{first_cell, cell, title}
@@ -64,16 +64,20 @@ abbrev pub rest : Layout → ProjectData → ℕ → List ℕ → List ℕ
 rest layout p j more = more ++ gap layout ++ last_cell layout p j ++ codes "\n"
 
 -- the line of activity j: its numbers, what else was asked for, and its predecessors
-pub record IsLine (layout : Layout) (p : ProjectData) (s : ScheduleData) (j : ℕ) (line : List ℕ) : Type 0 where
+pub record IsLine (layout : Layout) (p : ProjectData) (s : ScheduleData) (j : ℕ) (more line : List ℕ) : Type 0 where
   pub slack : ℕ
   pub is : IsSlack p s j slack
-  pub more : List ℕ
   pub text : line ≡ numbers layout p s j slack ++ rest layout p j more
 
+-- a plain table has nothing else
+abbrev pub IsBare : Bool → List ℕ → Type 0
+IsBare plain more = IsTrue plain → more ≡ []
+
 -- the lines of the first n activities
-abbrev pub AreLines : Layout → ProjectData → ScheduleData → ℕ → List ℕ → Type 0
-AreLines layout p s zero lines = lines ≡ []
-AreLines layout p s (suc n) lines = (before : List ℕ) × (line : List ℕ) × AreLines layout p s n before × IsLine layout p s n line × (lines ≡ before ++ line)
+abbrev pub AreLines : Layout → ProjectData → ScheduleData → Bool → ℕ → List ℕ → Type 0
+AreLines layout p s plain zero lines = lines ≡ []
+AreLines layout p s plain (suc n) lines =
+    (before : List ℕ) × (line : List ℕ) × (more : List ℕ) × IsBare plain more × AreLines layout p s plain n before × IsLine layout p s n more line × (lines ≡ before ++ line)
 
 -- the titles of the numbers
 abbrev pub first_titles : Layout → List ℕ
@@ -85,9 +89,10 @@ abbrev pub titles : Layout → ProjectData → List ℕ → List ℕ
 titles layout p more = first_titles layout ++ concat_below (λ r. title layout 82 (r + 1)) (renewables p)
     ++ concat_below (λ r. title layout 78 (r + 1)) (nonrenewables p) ++ more ++ gap layout ++ codes "predecessors\n"
 
--- the text is a table of the schedule
-pub record IsTable (layout : Layout) (p : ProjectData) (s : ScheduleData) (text : List ℕ) : Type 0 where
+-- the text is a table of the schedule, a plain one or with more
+pub record IsTable (layout : Layout) (p : ProjectData) (s : ScheduleData) (plain : Bool) (text : List ℕ) : Type 0 where
   pub more : List ℕ
+  pub bare : IsBare plain more
   pub lines : List ℕ
-  pub are : AreLines layout p s (size p) lines
+  pub are : AreLines layout p s plain (size p) lines
   pub whole : text ≡ titles layout p more ++ lines

@@ -1,5 +1,5 @@
 //! The commands over any readers and writer.
-ghost use Rattle.std.specs.Prelude.{◌≡◌, ◌<◌, ℕ, List, Option, IfOk, IfErr, OnOk};
+ghost use Rattle.std.specs.Prelude.{◌≡◌, ◌<◌, ◌&&◌, ℕ, List, Option, IfOk, IfErr, OnOk, is_none};
 ghost use Rattle.std.specs.Process.{exit_status};
 ghost use Rattle.explain.specs.Counts.{AreReadWell};
 ghost use Rattle.explain.specs.Ending.{Ends};
@@ -47,7 +47,7 @@ fn show_read<S: Read + Drop, T: Read + Drop, W: Write>(
     writer: &mut W,
     watches: &mut CommandWatches<S, T, (), W>,
 ) -> Result<(), CommandFault<PlanFault>>
-    ensures { IsShowOf asked.now.layout result watches.old watches.new (S.remaining file) (T.remaining text)
+    ensures { IsShowOf asked.now.layout (is_none asked.now.calendar && is_none asked.now.names) result watches.old watches.new (S.remaining file) (T.remaining text)
         (W.contents writer.old)
         (W.contents writer.new) }
 {
@@ -84,7 +84,7 @@ pub fn show_to<R: AllocGlobal + Env + Eprint, S: Read + Drop, T: Read + Drop, W:
     watches: &mut CommandWatches<S, T, (), W>,
 ) -> ExitCode
     ensures { Ends
-        (λ ended. IsShowOf asked.now.layout ended watches.old watches.new (S.remaining file) (T.remaining text)
+        (λ ended. IsShowOf asked.now.layout (is_none asked.now.calendar && is_none asked.now.names) ended watches.old watches.new (S.remaining file) (T.remaining text)
         (W.contents writer.old)
         (W.contents writer.new))
         (exit_status result) }

@@ -1,5 +1,5 @@
 //! What is written of a file and its schedules.
-ghost use Rattle.std.specs.Prelude.{◌<◌, IfOk, IfErr, string_bytes};
+ghost use Rattle.std.specs.Prelude.{◌≡◌, ◌<◌, ◌&&◌, IfOk, IfErr, is_none, string_bytes};
 ghost use Rattle.mrcpsp.specs.Project.{size};
 ghost use Rattle.mrcpsp.specs.Schedule.{IsFeasible};
 ghost use Rattle.mrcpsp.specs.Breach.{HasShape, HasModes};
@@ -96,6 +96,22 @@ fn extra_of(
     })
 }
 
+fn extra_if(
+    alloc: Global,
+    project: &Project,
+    schedule: &Schedule,
+    asked: &ShowOptions<'_>,
+) -> Result<Option<Extra>, AllocError>
+    requires shape { HasShape project.now schedule.now }
+    requires modes { HasModes project.now schedule.now }
+    ensures { IfOk result (λ extra. is_none extra ≡ (is_none asked.now.calendar && is_none asked.now.names)) }
+{
+    if asked.calendar.is_none() && asked.names.is_none() {
+        return Ok(None);
+    }
+    Ok(Some(extra_of(alloc, project, schedule, asked)?))
+}
+
 fn tabled(
     alloc: Global,
     project: &Project,
@@ -105,10 +121,12 @@ fn tabled(
     requires shape { HasShape project.now schedule.now }
     requires modes { HasModes project.now schedule.now }
     requires feasible { IsFeasible project.now schedule.now }
-    ensures { IfOk result (λ text. IsTable asked.now.layout project.now schedule.now (string_bytes text)) }
+    ensures { IfOk result (λ text. IsTable asked.now.layout project.now schedule.now (is_none asked.now.calendar && is_none asked.now.names) (string_bytes text)) }
 {
-    let extra = extra_of(alloc, project, schedule, asked)?;
-    table(alloc, asked.layout, project, schedule, &extra)
+    match extra_if(alloc, project, schedule, asked)? {
+        Some(extra) => table(alloc, asked.layout, project, schedule, Some(&extra)),
+        None => table(alloc, asked.layout, project, schedule, None),
+    }
 }
 
 /// The table of the feasible schedule that `text` has of the project of `file`. Fails with the
@@ -119,7 +137,7 @@ pub fn show(
     text: &[u8],
     asked: &ShowOptions<'_>,
 ) -> Result<String, PlanFault>
-    ensures table { IfOk result (λ shown. IsShown asked.now.layout file.now text.now (string_bytes shown)) }
+    ensures table { IfOk result (λ shown. IsShown asked.now.layout (is_none asked.now.calendar && is_none asked.now.names) file.now text.now (string_bytes shown)) }
     ensures fault { IfErr result (λ fault. IsAtFault file.now text.now fault) }
 {
     let project = match read(alloc, file) {

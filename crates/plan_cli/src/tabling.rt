@@ -1,10 +1,10 @@
 //! The table of a feasible schedule.
-ghost use Rattle.std.specs.Prelude.{◌≡◌, ◌++◌, ◌+◌, ◌<◌, ℕ, List, IfOk, string_bytes};
+ghost use Rattle.std.specs.Prelude.{◌≡◌, ◌++◌, ◌+◌, ◌<◌, ℕ, List, IfOk, is_none, string_bytes};
 ghost use Rattle.mrcpsp.specs.Project.{size, renewables, nonrenewables, mode_count, request, consumption};
 ghost use Rattle.mrcpsp.specs.Schedule.{IsFeasible};
 ghost use Rattle.mrcpsp.specs.Breach.{HasShape, HasModes};
 ghost use Rattle.plan_cli.specs.Layout.{cell, title};
-ghost use Rattle.plan_cli.specs.Table.{concat_below, predecessors, joined, is_empty, next_number, dash, last_cell, gap, numbers, rest, IsLine, AreLines, first_titles, titles, IsTable};
+ghost use Rattle.plan_cli.specs.Table.{concat_below, predecessors, joined, is_empty, next_number, dash, last_cell, gap, numbers, rest, IsBare, IsLine, AreLines, first_titles, titles, IsTable};
 
 use crate::layout::{Layout, put_cell, put_first, put_title};
 use crate::slack::{finish_of, place_of_mode, slack_of, start_at};
@@ -146,7 +146,21 @@ fn put_numbers(
     Ok(())
 }
 
-fn extra_of(extra: &Extra, activity: usize) -> &str {
+fn title_of(extra: Option<&Extra>) -> &str
+    ensures { IsBare (is_none extra.entry) result.now }
+{
+    match extra {
+        Some(extra) => extra.title.as_str(),
+        None => "",
+    }
+}
+
+fn more_of(extra: Option<&Extra>, activity: usize) -> &str
+    ensures { IsBare (is_none extra.entry) result.now }
+{
+    let Some(extra) = extra else {
+        return "";
+    };
     match extra.cells.get(activity) {
         Some(cell) => cell.as_str(),
         None => "",
@@ -182,7 +196,7 @@ fn put_line(
     requires feasible { IsFeasible project.now schedule.now }
     requires activity { activity < size project.now }
     ensures { IfOk result (λ _. (line : List ℕ)
-        × IsLine layout project.now schedule.now activity line × (string_bytes text.new ≡ string_bytes text.old ++ line)) }
+        × IsLine layout project.now schedule.now activity more.now line × (string_bytes text.new ≡ string_bytes text.old ++ line)) }
 {
     let slack = slack_of(project, schedule, activity);
     put_numbers(text, layout, project, schedule, activity, slack)?;
@@ -249,12 +263,12 @@ fn put_lines(
     layout: Layout,
     project: &Project,
     schedule: &Schedule,
-    extra: &Extra,
+    extra: Option<&Extra>,
 ) -> Result<(), AllocError>
     requires shape { HasShape project.now schedule.now }
     requires feasible { IsFeasible project.now schedule.now }
     ensures { IfOk result (λ _. (lines : List ℕ)
-        × AreLines layout project.now schedule.now (size project.now) lines
+        × AreLines layout project.now schedule.now (is_none extra.entry) (size project.now) lines
         × (string_bytes text.new ≡ string_bytes text.old ++ lines)) }
 {
     for activity in 0..project.size() {
@@ -264,27 +278,27 @@ fn put_lines(
             project,
             schedule,
             activity,
-            extra_of(extra, activity),
+            more_of(extra, activity),
         )?;
     }
     Ok(())
 }
 
 /// Returns the table of a feasible schedule: a line of titles and a line for each activity, with
-/// what `extra` has before the last column. An error is want of memory.
+/// what `extra` has before the last column, if it is asked for. An error is want of memory.
 pub fn table(
     alloc: Global,
     layout: Layout,
     project: &Project,
     schedule: &Schedule,
-    extra: &Extra,
+    extra: Option<&Extra>,
 ) -> Result<String, AllocError>
     requires shape { HasShape project.now schedule.now }
     requires feasible { IsFeasible project.now schedule.now }
-    ensures { IfOk result (λ text. IsTable layout project.now schedule.now (string_bytes text)) }
+    ensures { IfOk result (λ text. IsTable layout project.now schedule.now (is_none extra.entry) (string_bytes text)) }
 {
     let mut text = String::new(alloc);
-    put_titles(&mut text, layout, project, extra.title.as_str())?;
+    put_titles(&mut text, layout, project, title_of(extra))?;
     put_lines(&mut text, layout, project, schedule, extra)?;
     Ok(text)
 }

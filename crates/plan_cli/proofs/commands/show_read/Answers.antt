@@ -1,3 +1,4 @@
+use Rattle.std.specs.Prelude.{is_none, ◌&&◌}
 use Rattle.std.proofs.Common.{refl, string_bytes, ap, ◌∙◌}
 use Rattle.plan_cli.specs.Commands.{IsWritten}
 use Rattle.plan_cli.specs.Plan.{IsAtFault}
@@ -22,6 +23,6 @@ returns g c = (
     c.in-Ok-write_text.ensures.noted ∙ ap (λ v. v.output) c.watches.view_is,
   ),
   both (g.S.Read.remaining c.args.file) (g.T.Read.remaining c.args.text) c.in-Ok.bytes.items c.in-Ok-read_front.words.items _ _
-      (λ bytes words. IsWritten (IsShown c.args.asked.now.layout bytes words) (g.W.Write.contents c.args.writer.now) (g.W.Write.contents c.write_text.new.writer)) c.in-Ok.ensures.front
+      (λ bytes words. IsWritten (IsShown c.args.asked.now.layout (is_none c.args.asked.now.calendar && is_none c.args.asked.now.names) bytes words) (g.W.Write.contents c.args.writer.now) (g.W.Write.contents c.write_text.new.writer)) c.in-Ok.ensures.front
       c.in-Ok-read_front.ensures.front c.deref.ensures.value c.deref-2.ensures.value (string_bytes c.in-Ok-show.shown, c.in-Ok-show.ensures.table, c.in-Ok-write_text.ensures.bytes),
 )

@@ -8,6 +8,6 @@ returns c =
     let front = numbers c.args.layout p c.args.schedule.now c.args.activity c.slack_of-slack.result in
     let back = rest c.args.layout p c.args.activity c.args.more.now in (
       front ++ back,
-      record { slack = c.slack_of-slack.result; is = c.slack_of-slack.ensures; more = c.args.more.now; text = refl },
+      record { slack = c.slack_of-slack.result; is = c.slack_of-slack.ensures; text = refl },
       rw (c.in_ok-put_rest.ensures, c.in_ok-put_numbers.ensures) (append_assoc (string_bytes c.args.text.now) front back),
     )
