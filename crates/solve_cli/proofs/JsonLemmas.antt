@@ -4,7 +4,7 @@ use Rattle.std.specs.List.{list_any}
 use Rattle.json.specs.Token.{Token}
 use Rattle.json.specs.Json as json
 use Rattle.json.specs.Print.{escape, escape_byte, print_from, print}
-use Rattle.json.specs.Tree.{json_tokens, depth, members_depth, HasNumbers, MembersHaveNumbers}
+use Rattle.json.specs.Tree.{json_tokens, depth, HasNumbers}
 use Rattle.json.proofs.Printed.Decimals.{IsNumber-decimal}
 use Rattle.serde_json.specs.Data.{Data, unsigned, null, number, string, Members, no_members, put}
 use Rattle.serde_json.specs.Read.{of_json, of_members}
@@ -126,6 +126,7 @@ is_object nodes makespan word s n m same odd can = record {
 
 is_json : (nodes : ℕ) (makespan : Option ℕ) (word : List ℕ) (s : ScheduleData) → nodes < 2 ^ 64 → IfSome makespan (λ m. m < 2 ^ 64) → escape word ≡ word → list_any is_odd word ≡ false → IsWritable s
     → IsJsonOf (object_text nodes makespan word s ++ 10 ∷ []) s
+unfolding is_object
 is_json nodes makespan word s n m same odd can =
     let text = object_text nodes makespan word s in
     let o = is_object nodes makespan word s n m same odd can in
