@@ -15,7 +15,10 @@ find_program() {
     *) [ -z "${HOME-}" ] || note=$HOME/.cache/tepchoum$top/program ;;
     esac
     noted_program && return
-    listing=$(list_files)
+    listing=
+    if [ -n "$note" ] && mkdir -p "${note%/*}" 2>/dev/null && [ -w "${note%/*}" ]; then
+        listing=$(list_files)
+    fi
     sources=$("$top/tools/digest" farm) || return 1
     program=$top/dist/farm
     if line=$(dist_line) && [ "$(echo "$line" | cut -d ' ' -f 3)" = "$sources" ]; then
@@ -53,14 +56,12 @@ noted_program() {
 # Writes the note, if `listing` has the files. It writes none if a file changed in the last two seconds: a further change within one tick of the disk's clock
 # would not show.
 note_program() {
-    case $note$listing in
-    /*"crates.txt "*) [ -z "$(list_files \( -newermt '2 seconds ago' -o -newerct '2 seconds ago' \))" ] || return 0 ;;
+    case $listing in
+    "crates.txt "*) [ -z "$(list_files \( -newermt '2 seconds ago' -o -newerct '2 seconds ago' \))" ] || return 0 ;;
     *) return 0 ;;
     esac
     {
-        mkdir -p "${note%/*}" &&
-            printf '%s\n%s\n%s\n%s\n' "${program#"$top/"}" "$origin" "$(uname -s -m)" "$listing" >"$note.$$" &&
-            mv -f "$note.$$" "$note" || rm -f "$note.$$"
+        printf '%s\n%s\n%s\n%s\n' "${program#"$top/"}" "$origin" "$(uname -s -m)" "$listing" >"$note.$$" && mv -f "$note.$$" "$note" || rm -f "$note.$$"
     } 2>/dev/null
     return 0
 }
