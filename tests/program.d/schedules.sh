@@ -36,6 +36,23 @@ for file in first j10_1 j20_1 j30_1; do
     status=$?
     says "show: a schedule of $file" 0 "$(cat "$work/line")" ""
 done
+# The heading of a picture: the longest chain has 3 periods and 14, the optima are 4 and 17, and a bound is never above them.
+# heads FILE SCHEDULE HEADING [WORDS..]
+heads() {
+    file=$top/examples/$1.mm
+    told "$2"
+    wanted=$3
+    shift 3
+    "$farm" draw "$@" "$file" "$work/schedule" 2>"$work/err" </dev/null | "$top/tests/picture" heading 2>&1 | sed -n 2p >"$work/out"
+    status=0
+    says "the heading $wanted" 0 "$wanted" ""
+}
+heads first "1:1:0 2:1:0 3:2:0 4:1:4" "4 activities, makespan 4 (at least 3 by the longest chain)"
+heads first "1:1:0 2:1:0 3:2:0 4:1:4" "4 activities, makespan 4, optimal by a proof" --prove 100
+heads first "1:1:0 2:1:0 3:1:3 4:1:5" "4 activities, makespan 5 (at least 4 by a proof)" --prove 100
+tenth=$("$farm" solve "$top/examples/j10_1.mm" 2>/dev/null </dev/null)
+heads j10_1 "$tenth" "12 activities, makespan 17, optimal by a proof" --prove 10000
+heads j10_1 "$tenth" "12 activities, makespan 17 (at least 14 by the longest chain)"
 told "1 1 0"
 silent "verify --all: no schedule" "farm: no schedule Words" verify --all "$work/text" "$work/schedule"
 "$farm" verify "$long" "$work/none" >"$work/out" 2>"$work/err" </dev/null
