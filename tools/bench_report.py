@@ -121,7 +121,7 @@ class Report:
         return "\n".join([*lines, "</svg>"])
 
     def caption(self, row):
-        """What is known of a picture's schedule. The picture itself has only the longest chain to compare with."""
+        """What the row says of a picture's schedule. The picture itself has no bound."""
         if row["verdict"] == "optimal":
             return f"{row['makespan']} periods, optimal"
         bound = f", at least {row['bound']}" if known(row.get("bound")) else ""

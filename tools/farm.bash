@@ -44,7 +44,7 @@ _farm() {
         return
         ;;
     --port | --sessions | --nodes | --jobs | --seconds | --start | --steps) return ;;
-    --config | --from | --keep | --names | --optima)
+    --config | --from | --keep | --names | --before | --optima)
         mapfile -t COMPREPLY < <(compgen -f -- "$word")
         return
         ;;
@@ -56,7 +56,7 @@ _farm() {
         case ${COMP_WORDS[1]} in
         solve) words="--search --nodes --json --progress --quiet --improvements --help" ;;
         verify) words="--all --help" ;;
-        draw) words="--order --prove --help" ;;
+        draw) words="--order --prove --no-bound --before --start --unit --names --help" ;;
         show) words="--csv --start --unit --names --help" ;;
         prove) words="--seconds --jobs --memory --conflicts --from --json --improvements --progress --quiet --keep --solver --help" ;;
         bench) words="--search --nodes --jobs --steps --prove --seconds --optima --schedules --resume --join --total --report --progress --quiet --help" ;;

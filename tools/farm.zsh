@@ -44,7 +44,11 @@ _farm() {
             '--progress[tell how far the search is]' '--quiet[print no progress]' '--improvements[print each better schedule]' '--help[help]' '1:file:_files -g "*.mm"'
         ;;
     verify) _arguments '--all[tell each breach]' '--help[help]' '1:file:_files -g "*.mm"' '2:schedule:_files' ;;
-    draw) _arguments '--order[the order of the rows]:order:(number start)' '--prove[prove the bound within conflicts]:conflicts:' '--help[help]' '1:file:_files -g "*.mm"' '2:schedule:_files' ;;
+    draw)
+        _arguments '--order[the order of the rows]:order:(number start)' '--prove[prove the bound within conflicts]:conflicts:' '--no-bound[leave the bound out]' \
+            '--before[an earlier schedule]:schedule:_files' '--start[when period 0 begins]:date:' '--unit[the length of a period]:unit:(hour shift day week)' \
+            '--names[lines J,NAME]:file:_files' '--help[help]' '1:file:_files -g "*.mm"' '2:schedule:_files'
+        ;;
     show)
         _arguments '--csv[write CSV]' '--start[when period 0 begins]:date:' '--unit[the length of a period]:unit:(hour shift day week)' '--names[lines J,NAME]:file:_files' \
             '--help[help]' '1:file:_files -g "*.mm"' '2:schedule:_files'

@@ -53,6 +53,40 @@ heads first "1:1:0 2:1:0 3:1:3 4:1:5" "4 activities, makespan 5 (at least 4 by a
 tenth=$("$farm" solve "$top/examples/j10_1.mm" 2>/dev/null </dev/null)
 heads j10_1 "$tenth" "12 activities, makespan 17, optimal by a proof" --prove 10000
 heads j10_1 "$tenth" "12 activities, makespan 17 (at least 14 by the longest chain)"
+# What else a picture has: names and dates, and a thin bar for each activity of an earlier schedule.
+# labels WORDS..: the lines of `tests/picture labels`
+labels() {
+    "$farm" draw "$@" "$long" "$work/schedule" 2>"$work/err" </dev/null | "$top/tests/picture" labels >"$work/out" 2>&1
+    status=$?
+}
+told "1:1:0 2:1:0 3:2:0 4:1:4"
+echo "1:1:0 2:1:0 3:1:3 4:1:5" >"$work/before"
+printf '2,"Dig, <deep>"\n3,Pour & a name that is too long for its room\nx,nobody\n' >"$work/names"
+labels --start 2026-12-30 --names "$work/names" --before "$work/before"
+says "a picture with names, dates and what was before" 0 "activities 4 resources 1
+4 activities, makespan 4 (at least 3 by the longest chain)
+1 mode 1: 0-0, before 1:0-0
+2 Dig, <deep>: 0-3, before 1:0-3
+3 Pour & a name that is too long for i…: 0-4, before 1:3-5
+4 mode 1: 4-4, before 1:5-5
+2026-12-30 2026-12-31 2027-01-01 2027-01-02 2027-01-03 2027-01-04" ""
+labels --start 2026-12-31T22:00 --unit shift --no-bound --order start
+says "a picture with moments and without a bound" 0 "activities 4 resources 1
+4 activities, makespan 4
+1 mode 1: 0-0
+2 mode 1: 0-3
+3 mode 2: 0-4
+4 mode 1: 4-4
+2026-12-31T22:00:00 2027-01-01T06:00:00 2027-01-01T14:00:00 2027-01-01T22:00:00 2027-01-02T06:00:00" ""
+echo "1:1:0 2:9:7 3:1:3" >"$work/before"
+labels --before "$work/before"
+says "a picture with an earlier schedule of another project" 0 "activities 4 resources 1
+4 activities, makespan 4 (at least 3 by the longest chain)
+1 mode 1: 0-0, before 1:0-0
+2 mode 1: 0-3
+3 mode 2: 0-4, before 1:3-5
+4 mode 1: 4-4
+0 1 2 3 4 5" ""
 told "1 1 0"
 silent "verify --all: no schedule" "farm: no schedule Words" verify --all "$work/text" "$work/schedule"
 "$farm" verify "$long" "$work/none" >"$work/out" 2>"$work/err" </dev/null

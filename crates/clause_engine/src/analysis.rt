@@ -51,6 +51,8 @@ pub struct Analysis {
     /// The hints of the learned clause, in the order of the trail.
     pub numbers: Vec<u32>,
     order: Vec<u64>,
+    /// By literal: the last round in which it was of the learned clause.
+    marks: Vec<u64>,
 }
 
 impl Analysis {
@@ -67,6 +69,7 @@ impl Analysis {
             hints: Vec::new(alloc),
             numbers: Vec::new(alloc),
             order: Vec::new(alloc),
+            marks: filled(alloc, 2 * size, 0)?,
         })
     }
 
@@ -324,6 +327,32 @@ impl Analysis {
         self.order_hints()?;
         self.clear_states();
         Ok(lesson)
+    }
+
+    /// Marks the literals of the learned clause alone.
+    pub fn mark_clause(&mut self) {
+        self.round = self.round.wrapping_add(1);
+        for literal in self.clause.as_slice() {
+            if let Some(mark) = self.marks.get_mut(*literal as usize) {
+                *mark = self.round;
+            }
+        }
+    }
+
+    /// Whether a clause has all literals of the learned one.
+    pub fn is_within(&self, literals: &[u32]) -> bool {
+        let mut missing = self.clause.len();
+        let mut left = literals.len();
+        for literal in literals {
+            if left < missing {
+                return false;
+            }
+            left = left.saturating_sub(1);
+            if self.marks.get(*literal as usize).copied() == Some(self.round) {
+                missing = missing.saturating_sub(1);
+            }
+        }
+        missing == 0
     }
 
     fn order_hints(&mut self) -> Result<(), AllocError> {

@@ -16,6 +16,9 @@ use std::alloc::{AllocError, Global};
 /// Conflicts before the first reduction, and how much later each next one comes.
 const REDUCTION: u64 = 300;
 
+/// The last learned clauses that a new one may subsume.
+const LAST: usize = 20;
+
 /// What a step that met no conflict came to.
 #[derive(Clone, Copy, PartialEq, Eq)]
 pub enum Progress {
@@ -242,10 +245,34 @@ impl Engine {
             return Ok(());
         }
         self.exchange.note(number, glue)?;
+        self.subsume_last(kernel);
         self.learned.push(clause)?;
         self.watches.attach(&self.arena, clause)?;
         self.trail.assign(first, clause);
         Ok(())
+    }
+
+    /// Drops those of the last learned clauses that the new one subsumes.
+    fn subsume_last<F: Formula>(&mut self, kernel: &mut Kernel<F>) {
+        self.analysis.mark_clause();
+        let from = self.learned.len().saturating_sub(LAST);
+        for place in from..self.learned.len() {
+            let clause = clause_at(&self.learned, place);
+            if self.arena.size(clause) > 2
+                && self.analysis.is_within(self.arena.literals(clause))
+                && !self.is_reason(clause)
+            {
+                self.drop_clause(kernel, clause);
+                self.arena.set_size(clause, 0);
+            }
+        }
+    }
+
+    /// Whether a literal of the trail follows by the clause.
+    fn is_reason(&self, clause: u32) -> bool {
+        let (one, other) = (self.arena.literal(clause, 0), self.arena.literal(clause, 1));
+        self.trail.reason(one / 2) == clause && !self.trail.is_open(one / 2)
+            || self.trail.reason(other / 2) == clause && !self.trail.is_open(other / 2)
     }
 
     fn is_restart_due(&mut self, conflicts: u64) -> bool {

@@ -1,20 +1,36 @@
 //! Which learned clauses are forgotten (Audemard and Simon 2009), and the arena without gaps.
 use crate::engine::Engine;
 use clause_kernel::{Formula, Kernel};
-use clause_store::arena::{Arena, GONE, LEARNED, MOVED, NO_CLAUSE, REASON, clause_at};
+use clause_store::arena::{Arena, GONE, LEARNED, MOVED, NO_CLAUSE, REASON, clause_at, short};
+use clause_store::queue::NO_VARIABLE;
+use clause_store::trail::negated;
 use std::alloc::AllocError;
 
 /// The part of the candidates that a reduction keeps.
 const KEPT: usize = 4;
 
-/// Copies the clauses of a list to another arena, and names their new places.
-fn move_list(arena: &mut Arena, fresh: &mut Arena, list: &mut Vec<u32>) -> Result<(), AllocError> {
+/// Copies a clause to another arena, unless it was, and names its new place.
+fn move_clause(arena: &mut Arena, fresh: &mut Arena, clause: u32) -> Result<(), AllocError> {
+    if arena.has(clause, GONE | MOVED) {
+        return Ok(());
+    }
+    let (glue, used) = (arena.glue(clause), arena.used(clause));
+    let place = fresh.push(
+        arena.literals(clause),
+        arena.flags(clause),
+        0,
+        arena.number(clause),
+    )?;
+    fresh.set_glue(place, glue, used);
+    arena.set_moved(clause, place);
+    Ok(())
+}
+
+/// Copies the clauses of a list to another arena, and names their new places in the list.
+fn move_list(arena: &mut Arena, fresh: &mut Arena, list: &mut [u32]) -> Result<(), AllocError> {
     for clause in list.iter_mut() {
-        let old = *clause;
-        let place = fresh.push(arena.literals(old), arena.flags(old), 0, arena.number(old))?;
-        fresh.set_glue(place, arena.glue(old), arena.used(old));
-        arena.set_moved(old, place);
-        *clause = place;
+        move_clause(arena, fresh, *clause)?;
+        *clause = arena.place_of_moved(*clause);
     }
     Ok(())
 }
@@ -34,28 +50,29 @@ impl Engine {
         }
     }
 
-    /// A learned clause that may be forgotten, as a number that grows with glue and length.
-    fn candidate(&mut self, clause: u32, is_crowded: bool) -> Option<u64> {
+    /// The place of a learned clause that may be forgotten, below a number that grows with glue and
+    /// length.
+    fn candidate(&mut self, place: usize, is_crowded: bool) -> Option<u64> {
+        let clause = clause_at(&self.learned, place);
         let (glue, used) = (self.arena.glue(clause), self.arena.used(clause));
         let size = self.arena.size(clause);
         if used > 0 {
             self.arena.set_glue(clause, glue, used - 1);
         }
-        if self.arena.has(clause, REASON) || size == 2 || glue <= 2 {
+        if self.arena.has(clause, REASON | GONE) || size == 2 || glue <= 2 {
             return None;
         }
         if used > 0 && !is_crowded {
             return None;
         }
         let key = (glue.min(4095) as u64) << 20 | size.min(1_048_575) as u64;
-        Some(key << 32 | clause as u64)
+        Some(key << 32 | short(place) as u64)
     }
 
     fn candidates(&mut self, is_crowded: bool) -> Result<Vec<u64>, AllocError> {
         let mut list = Vec::new(self.alloc);
         for place in 0..self.learned.len() {
-            let clause = clause_at(&self.learned, place);
-            if let Some(candidate) = self.candidate(clause, is_crowded) {
+            if let Some(candidate) = self.candidate(place, is_crowded) {
                 list.push(candidate)?;
             }
         }
@@ -75,15 +92,36 @@ impl Engine {
         self.mark_reasons(true);
         let candidates = self.candidates(is_crowded)?;
         for place in candidates.len() / KEPT..candidates.len() {
-            let clause = (candidates[place] % 4_294_967_296) as u32;
+            let at = (candidates[place] % 4_294_967_296) as usize;
+            let clause = clause_at(&self.learned, at);
             self.drop_clause(kernel, clause);
         }
         self.mark_reasons(false);
         let arena = &self.arena;
         self.learned.retain(|clause| !arena.has(*clause, GONE));
         self.watches.sweep(&self.arena);
-        if self.arena.is_wasteful() || is_crowded {
-            self.collect()?;
+        self.collect()
+    }
+
+    fn move_watchers(&mut self, fresh: &mut Arena, literal: u32) -> Result<(), AllocError> {
+        for place in 0..self.watches.count(literal) {
+            let clause = self.watches.clause(literal, place);
+            move_clause(&mut self.arena, fresh, clause)?;
+        }
+        Ok(())
+    }
+
+    /// Moves clauses that are visited together to places near each other.
+    fn move_watched(&mut self, fresh: &mut Arena) -> Result<(), AllocError> {
+        let mut variable = self.queue.last();
+        for _ in 0..self.variables {
+            if variable == NO_VARIABLE {
+                break;
+            }
+            let literal = self.trail.saved_literal(variable);
+            self.move_watchers(fresh, negated(literal))?;
+            self.move_watchers(fresh, literal)?;
+            variable = self.queue.before(variable);
         }
         Ok(())
     }
@@ -91,6 +129,7 @@ impl Engine {
     /// Moves all clauses to a new arena. No watch and no list names one that is gone.
     pub fn collect(&mut self) -> Result<(), AllocError> {
         let mut fresh = Arena::new(self.alloc, self.arena.most());
+        self.move_watched(&mut fresh)?;
         move_list(&mut self.arena, &mut fresh, &mut self.clauses)?;
         move_list(&mut self.arena, &mut fresh, &mut self.learned)?;
         for place in 0..self.trail.count() {

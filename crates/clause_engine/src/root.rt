@@ -154,15 +154,11 @@ impl Engine {
     /// Makes the watches anew, those of clauses of two literals first.
     pub fn watch_all(&mut self) -> Result<(), AllocError> {
         self.watches.clear();
-        if self.arena.is_wasteful() {
-            self.collect()?;
-            self.watches.clear();
-        }
         for is_binary in [true, false] {
             attach_each(&mut self.watches, &self.arena, &self.clauses, is_binary)?;
             attach_each(&mut self.watches, &self.arena, &self.learned, is_binary)?;
         }
-        Ok(())
+        self.collect()
     }
 
     /// Goes back to level 0, cleans the clauses and watches them anew.

@@ -6,7 +6,7 @@ use std::alloc::{AllocError, Global};
 /// The place of no clause, and the number of one that the kernel does not keep.
 pub const NO_CLAUSE: u32 = u32::MAX;
 
-/// The words before a clause's literals: length, flags, glue and number in the kernel.
+/// The words before a clause's literals: number in the kernel, flags, glue and length.
 pub const HEAD: usize = 4;
 
 /// A learned clause may be forgotten.
@@ -87,11 +87,11 @@ impl Arena {
     pub fn size(&self, clause: u32) -> usize
         ensures { result ≤ 2 ^ 32 }
     {
-        self.word(clause as usize) as usize
+        self.word(clause as usize + 3) as usize
     }
 
     pub fn set_size(&mut self, clause: u32, size: usize) {
-        self.set_word(clause as usize, short(size));
+        self.set_word(clause as usize + 3, short(size));
     }
 
     #[inline(always)]
@@ -152,11 +152,11 @@ impl Arena {
 
     #[inline(always)]
     pub fn number(&self, clause: u32) -> u32 {
-        self.word(clause as usize + 3)
+        self.word(clause as usize)
     }
 
     pub fn set_number(&mut self, clause: u32, number: u32) {
-        self.set_word(clause as usize + 3, number);
+        self.set_word(clause as usize, number);
     }
 
     #[inline(always)]
@@ -194,10 +194,10 @@ impl Arena {
         }
         let used = if glue <= 6 { 2 } else { 1 };
         let head = [
-            short(literals.len()),
+            number,
             flags,
             glue.min(MOST_GLUE) * 4 + used,
-            number,
+            short(literals.len()),
         ];
         self.words.extend_from_slice(&head)?;
         if let Err(fault) = self.words.extend_from_slice(literals) {

@@ -128,6 +128,15 @@ impl Queue {
         self.next
     }
 
+    pub fn last(&self) -> u32 {
+        self.last
+    }
+
+    /// The variable that is decided next after this one.
+    pub fn before(&self, variable: u32) -> u32 {
+        self.link(variable).before
+    }
+
     /// Steps over a variable that is not open.
     pub fn pass(&mut self) {
         self.next = self.link(self.next).before;

@@ -105,7 +105,7 @@ impl Watches {
     ) -> Result<Visit, AllocError> {
         let clause = (code / 2) as usize;
         let start = clause + HEAD;
-        let size = match words.get(clause) {
+        let size = match words.get(clause + 3) {
             Some(size) => *size as usize,
             None => 0,
         };
@@ -208,6 +208,25 @@ impl Watches {
             }
         }
         Ok(NO_CLAUSE)
+    }
+
+    /// How many clauses watch a literal.
+    pub fn count(&self, literal: u32) -> usize {
+        match self.lists.get(literal as usize) {
+            Some(list) => list.len(),
+            None => 0,
+        }
+    }
+
+    /// A clause that watches a literal.
+    pub fn clause(&self, literal: u32, place: usize) -> u32 {
+        match self.lists.get(literal as usize) {
+            Some(list) => match list.get(place) {
+                Some(watch) => watch.code / 2,
+                None => NO_CLAUSE,
+            },
+            None => NO_CLAUSE,
+        }
     }
 
     pub fn clear(&mut self) {

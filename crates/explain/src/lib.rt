@@ -8,11 +8,12 @@
 //! want of memory.
 //!
 //! - `inputs`, `watches`, `ending`: the inputs of a command, what its watches count, how it ends.
+//! - `labels`: dates and names that a command is asked for.
 //! - `laws`: the most that is read of an input, in figures.
 //! - `lines`, `head`: the lines and words of a text; the labels above the sections of a file.
 //! - `sections`, `rows`: the sections of a file; rows, and the first one that is out of place.
 //! - `sheet`, `limits`, `files`: a file by its rows; the first number above its limit; `why_file`.
-//! - `schedules`: why a text has no schedule.
+//! - `schedules`, `tables`: why a text has no schedule, as words, as JSON or as a table.
 //! - `amounts`: by how much a schedule breaks a condition.
 //! - `causes`: why no schedule of a project is feasible.
 //! - `words`, `near`: why a word or a port is refused; the nearest of several words.
@@ -24,6 +25,7 @@ mod ending;
 mod files;
 mod head;
 mod inputs;
+mod labels;
 pub mod laws;
 mod limits;
 mod lines;
@@ -32,6 +34,7 @@ mod rows;
 mod schedules;
 mod sections;
 mod sheet;
+mod tables;
 mod watches;
 mod words;
 
@@ -40,6 +43,7 @@ pub use causes::why_infeasible;
 pub use ending::{CommandFault, end_command, end_no_memory};
 pub use files::why_file;
 pub use inputs::{MOST_TEXT, Paths, open_path, told, words_of};
+pub use labels::{UNITS, calendar_of, read_names, read_path, refuse_same, unit_of};
 pub use near::nearest;
 pub use schedules::why_no_schedule;
 pub use watches::CommandWatches;

@@ -120,7 +120,7 @@ pub(crate) fn count_lines(lines: &[Piece<'_>]) -> usize {
     }
 }
 
-const MOST_SHOWN: usize = 40;
+pub(crate) const MOST_SHOWN: usize = 40;
 
 /// A word that is long, or that a terminal might obey, is named and not shown.
 pub(crate) fn shown_word(word: &[u8]) -> &str {

@@ -1,11 +1,12 @@
 //! Why a text has no schedule.
 use crate::lines::{Piece, number, shown_word};
+use crate::tables::{Table, is_table, table_of};
 use schedule_files::MOST_BYTES;
 use serde_json::Value;
 use std::alloc::{AllocError, Global};
 
 const FORM: &str =
-    "wanted is for each activity a word J:MODE:START, in the order of their numbers, or a line J,MODE,START; or JSON as solve --json prints it";
+    "wanted is for each activity a word J:MODE:START, in the order of their numbers, or a row of CSV, in any order, under the heading activity,mode,start or without one; or JSON as solve --json prints it";
 
 /// The place at which reading a schedule stops.
 #[derive(Clone, Copy, Debug)]
@@ -116,38 +117,6 @@ fn tell_missing(
     )
 }
 
-fn has_digit(line: &[u8]) -> bool {
-    line.iter().any(|b| b.is_ascii_digit())
-}
-
-/// The activity of a row `J,MODE,START`.
-fn row_of(line: &[u8]) -> Option<u64> {
-    let mut parts = line.split(|b| *b == b',');
-    let activity = number(parts.next()?.trim_ascii())?;
-    number(parts.next()?.trim_ascii())?;
-    number(parts.next()?.trim_ascii())?;
-    if parts.next().is_some() {
-        None
-    } else {
-        Some(activity)
-    }
-}
-
-fn begins_with_commas(text: &[u8]) -> bool {
-    match text.split(|b| *b == b'\n').find(|line| has_digit(line)) {
-        Some(line) => line.contains(&b','),
-        None => false,
-    }
-}
-
-/// A title above the rows may have a digit: then it is at fault.
-fn has_rows(text: &[u8]) -> bool {
-    begins_with_commas(text)
-        || text
-            .split(|b| *b == b'\n')
-            .any(|line| row_of(line).is_some())
-}
-
 /// `numbers` is the activities of all rows, in rising order.
 fn tell_numbers(alloc: Global, numbers: &[u64]) -> Result<String, AllocError> {
     let mut wanted = 0u64;
@@ -168,22 +137,14 @@ fn tell_numbers(alloc: Global, numbers: &[u64]) -> Result<String, AllocError> {
     format!(in alloc; "{FORM}")
 }
 
-fn tell_rows(alloc: Global, text: &[u8]) -> Result<String, AllocError> {
-    let mut numbers = Vec::new(alloc);
-    let mut line = 0usize;
-    for row in text.split(|b| *b == b'\n') {
-        line = line.saturating_add(1);
-        if has_digit(row) {
-            let Some(activity) = row_of(row) else {
-                return format!(in alloc;
-                    "line {line} is not three numbers with commas between them; {FORM}"
-                );
-            };
-            numbers.push(activity)?;
+fn tell_table(alloc: Global, text: &[u8]) -> Result<String, AllocError> {
+    match table_of(alloc, text)? {
+        Table::Told(told) => format!(in alloc; "{told}; {FORM}"),
+        Table::Numbers(mut numbers) => {
+            numbers.sort()?;
+            tell_numbers(alloc, numbers.as_slice())
         }
     }
-    numbers.sort()?;
-    tell_numbers(alloc, numbers.as_slice())
 }
 
 fn tell_json(alloc: Global, text: &[u8]) -> Result<String, AllocError> {
@@ -196,6 +157,11 @@ fn tell_json(alloc: Global, text: &[u8]) -> Result<String, AllocError> {
             format!(in alloc; "line {line} column {column}: this is no JSON text; {FORM}")
         }
     }
+}
+
+/// Whether a line is the title of a section of project files.
+fn is_project(text: &[u8]) -> bool {
+    text.split(|b| *b == b'\n').any(|line| line.trim_ascii().starts_with(b"PRECEDENCE RELATIONS"))
 }
 
 fn begins_json(text: &[u8]) -> bool {
@@ -213,11 +179,14 @@ pub fn why_no_schedule(alloc: Global, text: &[u8]) -> Option<String> {
             "the text has more than {MOST_BYTES} bytes; the last line of a log is enough: tail -n 1"
         ).ok();
     }
+    if is_project(text) {
+        return format!(in alloc; "this is a project's file; {FORM}").ok();
+    }
     if begins_json(text) {
         return tell_json(alloc, text).ok();
     }
-    if has_rows(text) {
-        return tell_rows(alloc, text).ok();
+    if is_table(text) {
+        return tell_table(alloc, text).ok();
     }
     let stops = stops_of(alloc, text).ok()?;
     tell_words(alloc, &stops).ok()

@@ -95,6 +95,17 @@ fn why_no_time(command: &str) -> &'static str {
     "no search is limited by time: --nodes N limits its nodes, farm prove --seconds S ends after S seconds with the best, and timeout S farm solve --improvements leaves it as its last line"
 }
 
+fn is_number_of_threads(word: &str) -> bool {
+    word.starts_with("--threads") || word.starts_with("--workers") || word == "-j"
+}
+
+fn why_no_threads(command: &str) -> &'static str {
+    if command == "prove" || command == "bench" {
+        return "--jobs N sets how many run at a time";
+    }
+    "a search has one thread: farm prove --jobs N has N workers"
+}
+
 /// The value of a long option: behind `=`, or the next word.
 fn value_of<'a>(words: &'a [String], name: &str) -> Option<&'a str> {
     let mut is_next = false;
@@ -207,6 +218,9 @@ pub fn why_words(alloc: Global, words: &[String]) -> Option<String> {
     }
     if words.iter().any(|word| is_time(command, word.as_str())) {
         return String::from_str(alloc, why_no_time(command)).ok();
+    }
+    if words.iter().any(|word| is_number_of_threads(word.as_str())) {
+        return String::from_str(alloc, why_no_threads(command)).ok();
     }
     for option in NUMBERS {
         if let Some(value) = value_of(words, option.name)

@@ -1,8 +1,9 @@
 //! The words of a command line.
-use crate::calendar::Unit;
 use crate::layout::Layout;
 use clap::builder::ValueParser;
 use clap::{Arg, ArgAction, ArgMatches, Command};
+use explain::{UNITS, unit_of};
+use schedule_labels::Unit;
 use std::alloc::{AllocError, Global};
 
 #[derive(Clone, Copy, Debug, PartialEq, Eq)]
@@ -45,8 +46,6 @@ fn schedule_arg<'a>(alloc: Global, name: &'a str) -> Arg<'a> {
 fn value<'a>(alloc: Global, name: &'a str, kind: &'a str, help: &'a str) -> Arg<'a> {
     Arg::new(alloc, name).long(name).value_name(kind).help(help)
 }
-
-const UNITS: [&str; 4] = ["hour", "shift", "day", "week"];
 
 fn show_command<'a>(alloc: Global) -> Result<Command<'a>, AllocError> {
     let csv = Arg::new(alloc, "csv")
@@ -98,15 +97,6 @@ pub fn with_commands<'a>(alloc: Global, command: Command<'a>) -> Result<Command<
     command
         .subcommand(show_command(alloc)?)?
         .subcommand(compare_command(alloc)?)
-}
-
-fn unit_of(word: Option<&str>) -> Unit {
-    match word {
-        Some("hour") => Unit::Hour,
-        Some("shift") => Unit::Shift,
-        Some("week") => Unit::Week,
-        _ => Unit::Day,
-    }
 }
 
 fn showing_of<'a>(chosen: &ArgMatches<'a>) -> Option<Showing<'a>> {

@@ -7,17 +7,16 @@
 //! - `layout`: the cells of columns and of CSV.
 //! - `slack`, `tabling`, `comparing`: the slack of an activity; tables; what differs.
 //! - `plan`: the schedule that a text has, and what it breaks first.
-//! - `calendar`, `names`: dates of periods; names of activities.
+//! - `labels`: dates and names as columns.
 //! - `showing`, `commands`: what is written of a file; the commands over any readers and writer.
 //! - `arguments`, `program`: the words of a command line, and the commands on files.
 #![tactic(auto)]
 
 mod arguments;
-mod calendar;
 mod commands;
 mod comparing;
+mod labels;
 mod layout;
-mod names;
 mod plan;
 mod program;
 mod showing;
@@ -25,11 +24,9 @@ mod slack;
 mod tabling;
 
 pub use arguments::with_commands;
-pub use calendar::{Calendar, Unit};
 pub use commands::{compare_to, show_to};
 pub use comparing::moves;
 pub use layout::Layout;
-pub use names::{Name, names_of};
 pub use plan::{Plan, PlanFault, read_plan};
 pub use program::run_command;
 pub use showing::{CompareFault, ShowOptions, compare, show};

@@ -1,21 +1,15 @@
 //! The commands on files, with an exit status.
-ghost use Rattle.std.specs.Prelude.{◌≡◌, ◌≤◌, IfErr, IfSome};
+ghost use Rattle.std.specs.Prelude.{◌≤◌, IfSome};
 ghost use Rattle.std.specs.Process.{exit_status};
 
 use crate::arguments::{Comparing, PlanTask, Showing, task_of};
-use crate::calendar::{Calendar, Unit};
 use crate::commands::{compare_to, show_to};
-use crate::names::{Name, names_of};
 use crate::showing::ShowOptions;
 use clap::ArgMatches;
-use explain::{CommandWatches, MOST_TEXT, Paths, end_no_memory, open_path, told};
-use jiff::civil::DateTime;
-use std::env::Env;
+use explain::{CommandWatches, Paths, calendar_of, open_path, read_names, refuse_same};
 use std::io;
-use std::io::{Eprint, Read};
 use std::process::ExitCode;
 use std::rt::Runtime;
-use watched_io::{Watch, tell_why};
 
 /// Runs the command of `matches`, or returns `None` if it is none of this crate. The status is 0, or
 /// 2 for refused words, or 1 for any fault.
@@ -26,59 +20,6 @@ pub fn run_command<R: Runtime + AllocGlobal>(rt: &R, matches: &ArgMatches<'_>) -
         Some(PlanTask::Show(showing)) => Some(run_show(rt, showing)),
         Some(PlanTask::Compare(comparing)) => Some(run_compare(rt, comparing)),
         None => None,
-    }
-}
-
-/// Standard input gives its bytes only once.
-fn refuse_same<R: Eprint>(rt: &R) -> ExitCode
-    ensures { exit_status result ≡ 2 }
-{
-    let _ = eprintln!(rt; "farm: two inputs cannot both be standard input");
-    ExitCode::from(2)
-}
-
-/// An error is the status.
-fn calendar_of<R: Env + Eprint + AllocGlobal>(
-    rt: &R,
-    start: Option<&str>,
-    unit: Unit,
-) -> Result<Option<Calendar>, ExitCode>
-    ensures { IfErr result (λ status. exit_status status ≡ 2) }
-{
-    let Some(word) = start else {
-        return Ok(None);
-    };
-    match word.parse::<DateTime>() {
-        Ok(start) => Ok(Some(Calendar { start, unit })),
-        Err(_) => {
-            let _ = eprintln!(rt; "farm: no date {word}");
-            let why = "a date is as 2026-12-01, or with a time as 2026-12-01T06:00";
-            tell_why(rt, &String::from_str(rt.alloc(), why).ok());
-            Err(ExitCode::from(2))
-        }
-    }
-}
-
-/// An error is the status.
-fn read_names<R: Runtime + AllocGlobal>(
-    rt: &R,
-    path: Option<&str>,
-) -> Result<Option<Vec<Name>>, ExitCode>
-    ensures { IfErr result (λ status. exit_status status ≡ 1) }
-{
-    let Some(path) = path else {
-        return Ok(None);
-    };
-    let Some(file) = open_path(rt, path) else {
-        return Err(ExitCode::FAILURE);
-    };
-    let got = Watch::new().read_front(rt.alloc(), file, MOST_TEXT);
-    let Some(bytes) = told(rt, path, got) else {
-        return Err(ExitCode::FAILURE);
-    };
-    match names_of(rt.alloc(), &bytes) {
-        Ok(names) => Ok(Some(names)),
-        Err(_) => Err(end_no_memory(rt)),
     }
 }
 

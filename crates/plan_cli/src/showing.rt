@@ -7,15 +7,15 @@ ghost use Rattle.plan_cli.specs.Plan.{IsAtFault};
 ghost use Rattle.plan_cli.specs.Table.{IsTable};
 ghost use Rattle.plan_cli.specs.Shown.{IsShown, IsComparison, IsCompareFault};
 
-use crate::calendar::{Calendar, put_date_titles, put_moment};
 use crate::comparing::moves;
+use crate::labels::{longest, put_date_titles, put_moment, put_name};
 use crate::layout::Layout;
-use crate::names::{Name, longest, name_at, put_name};
 use crate::plan::{PlanFault, read_plan};
 use crate::slack::{finish_of, start_at};
 use crate::tabling::{Extra, table};
 use mrcpsp::{Project, Schedule};
 use psplib_mm::read;
+use schedule_labels::{Calendar, Name, name_at};
 use std::alloc::{AllocError, Global};
 use thiserror::Error;
 

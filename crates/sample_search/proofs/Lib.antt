@@ -1,3 +1,2 @@
-pub mod DrawLemmas
 pub mod NodeLemmas
 pub mod SearchLemmas

@@ -1,13 +1,11 @@
 -- What a search of kind Sample shows, by its pass and the best of its whole passes.
-use Rattle.std.proofs.Common.{◌≡◌, ℕ, ◌+◌, ◌*◌, ◌/◌, ◌%◌, ◌<◌, ◌≤◌, ◌↔◌, Bool, true, false, IsTrue, List, [], length, map, fold, Option, Some, None, IfSome, option_map, arith, refl, sym, ap, ◌∙◌, subst, ⊎_elim}
+use Rattle.std.proofs.Common.{◌≡◌, ℕ, ◌+◌, ◌-◌, ◌*◌, ◌/◌, ◌%◌, ◌<◌, false, List, [], length, map, fold, Option, Some, None, IfSome, option_map, arith, refl, sym, ap, ◌∙◌, subst}
 use Rattle.std.specs.List.{range_with_len}
-use Rattle.std.proofs.lemmas.Bool.{cases_lt, false≢true}
 use Rattle.std.proofs.lemmas.Nat.{div-add-mod', div-mul-add, mod-mul-add, mod_below}
 use Rattle.std.proofs.Math.Nat.{zero-mod, zero-div}
 use Rattle.std.proofs.lemmas.List.FromFn.{map-range_with_len_more}
 use Rattle.std.proofs.lemmas.List.Sums.{fold_push}
-use Rattle.mrcpsp.specs.Project.{ProjectData, ActivityData, is_project, size}
-use Rattle.mrcpsp.proofs.LimitLemmas.{kept}
+use Rattle.mrcpsp.specs.Project.{ProjectData, size}
 use Rattle.mrcpsp.specs.Schedule.{ScheduleData}
 use Rattle.mrcpsp.specs.Placed.{Placed, schedule_of}
 use Rattle.strategy.specs.Words.{word_at}
@@ -51,40 +49,12 @@ last-node k n some last =
       number = ap (λ m. m / n) sum ∙ div-mul-add (k / n + 1) n 0 some;
     }
 
-pub node-ends : (k n : ℕ) → 0 < n → (k + 1) % n ≡ 0 → IsLastNode k n
-node-ends k n some ends =
-    ⊎_elim
-    (λ (inner : k % n + 1 < n). absurd (omega (arith, (inner-node k n inner).place)))
-    (λ (past : n ≤ k % n + 1). last-node k n some (omega (arith, mod_below k n some)))
-    (cases_lt (k % n + 1) n)
+-- the same by the nodes that the pass had left
+pub ends-here : (k n left : ℕ) → 0 < n → left + k % n ≡ n → left - 1 ≡ 0 → IsLastNode k n
+ends-here k n left some is none = last-node k n some (omega (arith, mod_below k n some))
 
-pub node-goes-on : (k n : ℕ) → 0 < n → ((k + 1) % n ≡ 0 → ⊥) → IsInnerNode k n
-node-goes-on k n some going =
-    ⊎_elim
-    (λ (inner : k % n + 1 < n). inner-node k n inner)
-    (λ (past : n ≤ k % n + 1). absurd (going (last-node k n some (omega (arith, mod_below k n some))).place))
-    (cases_lt (k % n + 1) n)
-
--- the same as the code tests it: by its own count of the nodes, and by the number of activities on a list
-count-all : (p q : ProjectData) (activities : List ActivityData) → activities ≡ q.activities → q ≡ p → length activities ≡ size p
-unfolding size
-count-all p q activities all same = ap length all ∙ ap (λ (r : ProjectData). length r.activities) same
-
-some-all : (p q : ProjectData) → IsTrue (is_project q) → q ≡ p → 0 < size p
-some-all p q ok same = (kept p (subst (λ (r : ProjectData). IsTrue (is_project r)) same ok)).some
-
-pub ends-there : (p q : ProjectData) (activities : List ActivityData) (nodes k : ℕ) (test : Bool) → (activities ≡ q.activities) × IsTrue (is_project q) → q ≡ p → nodes ≡ k → IsTrue test ↔ ((nodes + 1) % length activities ≡ 0) → test ≡ true
-    → IsLastNode k (size p)
-ends-there p q activities nodes k test known same is told passes =
-    let n : length activities ≡ size p = count-all p q activities known.0 same in
-    node-ends k (size p) (some-all p q known.1 same) (rw (is, n) at (told.0 passes))
-
-pub goes-on-there : (p q : ProjectData) (activities : List ActivityData) (nodes k : ℕ) (test : Bool) → (activities ≡ q.activities) × IsTrue (is_project q) → q ≡ p → nodes ≡ k → IsTrue test ↔ ((nodes + 1) % length activities ≡ 0) → test ≡ false
-    → IsInnerNode k (size p)
-goes-on-there p q activities nodes k test known same is told fails =
-    let n : length activities ≡ size p = count-all p q activities known.0 same in
-    let whole : (nodes + 1) % length activities ≡ 0 → ⊥ = λ at. false≢true (sym fails ∙ told.1 at) in
-    node-goes-on k (size p) (some-all p q known.1 same) (rw (is, n) at whole)
+pub goes-on-here : (k n left : ℕ) → 0 < n → left + k % n ≡ n → (left - 1 ≡ 0 → ⊥) → IsInnerNode k n
+goes-on-here k n left some is more = inner-node k n (omega (arith, mod_below k n some))
 
 -- ---- what is placed
 

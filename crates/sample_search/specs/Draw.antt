@@ -1,23 +1,10 @@
--- From what an activity is drawn, and what two words draw.
-use Rattle.std.specs.Prelude.{◌≡◌, ℕ, ◌<◌, ◌≤◌, List, length, All, Option, option_map, option_and_then}
-use Rattle.mrcpsp.specs.declared.limits.TheConstants.{MOST_ACTIVITIES}
-use Rattle.mrcpsp.specs.Project.{ProjectData, size}
-use Rattle.mrcpsp.specs.Limits.{IsProject}
+-- What two words draw.
+use Rattle.std.specs.Prelude.{ℕ, List, Option, option_map, option_and_then}
+use Rattle.mrcpsp.specs.Project.{ProjectData}
 use Rattle.mrcpsp.specs.Placed.{Placed}
-use Rattle.measures.specs.Measures.{ValuesData, measures_of}
 use Rattle.strategy.specs.Candidate.{Candidate, eligible_ones, allowed_modes}
 use Rattle.strategy.specs.Pass.{drawn_activity, drawn_mode}
 use Rattle.serial_pass.specs.Pass.{grown}
-
--- the measures are the project's, which is within the limits
-pub record AreMeasures (p : ProjectData) (values : List ValuesData) : Type 0 where
-  pub of : values ≡ measures_of p
-  pub kept : IsProject p
-
--- activities of the project, by their places, and no more than there may be
-pub record AreActivities (p : ProjectData) (xs : List ℕ) : Type 0 where
-  pub inside : All (λ j. j < size p) xs
-  pub few : length xs ≤ MOST_ACTIVITIES
 
 -- the first word draws an eligible activity, and the second one of its allowed modes
 abbrev pub drawn_candidate : ProjectData → ℕ → ℕ → List Placed → Option Candidate

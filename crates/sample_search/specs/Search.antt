@@ -1,5 +1,5 @@
 -- A search of passes drawn from the words of a seed.
-use Rattle.std.specs.Prelude.{◌≡◌, ℕ, ◌*◌, ◌/◌, ◌%◌, false, []}
+use Rattle.std.specs.Prelude.{◌≡◌, ℕ, ◌+◌, ◌*◌, ◌/◌, ◌%◌, ◌<◌, false, []}
 use Rattle.mrcpsp.specs.Project.{size}
 use Rattle.measures.specs.Measures.{measures_of}
 use Rattle.strategy.specs.Pass.{placed_after}
@@ -21,10 +21,13 @@ IsSample RuleSpt = ⊥
 IsSample (Sample seed) = Unit {0}
 
 -- the passes are after the first k nodes of the plan's search, with two words drawn for each. The
--- current pass is what these nodes leave of it, and the best is that of all whole passes
+-- current pass is what these nodes leave of it, and the rest of its nodes are left. The best is that
+-- of all whole passes
 pub record StandsAt (s : SamplePasses) (plan : Plan) (k : ℕ) : Type 0 where
   pub kind : plan.kind ≡ Sample s.words.seed
-  pub count : s.nodes ≡ k
+  pub some : 0 < size plan.project
+  pub nodes : s.size ≡ size plan.project
+  pub left : s.left + k % size plan.project ≡ size plan.project
   pub drawn : s.words.drawn ≡ 2 * k
   pub measured : s.measures ≡ measures_of plan.project
   pub project : s.pass.project ≡ plan.project

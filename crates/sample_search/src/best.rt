@@ -8,7 +8,7 @@ ghost use Rattle.serial_pass.specs.Pass.{HasRoom};
 ghost use Rattle.sample_search.specs.Best.{best_in, is_taken, IsKept};
 
 use mrcpsp::Schedule;
-use serial_pass::Pass;
+use serial_pass::PartialSchedule;
 use std::mem;
 
 #[derive(Drop)]
@@ -52,7 +52,7 @@ impl BestPass {
 }
 
 /// Writes the schedule of a pass that is not void into the memory of `room`.
-fn rewritten(room: Schedule, pass: &Pass) -> Schedule
+fn rewritten(room: Schedule, pass: &PartialSchedule) -> Schedule
     requires room { HasRoom (size pass.now.project) room }
     requires some { IsSome pass.now.placed }
     ensures exact { Some result ≡ option_map (schedule_of (size pass.now.project)) pass.now.placed }
@@ -65,7 +65,7 @@ fn rewritten(room: Schedule, pass: &Pass) -> Schedule
 }
 
 /// The pass's schedule if it is shorter than the best one, or there is none yet. Takes no memory.
-pub(crate) fn better(best: BestPass, pass: &Pass) -> BestPass
+pub(crate) fn better(best: BestPass, pass: &PartialSchedule) -> BestPass
     requires kept { IsKept pass.now.project best }
     requires whole { IfSome pass.now.placed (λ placed. length placed ≡ size pass.now.project) }
     ensures kept { IsKept pass.now.project result }

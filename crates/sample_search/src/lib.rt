@@ -4,13 +4,12 @@
 //! passes. It ends only if its best is as short as the project's bound, or is taken. Payment is
 //! `paid_search`'s part.
 //!
-//! - `words`, `draw`: the words of a seed; the activity and the mode that a word draws.
+//! - `words`: the words of a seed.
 //! - `node`, `best`: one node of a pass; the best schedule so far, overwritten in place.
 //! - `search`: the search, and the passes as what runs its nodes.
 #![tactic(auto)]
 
 mod best;
-mod draw;
 mod node;
 mod search;
 mod words;

@@ -1,4 +1,4 @@
-ghost use Rattle.std.specs.Prelude.{◌≡◌, ◌↔◌, ◌%◌, ◌<◌, false, length, IsTrue, IfOk, IfSome, option_map};
+ghost use Rattle.std.specs.Prelude.{◌≡◌, false, length, IfOk, IfSome, option_map};
 ghost use Rattle.mrcpsp.specs.Project.{size};
 ghost use Rattle.mrcpsp.specs.Placed.{schedule_of};
 ghost use Rattle.measures.specs.Measures.{measures_of};
@@ -14,7 +14,7 @@ use crate::words::RandomWords;
 use measures::Measures;
 use mrcpsp::{Project, Schedule};
 use paid_search::{Nodes, Paid};
-use serial_pass::Pass;
+use serial_pass::PartialSchedule;
 use std::alloc::{AllocError, Global};
 use std::mem;
 use strategy::{Kind, Plan};
@@ -28,8 +28,10 @@ pub type SampleSearch = Paid<SamplePasses>;
 pub struct SamplePasses {
     measures: Measures,
     words: RandomWords,
-    pass: Pass,
-    nodes: u64,
+    pass: PartialSchedule,
+    size: usize,
+    /// The nodes that the pass has left.
+    left: usize,
     best: BestPass,
 }
 
@@ -37,7 +39,7 @@ pub struct SamplePasses {
 #[derive(Drop)]
 struct Tools {
     measures: Measures,
-    pass: Pass,
+    pass: PartialSchedule,
     room: Schedule,
 }
 
@@ -47,7 +49,7 @@ fn make_tools(alloc: Global, project: &Project) -> Result<Tools, AllocError>
     ensures room { IfOk result (λ tools. passes.HasRoom (size project.now) tools.room) }
 {
     let measures = Measures::of(alloc, project)?;
-    let pass = Pass::new(alloc, project, &measures)?;
+    let pass = PartialSchedule::new(alloc, project, &measures)?;
     let room = pass.blank(alloc)?;
     Ok(Tools {
         measures,
@@ -66,15 +68,8 @@ fn seed(kind: Kind) -> u64
     }
 }
 
-fn are_whole_passes(nodes: u64, activities: usize) -> bool
-    requires { 0 < activities }
-    ensures { IsTrue result ↔ (nodes % activities ≡ 0) }
-{
-    nodes % activities as u64 == 0
-}
-
 /// Keeps the pass's schedule if it is the best so far, and begins the next pass.
-fn end_pass(pass: &mut Pass, best: &mut BestPass)
+fn end_pass(pass: &mut PartialSchedule, best: &mut BestPass)
     requires kept { IsKept pass.old.project best.old }
     requires whole { IfSome pass.old.placed (λ placed. length placed ≡ size pass.old.project) }
     ensures pass { pass.new ≡ passes.fresh pass.old.project }
@@ -101,11 +96,13 @@ impl Nodes for SamplePasses {
             room,
         } = make_tools(alloc, &plan.project)?;
         let words = RandomWords::new(seed(plan.kind));
+        let size = plan.project.size();
         Ok(SamplePasses {
             measures,
             words,
             pass,
-            nodes: 0,
+            size,
+            left: size,
             best: BestPass::Unknown(room),
         })
     }
@@ -128,10 +125,10 @@ impl Nodes for SamplePasses {
 
     #[inline(always)]
     fn advance(&mut self) {
-        let activities = self.pass.project().activities().len();
-        run_node(&mut self.pass, &self.measures, &mut self.words);
-        self.nodes += 1;
-        if are_whole_passes(self.nodes, activities) {
+        run_node(&mut self.pass, &mut self.words);
+        self.left -= 1;
+        if self.left == 0 {
+            self.left = self.size;
             end_pass(&mut self.pass, &mut self.best);
         }
     }

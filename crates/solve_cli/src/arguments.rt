@@ -2,22 +2,37 @@
 use crate::searching::MOST_NODES;
 use clap::builder::ValueParser;
 use clap::{Arg, ArgAction, ArgMatches, Command};
-use explain::{MOST_CONFLICTS, Paths};
-use schedule_files::Order;
+use explain::{MOST_CONFLICTS, Paths, UNITS, unit_of};
+use schedule_labels::Unit;
+use schedule_picture::Order;
 use std::alloc::{AllocError, Global};
 
 #[derive(Clone, Copy, Debug, PartialEq, Eq)]
 pub(crate) enum ProjectTask<'a> {
     Verify(Paths<'a>, Listing),
     Solve(Solving<'a>),
-    Draw(Paths<'a>, Drawing),
+    Draw(Paths<'a>, DrawWords<'a>),
 }
 
 #[derive(Clone, Copy, Debug, PartialEq, Eq)]
-pub(crate) struct Drawing {
+pub(crate) enum BoundWord {
+    Chain,
+    /// The most conflicts in which the bound is proved.
+    Proved(u64),
+    Left,
+}
+
+#[derive(Clone, Copy, Debug, PartialEq, Eq)]
+pub(crate) struct DrawWords<'a> {
     pub(crate) order: Order,
-    /// The most conflicts in which the heading's bound is proved, if that is asked for.
-    pub(crate) conflicts: Option<u64>,
+    pub(crate) bound: BoundWord,
+    /// The word of the moment at which period 0 begins.
+    pub(crate) start: Option<&'a str>,
+    pub(crate) unit: Unit,
+    /// The path of a file of names.
+    pub(crate) names: Option<&'a str>,
+    /// The path of an earlier schedule.
+    pub(crate) before: Option<&'a str>,
 }
 
 #[derive(Clone, Copy, Debug, PartialEq, Eq)]
@@ -56,6 +71,10 @@ fn schedule_arg<'a>(alloc: Global) -> Arg<'a> {
         .required(true)
 }
 
+fn value<'a>(alloc: Global, name: &'a str, kind: &'a str, help: &'a str) -> Arg<'a> {
+    Arg::new(alloc, name).long(name).value_name(kind).help(help)
+}
+
 fn flag<'a>(alloc: Global, name: &'a str, help: &'a str) -> Arg<'a> {
     Arg::new(alloc, name)
         .long(name)
@@ -88,13 +107,41 @@ fn draw_command<'a>(alloc: Global) -> Result<Command<'a>, AllocError> {
         .value_name("C")
         .help("Prove the heading's bound, in at most C conflicts")
         .value_parser(ValueParser::unsigned(1, MOST_CONFLICTS));
+    let unit = value(
+        alloc,
+        "unit",
+        "UNIT",
+        "The length of a period; a shift has 8 hours",
+    )
+    .value_parser(ValueParser::Names(&UNITS))
+    .default_value("day");
     Command::new(alloc, "draw")
         .about("Draws a feasible schedule as an SVG picture")
         .after_help(DRAW_HELP)
         .arg(file_arg(alloc))?
         .arg(schedule_arg(alloc))?
         .arg(order)?
-        .arg(prove)
+        .arg(prove)?
+        .arg(flag(alloc, "no-bound", "Leave the bound out of the heading"))?
+        .arg(value(
+            alloc,
+            "before",
+            "SCHEDULE",
+            "Draw this schedule too, as thin bars: the plan before a change",
+        ))?
+        .arg(value(
+            alloc,
+            "start",
+            "DATE",
+            "When period 0 begins, as 2026-12-01 or 2026-12-01T06:00: dates above the rows",
+        ))?
+        .arg(unit)?
+        .arg(value(
+            alloc,
+            "names",
+            "FILE",
+            "Lines J,NAME of CSV: names beside the rows",
+        ))
 }
 
 fn solve_command<'a>(alloc: Global) -> Result<Command<'a>, AllocError> {
@@ -148,12 +195,27 @@ fn order_of(word: Option<&str>) -> Order {
     }
 }
 
-fn drawing_of(chosen: &ArgMatches<'_>) -> Drawing {
-    Drawing {
+fn bound_of(chosen: &ArgMatches<'_>) -> BoundWord {
+    if chosen.get_flag("no-bound") {
+        return BoundWord::Left;
+    }
+    match chosen
+        .get_str("prove")
+        .and_then(|word| word.parse::<u64>().ok())
+    {
+        Some(conflicts) => BoundWord::Proved(conflicts),
+        None => BoundWord::Chain,
+    }
+}
+
+fn draw_words_of<'a>(chosen: &ArgMatches<'a>) -> DrawWords<'a> {
+    DrawWords {
         order: order_of(chosen.get_str("order")),
-        conflicts: chosen
-            .get_str("prove")
-            .and_then(|word| word.parse::<u64>().ok()),
+        bound: bound_of(chosen),
+        start: chosen.get_str("start"),
+        unit: unit_of(chosen.get_str("unit")),
+        names: chosen.get_str("names"),
+        before: chosen.get_str("before"),
     }
 }
 
@@ -188,7 +250,7 @@ pub(crate) fn task_of<'a>(matches: &ArgMatches<'a>) -> Option<ProjectTask<'a>> {
         })),
         Some(("draw", chosen)) => {
             let paths = paths_of(chosen)?;
-            Some(ProjectTask::Draw(paths, drawing_of(chosen)))
+            Some(ProjectTask::Draw(paths, draw_words_of(chosen)))
         }
         _ => None,
     }
@@ -223,13 +285,18 @@ resource against its capacity. With --order start the rows are in the order of t
 chain leads from the end back to the beginning: each of its activities begins when the one before it ends,
 a predecessor of it or one that uses a resource of it. The heading says 'optimal by the longest chain'
 only if the makespan is the length of the longest chain of activities by shortest durations, and
-otherwise tells that length. With --prove it looks for a proof of a better bound, and says 'optimal by a
+otherwise gives that length. With --prove it looks for a proof of a better bound, and says 'optimal by a
 proof' if no schedule is shorter. No verdict is taken from the schedule's text. A schedule that is not
 feasible is not drawn; it ends as in verify.
 
-Example:
+--before draws a thin bar under each bar: where the activity was in an earlier schedule. That one may be
+infeasible; what it has of modes and activities that the project lacks is left out. A line of --names has
+an activity's number, a comma and its name; a line without a number is passed over.
 
-  $ farm solve examples/j10_1.mm | farm draw examples/j10_1.mm - > j10_1.svg";
+Examples:
+
+  $ farm solve examples/j10_1.mm | farm draw examples/j10_1.mm - > j10_1.svg
+  $ farm draw --start 2026-12-01 --names names.csv --before old.txt project.mm new.txt > plan.svg";
 
 const SOLVE_HELP: &str = "\
 It prints a line of the nodes that were run and a line of the best schedule: its makespan, a verdict,

@@ -11,6 +11,7 @@
 //!   `prove_within`; `solve_each`.
 //! - `search_kinds`, `kinds`: the kinds of search, and their words.
 //! - `telling`, `improvements`, `progress`: what a search has found, at its end and before.
+//! - `picture`: the picture of a schedule, and the bound in its heading.
 //! - `showing`, `solving`: the commands over any readers and writer.
 //! - `fault`, `explaining`: why a schedule is not feasible; the second line on how a command ends.
 //! - `arguments`, `program`: the words of a command line, and the commands on files.
@@ -21,11 +22,11 @@ mod arguments;
 mod executable;
 mod explaining;
 mod fault;
-mod heading;
 mod improvements;
 mod kinds;
 pub mod laws;
 mod local;
+mod picture;
 mod program;
 mod progress;
 mod proof;

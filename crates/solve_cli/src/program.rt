@@ -1,23 +1,24 @@
 //! The commands on files, with an exit status.
 ghost use Rattle.std.specs.Prelude.{◌≡◌, ◌≤◌, IfOk, IfErr, IfSome, vec_len};
 ghost use Rattle.std.specs.Process.{exit_status};
-ghost use Rattle.mrcpsp.specs.Schedule.{IsFeasible};
 
-use crate::arguments::{Drawing, Listing, ProjectTask, Solving, task_of};
-use crate::heading::heading_of;
+use crate::arguments::{DrawWords, Listing, ProjectTask, Solving, task_of};
 use crate::improvements::{Improvements, Style};
 use crate::kinds::{SearchFault, kinds_of};
+use crate::picture::{PictureWords, picture_of};
 use crate::progress::{Progress, Telling};
 use crate::search_kinds::SearchKind;
 use crate::searching::MOST_NODES;
 use crate::several::MOST_SEARCHES;
 use crate::showing::{draw_to, verify_to};
 use crate::solving::{SolveOptions, solve_to};
-use crate::verifying::Verified;
 use clap::ArgMatches;
-use explain::{CommandWatches, Paths, end_no_memory, open_path, why_no_search};
-use schedule_files::draw;
-use std::alloc::{AllocError, Global};
+use explain::{
+    CommandWatches, Paths, calendar_of, end_no_memory, open_path, read_names, read_path,
+    refuse_same, why_no_schedule, why_no_search,
+};
+use mrcpsp::Schedule;
+use schedule_files::{MOST_BYTES, read_schedule};
 use std::env::Env;
 use std::io;
 use std::io::Eprint;
@@ -48,19 +49,6 @@ fn refuse_one<R: Eprint>(rt: &R) -> ExitCode
     ExitCode::from(2)
 }
 
-fn picture(alloc: Global, verified: &Verified, asked: Drawing) -> Result<String, AllocError>
-    requires { IsFeasible verified.now.project verified.now.schedule }
-{
-    let heading = heading_of(alloc, verified, asked.conflicts)?;
-    draw(
-        alloc,
-        &verified.project,
-        &verified.schedule,
-        heading,
-        asked.order,
-    )
-}
-
 fn run_task<R: Runtime + AllocGlobal>(rt: &R, task: ProjectTask<'_>) -> ExitCode
     ensures { exit_status result ≤ 2 }
 {
@@ -87,7 +75,81 @@ fn run_verify<R: Runtime + AllocGlobal>(rt: &R, paths: Paths<'_>, told: Listing)
     verify_to(rt, paths, file, text, &mut io::writer(rt), &mut watches)
 }
 
-fn run_draw<R: Runtime + AllocGlobal>(rt: &R, paths: Paths<'_>, asked: Drawing) -> ExitCode
+/// Writes on standard error that the text of `--before` has no schedule.
+fn refuse_before<R: Env + Eprint + AllocGlobal>(rt: &R, bytes: &[u8]) -> ExitCode
+    ensures { exit_status result ≡ 1 }
+{
+    let fault = if bytes.len() > MOST_BYTES {
+        "TooLong"
+    } else {
+        "Words"
+    };
+    let _ = eprintln!(rt; "farm: second schedule: no schedule {fault}");
+    tell_why(rt, &why_no_schedule(rt.alloc(), bytes));
+    ExitCode::FAILURE
+}
+
+/// The schedule of the file at `path`. On an error, the status, the reason is on standard error.
+fn read_before<R: Runtime + AllocGlobal>(
+    rt: &R,
+    path: Option<&str>,
+) -> Result<Option<Schedule>, ExitCode>
+    ensures { IfErr result (λ status. exit_status status ≡ 1) }
+{
+    let Some(path) = path else {
+        return Ok(None);
+    };
+    let Some(bytes) = read_path(rt, path) else {
+        return Err(ExitCode::FAILURE);
+    };
+    if bytes.len() > MOST_BYTES {
+        return Err(refuse_before(rt, &bytes));
+    }
+    match read_schedule(rt.alloc(), &bytes) {
+        Ok(Some(schedule)) => Ok(Some(schedule)),
+        Ok(None) => Err(refuse_before(rt, &bytes)),
+        Err(_) => Err(end_no_memory(rt)),
+    }
+}
+
+fn run_draw<R: Runtime + AllocGlobal>(rt: &R, paths: Paths<'_>, asked: DrawWords<'_>) -> ExitCode
+    ensures { exit_status result ≤ 2 }
+{
+    let others = [asked.names.unwrap_or(""), asked.before.unwrap_or("")];
+    let given = [paths.file, paths.text, others[0], others[1]];
+    if given.iter().filter(|path| **path == "-").count() > 1 {
+        return refuse_same(rt);
+    }
+    let calendar = match calendar_of(rt, asked.start, asked.unit) {
+        Ok(calendar) => calendar,
+        Err(status) => return status,
+    };
+    let names = match read_names(rt, asked.names) {
+        Ok(names) => names,
+        Err(status) => return status,
+    };
+    let before = match read_before(rt, asked.before) {
+        Ok(before) => before,
+        Err(status) => return status,
+    };
+    let words = PictureWords {
+        bound: asked.bound,
+        order: asked.order,
+        calendar,
+        names: match &names {
+            Some(names) => Some(names.as_slice()),
+            None => None,
+        },
+        before: before.as_ref(),
+    };
+    draw_files(rt, paths, &words)
+}
+
+fn draw_files<R: Runtime + AllocGlobal>(
+    rt: &R,
+    paths: Paths<'_>,
+    words: &PictureWords<'_>,
+) -> ExitCode
     ensures { exit_status result ≤ 1 }
 {
     let Some(file) = open_path(rt, paths.file) else {
@@ -105,7 +167,7 @@ fn run_draw<R: Runtime + AllocGlobal>(rt: &R, paths: Paths<'_>, asked: Drawing) 
         text,
         &mut io::writer(rt),
         &mut watches,
-        |verified| picture(alloc, &verified, asked),
+        |verified| picture_of(alloc, &verified, words),
     )
 }
 

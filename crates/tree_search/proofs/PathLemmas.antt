@@ -1,34 +1,34 @@
 -- The stages of a path, as one more is placed or the last one is taken back.
-use Rattle.std.proofs.Common.{◌≡◌, ℕ, zero, suc, ◌+◌, ◌*◌, ◌-◌, ◌/◌, ◌%◌, ◌<◌, ◌≤◌, ◌==◌, ◌↔◌, ◌||◌, nat_lt, cond, Bool, true, false, List, [], ◌∷◌, ◌++◌, IsTrue, length, map, get_or, set, take, length-set, take_all, All, arith, refl, sym, ap, ◌∙◌, subst, ⊎_elim, Option, None, Some, MatchOption}
+use Rattle.std.proofs.Common.{◌≡◌, ℕ, zero, suc, ◌+◌, ◌*◌, ◌-◌, ◌/◌, ◌%◌, ◌<◌, ◌≤◌, ◌==◌, ◌↔◌, ◌||◌, nat_lt, cond, Bool, true, false, List, [], ◌∷◌, ◌++◌, IsTrue, length, fold, map, get_or, set, take, length-set, take_all, All, arith, refl, sym, ap, ◌∙◌, subst, ⊎_elim, Option, None, Some, MatchOption}
 use Rattle.std.specs.List.{slice_range, list_any, range_with_len}
-use Rattle.std.proofs.lemmas.Bool.{both_ways, cases_lt, cases_eq, cases_Bool, eqb-true, eqb-false, eq-eqb, ne_eqb, or_cases, or_left, or_right, or_parts}
-use Rattle.std.proofs.lemmas.List.{take-append-le, take_more, length-take-le, get_or-take, get_or_append_left, get_or_push, length_push, get_or-set_same, get_or-set_other}
+use Rattle.std.proofs.lemmas.Bool.{and_parts, both_ways, cases_lt, cases_eq, cases_Bool, eqb-true, eqb-false, eq-eqb, ne_eqb, or_cases, or_left, or_right, or_parts}
+use Rattle.std.proofs.lemmas.List.{take-append-le, take_more, length-take-le, get_or-take, get_or_default, get_or_append_left, get_or_push, length_push, get_or-set_same, get_or-set_other}
 use Rattle.std.proofs.lemmas.Nat.Bits.{bit_at-zero}
-use Rattle.std.proofs.lemmas.List.Elements.{All-nil}
+use Rattle.std.proofs.lemmas.List.Elements.{All-nil, All-head, All-tail}
 use Rattle.std.proofs.lemmas.List.Recursion.{or_push}
 use Rattle.std.proofs.lemmas.List.FromFn.{get_or-map-range_with_len}
-use Rattle.mrcpsp.specs.Numbers.{sum_below}
 use Rattle.mrcpsp.specs.Limits.{IsProject}
 use Rattle.mrcpsp.specs.Project.{ProjectData, size, mode_count, consumption, stock, precedes}
 use Rattle.mrcpsp.specs.Values.{least}
-use Rattle.mrcpsp.specs.Placed.{Placed, finish_of, is_allowed, is_placed, is_eligible, is_affordable, last_start, mode_in, start_in}
+use Rattle.strategy.specs.Candidate.{is_allowed_mode}
+use Rattle.mrcpsp.specs.Placed.{Placed, finish_of, is_allowed, is_placed, is_eligible, is_affordable, is_executable, last_start}
 use Rattle.mrcpsp.proofs.PlacedLemmas.{each_is_placed, is_placed_push, last_start_push, looked_up}
 use Rattle.mrcpsp.proofs.ProjectLemmas.{precedes-rising}
 use Rattle.mrcpsp.proofs.EarliestLemmas.{eligible-unplaced, eligible-after, eligible-from}
 use Rattle.serial_sgs.specs.Board.{IsBoard, IsInside, IsNextEligible, NoneEligible, needed_of}
 use Rattle.serial_sgs.specs.Members.{has, IsNext, IsOver}
 use Rattle.serial_sgs.specs.Order.{AreReadied, AreRenewed, HasAfter, HasBefore, IsBefore, IsLatest, missing_of}
-use Rattle.serial_sgs.specs.Rows.{IsRow, IsTable}
-use Rattle.serial_sgs.specs.declared.rows.ModeRow.{ModeRow}
-use Rattle.serial_sgs.specs.declared.rows.Rows.{Rows}
 use Rattle.serial_sgs.proofs.BoardLemmas.{board_empty, board_push, board_pop, duration_small, ineligible, ineligible_after}
 use Rattle.serial_sgs.proofs.OrderLemmas.{AreNoted, noted_push, noted_pop, readied_push, readied_pop, all_there, there_all}
 use Rattle.serial_sgs.proofs.RowLemmas.{capacity_small, consumption_small, stock_small}
 use Rattle.serial_sgs.proofs.StockLemmas.{needed_push, alone_at_end, affordable_unplaced, amounts_small}
 use Rattle.tree_search.specs.declared.front.Running.{Running}
 use Rattle.tree_search.specs.declared.path.Stage.{Stage}
+use Rattle.tree_search.specs.declared.table.Row.{Row}
+use Rattle.tree_search.specs.declared.table.Table.{Table}
+use Rattle.tree_search.specs.Table.{IsLine, IsLines, no_row}
 use Rattle.tree_search.specs.Front.{IsFrontOf, IsRising, left_at}
-use Rattle.tree_search.specs.Path.{AreDone, AreStages, HasEntered, IsPath, IsStage, WereEligible, no_stage, triangle}
+use Rattle.tree_search.specs.Path.{AreDone, AreStages, HasEntered, IsCovered, IsFirstStage, IsHopeless, IsPath, IsStage, IsTaken, WereEligible, no_stage, triangle}
 use Rattle.tree_search.proofs.FrontLemmas.{empty_range, range_before, range_kept}
 use Rattle.tree_search.proofs.NodeLemmas.{last_start_none}
 use Rattle.tree_search.proofs.PlacedLemmas.{front_enough, front_first, front_most, front_push}
@@ -312,6 +312,7 @@ stage_kept p placed running later s base was within same = record {
   within = was.within;
   eligible = was.eligible;
   others = was.others;
+  last = was.last;
 }
 
 pub stages_push : (p : ProjectData) (placed : List Placed) (a : Placed) (running later : List Running) (stages : List Stage) (new : Stage) → length placed < size p → AreStages p placed running stages → length later ≡ length running → take (get_or stages (length placed) no_stage).end running ≡ take (get_or stages (length placed) no_stage).end later → (get_or stages (length placed) no_stage).end ≤ new.end → IsStage p (placed ++ a ∷ []) later new → AreStages p (placed ++ a ∷ []) later (set stages (length placed + 1) new)
@@ -385,8 +386,8 @@ noted_beside p placed x v ends missing noted k d l =
     get_or-set_other ends x b.activity v 0 ne ∙ noted k d l
 
 -- a stage with one more
-stage_push : (p : ProjectData) (placed : List Placed) (a : Placed) (running later : List Running) (s new : Stage) (row : ModeRow) (finish : ℕ) → IsBoard (record { project = p; placed = placed }) → IsBoard (record { project = p; placed = placed ++ a ∷ [] }) → IsInside p a → last_start placed ≤ a.start → finish ≡ finish_of p a → IsRow p a.activity a.mode row → IsStage p placed running s → Entered p placed a new.eligible → ((r : ℕ) → r < 8 → get_or new.slack r 0 ≡ (get_or s.slack r 0 + (4294967296 - get_or row.extra r 0)) % 4294967296) → new.begin ≡ s.end → s.end ≤ new.end → new.end + s.begin ≤ s.end + s.end + 1 → IsRising (slice_range later s.end new.end) → ((r t : ℕ) → r < 8 → a.start ≤ t → left_at new.free (slice_range later s.end new.end) r t + cond (nat_lt t finish) (get_or row.request r 0) 0 ≡ left_at s.free (slice_range (take s.end running) s.begin s.end) r t) → IsStage p (placed ++ a ∷ []) later new
-stage_push p placed a running later s new row finish was_board board inside above ends own was entered slack begins behind few rising kept =
+stage_push : (p : ProjectData) (placed : List Placed) (a : Placed) (running later : List Running) (s new : Stage) (row : Row) (finish : ℕ) → IsBoard (record { project = p; placed = placed }) → IsBoard (record { project = p; placed = placed ++ a ∷ [] }) → IsInside p a → last_start placed ≤ a.start → finish ≡ finish_of p a → IsLine p a.activity a.mode row → IsStage p placed running s → Entered p placed a new.eligible → ((r : ℕ) → r < 8 → get_or new.slack r 0 ≡ (get_or s.slack r 0 + (4294967296 - get_or row.extra r 0)) % 4294967296) → new.begin ≡ s.end → s.end ≤ new.end → new.end + s.begin ≤ s.end + s.end + 1 → new.from ≡ a.start → IsRising (slice_range later s.end new.end) → ((r t : ℕ) → r < 8 → a.start ≤ t → left_at new.free (slice_range later s.end new.end) r t + cond (nat_lt t finish) (get_or row.request r 0) 0 ≡ left_at s.free (slice_range (take s.end running) s.begin s.end) r t) → IsStage p (placed ++ a ∷ []) later new
+stage_push p placed a running later s new row finish was_board board inside above ends own was entered slack begins behind few starts rising kept =
     let many : length (placed ++ a ∷ []) ≡ length placed + 1 = length_push placed a in
     let last : last_start (placed ++ a ∷ []) ≡ a.start = last_start_push placed a in
     let same : slice_range (take s.end running) s.begin s.end ≡ slice_range running s.begin s.end = range_before running s.begin s.end s.end was.order (omega arith) in
@@ -399,15 +400,16 @@ stage_push p placed a running later s new row finish was_board board inside abov
       within = omega (arith, few, was.few, was.order, was.within, ap triangle many, triangle_next (length placed));
       eligible = entered.eligible;
       others = entered.others;
+      last = starts ∙ sym last;
     }
 
 pub stage_here : (p : ProjectData) (placed : List Placed) (running : List Running) (stages : List Stage) → AreStages p placed running stages → IsStage p placed running (get_or stages (length placed) no_stage)
 stage_here p placed running stages was = rw (take_all (length placed) placed (omega arith)) at (was.each (length placed) (omega arith))
 
 -- what the steps of a placement are, and what they leave
-pub record IsPlacing (p : ProjectData) (a : Placed) (afters table : List (List ℕ)) (running later : List Running) (s new : Stage) (less ends readies soon : List ℕ) (row : ModeRow) (finish : ℕ) : Type 0 where
+pub record IsPlacing (p : ProjectData) (a : Placed) (afters table : List (List ℕ)) (running later : List Running) (s new : Stage) (less ends readies soon : List ℕ) (row : Row) (finish : ℕ) : Type 0 where
   pub ends_at : finish ≡ finish_of p a
-  pub own : IsRow p a.activity a.mode row
+  pub own : IsLine p a.activity a.mode row
   pub gone : has less a.activity ≡ false
   pub kept : (j : ℕ) → (j ≡ a.activity → ⊥) → has less j ≡ has s.eligible j
   pub entered : HasEntered (get_or afters a.activity []) table (set ends a.activity finish) less readies new.eligible soon
@@ -417,11 +419,12 @@ pub record IsPlacing (p : ProjectData) (a : Placed) (afters table : List (List �
   pub begins : new.begin ≡ s.end
   pub behind : s.end ≤ new.end
   pub few : new.end + s.begin ≤ s.end + s.end + 1
+  pub starts : new.from ≡ a.start
   pub rising : IsRising (slice_range later s.end new.end)
   pub left : (r t : ℕ) → r < 8 → a.start ≤ t → left_at new.free (slice_range later s.end new.end) r t + cond (nat_lt t finish) (get_or row.request r 0) 0 ≡ left_at s.free (slice_range (take s.end running) s.begin s.end) r t
 
-pub path_push : (p : ProjectData) (placed : List Placed) (a : Placed) (reserved : ℕ) (rows : Rows) (table afters : List (List ℕ)) (stages : List Stage) (running later : List Running) (new : Stage) (less ends readies soon : List ℕ) (row : ModeRow) (finish : ℕ) → IsPath p placed reserved rows table afters stages running ends readies → IsInside p a → is_eligible p placed a.activity ≡ true → is_allowed p placed a.activity a.mode a.start ≡ true → last_start placed ≤ a.start → length placed < size p → IsPlacing p a afters table running later (get_or stages (length placed) no_stage) new less ends readies soon row finish → IsPath p (placed ++ a ∷ []) reserved rows table afters (set stages (length placed + 1) new) later (set ends a.activity finish) soon
-path_push p placed a reserved rows table afters stages running later new less ends readies soon row finish was inside may fits above room steps =
+pub path_push : (p : ProjectData) (placed : List Placed) (a : Placed) (reserved : ℕ) (lines : Table) (table afters : List (List ℕ)) (stages : List Stage) (running later : List Running) (new : Stage) (less ends readies soon : List ℕ) (row : Row) (finish : ℕ) → IsPath p placed reserved lines table afters stages running ends readies → IsInside p a → is_eligible p placed a.activity ≡ true → is_allowed p placed a.activity a.mode a.start ≡ true → last_start placed ≤ a.start → length placed < size p → IsPlacing p a afters table running later (get_or stages (length placed) no_stage) new less ends readies soon row finish → IsPath p (placed ++ a ∷ []) reserved lines table afters (set stages (length placed + 1) new) later (set ends a.activity finish) soon
+path_push p placed a reserved lines table afters stages running later new less ends readies soon row finish was inside may fits above room steps =
     let whole : List Placed = placed ++ a ∷ [] in
     let s : Stage = get_or stages (length placed) no_stage in
     let new_one : is_placed placed a.activity ≡ false = eligible-unplaced p placed a.activity may in
@@ -453,12 +456,12 @@ path_push p placed a reserved rows table afters stages running later new less en
       never = never;
       readied = readied_push p placed a missing (set ends a.activity finish) readies soon table afters board inside.activity new_one missed noted was.before was.after renewed was.readied;
       entered = entered_push p placed a was.entered may;
-      staged = stages_push p placed a running later stages new room was.staged steps.long (sym steps.same) steps.behind (stage_push p placed a running later s new row finish was.board board inside above steps.ends_at steps.own here entered steps.slack steps.begins steps.behind steps.few steps.rising steps.left);
+      staged = stages_push p placed a running later stages new room was.staged steps.long (sym steps.same) steps.behind (stage_push p placed a running later s new row finish was.board board inside above steps.ends_at steps.own here entered steps.slack steps.begins steps.behind steps.few steps.starts steps.rising steps.left);
     }
 
-pub path_pop : (p : ProjectData) (placed rest : List Placed) (a : Placed) (reserved memory : ℕ) (rows : Rows) (table afters : List (List ℕ)) (stages : List Stage) (running : List Running) (ends readies : List ℕ) → placed ≡ rest ++ a ∷ [] → memory ≡ reserved → IsPath p placed reserved rows table afters stages running ends readies → IsPath p rest memory rows table afters stages running (set ends a.activity 4294967295) readies
-path_pop p placed rest a reserved memory rows table afters stages running ends readies e same path =
-    let was : IsPath p (rest ++ a ∷ []) reserved rows table afters stages running ends readies = subst (λ (xs : List Placed). IsPath p xs reserved rows table afters stages running ends readies) e path in
+pub path_pop : (p : ProjectData) (placed rest : List Placed) (a : Placed) (reserved memory : ℕ) (lines : Table) (table afters : List (List ℕ)) (stages : List Stage) (running : List Running) (ends readies : List ℕ) → placed ≡ rest ++ a ∷ [] → memory ≡ reserved → IsPath p placed reserved lines table afters stages running ends readies → IsPath p rest memory lines table afters stages running (set ends a.activity 4294967295) readies
+path_pop p placed rest a reserved memory lines table afters stages running ends readies e same path =
+    let was : IsPath p (rest ++ a ∷ []) reserved lines table afters stages running ends readies = subst (λ (xs : List Placed). IsPath p xs reserved lines table afters stages running ends readies) e path in
     let inside : IsInside p a = subst (λ (x : Placed). IsInside p x) (get_or_push rest a a (length rest) refl) (was.board.inside (length rest) a (omega (arith, length_push rest a))) in
     let alone : is_placed rest a.activity ≡ false = alone_at_end rest a was.board.distinct in
     record {
@@ -476,8 +479,8 @@ path_pop p placed rest a reserved memory rows table afters stages running ends r
     }
 
 -- the activity that is taken back is one of the project's
-pub path_last : (p : ProjectData) (placed rest : List Placed) (a : Placed) (reserved : ℕ) (rows : Rows) (table afters : List (List ℕ)) (stages : List Stage) (running : List Running) (ends readies : List ℕ) → placed ≡ rest ++ a ∷ [] → IsPath p placed reserved rows table afters stages running ends readies → a.activity < length ends
-path_last p placed rest a reserved rows table afters stages running ends readies e was =
+pub path_last : (p : ProjectData) (placed rest : List Placed) (a : Placed) (reserved : ℕ) (lines : Table) (table afters : List (List ℕ)) (stages : List Stage) (running : List Running) (ends readies : List ℕ) → placed ≡ rest ++ a ∷ [] → IsPath p placed reserved lines table afters stages running ends readies → a.activity < length ends
+path_last p placed rest a reserved lines table afters stages running ends readies e was =
     let inside = was.board.inside (length rest) a (omega (arith, ap (λ (xs : List Placed). length xs) e, length_push rest a)) in
     let mine : IsInside p a = subst (λ (x : Placed). IsInside p x) (ap (λ (xs : List Placed). get_or xs (length rest) a) e ∙ get_or_push rest a a (length rest) refl) inside in
     omega (arith, mine.activity, was.noted)
@@ -499,8 +502,8 @@ next_is p placed words from (Some j) own others next =
     }
 
 -- nothing is placed
-pub path_first : (p : ProjectData) (reserved : ℕ) (rows : Rows) (table afters : List (List ℕ)) (stage : Stage) (stages : List Stage) (running : List Running) (ends readies : List ℕ) → IsProject p → reserved ≡ size p → IsTable p rows → HasBefore p (size p) table → HasAfter p (size p) afters → length ends ≡ size p → ((j : ℕ) → j < size p → get_or ends j 0 ≡ 4294967295) → AreReadied p [] readies → length stages ≡ size p + 1 → length running ≡ triangle (size p) → get_or stages 0 no_stage ≡ stage → ((r : ℕ) → r < 8 → (get_or stage.slack r 0 + needed_of p [] r) % 4294967296 ≡ stock p r) → stage.free ≡ rows.capacities → stage.begin ≡ 0 → stage.end ≡ 0 → ((j : ℕ) → j < size p → has stage.eligible j ≡ (length (get_or table j []) == 0)) → ((j : ℕ) → size p ≤ j → j < 256 → has stage.eligible j ≡ false) → IsPath p [] reserved rows table afters stages running ends readies
-path_first p reserved rows table afters stage stages running ends readies project memory tabled before after long never readied count room first slack free begins ends_at members others = record {
+pub path_first : (p : ProjectData) (reserved : ℕ) (lines : Table) (table afters : List (List ℕ)) (words : List ℕ) (stage : Stage) (stages : List Stage) (running : List Running) (ends readies : List ℕ) → IsProject p → reserved ≡ size p → IsLines p lines → HasBefore p (size p) table → HasAfter p (size p) afters → length ends ≡ size p → ((j : ℕ) → j < size p → get_or ends j 0 ≡ 4294967295) → AreReadied p [] readies → length stages ≡ size p + 1 → length running ≡ triangle (size p) → get_or stages 0 no_stage ≡ stage → IsFirstStage p words stage → ((j : ℕ) → j < size p → has words j ≡ (length (get_or table j []) == 0)) → ((j : ℕ) → size p ≤ j → j < 256 → has words j ≡ false) → IsPath p [] reserved lines table afters stages running ends readies
+path_first p reserved lines table afters words stage stages running ends readies project memory tabled before after long never readied count room first start members others = record {
   board = board_empty p project;
   memory = memory;
   tabled = tabled;
@@ -533,24 +536,25 @@ path_first p reserved rows table afters stage stages running ends readies projec
 
     here : IsStage p [] running stage
     here = record {
-      slack = slack;
-      front = subst (λ (xs : List Running). IsFrontOf p [] (last_start []) stage.free xs) (sym (empty_range running stage.begin stage.end begins ends_at)) (rw last_start_none (front_first p stage.free (λ r l. ap (λ (xs : List ℕ). get_or xs r 0) free ∙ tabled.capacities r l)));
-      order = omega (arith, begins);
-      few = omega (arith, ends_at);
-      within = omega (arith, ends_at);
-      eligible = λ j l. members j l ∙ open_first j l;
-      others = others;
+      slack = start.slack;
+      front = subst (λ (xs : List Running). IsFrontOf p [] (last_start []) stage.free xs) (sym (empty_range running stage.begin stage.end start.begin start.end)) (rw last_start_none (front_first p stage.free start.free));
+      order = omega (arith, start.begin);
+      few = omega (arith, start.end);
+      within = omega (arith, start.end);
+      eligible = λ j l. ap (λ (xs : List ℕ). has xs j) start.eligible ∙ members j l ∙ open_first j l;
+      others = λ j past below. ap (λ (xs : List ℕ). has xs j) start.eligible ∙ others j past below;
+      last = start.from ∙ sym last_start_none;
     }
 
 -- there is a place for the list of one more, and its request is left
-pub record HasPlace (a : Placed) (running : List Running) (s : Stage) (row : ModeRow) (finish : ℕ) : Type 0 where
+pub record HasPlace (a : Placed) (running : List Running) (s : Stage) (row : Row) (finish : ℕ) : Type 0 where
   pub order : s.begin ≤ s.end
   pub memory : s.end + s.end + 1 ≤ length running + s.begin
   pub rising : IsRising (slice_range (take s.end running) s.begin s.end)
   pub few : (r t : ℕ) → r < 8 → left_at s.free (slice_range (take s.end running) s.begin s.end) r t ≤ 2000000000
   pub room : a.start < finish → (r : ℕ) → r < 8 → get_or row.request r 0 ≤ left_at s.free (slice_range (take s.end running) s.begin s.end) r a.start
 
-pub has_place : (p : ProjectData) (placed : List Placed) (a : Placed) (running : List Running) (stages : List Stage) (row : ModeRow) (finish : ℕ) → IsBoard (record { project = p; placed = placed }) → AreStages p placed running stages → length placed < size p → IsInside p a → IsRow p a.activity a.mode row → finish ≡ finish_of p a → last_start placed ≤ a.start → is_allowed p placed a.activity a.mode a.start ≡ true → HasPlace a running (get_or stages (length placed) no_stage) row finish
+pub has_place : (p : ProjectData) (placed : List Placed) (a : Placed) (running : List Running) (stages : List Stage) (row : Row) (finish : ℕ) → IsBoard (record { project = p; placed = placed }) → AreStages p placed running stages → length placed < size p → IsInside p a → IsLine p a.activity a.mode row → finish ≡ finish_of p a → last_start placed ≤ a.start → is_allowed p placed a.activity a.mode a.start ≡ true → HasPlace a running (get_or stages (length placed) no_stage) row finish
 has_place p placed a running stages row finish board was more inside own ends above fits =
     let s : Stage = get_or stages (length placed) no_stage in
     let here : IsStage p placed running s = stage_here p placed running stages was in
@@ -574,3 +578,55 @@ zero_at (suc (suc (suc (suc w)))) = refl
 pub empty_set : (j : ℕ) → has (0 ∷ 0 ∷ 0 ∷ 0 ∷ []) j ≡ false
 unfolding has
 empty_set j = rw (zero_at (j / 64), bit_at-zero (j % 64)) refl
+
+-- ---- a mode of which the slack decides
+
+pub covered_allowed : (p : ProjectData) (placed : List Placed) (j m : ℕ) (slack : List ℕ) (row : Row) (limit : ℕ) → IsBoard (record { project = p; placed = placed }) → j < size p → m < mode_count p j → is_placed placed j ≡ false → ((r : ℕ) → r < 8 → (get_or slack r 0 + needed_of p placed r) % 4294967296 ≡ stock p r) → IsLine p j m row → limit ≤ 4294967295 → row.reach < limit → IsCovered row.extra slack → is_allowed_mode p placed j m ≡ true
+unfolding is_allowed_mode
+covered_allowed p placed j m slack row limit board inside known new slacks own most short covered =
+    let can : is_executable p j m ≡ true = ⊎_elim (λ (e : is_executable p j m ≡ true). e) (λ (e : is_executable p j m ≡ false). absurd (omega (arith, own.never e))) (cases_Bool (is_executable p j m)) in
+    let enough : true ≡ is_affordable p placed j m = affordable_by p placed j m slack row.extra true board inside known new slacks own.extra (λ _. covered, λ _. refl) in
+    rw (can, sym enough) refl
+
+pub hopeless_by : (p : ProjectData) (placed : List Placed) (j m : ℕ) (slack : List ℕ) (row : Row) (limit : ℕ) → IsBoard (record { project = p; placed = placed }) → j < size p → m < mode_count p j → is_placed placed j ≡ false → ((r : ℕ) → r < 8 → (get_or slack r 0 + needed_of p placed r) % 4294967296 ≡ stock p r) → IsLine p j m row → (row.reach < limit → IsCovered row.extra slack → ⊥) → IsHopeless p placed j m limit
+unfolding is_allowed_mode
+hopeless_by p placed j m slack row limit board inside known new slacks own refused allowed =
+    let parts = and_parts (is_executable p j m) (is_affordable p placed j m) allowed in
+    ⊎_elim
+    (λ (short : row.reach < limit).
+    let never : false ≡ is_affordable p placed j m = affordable_by p placed j m slack row.extra false board inside known new slacks own.extra (λ e. absurd (both_ways false refl e), λ all. absurd (refused short all)) in
+    absurd (both_ways (is_affordable p placed j m) (sym never) parts.1))
+    (λ (long : limit ≤ row.reach). omega (arith, own.reach parts.0, long))
+    (cases_lt row.reach limit)
+
+-- as they are read from a list
+pub covered_at : (p : ProjectData) (placed : List Placed) (j m : ℕ) (slack : List ℕ) (rows : List Row) (k : ℕ) (d : Row) (limit : ℕ) → IsBoard (record { project = p; placed = placed }) → j < size p → m < mode_count p j → is_placed placed j ≡ false → ((r : ℕ) → r < 8 → (get_or slack r 0 + needed_of p placed r) % 4294967296 ≡ stock p r) → k < length rows → IsLine p j m (get_or rows k no_row) → limit ≤ 4294967295 → (get_or rows k d).reach < limit → IsCovered (get_or rows k d).extra slack → is_allowed_mode p placed j m ≡ true
+covered_at p placed j m slack rows k d limit board inside known new slacks among own most short covered =
+    covered_allowed p placed j m slack (get_or rows k d) limit board inside known new slacks (rw (get_or_default rows k d no_row among) own) most short covered
+
+pub hopeless_at : (p : ProjectData) (placed : List Placed) (j m : ℕ) (slack : List ℕ) (rows : List Row) (k : ℕ) (d : Row) (limit : ℕ) → IsBoard (record { project = p; placed = placed }) → j < size p → m < mode_count p j → is_placed placed j ≡ false → ((r : ℕ) → r < 8 → (get_or slack r 0 + needed_of p placed r) % 4294967296 ≡ stock p r) → k < length rows → IsLine p j m (get_or rows k no_row) → ((get_or rows k d).reach < limit → IsCovered (get_or rows k d).extra slack → ⊥) → IsHopeless p placed j m limit
+hopeless_at p placed j m slack rows k d limit board inside known new slacks among own refused =
+    hopeless_by p placed j m slack (get_or rows k d) limit board inside known new slacks (rw (get_or_default rows k d no_row among) own) refused
+
+-- ---- what is taken away
+
+pub taken_last : (p : ProjectData) (placed rest : List Placed) (a : Placed) (reserved : ℕ) (lines : Table) (table afters : List (List ℕ)) (stages : List Stage) (running : List Running) (ends readies : List ℕ) → placed ≡ rest ++ a ∷ [] → IsPath p placed reserved lines table afters stages running ends readies → IsTaken p rest a
+taken_last p placed rest a reserved lines table afters stages running ends readies e path =
+    let was : IsPath p (rest ++ a ∷ []) reserved lines table afters stages running ends readies = subst (λ (xs : List Placed). IsPath p xs reserved lines table afters stages running ends readies) e path in
+    let long : length rest < length (rest ++ a ∷ []) = omega (arith, length_push rest a) in
+    let inside : IsInside p a = subst (λ (x : Placed). IsInside p x) (get_or_push rest a a (length rest) refl) (was.board.inside (length rest) a long) in
+    let before : take (length rest) (rest ++ a ∷ []) ≡ rest = take-append-le (length rest) rest (a ∷ []) (omega arith) ∙ take_all (length rest) rest (omega arith) in
+    record {
+      activity = inside.activity;
+      mode = inside.mode;
+      eligible = rw (before, get_or_push rest a a (length rest) refl) at (was.entered (length rest) a long);
+    }
+
+-- no start is late
+starts_small : (p : ProjectData) (placed : List Placed) (s : ℕ) → s ≤ 1000000000 → All (IsInside p) placed → fold (λ _ (a : Placed). a.start) s placed ≤ 1000000000
+starts_small p [] s small inside = small
+starts_small p (a ∷ placed) s small inside = starts_small p placed a.start (All-head (IsInside p) a placed inside).start (All-tail (IsInside p) a placed inside)
+
+pub last_start_small : (p : ProjectData) (placed : List Placed) → IsBoard (record { project = p; placed = placed }) → last_start placed ≤ 1000000000
+unfolding last_start
+last_start_small p placed board = starts_small p placed 0 (omega arith) board.inside

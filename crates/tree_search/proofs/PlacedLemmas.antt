@@ -2,12 +2,12 @@
 use Rattle.std.proofs.Common.{◌≡◌, ℕ, ◌+◌, ◌<◌, ◌≤◌, max, cond, true, nat_le, nat_lt, List, [], ◌∷◌, ◌++◌, get_or, arith, ◌∙◌, ⊎_elim}
 use Rattle.std.proofs.lemmas.Bool.{le-leb, cases_lt, and_parts}
 use Rattle.std.proofs.lemmas.List.Sums.{sum_by_push, sum_by-le-sum_by}
-use Rattle.mrcpsp.specs.Project.{ProjectData, size, renewables, mode_count, duration, request, capacity}
+use Rattle.mrcpsp.specs.Project.{ProjectData, size, renewables, mode_count, duration, capacity}
 use Rattle.mrcpsp.specs.Limits.{IsProject}
 use Rattle.mrcpsp.specs.Schedule.{load}
 use Rattle.mrcpsp.specs.Placed.{Placed, finish_of, placed_use, are_ready, fits, is_allowed, earliest, is_executable}
 use Rattle.mrcpsp.proofs.ProjectLemmas.{load-over}
-use Rattle.mrcpsp.proofs.EarliestLemmas.{fits-at, earliest-ge, earliest-allowed}
+use Rattle.mrcpsp.proofs.EarliestLemmas.{fits-at, earliest-allowed}
 use Rattle.serial_sgs.proofs.SumLemmas.{use_nil, ready_before, earliest_here, load_during}
 use Rattle.serial_sgs.proofs.RowLemmas.{request_past}
 use Rattle.tree_search.specs.declared.front.Running.{Running}

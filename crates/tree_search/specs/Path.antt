@@ -1,19 +1,21 @@
 -- A partial schedule whose starts never fall, and what is known after each of its placements.
-use Rattle.std.specs.Prelude.{◌≡◌, ℕ, ◌+◌, ◌%◌, ◌<◌, ◌≤◌, ◌==◌, true, false, List, [], All, length, get_or, take}
+use Rattle.std.specs.Prelude.{◌≡◌, ℕ, ◌+◌, ◌-◌, ◌%◌, ◌<◌, ◌≤◌, ◌==◌, true, false, List, [], All, length, get_or, take}
 use Rattle.std.specs.List.{slice_range, list_any}
 use Rattle.mrcpsp.specs.declared.limits.TheConstants.{MOST_RESOURCES}
 use Rattle.mrcpsp.specs.Numbers.{sum_below}
-use Rattle.mrcpsp.specs.Project.{ProjectData, size, stock}
+use Rattle.mrcpsp.specs.Project.{ProjectData, size, mode_count, duration, capacity, stock}
+use Rattle.mrcpsp.specs.Values.{tail}
+use Rattle.strategy.specs.Candidate.{is_allowed_mode}
 use Rattle.mrcpsp.specs.Placed.{Placed, finish_of, is_eligible, is_placed, last_start}
 use Rattle.serial_sgs.specs.Board.{IsBoard, needed_of}
 use Rattle.serial_sgs.specs.Members.{has}
 use Rattle.serial_sgs.specs.Order.{AreReadied, HasAfter, HasBefore, IsLatest}
-use Rattle.serial_sgs.specs.Rows.{IsTable}
-use Rattle.serial_sgs.specs.declared.rows.Rows.{Rows}
 use Rattle.tree_search.specs.Front.{IsFrontOf}
 use Rattle.tree_search.specs.declared.front.Running.{Running}
 use Rattle.tree_search.specs.declared.path.Stage.{Stage}
-use Rattle.tree_search.specs.declared.path.TheConstants.{NEVER}
+use Rattle.tree_search.specs.declared.table.Table.{Table}
+use Rattle.tree_search.specs.declared.table.TheConstants.{NEVER}
+use Rattle.tree_search.specs.Table.{IsLines}
 
 -- 1 + 2 + .. + n
 abbrev pub triangle : ℕ → ℕ
@@ -21,10 +23,10 @@ triangle n = sum_below (λ i. i + 1) n
 
 -- the default for a missing stage
 abbrev pub no_stage : Stage
-no_stage = record { slack = []; free = []; eligible = []; begin = 0; end = 0 }
+no_stage = record { slack = []; free = []; eligible = []; begin = 0; end = 0; from = 0 }
 
 -- a stage after these placements: each stock less its need, modulo 2^32; what is free from the last
--- start on; and who may come next
+-- start on; who may come next; and the last start
 pub record IsStage (p : ProjectData) (placed : List Placed) (running : List Running) (s : Stage) : Type 0 where
   pub slack : (r : ℕ) → r < MOST_RESOURCES → (get_or s.slack r 0 + needed_of p placed r) % 4294967296 ≡ stock p r
   pub front : IsFrontOf p placed (last_start placed) s.free (slice_range running s.begin s.end)
@@ -33,6 +35,7 @@ pub record IsStage (p : ProjectData) (placed : List Placed) (running : List Runn
   pub within : s.end ≤ triangle (length placed)
   pub eligible : (j : ℕ) → j < size p → has s.eligible j ≡ is_eligible p placed j
   pub others : (j : ℕ) → size p ≤ j → j < 256 → has s.eligible j ≡ false
+  pub last : s.from ≡ last_start placed
 
 -- a stage after each number of placements. No list of a later stage covers that of an earlier one
 pub record AreStages (p : ProjectData) (placed : List Placed) (running : List Running) (stages : List Stage) : Type 0 where
@@ -47,10 +50,10 @@ WereEligible p placed = (k : ℕ) (d : Placed) → k < length placed → is_elig
 
 -- what the fields of a path keep: memory for all activities; the rows, predecessors and successors;
 -- finishes, `NEVER` for what is not placed; ready times; and the stages
-pub record IsPath (p : ProjectData) (placed : List Placed) (reserved : ℕ) (rows : Rows) (table afters : List (List ℕ)) (stages : List Stage) (running : List Running) (ends readies : List ℕ) : Type 0 where
+pub record IsPath (p : ProjectData) (placed : List Placed) (reserved : ℕ) (lines : Table) (table afters : List (List ℕ)) (stages : List Stage) (running : List Running) (ends readies : List ℕ) : Type 0 where
   pub board : IsBoard (record { project = p; placed = placed })
   pub memory : reserved ≡ size p
-  pub tabled : IsTable p rows
+  pub tabled : IsLines p lines
   pub before : HasBefore p (size p) table
   pub after : HasAfter p (size p) afters
   pub noted : length ends ≡ size p
@@ -71,3 +74,26 @@ pub record HasEntered (after : List ℕ) (table : List (List ℕ)) (ends words r
   pub ready : (k : ℕ) → k < length after → AreDone (get_or table (get_or after k 0) []) ends → (has now (get_or after k 0) ≡ true) × IsLatest (get_or table (get_or after k 0) []) ends (get_or later (get_or after k 0) 0)
   pub waiting : (k : ℕ) → k < length after → (AreDone (get_or table (get_or after k 0) []) ends → ⊥) → has now (get_or after k 0) ≡ has words (get_or after k 0)
   pub others : (j : ℕ) → list_any (λ s. s == j) after ≡ false → (has now j ≡ has words j) × (get_or later j 0 ≡ get_or readies j 0)
+
+-- if mode m of activity j may be placed by its resources, then with its tail it takes `limit` or longer
+abbrev pub IsHopeless : ProjectData → List Placed → ℕ → ℕ → ℕ → Type 0
+IsHopeless p placed j m limit = is_allowed_mode p placed j m ≡ true → limit ≤ duration p j m + tail p j
+
+-- no difference of what is left and what is taken, modulo 2^32, has the highest bit
+abbrev pub IsCovered : List ℕ → List ℕ → Type 0
+IsCovered taken there = (r : ℕ) → r < MOST_RESOURCES → (get_or there r 0 + (4294967296 - get_or taken r 0)) % 4294967296 < 2147483648
+
+-- the stage before any placement
+pub record IsFirstStage (p : ProjectData) (words : List ℕ) (s : Stage) : Type 0 where
+  pub slack : (r : ℕ) → r < MOST_RESOURCES → (get_or s.slack r 0 + needed_of p [] r) % 4294967296 ≡ stock p r
+  pub free : (r : ℕ) → r < MOST_RESOURCES → get_or s.free r 0 ≡ capacity p r
+  pub eligible : s.eligible ≡ words
+  pub begin : s.begin ≡ 0
+  pub end : s.end ≡ 0
+  pub from : s.from ≡ 0
+
+-- the last activity was taken away, and may come next again
+pub record IsTaken (p : ProjectData) (placed : List Placed) (last : Placed) : Type 0 where
+  pub activity : last.activity < size p
+  pub mode : last.mode < mode_count p last.activity
+  pub eligible : is_eligible p placed last.activity ≡ true

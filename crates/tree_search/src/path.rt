@@ -1,31 +1,35 @@
 //! A partial schedule of the tree: starts never fall from placement to placement.
-ghost use Rattle.std.specs.Prelude.{◌≡◌, ℕ, ◌+◌, ◌<◌, ◌≤◌, ◌==◌, [], ◌∷◌, ◌++◌, ◌&&◌, ◌%◌, true, false, IsTrue, IsFalse, IfOk, MatchOption, All, get_or, length, max, nat_le, replicate};
+ghost use Rattle.std.specs.Prelude.{◌≡◌, ℕ, ◌+◌, ◌<◌, ◌≤◌, ◌==◌, [], ◌∷◌, ◌++◌, ◌%◌, true, false, IsTrue, IsFalse, IfOk, MatchOption, All, get_or, length, max, nat_le, replicate};
 ghost use Rattle.std.specs.List.{list_any};
 ghost use Rattle.mrcpsp.specs.Limits.{IsProject};
-ghost use Rattle.mrcpsp.specs.Project.{size, mode_count, duration, stock};
-ghost use Rattle.mrcpsp.specs.Placed.{Placed, are_ready, latest, last_start, is_allowed, earliest, is_eligible, is_executable, is_affordable};
+ghost use Rattle.mrcpsp.specs.Project.{ProjectData, size, mode_count, duration, stock, capacity};
+ghost use Rattle.mrcpsp.specs.Placed.{Placed, are_ready, latest, last_start, is_allowed, earliest, is_eligible, is_executable};
+ghost use Rattle.mrcpsp.specs.Values.{tail};
 ghost use Rattle.measures.specs.Measures.{measures_of};
+ghost use Rattle.strategy.specs.Candidate.{is_allowed_mode};
 ghost use Rattle.serial_sgs.specs.Board.{needed_of};
 ghost use Rattle.serial_sgs.specs.Members.{has};
 ghost use Rattle.serial_sgs.specs.Order.{HasBefore, IsLatest};
-ghost use Rattle.tree_search.specs.Path.{HasEntered, triangle};
+ghost use Rattle.serial_sgs.specs.Rows.{IsTable};
+ghost use Rattle.tree_search.specs.Table.{IsLines};
+ghost use Rattle.tree_search.specs.Path.{AreDone, HasEntered, IsCovered, IsFirstStage, IsHopeless, IsTaken, triangle};
 
 use crate::amounts::{is_covered, take_off};
 use crate::front::{Running, earliest, run_in};
+use crate::table::{NEVER, Row, Table};
 use measures::Measures;
-use mrcpsp::{MOST_DURATION, MOST_MODES, MOST_RESOURCES, MOST_START, Project, Sequence};
+use mrcpsp::{
+    MOST_ACTIVITIES, MOST_DURATION, MOST_MODES, MOST_RESOURCES, MOST_START, Project, Sequence,
+};
 use serial_sgs::Placement;
 use serial_sgs::amounts::Amounts;
 use serial_sgs::members::{next_in, put_in, take_out};
-use serial_sgs::order::{latest_of, predecessors, successors};
+use serial_sgs::order::{predecessors, successors};
 use serial_sgs::rows::Rows;
 use serial_sgs::stock::needed_first;
 use serial_sgs::sums::latest_finish;
 use std::alloc::{AllocError, Global};
 use std::marker::Model;
-
-/// The finish of an activity that is not placed, in periods.
-const NEVER: u32 = u32::MAX;
 
 /// A `Stage` is what is known after some placements. It is written once when the last of them is
 /// made, and nothing of it is undone.
@@ -39,6 +43,8 @@ pub(crate) struct Stage {
     /// The list of running activities: from this place on, before `end`.
     begin: usize,
     end: usize,
+    /// The last start, 0 if nothing is placed.
+    from: u32,
 }
 
 /// A `Path` is a partial schedule whose starts never fall (Sprecher and Drexl 1998). Contracts see
@@ -46,7 +52,7 @@ pub(crate) struct Stage {
 #[derive(Drop)]
 pub(crate) struct Path {
     project: Project,
-    rows: Rows,
+    table: Table,
     before: Vec<Sequence<u32>>,
     after: Vec<Sequence<u32>>,
     placed: Vec<Placement>,
@@ -66,7 +72,7 @@ impl Model for Path {
     ghost view = { λ b. record { project = b.project; placed = b.placed.items } };
 
     ghost invariant = { λ b.
-        IsPath b.project b.placed.items (vec_capacity b.placed) b.rows b.before.items b.after.items b.stages.items
+        IsPath b.project b.placed.items (vec_capacity b.placed) b.table b.before.items b.after.items b.stages.items
         b.running.items b.finishes.items b.readies.items };
 }
 
@@ -107,12 +113,8 @@ fn first_eligible(before: &[Sequence<u32>]) -> [u64; 4]
 fn first_stage(project: &Project, measures: &Measures, rows: &Rows, eligible: [u64; 4]) -> Stage
     requires project { IsProject project.now }
     requires measured { measures.now ≡ measures_of project.now }
-    ensures slack { (r : ℕ) → r < MOST_RESOURCES → get_or rows.now.stocks r 0 ≡ stock project.now r
-        → (get_or result.slack r 0 + needed_of project.now [] r) % 4294967296 ≡ stock project.now r }
-    ensures free { result.free ≡ rows.now.capacities }
-    ensures eligible { result.eligible ≡ eligible }
-    ensures begin { result.begin ≡ 0 }
-    ensures end { result.end ≡ 0 }
+    requires tabled { IsTable project.now rows.now }
+    ensures { IsFirstStage project.now eligible result }
 {
     let mut slack = rows.stocks;
     take_off(&mut slack, &needed_first(project, measures));
@@ -122,7 +124,61 @@ fn first_stage(project: &Project, measures: &Measures, rows: &Rows, eligible: [u
         eligible,
         begin: 0,
         end: 0,
+        from: 0,
     }
+}
+
+/// A `Begun` is the rows of all modes, and the stage before any placement.
+#[derive(Drop)]
+struct Begun {
+    table: Table,
+    stage: Stage,
+}
+
+/// Keeps no other memory.
+fn make_begun(
+    alloc: Global,
+    project: &Project,
+    measures: &Measures,
+    eligible: [u64; 4],
+) -> Result<Begun, AllocError>
+    requires project { IsProject project.now }
+    requires measured { measures.now ≡ measures_of project.now }
+    ensures { IfOk result (λ made. IsLines project.now made.table × IsFirstStage project.now eligible made.stage) }
+{
+    let rows = Rows::of(alloc, project, measures)?;
+    let table = Table::of(alloc, project, &rows, measures)?;
+    let stage = first_stage(project, measures, &rows, eligible);
+    Ok(Begun { table, stage })
+}
+
+/// Whether a mode takes `limit` or longer with its tail, or exceeds what is left of a stock.
+#[inline(always)]
+fn is_hopeless(row: &Row, slack: &Amounts, limit: u32) -> bool
+    ensures hopeless { IsTrue result → row.now.reach < limit → IsCovered row.now.extra slack.now → ⊥ }
+    ensures short { IsFalse result → row.now.reach < limit }
+    ensures covered { IsFalse result → IsCovered row.now.extra slack.now }
+{
+    limit <= row.reach || !is_covered(&row.extra, slack)
+}
+
+/// The latest finish of the activities in `before`, `NEVER` if one of them is not placed.
+#[inline(always)]
+fn latest_done(before: &[u32], finishes: &[u32]) -> u32
+    requires { (k : ℕ) → k < length before.now → get_or before.now k 0 < length finishes.now }
+    ensures latest { result < NEVER → IsLatest before.now finishes.now result }
+    ensures done { result < NEVER → AreDone before.now finishes.now }
+    ensures undone { NEVER ≤ result → AreDone before.now finishes.now → ⊥ }
+{
+    let mut latest: u32 = 0;
+    for other in before {
+        let finish = finishes[*other as usize];
+        if finish == NEVER {
+            return NEVER;
+        }
+        latest = latest.max(finish);
+    }
+    latest
 }
 
 /// Lets each activity in `after` come next whose predecessors are all placed. It is ready at the
@@ -145,7 +201,7 @@ fn enlist(
 {
     for other in after {
         let activity = *other as usize;
-        let latest = latest_of(before[activity].as_slice(), finishes);
+        let latest = latest_done(before[activity].as_slice(), finishes);
         if latest < NEVER {
             readies[activity] = latest;
             put_in(eligible, activity);
@@ -166,15 +222,16 @@ impl Path {
         ensures { IfOk result (λ path. path ≡ record { project = project.now; placed = [] }) }
     {
         let size = project.activities().len();
-        let placed = Vec::with_capacity(alloc, size)?;
-        let rows = Rows::of(alloc, project, measures)?;
         let before = predecessors(alloc, project)?;
+        let begun = make_begun(alloc, project, measures, first_eligible(&before))?;
+        let stage = begun.stage;
+        let placed = Vec::with_capacity(alloc, size)?;
         let after = successors(alloc, project)?;
-        let stage = first_stage(project, measures, &rows, first_eligible(&before));
         let mut stages = vec![in alloc; stage; size + 1]?;
         stages[0] = stage;
+        let request = stage.free;
         let none = Running {
-            request: rows.capacities,
+            request,
             finish: NEVER,
         };
         let running = vec![in alloc; none; places_of_lists(size)]?;
@@ -183,7 +240,7 @@ impl Path {
         let project = project.clone_in(alloc)?;
         Ok(Path {
             project,
-            rows,
+            table: begun.table,
             before,
             after,
             placed,
@@ -203,6 +260,7 @@ impl Path {
     }
 
     /// The number of placed activities.
+    #[inline(always)]
     pub(crate) fn count(&self) -> usize
         ensures exact { result ≡ length self.now.placed }
         ensures few { result ≤ size self.now.project }
@@ -210,37 +268,39 @@ impl Path {
         self.placed.len()
     }
 
-    #[inline]
+    #[inline(always)]
     pub(crate) fn size(&self) -> usize
         ensures exact { result ≡ size self.now.project }
         ensures some { 0 < result }
     {
-        self.rows.size()
+        self.finishes.len()
     }
 
-    #[inline]
+    #[inline(always)]
     pub(crate) fn mode_count(&self, activity: usize) -> usize
         requires { activity < size self.now.project }
         ensures exact { result ≡ mode_count self.now.project activity }
         ensures some { 0 < result }
         ensures few { result ≤ MOST_MODES }
+        ensures inside { activity < MOST_ACTIVITIES }
     {
-        self.rows.count(activity)
+        self.table.count(activity)
     }
 
-    /// In periods.
-    #[inline]
-    pub(crate) fn duration(&self, activity: usize, mode: usize) -> u32
+    /// The duration of an executable mode with the activity's tail.
+    #[inline(always)]
+    pub(crate) fn reach(&self, activity: usize, mode: usize) -> u32
         requires activity { activity < size self.now.project }
         requires mode { mode < mode_count self.now.project activity }
-        ensures exact { result ≡ duration self.now.project activity mode }
-        ensures most { result ≤ MOST_DURATION }
+        requires executable { IsTrue (is_executable self.now.project activity mode) }
+        ensures exact { result ≡ duration self.now.project activity mode + tail self.now.project activity }
+        ensures most { result ≤ 203000 }
     {
-        self.rows.row(activity, mode).duration
+        self.table.row(activity, mode).reach
     }
 
     /// The first eligible activity from `from` on.
-    #[inline]
+    #[inline(always)]
     pub(crate) fn next_eligible(&self, from: usize) -> Option<usize>
         requires { from ≤ size self.now.project }
         ensures { MatchOption result (NoneEligible self.now.project self.now.placed from)
@@ -253,48 +313,72 @@ impl Path {
         )
     }
 
-    /// Whether the activity could run in the mode if nothing else did, and the nonrenewable
-    /// resources suffice for the placed activities, this one, and the least consumption of all
-    /// others.
-    #[inline]
-    pub(crate) fn is_possible(&self, activity: usize, mode: usize) -> bool
+    /// The first of the modes from `from` on, before `end`, that is allowed and takes less than
+    /// `limit` with its tail. Returns `end` if there is none.
+    #[inline(always)]
+    pub(crate) fn first_hopeful(
+        &self,
+        activity: usize,
+        from: usize,
+        end: usize,
+        limit: u32,
+    ) -> usize
         requires activity { activity < size self.now.project }
-        requires mode { mode < mode_count self.now.project activity }
+        requires order { from < end }
+        requires within { end ≤ mode_count self.now.project activity }
         requires eligible { IsTrue (is_eligible self.now.project self.now.placed activity) }
-        ensures { result ≡ (is_executable self.now.project activity mode
-            && is_affordable self.now.project self.now.placed activity mode) }
+        ensures above { from ≤ result }
+        ensures inside { result ≤ end }
+        ensures hopeless { (m : ℕ) → from ≤ m → m < result
+            → IsHopeless self.now.project self.now.placed activity m limit }
+        ensures allowed { result < end → is_allowed_mode self.now.project self.now.placed activity result ≡ true }
     {
-        let row = self.rows.row(activity, mode);
-        row.is_executable && is_covered(&row.extra, &self.stages[self.placed.len()].slack)
+        let rows = self.table.modes(activity, from, end);
+        let slack = self.stages[self.placed.len()].slack;
+        let mut at = 0;
+        loop {
+            if !is_hopeless(&rows[at], &slack, limit) {
+                return from + at;
+            }
+            at += 1;
+            if at == rows.len() {
+                return end;
+            }
+        }
     }
 
-    /// The period by which all predecessors of an eligible activity have finished.
-    #[inline]
+    /// The first period, the last start or later, by which all predecessors of an eligible activity
+    /// have finished.
+    #[inline(always)]
     pub(crate) fn ready(&self, activity: usize) -> u32
         requires activity { activity < size self.now.project }
         requires eligible { IsTrue (is_eligible self.now.project self.now.placed activity) }
-        ensures exact { (t : ℕ) → are_ready self.now.project self.now.placed activity t ≡ nat_le result t }
+        ensures above { last_start self.now.placed ≤ result }
+        ensures exact { (t : ℕ) → last_start self.now.placed ≤ t
+            → are_ready self.now.project self.now.placed activity t ≡ nat_le result t }
         ensures board { IsBoard self.now }
         ensures most { result ≤ MOST_START + MOST_DURATION }
     {
-        self.readies[activity]
+        self.stages[self.placed.len()]
+            .from
+            .max(self.readies[activity])
     }
 
     /// The least start from the last one on at which the activity may be placed in `mode`: its
     /// predecessors have finished, and no renewable capacity is exceeded.
-    #[inline]
-    pub(crate) fn earliest_last(&self, activity: usize, mode: usize, from: u32) -> u32
+    #[inline(always)]
+    pub(crate) fn earliest_last(&self, activity: usize, mode: usize) -> u32
         requires activity { activity < size self.now.project }
         requires mode { mode < mode_count self.now.project activity }
         requires executable { IsTrue (is_executable self.now.project activity mode) }
         requires eligible { IsTrue (is_eligible self.now.project self.now.placed activity) }
-        requires from { from ≡ last_start self.now.placed }
-        ensures exact { result ≡ earliest self.now.project self.now.placed activity mode from }
+        ensures exact { result ≡ earliest self.now.project self.now.placed activity mode (last_start self.now.placed) }
         ensures allowed { IsTrue (is_allowed self.now.project self.now.placed activity mode result) }
-        ensures within { result ≤ max from (latest self.now.project self.now.placed) }
+        ensures within { result ≤ max (last_start self.now.placed) (latest self.now.project self.now.placed) }
+        ensures board { IsBoard self.now }
     {
-        let ready = from.max(self.readies[activity]);
-        let row = self.rows.row(activity, mode);
+        let ready = self.ready(activity);
+        let row = self.table.row(activity, mode);
         if row.duration == 0 {
             return ready;
         }
@@ -320,35 +404,38 @@ impl Path {
           placed = self.old.placed ++ record { activity = activity; mode = mode; start = start } ∷ [];
         } }
     {
-        let row = self.rows.row(activity, mode);
+        let row = self.table.row(activity, mode);
         let finish = start + row.duration;
         self.finishes[activity] = finish;
         let depth = self.placed.len();
-        let mut stage = self.stages[depth];
-        take_out(&mut stage.eligible, activity);
+        let stage = &self.stages[depth];
+        let mut eligible = stage.eligible;
+        let mut slack = stage.slack;
+        let mut free = stage.free;
+        let begin = stage.begin;
+        let upto = stage.end;
+        take_out(&mut eligible, activity);
         enlist(
-            &mut stage.eligible,
+            &mut eligible,
             &mut self.readies,
             self.after[activity].as_slice(),
             &self.before,
             &self.finishes,
         );
-        take_off(&mut stage.slack, &row.extra);
+        take_off(&mut slack, &row.extra);
         let new = Running {
             request: row.request,
             finish,
         };
-        let upto = stage.end;
-        stage.end = run_in(
-            &mut self.running,
-            stage.begin,
-            upto,
-            &mut stage.free,
-            new,
-            start,
-        );
-        stage.begin = upto;
-        self.stages[depth + 1] = stage;
+        let end = run_in(&mut self.running, begin, upto, &mut free, new, start);
+        self.stages[depth + 1] = Stage {
+            slack,
+            free,
+            eligible,
+            begin: upto,
+            end,
+            from: start,
+        };
         self.placed.push_reserved(Placement {
             activity,
             mode,
@@ -356,16 +443,18 @@ impl Path {
         });
     }
 
-    /// Takes the last activity away. Gives back no memory.
+    /// Takes the last activity away, and returns its placement. Gives back no memory.
     #[inline(always)]
-    pub(crate) fn unplace_last(&mut self)
-        requires { 0 < length self.old.placed }
+    pub(crate) fn unplace_last(&mut self) -> Option<Placement>
         ensures project { self.new.project ≡ self.old.project }
-        ensures placed { (last : Placed) × (self.old.placed ≡ self.new.placed ++ last ∷ []) }
+        ensures placed { MatchOption result (self.new ≡ self.old × (self.old.placed ≡ []))
+            (λ last. (self.old.placed ≡ self.new.placed ++ last ∷ []) × IsTaken self.new.project self.new.placed last) }
     {
-        if let Some(last) = self.placed.pop() {
-            self.finishes[last.activity] = NEVER;
-        }
+        let Some(last) = self.placed.pop() else {
+            return None;
+        };
+        self.finishes[last.activity] = NEVER;
+        Some(last)
     }
 
     /// The latest finish of the placed activities, 0 if there are none.

@@ -1,11 +1,18 @@
-use Rattle.std.proofs.Common.{[], arith, sym, ◌∙◌}
+use Rattle.std.proofs.Common.{[], arith, refl, sym, ◌∙◌}
 use Rattle.serial_sgs.proofs.BoardLemmas.{board_empty}
 use Rattle.serial_sgs.proofs.RowLemmas.{stock_small}
 use Rattle.serial_sgs.proofs.StockLemmas.{amounts_small, needed_nil}
 use Rattle.tree_search.proofs.path.first_stage.Goals as goal
 
-pub returns-clause-slack : goal.returns-clause-slack
-returns-clause-slack c r l there =
+pub returns : goal.returns
+returns c =
     let p = c.args.project.now in
     let small = amounts_small p [] c.needed_first.result (board_empty p c.requires.project) (λ n m. c.needed_first.ensures n m ∙ sym (needed_nil p n)) in
-    omega (arith, small r l, c.take_off.ensures r l, c.needed_first.ensures r l, there, needed_nil c.args.project.now r, stock_small c.args.project.now r c.requires.project)
+    record {
+      slack = λ r l. omega (arith, small r l, c.take_off.ensures r l, c.needed_first.ensures r l, c.requires.tabled.stocks r l, needed_nil p r, stock_small p r c.requires.project);
+      free = c.requires.tabled.capacities;
+      eligible = refl;
+      begin = refl;
+      end = refl;
+      from = refl;
+    }

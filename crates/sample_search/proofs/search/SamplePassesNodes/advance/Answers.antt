@@ -1,52 +1,43 @@
-use Rattle.std.proofs.Common.{◌≡◌, ◌+◌, arith, refl, sym, ap, ◌∙◌, subst, option_map}
+use Rattle.std.proofs.Common.{◌≡◌, ◌+◌, arith, sym, ap, ◌∙◌, subst, option_map}
 use Rattle.mrcpsp.specs.Project.{ProjectData, size}
 use Rattle.mrcpsp.specs.Placed.{schedule_of}
-use Rattle.mrcpsp.specs.Limits.{IsProject}
-use Rattle.mrcpsp.proofs.LimitLemmas.{kept}
 use Rattle.strategy.specs.Outcome.{better, best_pass}
 use Rattle.strategy.specs.declared.kind.Kind.TheVariants.{Sample}
 use Rattle.serial_pass.specs.Pass.{PassData}
 use Rattle.sample_search.specs.Words.{WordsData}
 use Rattle.sample_search.specs.Best.{best_in, IsKept}
-use Rattle.sample_search.proofs.SearchLemmas.{IsLastNode, IsInnerNode, ends-there, goes-on-there, run-placed, node-whole, best-ended, placed-begins, placed-goes-on}
+use Rattle.sample_search.proofs.SearchLemmas.{IsLastNode, IsInnerNode, ends-here, goes-on-here, run-placed, node-whole, best-ended, placed-begins, placed-goes-on}
 use Rattle.sample_search.proofs.search.SamplePassesNodes.advance.Goals as goal
 
 pub run_node-requires : goal.run_node-requires
 run_node-requires c =
     let it = c.requires in
-    let own : c.args.self.now.pass.project ≡ it.plan.project = it.here.project in
-    let ok : IsProject c.args.self.now.pass.project = kept c.args.self.now.pass.project (rw c.project.ensures at c.activities-activities.ensures.project) in (
-      refl,
-      (
-        record { of = rw own it.here.measured; kept = ok },
-        omega (arith, it.here.drawn, it.few),
-      ),
-    )
+    omega (arith, it.here.drawn, it.few)
 
 pub end_pass-requires-clause-whole : goal.end_pass-requires-clause-whole
 end_pass-requires-clause-whole c =
     let s = c.args.self.now in
     let it = c.requires in
     let p = it.plan.project in
-    let last : IsLastNode it.nodes (size p) = ends-there p c.project.result.now c.activities-activities.result.now s.nodes it.nodes c.are_whole_passes.result (c.activities-activities.ensures.all, c.activities-activities.ensures.project)
-    (c.project.ensures ∙ it.here.project) it.here.count c.are_whole_passes.ensures c.if-are_whole_passes.true in
+    let last : IsLastNode it.nodes (size p) = ends-here it.nodes (size p) s.left it.here.some it.here.left c.if-self-eq0.true in
     let own : c.run_node.new.pass.project ≡ p = ap (λ (a : PassData). a.project) c.run_node.ensures.pass ∙ it.here.project in
     rw own
     (node-whole p it.plan.kind it.nodes c.run_node.new.pass.placed last
     (run-placed it.plan s.words s.pass c.run_node.new.pass it.nodes it.here.kind it.here.drawn it.here.project it.here.placed c.run_node.ensures.pass))
 
-pub returns-then-are_whole_passes : goal.returns-then-are_whole_passes
-returns-then-are_whole_passes c plan k at more =
+pub returns-then-self-eq0 : goal.returns-then-self-eq0
+returns-then-self-eq0 c plan k at more =
     let s = c.args.self.now in
     let p = plan.project in
     let ended = c.end_pass.ensures in
-    let last : IsLastNode k (size p) = ends-there p c.project.result.now c.activities-activities.result.now s.nodes k c.are_whole_passes.result (c.activities-activities.ensures.all, c.activities-activities.ensures.project) (c.project.ensures ∙ at.project) at.count
-    c.are_whole_passes.ensures c.if-are_whole_passes.true in
+    let last : IsLastNode k (size p) = ends-here k (size p) s.left at.some at.left c.if-self-eq0.true in
     let own : c.run_node.new.pass.project ≡ p = ap (λ (a : PassData). a.project) c.run_node.ensures.pass ∙ at.project in
     let placed = run-placed plan s.words s.pass c.run_node.new.pass k at.kind at.drawn at.project at.placed c.run_node.ensures.pass in
     record {
       kind = at.kind ∙ ap (λ (w : WordsData). Sample w.seed) (sym c.run_node.ensures.words);
-      count = ap (λ n. n + 1) at.count;
+      some = at.some;
+      nodes = at.nodes;
+      left = omega (arith, at.nodes, last.place);
       drawn = omega (arith, ap (λ (w : WordsData). w.drawn) c.run_node.ensures.words, at.drawn);
       measured = at.measured;
       project = ap (λ (a : PassData). a.project) ended.pass ∙ own;
@@ -58,15 +49,16 @@ returns-then-are_whole_passes c plan k at more =
           ∙ best-ended p plan.kind k c.run_node.new.pass.placed (best_in s.best) last placed at.shortest;
     }
 
-pub returns-else-are_whole_passes : goal.returns-else-are_whole_passes
-returns-else-are_whole_passes c plan k at more =
+pub returns-else-self-eq0 : goal.returns-else-self-eq0
+returns-else-self-eq0 c plan k at more =
     let s = c.args.self.now in
     let p = plan.project in
-    let inner : IsInnerNode k (size p) = goes-on-there p c.project.result.now c.activities-activities.result.now s.nodes k c.are_whole_passes.result (c.activities-activities.ensures.all, c.activities-activities.ensures.project) (c.project.ensures ∙ at.project) at.count
-    c.are_whole_passes.ensures c.if-are_whole_passes.false in
+    let inner : IsInnerNode k (size p) = goes-on-here k (size p) s.left at.some at.left c.if-self-eq0.false in
     record {
       kind = at.kind ∙ ap (λ (w : WordsData). Sample w.seed) (sym c.run_node.ensures.words);
-      count = ap (λ n. n + 1) at.count;
+      some = at.some;
+      nodes = at.nodes;
+      left = omega (arith, at.left, inner.place, c.if-self-eq0.false);
       drawn = omega (arith, ap (λ (w : WordsData). w.drawn) c.run_node.ensures.words, at.drawn);
       measured = at.measured;
       project = ap (λ (a : PassData). a.project) c.run_node.ensures.pass ∙ at.project;

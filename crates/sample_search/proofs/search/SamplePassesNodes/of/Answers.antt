@@ -1,4 +1,6 @@
 use Rattle.std.proofs.Common.{refl, arith, sym, ap, ◌∙◌}
+use Rattle.std.proofs.Math.Nat.{zero-mod}
+use Rattle.mrcpsp.specs.Project.{size}
 use Rattle.strategy.specs.declared.kind.Kind.TheVariants.{Sample}
 use Rattle.serial_pass.specs.Pass.{PassData}
 use Rattle.sample_search.specs.Words.{WordsData}
@@ -11,7 +13,9 @@ returns c =
     let tools = c.in_ok-measures.ensures in
     record {
       kind = c.seed.ensures ∙ ap (λ (w : WordsData). Sample w.seed) (sym c.new-words.ensures);
-      count = refl;
+      some = omega (arith, c.size-size.ensures.exact, c.size-size.ensures.some);
+      nodes = c.size-size.ensures.exact;
+      left = omega (arith, c.size-size.ensures.exact, zero-mod (size plan.project));
       drawn = omega (arith, ap (λ (w : WordsData). w.drawn) c.new-words.ensures);
       measured = tools.measures;
       project = ap (λ (a : PassData). a.project) tools.pass;

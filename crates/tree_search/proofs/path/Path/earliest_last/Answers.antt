@@ -1,17 +1,21 @@
-use Rattle.std.proofs.Common.{◌≡◌, ℕ, ◌<◌, ◌≤◌, true, max, nat_le, get_or, length, arith, ap, subst, ◌∙◌}
+use Rattle.std.proofs.Common.{◌≡◌, ℕ, ◌<◌, ◌≤◌, true, nat_le, get_or, length, arith, ap, ◌∙◌}
 use Rattle.std.proofs.lemmas.List.{get_or_default}
 use Rattle.mrcpsp.specs.Project.{size, mode_count, duration}
-use Rattle.mrcpsp.specs.Placed.{are_ready, earliest, is_eligible, is_executable, last_start, latest}
+use Rattle.mrcpsp.specs.Placed.{are_ready, earliest, is_executable, last_start}
 use Rattle.mrcpsp.proofs.EarliestLemmas.{earliest-allowed, earliest-ge}
 use Rattle.mrcpsp.proofs.BoundLemmas.{earliest-le-latest}
 use Rattle.serial_sgs.proofs.BoardLemmas.{count-le-size}
-use Rattle.serial_sgs.proofs.OrderLemmas.{eligible_misses, ready_later}
 use Rattle.serial_sgs.proofs.RowLemmas.{capacity_small, request_small}
 use Rattle.serial_sgs.proofs.WalkLemmas.{at_once}
 use Rattle.tree_search.specs.Path.{no_stage}
 use Rattle.tree_search.proofs.PathLemmas.{stage_here, triangle_rises, triangle_small}
 use Rattle.tree_search.proofs.PlacedLemmas.{front_earliest, front_enough, front_most}
 use Rattle.tree_search.proofs.path.Path.earliest_last.Goals as goal
+
+pub row-row-requires : goal.row-row-requires
+row-row-requires c =
+    let b = c.self.inside in
+    (b.project, c.self.invariant.tabled, rw (← c.self.view_is) at c.requires.activity, rw (← c.self.view_is) at c.requires.mode, c.self.invariant.board.project)
 
 -- what takes no time starts as soon as it is ready
 pub returns-then-row-eq0-clause-exact : goal.returns-then-row-eq0-clause-exact
@@ -24,21 +28,18 @@ returns-then-row-eq0-clause-exact c =
     let known : j < size p = rw (← c.self.view_is) at c.requires.activity in
     let moded : m < mode_count p j = rw (← c.self.view_is) at c.requires.mode in
     let can : is_executable p j m ≡ true = rw (← c.self.view_is) at c.requires.executable in
-    let may : is_eligible p placed j ≡ true = rw (← c.self.view_is) at c.requires.eligible in
     let row = c.row-row.ensures p c.self.invariant.tabled known moded in
-    let readied = c.self.invariant.readied in
-    let entry : c.index.result.now ≡ get_or b.readies.items j 0 = c.index.ensures ∙ get_or_default b.readies.items j c.index.result.now 0 (omega (arith, readied.count)) in
-    let from : ℕ = c.args.from in
-    let ready : ℕ = c.max-ready.result in
-    let later : ready ≡ max from (get_or b.readies.items j 0) = omega (arith, c.max-ready.ensures, entry) in
-    let exact : (t : ℕ) → from ≤ t → are_ready p placed j t ≡ nat_le ready t = ready_later p placed j from (get_or b.readies.items j 0) ready later (λ t. readied.each j t known (eligible_misses p placed j may)) in
-    rw (← c.self.view_is) (at_once p placed j m from ready can (omega (arith, later)) exact (omega (arith, c.if-row-eq0.true, row.duration)))
+    let from : ℕ = last_start placed in
+    let ready : ℕ = c.ready-ready.result in
+    let above : from ≤ ready = rw (← c.self.view_is) at c.ready-ready.ensures.above in
+    let exact : (t : ℕ) → from ≤ t → are_ready p placed j t ≡ nat_le ready t = rw (← c.self.view_is) at c.ready-ready.ensures.exact in
+    rw (← c.self.view_is) (at_once p placed j m from ready can above exact (omega (arith, c.if-row-eq0.true, row.duration)))
 
 pub returns-then-row-eq0-clause-allowed : goal.returns-then-row-eq0-clause-allowed
-returns-then-row-eq0-clause-allowed c = rw (returns-then-row-eq0-clause-exact c) (earliest-allowed c.args.self.now.project c.args.self.now.placed c.args.activity c.args.mode c.args.from c.requires.executable)
+returns-then-row-eq0-clause-allowed c = rw (returns-then-row-eq0-clause-exact c) (earliest-allowed c.args.self.now.project c.args.self.now.placed c.args.activity c.args.mode (last_start c.args.self.now.placed) c.requires.executable)
 
 pub returns-then-row-eq0-clause-within : goal.returns-then-row-eq0-clause-within
-returns-then-row-eq0-clause-within c = rw (returns-then-row-eq0-clause-exact c) (earliest-le-latest c.args.self.now.project c.args.self.now.placed c.args.activity c.args.mode c.args.from c.requires.executable)
+returns-then-row-eq0-clause-within c = rw (returns-then-row-eq0-clause-exact c) (earliest-le-latest c.args.self.now.project c.args.self.now.placed c.args.activity c.args.mode (last_start c.args.self.now.placed) c.requires.executable)
 
 pub earliest-requires : goal.earliest-requires
 earliest-requires c =
@@ -79,26 +80,23 @@ returns-clause-exact c =
     let known : j < size p = rw (← c.self.view_is) at c.requires.activity in
     let moded : m < mode_count p j = rw (← c.self.view_is) at c.requires.mode in
     let can : is_executable p j m ≡ true = rw (← c.self.view_is) at c.requires.executable in
-    let may : is_eligible p placed j ≡ true = rw (← c.self.view_is) at c.requires.eligible in
-    let last : c.args.from ≡ last_start placed = rw (← c.self.view_is) at c.requires.from in
     let row = c.row-row.ensures p was.tabled known moded in
     let few = count-le-size (record { project = p; placed = placed }) was.board in
     let n : c.len.result ≡ length placed = omega (arith, c.len.ensures, b.placed.ok.0) in
     let stage : c.index-stage.result.now ≡ get_or b.stages.items (length placed) no_stage = c.index-stage.ensures ∙ get_or_default b.stages.items c.len.result c.index-stage.result.now no_stage (omega (arith, was.staged.count, few, n)) ∙ ap (λ k. get_or b.stages.items k no_stage) n in
     let here = rw (← stage) at (stage_here p placed b.running.items b.stages.items was.staged) in
-    let entry : c.index.result.now ≡ get_or b.readies.items j 0 = c.index.ensures ∙ get_or_default b.readies.items j c.index.result.now 0 (omega (arith, was.readied.count)) in
-    let from : ℕ = c.args.from in
-    let ready : ℕ = c.max-ready.result in
-    let later : ready ≡ max from (get_or b.readies.items j 0) = omega (arith, c.max-ready.ensures, entry) in
-    let exact : (t : ℕ) → from ≤ t → are_ready p placed j t ≡ nat_le ready t = ready_later p placed j from (get_or b.readies.items j 0) ready later (λ t. was.readied.each j t known (eligible_misses p placed j may)) in
+    let from : ℕ = last_start placed in
+    let ready : ℕ = c.ready-ready.result in
+    let above : from ≤ ready = rw (← c.self.view_is) at c.ready-ready.ensures.above in
+    let exact : (t : ℕ) → from ≤ t → are_ready p placed j t ≡ nat_le ready t = rw (← c.self.view_is) at c.ready-ready.ensures.exact in
     let some : 0 < duration p j m = omega (arith, c.if-row-eq0.false, row.duration) in
-    rw (← c.self.view_is) (front_earliest p placed j m from ready c.earliest.result c.index-stage.result.now.free _ c.row-row.result.now.request was.board.project known moded some (rw last here.front) row.request can (omega (arith, later)) exact (rw c.deref.ensures.value at c.earliest.ensures))
+    rw (← c.self.view_is) (front_earliest p placed j m from ready c.earliest.result c.index-stage.result.now.free _ c.row-row.result.now.request was.board.project known moded some here.front row.request can above exact (rw c.deref.ensures.value at c.earliest.ensures))
 
 pub returns-clause-allowed : goal.returns-clause-allowed
-returns-clause-allowed c = rw (returns-clause-exact c) (earliest-allowed c.args.self.now.project c.args.self.now.placed c.args.activity c.args.mode c.args.from c.requires.executable)
+returns-clause-allowed c = rw (returns-clause-exact c) (earliest-allowed c.args.self.now.project c.args.self.now.placed c.args.activity c.args.mode (last_start c.args.self.now.placed) c.requires.executable)
 
 pub returns-clause-within : goal.returns-clause-within
-returns-clause-within c = rw (returns-clause-exact c) (earliest-le-latest c.args.self.now.project c.args.self.now.placed c.args.activity c.args.mode c.args.from c.requires.executable)
+returns-clause-within c = rw (returns-clause-exact c) (earliest-le-latest c.args.self.now.project c.args.self.now.placed c.args.activity c.args.mode (last_start c.args.self.now.placed) c.requires.executable)
 
 pub offset_bounds-deref-stage : goal.offset_bounds-deref-stage
 offset_bounds-deref-stage c =

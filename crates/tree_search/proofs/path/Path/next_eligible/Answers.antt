@@ -3,7 +3,6 @@ use Rattle.std.proofs.lemmas.List.{get_or_default}
 use Rattle.mrcpsp.specs.Project.{size}
 use Rattle.serial_sgs.specs.Board.{BoardData, IsNextEligible, NoneEligible}
 use Rattle.serial_sgs.proofs.BoardLemmas.{count-le-size}
-use Rattle.tree_search.specs.declared.path.Stage.{Stage}
 use Rattle.tree_search.specs.Path.{no_stage}
 use Rattle.tree_search.proofs.PathLemmas.{next_is, stage_here}
 use Rattle.tree_search.proofs.path.Path.next_eligible.Goals as goal

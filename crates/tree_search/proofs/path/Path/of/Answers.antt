@@ -1,9 +1,8 @@
-use Rattle.std.proofs.Common.{◌≡◌, ◌+◌, ℕ, List, get_or, set, length, length-set, arith, ap, ◌∙◌}
+use Rattle.std.proofs.Common.{◌≡◌, ℕ, List, get_or, set, length, length-set, arith, ap, ◌∙◌}
 use Rattle.std.proofs.lemmas.List.{length-replicate, get_or-replicate, get_or-set_same}
 use Rattle.mrcpsp.specs.Limits.{IsProject}
 use Rattle.mrcpsp.specs.Project.{size}
 use Rattle.mrcpsp.proofs.LimitLemmas.{kept}
-use Rattle.serial_sgs.specs.Members.{has}
 use Rattle.serial_sgs.proofs.OrderLemmas.{readied_first}
 use Rattle.tree_search.specs.declared.path.Stage.{Stage}
 use Rattle.tree_search.specs.Path.{no_stage, triangle}
@@ -19,12 +18,12 @@ invariant_of-result c =
     let count = ap length c.activities-size.ensures.all in
     let exact = rw c.deref.ensures.value at c.first_eligible.ensures.exact in
     let beyond = rw c.deref.ensures.value at c.first_eligible.ensures.others in
-    let enlisted = c.first_stage-stage.ensures.eligible in
-    let stage : Stage = c.first_stage-stage.result in
+    let made = c.in_ok-begun.ensures in
+    let stage : Stage = c.in_ok-begun.begun.stage in
     rw (same, c.in_ok-placed.ensures.items)
-    (path_first p _ c.in_ok-rows.rows c.in_ok-before.before.items c.in_ok-after.after.items stage (set c.in_ok-stages.stages.items 0 stage) c.in_ok-running.running.items c.in_ok-finishes.finishes.items c.in_ok-readies.readies.items project
+    (path_first p _ c.in_ok-begun.begun.table c.in_ok-before.before.items c.in_ok-after.after.items c.first_eligible.result stage (set c.in_ok-stages.stages.items 0 stage) c.in_ok-running.running.items c.in_ok-finishes.finishes.items c.in_ok-readies.readies.items project
     (omega (arith, c.in_ok-placed.ensures.exact, count))
-    c.in_ok-rows.ensures
+    made.0
     c.in_ok-before.ensures
     c.in_ok-after.ensures
     (ap length c.in_ok-finishes.ensures ∙ length-replicate _ _ ∙ count)
@@ -33,18 +32,12 @@ invariant_of-result c =
     (omega (arith, length-set c.in_ok-stages.stages.items 0 stage, c.in_ok-stages.ensures.len, c.in_ok-stages.stages.ok.0, count))
     (omega (arith, c.in_ok-running.ensures.len, c.in_ok-running.running.ok.0, c.places_of_lists.ensures, ap triangle count))
     (get_or-set_same c.in_ok-stages.stages.items 0 stage no_stage (omega (arith, c.in_ok-stages.ensures.len, c.in_ok-stages.stages.ok.0)))
-    (λ r l. c.first_stage-stage.ensures.slack r l (c.in_ok-rows.ensures.stocks r l))
-    c.first_stage-stage.ensures.free
-    c.first_stage-stage.ensures.begin
-    c.first_stage-stage.ensures.end
-    (λ j l. ap (λ (words : List ℕ). has words j) enlisted ∙ exact j (omega (arith, l, c.in_ok-before.ensures.count)))
-    (λ j past below. ap (λ (words : List ℕ). has words j) enlisted ∙ beyond j (omega (arith, past, c.in_ok-before.ensures.count)) below))
+    made.1
+    (λ j l. exact j (omega (arith, l, c.in_ok-before.ensures.count)))
+    (λ j past below. beyond j (omega (arith, past, c.in_ok-before.ensures.count)) below))
 
-pub of-requires-clause-project : goal.of-requires-clause-project
-of-requires-clause-project c = kept c.args.project.now c.activities-size.ensures.project
-
-pub first_stage-stage-requires-clause-project : goal.first_stage-stage-requires-clause-project
-first_stage-stage-requires-clause-project c = kept c.args.project.now c.activities-size.ensures.project
+pub make_begun-requires-clause-project : goal.make_begun-requires-clause-project
+make_begun-requires-clause-project c = kept c.args.project.now c.activities-size.ensures.project
 
 pub first_eligible-requires : goal.first_eligible-requires
 unfolding size

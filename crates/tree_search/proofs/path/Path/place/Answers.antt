@@ -1,7 +1,7 @@
 use Rattle.std.proofs.Common.{◌≡◌, ◌+◌, ◌<◌, ◌≤◌, true, arith, refl, subst, sym, ap, ◌∙◌, get_or, set, length-set, drop, take, take_all, ◌++◌, ℕ, List, All, [], length}
 use Rattle.std.proofs.lemmas.List.{get_or_default, take-append-le}
-use Rattle.mrcpsp.specs.Project.{size, mode_count, duration}
-use Rattle.mrcpsp.specs.Placed.{Placed, finish_of, is_allowed, is_eligible, is_placed, last_start}
+use Rattle.mrcpsp.specs.Project.{size, mode_count}
+use Rattle.mrcpsp.specs.Placed.{Placed, is_allowed, is_eligible, last_start}
 use Rattle.mrcpsp.proofs.EarliestLemmas.{eligible-unplaced}
 use Rattle.serial_sgs.specs.Board.{BoardData, IsInside}
 use Rattle.serial_sgs.proofs.BoardLemmas.{count-lt-size, duration_small}
@@ -29,7 +29,7 @@ pub enlist-requires-clause-inside : goal.enlist-requires-clause-inside
 enlist-requires-clause-inside c =
     let b = c.self.inside in
     let known = rw (← c.self.view_is) at c.requires.activity in
-    let list : c.as_slice.result.now ≡ get_or b.after.items c.args.activity [] = c.as_slice.ensures ∙ c.index-2.ensures ∙ get_or_default b.after.items c.args.activity c.index-2.result.now [] (omega (arith, c.self.invariant.after.count, known)) in
+    let list : c.as_slice.result.now ≡ get_or b.after.items c.args.activity [] = c.as_slice.ensures ∙ c.index.ensures ∙ get_or_default b.after.items c.args.activity c.index.result.now [] (omega (arith, c.self.invariant.after.count, known)) in
     subst (λ (xs : List ℕ). All (λ s. s < length b.readies.items) xs) (sym list) (λ k d l. omega (arith, (c.self.invariant.after.each c.args.activity known).others.inside k d l, c.self.invariant.readied.count))
 
 pub enlist-requires-clause-few : goal.enlist-requires-clause-few
@@ -40,8 +40,8 @@ enlist-requires-clause-named c =
     let b = c.self.inside in
     rw (c.deref.ensures.value, c.deref-2.ensures.value) (λ j k l m. omega (arith, ((c.self.invariant.before.each j (omega (arith, l, c.self.invariant.before.count))).each k m).0, c.self.invariant.noted, length-set b.finishes.items c.args.activity (c.args.start + c.row-row.result.now.duration)))
 
-pub run_in-requires : goal.run_in-requires
-run_in-requires c =
+pub run_in-end-requires : goal.run_in-end-requires
+run_in-end-requires c =
     let b = c.self.inside in
     let p = b.project in
     let placed = b.placed.items in
@@ -58,7 +58,7 @@ run_in-requires c =
     let inside : IsInside p a = record { activity = known; mode = in_mode; start = c.requires.start } in
     let room = count-lt-size (record { project = p; placed = placed }) j was.board known (eligible-unplaced p placed j may) in
     let n : c.len-depth.result ≡ length placed = omega (arith, c.len-depth.ensures, b.placed.ok.0) in
-    let stage : c.index.result.now ≡ get_or b.stages.items (length placed) no_stage = c.index.ensures ∙ get_or_default b.stages.items c.len-depth.result c.index.result.now no_stage (omega (arith, was.staged.count, room, n)) ∙ ap (λ k. get_or b.stages.items k no_stage) n in
+    let stage : c.index-stage.result.now ≡ get_or b.stages.items (length placed) no_stage = c.index-stage.ensures ∙ get_or_default b.stages.items c.len-depth.result c.index-stage.result.now no_stage (omega (arith, was.staged.count, room, n)) ∙ ap (λ k. get_or b.stages.items k no_stage) n in
     let it = rw (← stage) at (has_place p placed a b.running.items b.stages.items c.row-row.result.now (c.args.start + c.row-row.result.now.duration) was.board was.staged room inside row (omega (arith, row.duration)) above fits) in
     rw c.deref_mut.ensures.value (record { order = it.order; memory = it.memory; rising = it.rising; few = it.few; room = it.room })
 
@@ -91,11 +91,11 @@ invariant_of-self c =
     let room = count-lt-size (record { project = p; placed = placed }) j was.board known (eligible-unplaced p placed j may) in
     let finish : ℕ = c.args.start + c.row-row.result.now.duration in
     let n : c.len-depth.result ≡ length placed = omega (arith, c.len-depth.ensures, b.placed.ok.0) in
-    let stage : c.index.result.now ≡ get_or b.stages.items (length placed) no_stage = c.index.ensures ∙ get_or_default b.stages.items c.len-depth.result c.index.result.now no_stage (omega (arith, was.staged.count, room, n)) ∙ ap (λ k. get_or b.stages.items k no_stage) n in
-    let list : c.as_slice.result.now ≡ get_or b.after.items j [] = c.as_slice.ensures ∙ c.index-2.ensures ∙ get_or_default b.after.items j c.index-2.result.now [] (omega (arith, was.after.count, known)) in
-    let new : Stage = record { slack = c.take_off.new.amounts; free = c.run_in.new.free; eligible = c.enlist.new.eligible; begin = c.index.result.now.end; end = c.run_in.result } in
+    let stage : c.index-stage.result.now ≡ get_or b.stages.items (length placed) no_stage = c.index-stage.ensures ∙ get_or_default b.stages.items c.len-depth.result c.index-stage.result.now no_stage (omega (arith, was.staged.count, room, n)) ∙ ap (λ k. get_or b.stages.items k no_stage) n in
+    let list : c.as_slice.result.now ≡ get_or b.after.items j [] = c.as_slice.ensures ∙ c.index.ensures ∙ get_or_default b.after.items j c.index.result.now [] (omega (arith, was.after.count, known)) in
+    let new : Stage = record { slack = c.take_off.new.amounts; free = c.run_in-end.new.free; eligible = c.enlist.new.eligible; begin = c.index-stage.result.now.end; end = c.run_in-end.result; from = c.args.start } in
     let entered : HasEntered (get_or b.after.items j []) b.before.items (set b.finishes.items j finish) c.take_out.new.words b.readies.items c.enlist.new.eligible c.enlist.new.readies.items = rw (list, c.deref.ensures.value, c.deref-2.ensures.value) at c.enlist.ensures in
-    let steps : IsPlacing p a b.after.items b.before.items b.running.items c.run_in.new.list c.index.result.now new c.take_out.new.words b.finishes.items b.readies.items c.enlist.new.readies.items c.row-row.result.now finish =
+    let steps : IsPlacing p a b.after.items b.before.items b.running.items c.run_in-end.new.list c.index-stage.result.now new c.take_out.new.words b.finishes.items b.readies.items c.enlist.new.readies.items c.row-row.result.now finish =
     record {
       ends_at = omega (arith, row.duration);
       own = row;
@@ -103,16 +103,17 @@ invariant_of-self c =
       kept = c.take_out.ensures.others;
       entered = entered;
       slack = c.take_off.ensures;
-      long = rw c.deref_mut.ensures.value at c.run_in.ensures.memory;
-      same = rw c.deref_mut.ensures.value at c.run_in.ensures.same;
+      long = rw c.deref_mut.ensures.value at c.run_in-end.ensures.memory;
+      same = rw c.deref_mut.ensures.value at c.run_in-end.ensures.same;
       begins = refl;
-      behind = c.run_in.ensures.above;
-      few = c.run_in.ensures.count;
-      rising = c.run_in.ensures.rising;
-      left = rw c.deref_mut.ensures.value at c.run_in.ensures.kept;
+      behind = c.run_in-end.ensures.above;
+      few = c.run_in-end.ensures.count;
+      starts = refl;
+      rising = c.run_in-end.ensures.rising;
+      left = rw c.deref_mut.ensures.value at c.run_in-end.ensures.kept;
     } in
-    let whole : take b.running.len (c.run_in.new.list ++ drop (length c.run_in.new.list) b.running.items) ≡ c.run_in.new.list =
-    take-append-le b.running.len c.run_in.new.list (drop (length c.run_in.new.list) b.running.items) (omega (arith, steps.long, b.running.ok.0)) ∙ take_all b.running.len c.run_in.new.list (omega (arith, steps.long, b.running.ok.0)) in
+    let whole : take b.running.len (c.run_in-end.new.list ++ drop (length c.run_in-end.new.list) b.running.items) ≡ c.run_in-end.new.list =
+    take-append-le b.running.len c.run_in-end.new.list (drop (length c.run_in-end.new.list) b.running.items) (omega (arith, steps.long, b.running.ok.0)) ∙ take_all b.running.len c.run_in-end.new.list (omega (arith, steps.long, b.running.ok.0)) in
     rw (c.push_reserved.ensures.items, c.push_reserved.ensures.capacity, n, whole)
-    (path_push p placed a _ b.rows b.before.items b.after.items b.stages.items b.running.items c.run_in.new.list new c.take_out.new.words b.finishes.items b.readies.items c.enlist.new.readies.items c.row-row.result.now finish was inside may fits above room
-    (subst (λ (s : Stage). IsPlacing p a b.after.items b.before.items b.running.items c.run_in.new.list s new c.take_out.new.words b.finishes.items b.readies.items c.enlist.new.readies.items c.row-row.result.now finish) stage steps))
+    (path_push p placed a _ b.table b.before.items b.after.items b.stages.items b.running.items c.run_in-end.new.list new c.take_out.new.words b.finishes.items b.readies.items c.enlist.new.readies.items c.row-row.result.now finish was inside may fits above room
+    (subst (λ (s : Stage). IsPlacing p a b.after.items b.before.items b.running.items c.run_in-end.new.list s new c.take_out.new.words b.finishes.items b.readies.items c.enlist.new.readies.items c.row-row.result.now finish) stage steps))

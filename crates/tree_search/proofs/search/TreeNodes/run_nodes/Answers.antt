@@ -1,63 +1,60 @@
-use Rattle.std.proofs.Common.{◌≡◌, ℕ, ◌+◌, ◌-◌, ◌<◌, ◌≤◌, ◌==◌, false, List, length, arith, sym, ◌∙◌, ap, ⊎_elim}
-use Rattle.std.proofs.lemmas.Bool.{cases_lt, eqb-false}
-use Rattle.mrcpsp.specs.Values.{bound}
-use Rattle.strategy.specs.Outcome.{is_closed}
+use Rattle.std.proofs.Common.{◌≡◌, ℕ, ◌+◌, ◌-◌, ◌<◌, ◌≤◌, Option, arith, sym, ap, ◌∙◌, subst, ⊎_elim}
+use Rattle.std.proofs.lemmas.Bool.{cases_lt}
+use Rattle.mrcpsp.specs.Project.{ProjectData}
 use Rattle.strategy.specs.Tree.{is_too_late}
-use Rattle.strategy.specs.declared.plan.Plan.{Plan}
+use Rattle.tree_search.specs.Tree.{IsTree, MakesNodes, best_in, cursors_of}
+use Rattle.tree_search.specs.declared.search.Tree as stack
 use Rattle.tree_search.specs.declared.cursor.Cursor.{Cursor}
-use Rattle.tree_search.proofs.ShownLemmas.{bound_late, going_on, ran_on, over_bound, over_all}
+use Rattle.tree_search.proofs.ShownLemmas.{RunsTo, bound_late, going_on, ran_on, over_bound, over_all}
 use Rattle.tree_search.proofs.search.TreeNodes.run_nodes.Goals as goal
+use Rattle.tree_search.proofs.search.TreeNodes.run_nodes.Goals.{then-loop-left-test+else-not-is_reached, else-loop-left-test, then-loop-left-test+then-not-is_reached+in_default}
 
-pub loop-ran-init : goal.loop-ran-init
-loop-ran-init c =
+pub loop-left-preserved : goal.loop-left-preserved
+loop-left-preserved c =
+    let most = c.args.most in
+    let left = c.loop-left.left in
+    let t : stack.Tree = record c.loop-left.self { top = c.loop-left.top } in
+    let visited = c.visit-visited in
+    let ran = visited.result.ran in
+    let so_far = c.loop-left.invariant in
+    let later : stack.Tree = record { path = visited.new.path; top = visited.result.top; incumbent = visited.new.incumbent; bound = t.bound } in
+    let kept : (p : ProjectData) → IsTree p t → IsTree p later = λ p tree. record {
+      own = visited.ensures.project ∙ tree.own;
+      bounded = tree.bounded;
+      low = tree.low;
+      early = rw tree.own at visited.ensures.early;
+      incumbent = rw tree.own at visited.ensures.incumbent;
+      top = rw tree.own at visited.ensures.top;
+    } in
+    let runs : (p : ProjectData) → IsTree p t → RunsTo p t ran later = λ p tree.
+    subst (λ (x : Option Cursor). MakesNodes p t.path.placed (cursors_of t.path.placed x) (best_in t.incumbent) ran later.path.placed (cursors_of later.path.placed later.top) (best_in later.incumbent)) (sym c.in-Some.is) (rw tree.own at visited.ensures.nodes) in
     record {
-      within = omega arith;
-      here = λ plan k at. let same : k + 0 ≡ k = omega arith in rw same at;
-      going = λ plan k at i l. absurd (omega arith);
-    }
-
-pub step-ran-requires : goal.step-ran-requires
-step-ran-requires c =
-    let it = c.requires in
-    let here = c.loop-ran.invariant.here it.plan it.nodes it.here in
-    let more : length c.deref.result.now ≡ 0 → ⊥ = eqb-false (length c.deref.result.now) 0 (sym c.are_all_left.ensures ∙ c.if-not-are_all_left.true) in
-    record {
-      tree = (it.plan.project, here.tree);
-      more = omega (arith, ap length c.deref.ensures.value);
-      most = omega (arith, c.loop-ran-test.true);
-    }
-
-pub loop-ran-preserved : goal.loop-ran-preserved
-loop-ran-preserved c =
-    let r : ℕ = c.loop-ran.ran in
-    let count : ℕ = c.step-ran.result in
-    let so_far = c.loop-ran.invariant in
-    record {
-      within = omega (arith, so_far.within, c.step-ran.ensures.few, c.loop-ran-test.true);
+      within = omega (arith, so_far.within);
       here = λ plan k at.
           let here = so_far.here plan k at in
-          let next : k + r + count ≡ k + (r + count) = omega arith in
-          rw (← next) (ran_on plan (k + r) count c.loop-ran.self c.step-ran.new.self here (c.step-ran.ensures.tree plan.project here.tree) (c.step-ran.ensures.nodes plan.project here.tree));
+          let next : k + (most - left) + ran ≡ k + (most - (left - ran)) = omega (arith, so_far.within, visited.ensures.few) in
+          rw (← next) (ran_on plan (k + (most - left)) ran t later here (kept plan.project here.tree) (runs plan.project here.tree));
       going = λ plan k at i l.
           ⊎_elim
-          (λ (before : i < r). so_far.going plan k at i before)
-          (λ (later : r ≤ i).
+          (λ (before : i < most - left). so_far.going plan k at i before)
+          (λ (after : most - left ≤ i).
           let here = so_far.here plan k at in
-          let n : ℕ = i - r in
-          let same : k + r + n ≡ k + i = omega (arith, later) in
-          let bounded : c.from-bound.result ≡ bound plan.project = omega (arith, c.from-bound.ensures, c.bound.ensures.measure plan.project at.tree.measured) in
-          let above = bound_late plan.project _ ∙ ap (is_too_late plan.project _) (sym bounded) ∙ sym (c.is_reached.ensures plan.project here.tree.incumbent) ∙ c.if-not-is_reached.true in
-          rw (← same) (going_on plan (k + r) count c.loop-ran.self c.step-ran.new.self here (c.step-ran.ensures.nodes plan.project here.tree) above n (omega (arith, l, later))))
-          (cases_lt i r);
+          let n : ℕ = i - (most - left) in
+          let same : k + (most - left) + n ≡ k + i = omega (arith, after) in
+          let above = bound_late plan.project (best_in t.incumbent) ∙ ap (is_too_late plan.project (best_in t.incumbent)) (sym here.tree.bounded) ∙ sym (c.is_reached.ensures plan.project here.tree.incumbent) ∙ c.if-not-is_reached.true in
+          rw (← same) (going_on plan (k + (most - left)) ran t later here (runs plan.project here.tree) above n (omega (arith, l, after, so_far.within, visited.ensures.few))))
+          (cases_lt i (most - left));
     }
 
-pub returns-else-not-is_reached-clause-over : goal.returns-else-not-is_reached-clause-over
-returns-else-not-is_reached-clause-over c plan k at few =
-    let here = c.loop-ran.invariant.here plan k at in
-    let bounded : c.from-bound.result ≡ bound plan.project = omega (arith, c.from-bound.ensures, c.bound.ensures.measure plan.project at.tree.measured) in
-    over_bound plan (k + c.loop-ran.ran) c.loop-ran.self here (bound_late plan.project _ ∙ ap (is_too_late plan.project _) (sym bounded) ∙ sym (c.is_reached.ensures plan.project here.tree.incumbent) ∙ c.if-not-is_reached.false)
-
-pub returns-else-not-are_all_left-clause-over : goal.returns-else-not-are_all_left-clause-over
-returns-else-not-are_all_left-clause-over c plan k at few =
-    let here = c.loop-ran.invariant.here plan k at in
-    over_all plan (k + c.loop-ran.ran) c.loop-ran.self here (ap (λ (cs : List Cursor). length cs == 0) (sym c.deref.ensures.value) ∙ sym c.are_all_left.ensures ∙ c.if-not-are_all_left.false)
+pub returns-clause-over : goal.returns-clause-over
+returns-clause-over c plan k at few =
+    let most = c.args.most in
+    let left = c.loop-left.left in
+    let t : stack.Tree = record c.loop-left.self { top = c.loop-left.top } in
+    let here = c.loop-left.invariant.here plan k at in
+    elim c.loop-left-test.branch [
+      | then-loop-left-test+else-not-is_reached w ↦
+          over_bound plan (k + (most - left)) t here (bound_late plan.project (best_in t.incumbent) ∙ ap (is_too_late plan.project (best_in t.incumbent)) (sym here.tree.bounded) ∙ sym (w.is_reached.ensures plan.project here.tree.incumbent) ∙ w.if-not-is_reached.false)
+      | else-loop-left-test w ↦ absurd (omega (arith, w.loop-left-test.false, few))
+      | then-loop-left-test+then-not-is_reached+in_default w ↦ over_all plan (k + (most - left)) t here w.in_default.is
+    ]

@@ -1,16 +1,16 @@
-use Rattle.std.proofs.Common.{◌≡◌, ℕ, ◌-◌, ◌+◌, ◌<◌, ◌≤◌, false}
+use Rattle.std.proofs.Common.{◌≡◌, ℕ, ◌+◌, ◌-◌, ◌<◌, ◌≤◌, false}
 use Rattle.strategy.specs.Outcome.{is_closed}
 use Rattle.strategy.specs.declared.plan.Plan.{Plan}
 use Rattle.tree_search.specs.Search.{StandsAt}
 use Rattle.tree_search.proofs.search.TreeNodes.run_nodes.Given as goal
 
--- so many nodes have run, and the search was not over at any of them
-abbrev pub invariant-loop-ran : goal.invariant-loop-ran
-invariant-loop-ran l = record {
-  within : l.ran ≤ l.most;
-  here : (plan : Plan) (k : ℕ) → StandsAt l.initial.self plan k → StandsAt l.self plan (k + l.ran);
-  going : (plan : Plan) (k : ℕ) → StandsAt l.initial.self plan k → (i : ℕ) → i < l.ran → is_closed plan (k + i) ≡ false;
+-- so many nodes have run, and before none of them the search was over
+abbrev pub invariant-loop-left : goal.invariant-loop-left
+invariant-loop-left l = record {
+  within : l.left ≤ l.most;
+  here : (plan : Plan) (k : ℕ) → StandsAt l.initial.self plan k → StandsAt (record l.self { top = l.top }) plan (k + (l.most - l.left));
+  going : (plan : Plan) (k : ℕ) → StandsAt l.initial.self plan k → (i : ℕ) → i < l.most - l.left → is_closed plan (k + i) ≡ false;
 }
 
-abbrev pub decreases-loop-ran : goal.decreases-loop-ran
-decreases-loop-ran l = l.most - l.ran
+abbrev pub decreases-loop-left : goal.decreases-loop-left
+decreases-loop-left l = l.left

@@ -1,0 +1,12 @@
+//! What stands beside the numbers of a table or a picture: dates of periods, and names of
+//! activities.
+//!
+//! - `calendar`: the moment at which a period begins.
+//! - `names`: names of activities, from lines `J,NAME`.
+#![tactic(auto)]
+
+mod calendar;
+mod names;
+
+pub use calendar::{Calendar, Moment, Unit};
+pub use names::{Name, name_at, names_of};
