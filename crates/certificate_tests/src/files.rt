@@ -3,10 +3,10 @@
 use certify_cli::CertifyFault::{self, Certificate, Words};
 use certify_cli::{certify, certify_bound, certify_infeasible, certify_least, write_clauses};
 use clause_proof::ProofFault::{self, Unfinished, Unproved, Word};
+use file_commands::CommandFault::Refused;
 use mrcpsp::Breach;
 use schedule_clauses::CertificateFault::{Horizon, Proof, Schedule};
 use std::alloc::AllocError;
-use watched_io::Watch;
 
 const FILE: &[u8] = b"jobs (incl. supersource/sink ): 4
 - renewable : 1 R
@@ -32,13 +32,16 @@ h
 /// A schedule of 5 periods. The clauses of 4 periods can all be true.
 const LATE: &[u8] = b"1:1:0 2:1:0 3:2:0 4:1:5";
 
+/// The line of the optimum.
+const OPTIMAL: Result<&str, CertifyFault> = Ok("optimal 4\n");
+
 /// Texts of schedules, and the result of each with an empty proof. The clauses of 3 periods are
 /// refuted without a proof.
-const TEXTS: [(&[u8], Result<(), CertifyFault>); 8] = [
-    (b"1:1:0 2:1:0 3:2:0 4:1:4", Ok(())),
+const TEXTS: [(&[u8], Result<&str, CertifyFault>); 8] = [
+    (b"1:1:0 2:1:0 3:2:0 4:1:4", OPTIMAL),
     (
         b"@a job 1 makespan 4 ended 1:1:0 2:1:0 3:2:0 4:1:4\n",
-        Ok(()),
+        OPTIMAL,
     ),
     (LATE, Err(Certificate(Proof(Unfinished)))),
     (
@@ -50,17 +53,23 @@ const TEXTS: [(&[u8], Result<(), CertifyFault>); 8] = [
         Err(Certificate(Schedule(Breach::Shape))),
     ),
     (b"", Err(Words)),
-    (b"1:1:0  2:1:0\n3:2:0 4:1:04\r\n", Ok(())),
+    (b"1:1:0  2:1:0\n3:2:0 4:1:04\r\n", OPTIMAL),
     (b"1:1:0 3:2:0 4:1:4", Err(Words)),
 ];
+
+fn is_answer(said: &Result<String, CertifyFault>, wanted: Result<&str, CertifyFault>) -> bool {
+    match (said, wanted) {
+        (Ok(line), Ok(text)) => line.as_str() == text,
+        (Err(fault), Err(other)) => *fault == other,
+        _ => false,
+    }
+}
 
 #[test]
 fn certifies_texts(rt: HostRuntime) -> Result<(), AllocError> {
     for (text, said) in TEXTS {
-        let mut written = Vec::new(rt.alloc());
-        assert!(rt; certify(rt.alloc(), FILE, text, b"", &mut written, &mut Watch::new()) == said);
-        let wanted: &[u8] = if said.is_ok() { b"optimal 4\n" } else { b"" };
-        assert!(rt; written.as_slice() == wanted);
+        let line = certify(rt.alloc(), FILE, text, b"");
+        assert!(rt; is_answer(&line, said));
     }
     Ok(())
 }
@@ -89,39 +98,32 @@ h
 
 /// Files and steps, and the lower bound of each. Of the first at least ten units are needed in all,
 /// so three periods of three units are not enough.
-const BOUNDS: [(&[u8], u32, &[u8]); 4] = [
-    (FILE, 0, b"at least 3\n"),
-    (FILE, 1000, b"at least 4\n"),
-    (STARVED, 0, b"at least 3\n"),
-    (STARVED, 1000, b"infeasible\n"),
+const BOUNDS: [(&[u8], u32, &str); 4] = [
+    (FILE, 0, "at least 3\n"),
+    (FILE, 1000, "at least 4\n"),
+    (STARVED, 0, "at least 3\n"),
+    (STARVED, 1000, "infeasible\n"),
 ];
 
 #[test]
 fn tells_bounds_by_prices(rt: HostRuntime) -> Result<(), AllocError> {
     for (file, steps, told) in BOUNDS {
-        let mut written = Vec::new(rt.alloc());
-        let said = certify_least(rt.alloc(), file, steps, &mut written, &mut Watch::new());
-        assert!(rt; said == Ok(()));
-        assert!(rt; written.as_slice() == told);
+        assert!(rt; is_answer(&certify_least(rt.alloc(), file, steps), Ok(told)));
     }
-    let mut written = Vec::new(rt.alloc());
-    let mut watch = Watch::new();
-    let said = certify_infeasible(rt.alloc(), STARVED, b"", &mut written, &mut watch);
-    assert!(rt; said == Ok(()));
-    let said = certify_bound(rt.alloc(), FILE, 4, b"", &mut written, &mut watch);
-    assert!(rt; said == Ok(()));
-    let wanted: &[u8] = b"infeasible\nat least 4\n";
-    assert!(rt; written.as_slice() == wanted);
+    let said = certify_infeasible(rt.alloc(), STARVED, b"");
+    assert!(rt; is_answer(&said, Ok("infeasible\n")));
+    let said = certify_bound(rt.alloc(), FILE, 4, b"");
+    assert!(rt; is_answer(&said, Ok("at least 4\n")));
     Ok(())
 }
 
 #[test]
 fn refuses_what_is_feasible_and_too_long(rt: HostRuntime) -> Result<(), AllocError> {
     let mut written = Vec::new(rt.alloc());
-    let said = certify_infeasible(rt.alloc(), FILE, b"", &mut written, &mut Watch::new());
-    assert!(rt; said == Err(Certificate(Proof(Unfinished))));
+    let said = certify_infeasible(rt.alloc(), FILE, b"");
+    assert!(rt; is_answer(&said, Err(Certificate(Proof(Unfinished)))));
     let said = write_clauses(rt.alloc(), FILE, Some(8), &mut written);
-    assert!(rt; said == Err(Certificate(Horizon(7))));
+    assert!(rt; said == Err(Refused(Certificate(Horizon(7)))));
     assert!(rt; written.is_empty());
     Ok(())
 }
@@ -143,13 +145,9 @@ const REFUSED: [(&[u8], ProofFault); 9] = [
 #[test]
 fn tells_the_fault_of_a_proof(rt: HostRuntime) -> Result<(), AllocError> {
     for (proof, fault) in REFUSED {
-        let mut written = Vec::new(rt.alloc());
-        let mut watch = Watch::new();
-        let said = certify(rt.alloc(), FILE, LATE, proof, &mut written, &mut watch);
-        assert!(rt; said == Err(Certificate(Proof(fault))));
-        let said = certify_infeasible(rt.alloc(), FILE, proof, &mut written, &mut watch);
-        assert!(rt; said == Err(Certificate(Proof(fault))));
-        assert!(rt; written.is_empty());
+        let wanted = Err(Certificate(Proof(fault)));
+        assert!(rt; is_answer(&certify(rt.alloc(), FILE, LATE, proof), wanted));
+        assert!(rt; is_answer(&certify_infeasible(rt.alloc(), FILE, proof), wanted));
     }
     Ok(())
 }

@@ -1,6 +1,5 @@
 -- What a line of a certificate means.
-use Rattle.std.specs.Prelude.{◌≡◌, ◌⊎◌, ℕ, ◌<◌, ◌≤◌, List, ◌∷◌, ◌++◌, [], Option, Ok, codes, decimal}
-use Rattle.std.specs.Io.KnownBytes.{Appends}
+use Rattle.std.specs.Prelude.{◌≡◌, ◌⊎◌, ℕ, ◌<◌, ◌≤◌, List, ◌∷◌, ◌++◌, [], Ok, codes, decimal}
 use Rattle.mrcpsp.specs.Project.{ProjectData, horizon}
 use Rattle.mrcpsp.specs.Schedule.{ScheduleData, IsOptimal, IsInfeasible, makespan}
 use Rattle.mrcpsp.specs.Values.{bound}
@@ -12,38 +11,39 @@ use Rattle.schedule_files.specs.ScheduleText.{Tells}
 abbrev pub optimal_line : ℕ → List ℕ
 optimal_line makespan = codes "optimal " ++ decimal makespan ++ 10 ∷ []
 
--- the file is a project, the text writes an optimal schedule of it, and its makespan was written
-pub record CertifiesOptimal (file text : List ℕ) (before after : Option (List ℕ)) : Type 0 where
+-- the file is a project, the text writes an optimal schedule of it, and this is the line of its
+-- makespan
+pub record CertifiesOptimal (file text line : List ℕ) : Type 0 where
   pub project : ProjectData
   pub schedule : ScheduleData
   pub read : reading file ≡ Ok project
   pub told : Tells text schedule
   pub optimal : IsOptimal project schedule
-  pub wrote : Appends before after (optimal_line (makespan project schedule))
+  pub tells : line ≡ optimal_line (makespan project schedule)
 
--- the file is a project without a feasible schedule, and `infeasible` was written
-pub record CertifiesInfeasible (file : List ℕ) (before after : Option (List ℕ)) : Type 0 where
+-- the file is a project without a feasible schedule, and the line is `infeasible`
+pub record CertifiesInfeasible (file line : List ℕ) : Type 0 where
   pub project : ProjectData
   pub read : reading file ≡ Ok project
   pub infeasible : IsInfeasible project
-  pub wrote : Appends before after (codes "infeasible" ++ 10 ∷ [])
+  pub tells : line ≡ codes "infeasible" ++ 10 ∷ []
 
 -- the line of a lower bound
 abbrev pub bound_line : ℕ → List ℕ
 bound_line periods = codes "at least " ++ decimal periods ++ 10 ∷ []
 
--- no feasible schedule of the file's project takes fewer periods, and `at least` with their number
--- was written
-pub record CertifiesBound (file : List ℕ) (periods : ℕ) (before after : Option (List ℕ)) : Type 0 where
+-- no feasible schedule of the file's project takes fewer periods, and the line is `at least` with
+-- their number
+pub record CertifiesBound (periods : ℕ) (file line : List ℕ) : Type 0 where
   pub project : ProjectData
   pub read : reading file ≡ Ok project
   pub least : TakesAtLeast project periods
-  pub wrote : Appends before after (bound_line periods)
+  pub tells : line ≡ bound_line periods
 
--- a bound of the file's project was written that no feasible schedule is below: the critical path by
+-- the line of a bound of the file's project that no feasible schedule is below: the critical path by
 -- shortest durations (Kelley and Walker 1959), or more if prices were looked for by some steps. Then
 -- it is no longer than the horizon
-pub record TellsLeast (file : List ℕ) (steps : ℕ) (before after : Option (List ℕ)) : Type 0 where
+pub record TellsLeast (steps : ℕ) (file line : List ℕ) : Type 0 where
   pub project : ProjectData
   pub periods : ℕ
   pub read : reading file ≡ Ok project
@@ -51,8 +51,8 @@ pub record TellsLeast (file : List ℕ) (steps : ℕ) (before after : Option (Li
   pub chain : bound project ≤ periods
   pub alone : steps ≡ 0 → periods ≡ bound project
   pub within : 0 < steps → periods ≤ horizon project.activities
-  pub wrote : Appends before after (bound_line periods)
+  pub tells : line ≡ bound_line periods
 
--- such a bound was written; or prices were looked for, and show that no schedule is feasible
-abbrev pub CertifiesLeast : List ℕ → ℕ → Option (List ℕ) → Option (List ℕ) → Type 0
-CertifiesLeast file steps before after = TellsLeast file steps before after ⊎ ((0 < steps) × CertifiesInfeasible file before after)
+-- the line of such a bound; or prices were looked for, and show that no schedule is feasible
+abbrev pub CertifiesLeast : ℕ → List ℕ → List ℕ → Type 0
+CertifiesLeast steps file line = TellsLeast steps file line ⊎ ((0 < steps) × CertifiesInfeasible file line)

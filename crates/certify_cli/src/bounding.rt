@@ -1,10 +1,9 @@
 //! Lower bounds of a file's project, with and without a proof.
-ghost use Rattle.std.specs.Prelude.{◌-◌, IfOk, IfErr};
+ghost use Rattle.std.specs.Prelude.{◌-◌, IfOk, IfErr, string_bytes};
 ghost use Rattle.schedule_clauses.specs.Fault.{IsOfBound};
-ghost use Rattle.watched_io.specs.Failure.{HasFailed};
 ghost use Rattle.certify_cli.specs.Certified.{CertifiesBound, CertifiesLeast};
 ghost use Rattle.price_search.specs.LowerBound.{TakesAtLeast};
-ghost use Rattle.certify_cli.specs.Commands.{IsLineNoted, IsStopped, IsOfFile, IsOfFileAlone, IsOfPeriods};
+ghost use Rattle.certify_cli.specs.Commands.{IsOfFile, IsOfFileAlone, IsOfPeriods};
 
 use crate::fault::CertifyFault;
 use mrcpsp::Project;
@@ -13,8 +12,6 @@ use price_search::{exceeds, lower_bound};
 use psplib_mm::read;
 use schedule_clauses::CertificateFault;
 use std::alloc::Global;
-use std::io::Write;
-use watched_io::Watch;
 
 /// The steps for the prices of a bound that is asked once.
 pub(crate) const STEPS: u32 = 3_000;
@@ -39,49 +36,32 @@ fn exceeded(
 }
 
 /// Checks a DRAT proof that no feasible schedule of `file` takes fewer than `periods` periods, and
-/// writes `at least L`. The proof is of the clauses of one period less; it may be empty if the
-/// longest chain, prices or the clauses alone decide. On any error except `Write`, nothing was
-/// written.
-pub fn certify_bound<W: Write>(
+/// returns `at least L`. The proof is of the clauses of one period less; it may be empty if the
+/// longest chain, prices or the clauses alone decide.
+pub fn certify_bound(
     alloc: Global,
     file: &[u8],
     periods: u32,
     proof: &[u8],
-    writer: &mut W,
-    watch: &mut Watch<W>,
-) -> Result<(), CertifyFault>
-    ensures ok { IfOk result (λ _. CertifiesBound file.now periods (W.contents writer.old) (W.contents writer.new)) }
+) -> Result<String, CertifyFault>
+    ensures ok { IfOk result (λ line. CertifiesBound periods file.now (string_bytes line)) }
+    ensures file { IfErr result (λ fault. IsOfFile fault file.now) }
     ensures judged { IfErr result (λ fault. IsOfPeriods fault file.now periods) }
-    ensures fault { IfErr result (λ fault.
-        IsOfFile fault file.now × IsStopped fault (HasFailed watch.old watch.new) (W.contents writer.old) (W.contents writer.new)) }
-    ensures noted { IsLineNoted result watch.old watch.new }
 {
     let project = read(alloc, file).map_err(CertifyFault::File)?;
     match exceeded(alloc, &project, periods, proof) {
-        Ok(()) => match watch.write_text(writer, format_args!("at least {periods}\n")) {
-            Ok(()) => Ok(()),
-            Err(_) => Err(CertifyFault::Write),
-        },
+        Ok(()) => Ok(format!(in alloc; "at least {periods}\n")?),
         Err(fault) => Err(CertifyFault::Certificate(fault)),
     }
 }
 
-/// Writes `at least L`: no feasible schedule of `file` takes fewer than L periods. L is the longest
+/// Returns `at least L`: no feasible schedule of `file` takes fewer than L periods. L is the longest
 /// chain of activities by shortest durations, or more if `steps` steps find prices that refute
-/// bounds above it. If they refute the horizon too, it writes `infeasible`. On any error except
-/// `Write`, nothing was written.
-pub fn certify_least<W: Write>(
-    alloc: Global,
-    file: &[u8],
-    steps: u32,
-    writer: &mut W,
-    watch: &mut Watch<W>,
-) -> Result<(), CertifyFault>
-    ensures ok { IfOk result (λ _. CertifiesLeast file.now steps (W.contents writer.old) (W.contents writer.new)) }
+/// bounds above it. If they refute the horizon too, it returns `infeasible`.
+pub fn certify_least(alloc: Global, file: &[u8], steps: u32) -> Result<String, CertifyFault>
+    ensures ok { IfOk result (λ line. CertifiesLeast steps file.now (string_bytes line)) }
+    ensures file { IfErr result (λ fault. IsOfFile fault file.now) }
     ensures judged { IfErr result (λ fault. IsOfFileAlone fault) }
-    ensures fault { IfErr result (λ fault.
-        IsOfFile fault file.now × IsStopped fault (HasFailed watch.old watch.new) (W.contents writer.old) (W.contents writer.new)) }
-    ensures noted { IsLineNoted result watch.old watch.new }
 {
     let project = read(alloc, file).map_err(CertifyFault::File)?;
     let Ok(periods) = lower_bound(alloc, &project, steps) else {
@@ -89,13 +69,7 @@ pub fn certify_least<W: Write>(
     };
     fitting_modes_decide();
     if steps > 0 && periods > project.horizon() {
-        match watch.write_text(writer, "infeasible\n") {
-            Ok(()) => return Ok(()),
-            Err(_) => return Err(CertifyFault::Write),
-        }
+        return Ok(String::from_str(alloc, "infeasible\n")?);
     }
-    match watch.write_text(writer, format_args!("at least {periods}\n")) {
-        Ok(()) => Ok(()),
-        Err(_) => Err(CertifyFault::Write),
-    }
+    Ok(format!(in alloc; "at least {periods}\n")?)
 }

@@ -1,16 +1,16 @@
 //! Certificates of texts, and the clauses of a text.
-ghost use Rattle.std.specs.Prelude.{◌≡◌, ◌⊎◌, IfOk, IfErr};
+ghost use Rattle.std.specs.Prelude.{◌≡◌, ◌⊎◌, IfOk, IfErr, string_bytes};
 ghost use Rattle.psplib_mm.specs.Gives.{Gives};
 ghost use Rattle.psplib_mm.specs.Reading.{reading};
 ghost use Rattle.mrcpsp.specs.Schedule.{IsOptimal, IsInfeasible, makespan};
 ghost use Rattle.schedule_clauses.specs.Fault.{IsOfStocks, IsOfSchedule};
-ghost use Rattle.watched_io.specs.Failure.{HasFailed};
 ghost use Rattle.certify_cli.specs.Certified.{CertifiesOptimal, CertifiesInfeasible};
-ghost use Rattle.certify_cli.specs.Commands.{IsLineNoted, IsStopped, IsOfFile, IsOfText, IsOfProofAlone};
+ghost use Rattle.certify_cli.specs.Commands.{IsOfFile, IsOfText, IsOfProofAlone, IsClausesFault};
 
 use crate::bounding::STEPS;
 use crate::dimacs::write_formula;
 use crate::fault::CertifyFault;
+use file_commands::CommandFault;
 use mrcpsp::{Project, Schedule, check};
 use price_search::{exceeds, is_infeasible};
 use psplib_mm::read;
@@ -18,7 +18,6 @@ use schedule_clauses::{CertificateFault, clauses, stock_clauses};
 use schedule_files::{MOST_BYTES, read_schedule};
 use std::alloc::Global;
 use std::io::Write;
-use watched_io::Watch;
 
 /// Checks a schedule and a proof that none is shorter. Without a proof prices may show it.
 fn certified(
@@ -57,23 +56,18 @@ fn certified_infeasible(
     schedule_clauses::certify_infeasible(alloc, project, proof)
 }
 
-/// Checks a schedule of `file` and a proof that none is shorter, and writes `optimal M`. The proof
+/// Checks a schedule of `file` and a proof that none is shorter, and returns `optimal M`. The proof
 /// may be empty if the longest chain, prices or the clauses alone decide. Fails with the first
-/// fault, in the order of file, text, schedule and proof. On any error except `Write`, nothing was
-/// written.
-pub fn certify<W: Write>(
+/// fault, in the order of file, text, schedule and proof.
+pub fn certify(
     alloc: Global,
     file: &[u8],
     text: &[u8],
     proof: &[u8],
-    writer: &mut W,
-    watch: &mut Watch<W>,
-) -> Result<(), CertifyFault>
-    ensures ok { IfOk result (λ _. CertifiesOptimal file.now text.now (W.contents writer.old) (W.contents writer.new)) }
+) -> Result<String, CertifyFault>
+    ensures ok { IfOk result (λ line. CertifiesOptimal file.now text.now (string_bytes line)) }
+    ensures file { IfErr result (λ fault. IsOfFile fault file.now) }
     ensures judged { IfErr result (λ fault. IsOfText fault file.now text.now) }
-    ensures fault { IfErr result (λ fault.
-        IsOfFile fault file.now × IsStopped fault (HasFailed watch.old watch.new) (W.contents writer.old) (W.contents writer.new)) }
-    ensures noted { IsLineNoted result watch.old watch.new }
 {
     let project = read(alloc, file).map_err(CertifyFault::File)?;
     let schedule = match read_schedule(alloc, text) {
@@ -83,35 +77,21 @@ pub fn certify<W: Write>(
         Err(_) => return Err(CertifyFault::NoMemory),
     };
     match certified(alloc, &project, &schedule, proof) {
-        Ok(makespan) => match watch.write_text(writer, format_args!("optimal {makespan}\n")) {
-            Ok(()) => Ok(()),
-            Err(_) => Err(CertifyFault::Write),
-        },
+        Ok(makespan) => Ok(format!(in alloc; "optimal {makespan}\n")?),
         Err(fault) => Err(CertifyFault::Certificate(fault)),
     }
 }
 
-/// Checks a proof that no modes fit the stocks of `file`, and writes `infeasible`. The proof may be
-/// empty if prices or the clauses alone decide. On any error except `Write`, nothing was written.
-pub fn certify_infeasible<W: Write>(
-    alloc: Global,
-    file: &[u8],
-    proof: &[u8],
-    writer: &mut W,
-    watch: &mut Watch<W>,
-) -> Result<(), CertifyFault>
-    ensures ok { IfOk result (λ _. CertifiesInfeasible file.now (W.contents writer.old) (W.contents writer.new)) }
+/// Checks a proof that no modes fit the stocks of `file`, and returns `infeasible`. The proof may be
+/// empty if prices or the clauses alone decide.
+pub fn certify_infeasible(alloc: Global, file: &[u8], proof: &[u8]) -> Result<String, CertifyFault>
+    ensures ok { IfOk result (λ line. CertifiesInfeasible file.now (string_bytes line)) }
+    ensures file { IfErr result (λ fault. IsOfFile fault file.now) }
     ensures judged { IfErr result (λ fault. IsOfProofAlone fault) }
-    ensures fault { IfErr result (λ fault.
-        IsOfFile fault file.now × IsStopped fault (HasFailed watch.old watch.new) (W.contents writer.old) (W.contents writer.new)) }
-    ensures noted { IsLineNoted result watch.old watch.new }
 {
     let project = read(alloc, file).map_err(CertifyFault::File)?;
     match certified_infeasible(alloc, &project, proof) {
-        Ok(()) => match watch.write_text(writer, "infeasible\n") {
-            Ok(()) => Ok(()),
-            Err(_) => Err(CertifyFault::Write),
-        },
+        Ok(()) => Ok(String::from_str(alloc, "infeasible\n")?),
         Err(fault) => Err(CertifyFault::Certificate(fault)),
     }
 }
@@ -123,12 +103,15 @@ pub fn write_clauses<W: Write>(
     file: &[u8],
     bound: Option<u32>,
     writer: &mut W,
-) -> Result<(), CertifyFault>
-    ensures file { IfErr result (λ fault. IsOfFile fault file.now) }
+) -> Result<(), CommandFault<CertifyFault>>
+    ensures file { IfErr result (λ fault. IsClausesFault fault file.now) }
     ensures fault { IfErr result (λ fault.
-        (W.contents writer.new ≡ W.contents writer.old) ⊎ (fault ≡ CertifyFault.Write)) }
+        (W.contents writer.new ≡ W.contents writer.old) ⊎ (fault ≡ CommandFault.Write)) }
 {
-    let project = read(alloc, file).map_err(CertifyFault::File)?;
+    let project = match read(alloc, file) {
+        Ok(project) => project,
+        Err(fault) => return Err(CommandFault::Refused(CertifyFault::File(fault))),
+    };
     let made = match bound {
         Some(bound) => clauses(alloc, &project, bound),
         None => stock_clauses(alloc, &project),
@@ -136,8 +119,8 @@ pub fn write_clauses<W: Write>(
     match made {
         Ok(formula) => match write_formula(writer, &formula) {
             Ok(()) => Ok(()),
-            Err(_) => Err(CertifyFault::Write),
+            Err(_) => Err(CommandFault::Write),
         },
-        Err(fault) => Err(CertifyFault::Certificate(fault)),
+        Err(fault) => Err(CommandFault::Refused(CertifyFault::Certificate(fault))),
     }
 }

@@ -1,124 +1,107 @@
-//! The checks of proofs over any readers and writer, with a status.
-ghost use Rattle.std.specs.Prelude.{◌≡◌, ◌<◌};
-ghost use Rattle.std.specs.Process.{exit_status};
-ghost use Rattle.explain.specs.Ending.{Ends};
-ghost use Rattle.certify_cli.specs.Commands.{IsCertifyOf, IsInfeasibleOf};
+//! The commands that check proofs: what each answers to the bytes of its inputs.
+ghost use Rattle.certify_cli.specs.Certified.{CertifiesOptimal, CertifiesInfeasible, CertifiesBound, CertifiesLeast};
+ghost use Rattle.certify_cli.specs.Commands.{IsOfFile, IsOfText, IsOfProofAlone, IsOfPeriods, IsOfFileAlone};
 
+use crate::bounding::{certify_bound, certify_least};
 use crate::certifying::{certify, certify_infeasible};
 use crate::explaining::{why_not_infeasible, why_uncertified};
 use crate::fault::CertifyFault;
-use explain::{CommandFault, CommandWatches, MOST_TEXT, Paths, end_command};
-use schedule_files::MOST_BYTES;
+use file_commands::{Answer, FileCommand, Texts};
 use std::alloc::Global;
-use std::env::Env;
-use std::io::{Eprint, Read, Write};
-use std::process::ExitCode;
 
 /// The most bytes that are read of a proof.
 pub const MOST_PROOF: u64 = 4_000_000_000;
 
-/// Is `certify` of what the readers give. Of `text` one byte more is read than a schedule may have,
-/// so that excess is seen.
-pub fn certify_read<S: Read + Drop, T: Read + Drop, P: Read + Drop, W: Write>(
-    alloc: Global,
-    file: S,
-    text: T,
-    proof: P,
-    writer: &mut W,
-    watches: &mut CommandWatches<S, T, P, W>,
-) -> Result<(), CommandFault<CertifyFault>>
-    ensures longer { MOST_BYTES < MOST_TEXT }
-    ensures ended { IsCertifyOf result watches.old watches.new (S.remaining file) (T.remaining text)
-        (W.contents writer.old)
-        (W.contents writer.new) }
-{
-    let bytes = match watches.file.read_front(alloc, file, MOST_TEXT) {
-        Ok(bytes) => bytes,
-        Err(error) => return Err(CommandFault::File(error.kind())),
-    };
-    let words = match watches.text.read_front(alloc, text, MOST_TEXT) {
-        Ok(words) => words,
-        Err(error) => return Err(CommandFault::Text(error.kind())),
-    };
-    let steps = match watches.proof.read_front(alloc, proof, MOST_PROOF) {
-        Ok(steps) => steps,
-        Err(error) => return Err(CommandFault::Proof(error.kind())),
-    };
-    match certify(alloc, &bytes, &words, &steps, writer, &mut watches.output) {
-        Ok(()) => Ok(()),
-        Err(fault) => {
-            watches.why = why_uncertified(alloc, &bytes, &words, fault);
-            Err(CommandFault::Refused(fault))
+/// A `Certify` is the command `certify`: that a schedule is optimal.
+#[derive(Clone, Copy, Debug)]
+pub struct Certify;
+
+impl FileCommand for Certify {
+    type Fault = CertifyFault;
+
+    ghost gives = { λ _ texts line. CertifiesOptimal texts.file texts.text line };
+
+    ghost refuses = { λ _ texts fault. IsOfFile fault texts.file × IsOfText fault texts.file texts.text };
+
+    fn answer(&mut self, alloc: Global, texts: &Texts<'_>) -> Answer<CertifyFault> {
+        match certify(alloc, texts.file, texts.text, texts.proof) {
+            Ok(line) => Answer::new(Ok(line), None),
+            Err(fault) => {
+                let why = why_uncertified(alloc, texts.file, texts.text, fault);
+                Answer::new(Err(fault), why)
+            }
         }
     }
 }
 
-/// Is `certify_infeasible` of what `file` and `proof` give.
-pub fn infeasible_read<S: Read + Drop, P: Read + Drop, W: Write>(
-    alloc: Global,
-    file: S,
-    proof: P,
-    writer: &mut W,
-    watches: &mut CommandWatches<S, (), P, W>,
-) -> Result<(), CommandFault<CertifyFault>>
-    ensures { IsInfeasibleOf result watches.old watches.new (S.remaining file) (W.contents writer.old) (W.contents writer.new) }
-{
-    let bytes = match watches.file.read_front(alloc, file, MOST_TEXT) {
-        Ok(bytes) => bytes,
-        Err(error) => return Err(CommandFault::File(error.kind())),
-    };
-    let steps = match watches.proof.read_front(alloc, proof, MOST_PROOF) {
-        Ok(steps) => steps,
-        Err(error) => return Err(CommandFault::Proof(error.kind())),
-    };
-    match certify_infeasible(alloc, &bytes, &steps, writer, &mut watches.output) {
-        Ok(()) => Ok(()),
-        Err(fault) => {
-            watches.why = why_not_infeasible(alloc, &bytes, fault);
-            Err(CommandFault::Refused(fault))
+/// A `CertifyInfeasible` is the command `certify --infeasible`: that no schedule is feasible.
+#[derive(Clone, Copy, Debug)]
+pub struct CertifyInfeasible;
+
+impl FileCommand for CertifyInfeasible {
+    type Fault = CertifyFault;
+
+    ghost gives = { λ _ texts line. CertifiesInfeasible texts.file line };
+
+    ghost refuses = { λ _ texts fault. IsOfFile fault texts.file × IsOfProofAlone fault };
+
+    fn answer(&mut self, alloc: Global, texts: &Texts<'_>) -> Answer<CertifyFault> {
+        match certify_infeasible(alloc, texts.file, texts.proof) {
+            Ok(line) => Answer::new(Ok(line), None),
+            Err(fault) => {
+                let why = why_not_infeasible(alloc, texts.file, fault);
+                Answer::new(Err(fault), why)
+            }
         }
     }
 }
 
-/// Is `certify_read` with a status: 0, or 1 with the fault on standard error.
-pub fn certify_to<
-    R: AllocGlobal + Env + Eprint,
-    S: Read + Drop,
-    T: Read + Drop,
-    P: Read + Drop,
-    W: Write,
->(
-    rt: &R,
-    paths: Paths<'_>,
-    file: S,
-    text: T,
-    proof: P,
-    writer: &mut W,
-    watches: &mut CommandWatches<S, T, P, W>,
-) -> ExitCode
-    ensures { Ends
-        (λ ended. IsCertifyOf ended watches.old watches.new (S.remaining file) (T.remaining text)
-        (W.contents writer.old)
-        (W.contents writer.new))
-        (exit_status result) }
-{
-    let ended = certify_read(rt.alloc(), file, text, proof, writer, watches);
-    end_command(rt, paths, ended, watches)
+/// A `CertifyBound` is the command `bound` with a number of periods: that no schedule takes fewer.
+#[derive(Clone, Copy, Debug)]
+pub struct CertifyBound {
+    pub periods: u32,
 }
 
-/// Is `infeasible_read` with a status: 0, or 1 with the fault on standard error.
-pub fn infeasible_to<R: AllocGlobal + Env + Eprint, S: Read + Drop, P: Read + Drop, W: Write>(
-    rt: &R,
-    paths: Paths<'_>,
-    file: S,
-    proof: P,
-    writer: &mut W,
-    watches: &mut CommandWatches<S, (), P, W>,
-) -> ExitCode
-    ensures { Ends
-        (λ ended. IsInfeasibleOf ended watches.old watches.new (S.remaining file) (W.contents writer.old) (W.contents writer.new))
-        (exit_status result) }
-{
-    let ended = infeasible_read(rt.alloc(), file, proof, writer, watches);
-    end_command(rt, paths, ended, watches)
+impl FileCommand for CertifyBound {
+    type Fault = CertifyFault;
+
+    ghost gives = { λ bound texts line. CertifiesBound bound.periods texts.file line };
+
+    ghost refuses = { λ bound texts fault. IsOfFile fault texts.file × IsOfPeriods fault texts.file bound.periods };
+
+    fn answer(&mut self, alloc: Global, texts: &Texts<'_>) -> Answer<CertifyFault> {
+        match certify_bound(alloc, texts.file, self.periods, texts.proof) {
+            Ok(line) => Answer::new(Ok(line), None),
+            Err(fault) => {
+                let why = why_uncertified(alloc, texts.file, &[], fault);
+                Answer::new(Err(fault), why)
+            }
+        }
+    }
+}
+
+/// A `FindBound` is the command `bound` without a number: a bound by the longest chain of
+/// activities, or by prices.
+#[derive(Clone, Copy, Debug)]
+pub struct FindBound {
+    /// The most steps for the prices of each bound.
+    pub steps: u32,
+}
+
+impl FileCommand for FindBound {
+    type Fault = CertifyFault;
+
+    ghost gives = { λ bound texts line. CertifiesLeast bound.steps texts.file line };
+
+    ghost refuses = { λ _ texts fault. IsOfFile fault texts.file × IsOfFileAlone fault };
+
+    fn answer(&mut self, alloc: Global, texts: &Texts<'_>) -> Answer<CertifyFault> {
+        match certify_least(alloc, texts.file, self.steps) {
+            Ok(line) => Answer::new(Ok(line), None),
+            Err(fault) => {
+                let why = why_uncertified(alloc, texts.file, &[], fault);
+                Answer::new(Err(fault), why)
+            }
+        }
+    }
 }

@@ -19,8 +19,6 @@ pub enum CertifyFault {
     Certificate(CertificateFault),
     #[error("no memory")]
     NoMemory,
-    #[error("cannot write")]
-    Write,
 }
 
 impl From<AllocError> for CertifyFault {

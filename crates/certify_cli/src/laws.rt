@@ -2,7 +2,7 @@
 ghost use Rattle.std.specs.Prelude.{◌≡◌};
 
 use crate::commands::MOST_PROOF;
-use explain::MOST_TEXT;
+use file_commands::MOST_TEXT;
 use schedule_clauses::MOST_START_CLAUSES;
 
 /// The most bytes of a file or a text, and of a proof.

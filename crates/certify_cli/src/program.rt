@@ -1,22 +1,22 @@
 //! The commands on files: each ends with the status 0, or 1 and its fault on standard error.
 ghost use Rattle.std.specs.Prelude.{◌≡◌, ◌≤◌, IfSome};
 ghost use Rattle.std.specs.Process.{exit_status};
-ghost use Rattle.certify_cli.specs.Commands.{clauses_status};
 
 use crate::arguments::{CertificateTask, task_of};
-use crate::bound_commands::{bound_to, least_to};
 use crate::certifying::write_clauses;
-use crate::commands::{certify_to, infeasible_to};
+use crate::commands::{Certify, CertifyBound, CertifyInfeasible, FindBound, MOST_PROOF};
 use crate::explaining::why_uncertified;
-use crate::fault::CertifyFault;
 use clap::ArgMatches;
-use explain::{CommandWatches, MOST_TEXT, Paths, open_path, told};
+use file_commands::{
+    CommandFault, CommandWatches, FileCommand, Paths, end_command, end_no_memory, open_sources,
+    read_path,
+};
 use std::env::Env;
 use std::io;
 use std::io::{BufWriter, Eprint, Write};
 use std::process::ExitCode;
 use std::rt::Runtime;
-use watched_io::{Source, Watch, explains, tell_why};
+use watched_io::explains;
 
 /// Runs the command of `matches`, or returns `None` if it is none of this crate. The status is 0, or
 /// 1 for any fault.
@@ -31,8 +31,10 @@ pub fn run_command<R: Runtime + AllocGlobal>(rt: &R, matches: &ArgMatches<'_>) -
                 schedule,
                 proof,
             },
-        ) => Some(run_certify(rt, file, schedule, proof)),
-        Some(CertificateTask::Infeasible { file, proof }) => Some(run_infeasible(rt, file, proof)),
+        ) => Some(run_on(rt, file, Some(schedule), proof, Certify)),
+        Some(CertificateTask::Infeasible { file, proof }) => {
+            Some(run_on(rt, file, None, proof, CertifyInfeasible))
+        }
         Some(
             CertificateTask::Bound {
                 file,
@@ -42,19 +44,6 @@ pub fn run_command<R: Runtime + AllocGlobal>(rt: &R, matches: &ArgMatches<'_>) -
             },
         ) => Some(run_bound(rt, file, bound, proof, steps)),
         None => None,
-    }
-}
-
-fn end<R: Eprint>(rt: &R, ended: Result<(), CertifyFault>) -> ExitCode
-    ensures exact { exit_status result ≡ clauses_status ended }
-    ensures few { exit_status result ≤ 1 }
-{
-    match ended {
-        Ok(()) => ExitCode::SUCCESS,
-        Err(fault) => {
-            let _ = eprintln!(rt; "farm: {fault}");
-            ExitCode::FAILURE
-        }
     }
 }
 
@@ -70,86 +59,28 @@ fn end_unbounded<R: Env + Eprint>(rt: &R, bound: &str, others: &str) -> ExitCode
     ExitCode::FAILURE
 }
 
-/// Without a path the proof is empty.
-fn open_proof<R: Runtime>(rt: &R, path: Option<&str>) -> Option<Source<R::Reader, R::File>> {
-    match path {
-        Some(path) => open_path(rt, path),
-        None => Some(Source::Nothing),
-    }
-}
-
-/// Prints `optimal M` if `proof` shows that `schedule` is optimal for `file`. Without a proof, the
-/// longest chain of activities or prices have to show it.
-pub fn run_certify<R: Runtime + AllocGlobal>(
+/// Runs `command` on these files. Without a path the proof is empty.
+fn run_on<R: Runtime + AllocGlobal, C: FileCommand>(
     rt: &R,
     file: &str,
-    schedule: &str,
+    text: Option<&str>,
     proof: Option<&str>,
+    command: C,
 ) -> ExitCode
     ensures { exit_status result ≤ 1 }
 {
-    let paths = Paths {
-        file,
-        text: schedule,
-        proof: proof.unwrap_or("-"),
-    };
-    let Some(project) = open_path(rt, file) else {
+    let Some(mut sources) = open_sources(rt, file, text, proof) else {
         return ExitCode::FAILURE;
     };
-    let Some(text) = open_path(rt, schedule) else {
-        return ExitCode::FAILURE;
-    };
-    let Some(steps) = open_proof(rt, proof) else {
-        return ExitCode::FAILURE;
-    };
-    let mut output = io::writer(rt);
-    let mut watches = CommandWatches::new();
-    certify_to(rt, paths, project, text, steps, &mut output, &mut watches)
-}
-
-/// Prints `infeasible` if `proof` shows that no schedule of `file` is feasible. Without a proof,
-/// prices have to show it.
-pub fn run_infeasible<R: Runtime + AllocGlobal>(rt: &R, file: &str, proof: Option<&str>) -> ExitCode
-    ensures { exit_status result ≤ 1 }
-{
-    let paths = Paths {
-        file,
-        text: file,
-        proof: proof.unwrap_or("-"),
-    };
-    let Some(project) = open_path(rt, file) else {
-        return ExitCode::FAILURE;
-    };
-    let Some(steps) = open_proof(rt, proof) else {
-        return ExitCode::FAILURE;
-    };
-    let mut output = io::writer(rt);
-    let mut watches = CommandWatches::new();
-    infeasible_to(rt, paths, project, steps, &mut output, &mut watches)
-}
-
-fn run_least<R: Runtime + AllocGlobal>(rt: &R, file: &str, steps: u32) -> ExitCode
-    ensures { exit_status result ≤ 1 }
-{
-    let Some(project) = open_path(rt, file) else {
-        return ExitCode::FAILURE;
-    };
-    let mut output = io::writer(rt);
-    let mut watches = CommandWatches::new();
-    least_to(
-        rt,
-        Paths::of(file),
-        project,
-        steps,
-        &mut output,
-        &mut watches,
-    )
+    sources.most_proof = MOST_PROOF;
+    let (mut writer, mut watches) = (io::writer(rt), CommandWatches::new());
+    file_commands::run_command(rt, sources, command, &mut writer, &mut watches)
 }
 
 /// Prints `at least L` if `proof` shows that no schedule of `file` takes fewer than `bound`
 /// periods. Without a bound, L is the longest chain of activities, or more by prices, in
 /// at most `steps` steps for each bound.
-pub fn run_bound<R: Runtime + AllocGlobal>(
+fn run_bound<R: Runtime + AllocGlobal>(
     rt: &R,
     file: &str,
     bound: Option<&str>,
@@ -159,37 +90,16 @@ pub fn run_bound<R: Runtime + AllocGlobal>(
     ensures { exit_status result ≤ 1 }
 {
     let Some(bound) = bound else {
-        return run_least(rt, file, steps);
+        return run_on(rt, file, None, None, FindBound { steps });
     };
     let Ok(periods) = bound.parse::<u32>() else {
         return end_unbounded(rt, bound, "");
     };
-    let paths = Paths {
-        file,
-        text: file,
-        proof: proof.unwrap_or("-"),
-    };
-    let Some(project) = open_path(rt, file) else {
-        return ExitCode::FAILURE;
-    };
-    let Some(steps) = open_proof(rt, proof) else {
-        return ExitCode::FAILURE;
-    };
-    let mut output = io::writer(rt);
-    let mut watches = CommandWatches::new();
-    bound_to(
-        rt,
-        paths,
-        project,
-        periods,
-        steps,
-        &mut output,
-        &mut watches,
-    )
+    run_on(rt, file, None, proof, CertifyBound { periods })
 }
 
 /// Prints the clauses of `file` and `bound`, a number of periods or `none`.
-pub fn run_clauses<R: Runtime + AllocGlobal>(rt: &R, file: &str, bound: &str) -> ExitCode
+fn run_clauses<R: Runtime + AllocGlobal>(rt: &R, file: &str, bound: &str) -> ExitCode
     ensures { exit_status result ≤ 1 }
 {
     let bound = match bound.parse::<u32>() {
@@ -199,25 +109,20 @@ pub fn run_clauses<R: Runtime + AllocGlobal>(rt: &R, file: &str, bound: &str) ->
             return end_unbounded(rt, bound, ", or none");
         }
     };
-    let Some(source) = open_path(rt, file) else {
-        return ExitCode::FAILURE;
-    };
-    let read = Watch::new().read_front(rt.alloc(), source, MOST_TEXT);
-    let Some(project) = told(rt, file, read) else {
+    let Some(project) = read_path(rt, file) else {
         return ExitCode::FAILURE;
     };
     let Ok(mut output) = BufWriter::new(rt.alloc(), io::writer(rt)) else {
-        return end(rt, Err(CertifyFault::NoMemory));
+        return end_no_memory(rt);
     };
     let ended = write_clauses(rt.alloc(), &project, bound, &mut output);
-    let why = match ended {
-        Ok(()) => None,
-        Err(fault) => why_uncertified(rt.alloc(), &project, &[], fault),
+    let mut watches = CommandWatches::<(), (), (), ()>::new();
+    if let Err(CommandFault::Refused(fault)) = ended {
+        watches.why = why_uncertified(rt.alloc(), &project, &[], fault);
+    }
+    let ended = match output.flush() {
+        Ok(()) => ended,
+        Err(_) => Err(CommandFault::Write),
     };
-    let status = match output.flush() {
-        Ok(()) => end(rt, ended),
-        Err(_) => return end(rt, Err(CertifyFault::Write)),
-    };
-    tell_why(rt, &why);
-    status
+    end_command(rt, Paths::of(file), ended, &watches)
 }

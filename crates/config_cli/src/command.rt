@@ -1,17 +1,13 @@
-//! The command over any reader and writer.
-ghost use Rattle.std.specs.Process.{exit_status};
-ghost use Rattle.explain.specs.Ending.{Ends};
-ghost use Rattle.config_cli.specs.Configured.{IsConfigOf};
+//! The command: what it answers to the bytes of a file.
+ghost use Rattle.std.specs.Prelude.{IfOk, IfErr, string_bytes};
+ghost use Rattle.config_cli.specs.Configured.{IsShown, IsRefused};
 
 use crate::meaning::config_text;
 use crate::unread::why_unread;
-use explain::{CommandFault, CommandWatches, MOST_TEXT, Paths, end_command};
 use farm_config::{ConfigFault, place_of, read_config};
+use file_commands::{Answer, FileCommand, MOST_TEXT, Texts};
 use std::alloc::Global;
-use std::env::Env;
 use std::fmt;
-use std::io::{Eprint, Read, Write};
-use std::process::ExitCode;
 
 /// A `ConfigRefusal` is why a file has no configuration. Its text is as in `config Range(jobs)`.
 #[derive(Clone, Copy, Debug, PartialEq, Eq)]
@@ -33,58 +29,48 @@ impl fmt::Display for ConfigRefusal {
     }
 }
 
-fn why_refused(alloc: Global, bytes: &[u8], fault: ConfigFault) -> Option<String> {
+fn why_refused(alloc: Global, bytes: &[u8], refusal: ConfigRefusal) -> Option<String> {
+    let ConfigRefusal::Fault(fault) = refusal else {
+        return None;
+    };
     let place = place_of(alloc, bytes, fault)?;
     let wanted = place.wanted(fault);
     format!(in alloc; "{place}: {wanted}").ok()
 }
 
-fn config_read<S: Read + Drop, W: Write>(
-    alloc: Global,
-    reader: S,
-    writer: &mut W,
-    watches: &mut CommandWatches<S, (), (), W>,
-) -> Result<(), CommandFault<ConfigRefusal>>
-    ensures { IsConfigOf result watches.old watches.new (S.remaining reader) (W.contents writer.old) (W.contents writer.new) }
+fn configured(alloc: Global, bytes: &[u8]) -> Result<String, ConfigRefusal>
+    ensures shown { IfOk result (λ text. IsShown bytes.now (string_bytes text)) }
+    ensures refused { IfErr result (λ refusal. IsRefused bytes.now refusal) }
 {
-    let bytes = match watches.file.read_front(alloc, reader, MOST_TEXT) {
-        Ok(bytes) => bytes,
-        Err(error) => return Err(CommandFault::File(error.kind())),
-    };
     if bytes.len() as u64 >= MOST_TEXT {
-        return Err(CommandFault::Refused(ConfigRefusal::TooLong));
+        return Err(ConfigRefusal::TooLong);
     }
-    let config = match read_config(alloc, &bytes) {
+    let config = match read_config(alloc, bytes) {
         Ok(config) => config,
-        Err(fault) => {
-            watches.why = why_refused(alloc, &bytes, fault);
-            return Err(CommandFault::Refused(ConfigRefusal::Fault(fault)));
-        }
+        Err(fault) => return Err(ConfigRefusal::Fault(fault)),
     };
-    let Ok(text) = config_text(alloc, &config) else {
-        return Err(CommandFault::Refused(ConfigRefusal::NoMemory));
-    };
-    watches.why = why_unread(alloc, &bytes);
-    match watches.output.write_text(writer, text) {
-        Ok(()) => Ok(()),
-        Err(_) => Err(CommandFault::Write),
+    match config_text(alloc, &config) {
+        Ok(text) => Ok(text),
+        Err(_) => Err(ConfigRefusal::NoMemory),
     }
 }
 
-/// Writes what the configuration of `reader` means. It reads at most `MOST_TEXT` bytes; a longer
-/// input is refused. The status is 0 or 1. Standard error has each fault, names `path` if
-/// that is not read, and explains a key that is not read.
-pub fn config_to<R: AllocGlobal + Env + Eprint, S: Read + Drop, W: Write>(
-    rt: &R,
-    path: &str,
-    reader: S,
-    writer: &mut W,
-    watches: &mut CommandWatches<S, (), (), W>,
-) -> ExitCode
-    ensures { Ends
-        (λ ended. IsConfigOf ended watches.old watches.new (S.remaining reader) (W.contents writer.old) (W.contents writer.new))
-        (exit_status result) }
-{
-    let ended = config_read(rt.alloc(), reader, writer, watches);
-    end_command(rt, Paths::of(path), ended, watches)
+/// A `Configure` is the command `config`: what the configuration of a file means. A key that is not
+/// read is explained.
+#[derive(Clone, Copy)]
+pub struct Configure;
+
+impl FileCommand for Configure {
+    type Fault = ConfigRefusal;
+
+    ghost gives = { λ _ texts shown. IsShown texts.file shown };
+
+    ghost refuses = { λ _ texts refusal. IsRefused texts.file refusal };
+
+    fn answer(&mut self, alloc: Global, texts: &Texts<'_>) -> Answer<ConfigRefusal> {
+        match configured(alloc, texts.file) {
+            Ok(text) => Answer::new(Ok(text), why_unread(alloc, texts.file)),
+            Err(refusal) => Answer::new(Err(refusal), why_refused(alloc, texts.file, refusal)),
+        }
+    }
 }

@@ -3,9 +3,9 @@ ghost use Rattle.std.specs.Prelude.{◌≤◌, IfSome};
 ghost use Rattle.std.specs.Process.{exit_status};
 
 use crate::arguments::path_of;
-use crate::command::config_to;
+use crate::command::Configure;
 use clap::ArgMatches;
-use explain::{CommandWatches, open_path};
+use file_commands::{CommandWatches, open_sources};
 use std::io;
 use std::process::ExitCode;
 use std::rt::Runtime;
@@ -14,11 +14,11 @@ use std::rt::Runtime;
 fn run_config<R: Runtime + AllocGlobal>(rt: &R, path: &str) -> ExitCode
     ensures { exit_status result ≤ 1 }
 {
-    let Some(file) = open_path(rt, path) else {
+    let Some(sources) = open_sources(rt, path, None, None) else {
         return ExitCode::FAILURE;
     };
-    let mut output = io::writer(rt);
-    config_to(rt, path, file, &mut output, &mut CommandWatches::new())
+    let (mut writer, mut watches) = (io::writer(rt), CommandWatches::new());
+    file_commands::run_command(rt, sources, Configure, &mut writer, &mut watches)
 }
 
 /// Runs the command that is chosen, if it is `config`. The status is 0, or 1 for any fault.

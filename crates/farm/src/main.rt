@@ -9,7 +9,7 @@ ghost use Rattle.std.specs.Prelude.{◌≤◌};
 ghost use Rattle.std.specs.Process.{exit_status};
 
 use clap::{ArgMatches, Command};
-use explain::{end_no_memory, words_of};
+use file_commands::{end_no_memory, words_of};
 use std::alloc::{AllocError, Global};
 use std::io::{Input, StdinLock};
 use std::process::ExitCode;

@@ -4,10 +4,10 @@ use Rattle.std.specs.Io.KnownBytes.{Appends}
 use Rattle.mrcpsp.specs.Project.{ProjectData}
 use Rattle.psplib_mm.specs.Gives.{Fails}
 use Rattle.psplib_mm.specs.Reading.{reading}
-use Rattle.explain.specs.Counts.{CommandCounts}
-use Rattle.explain.specs.Ending.{IsEndOf, IsUnwritten, file_alone}
-use Rattle.explain.specs.declared.ending.CommandFault.{CommandFault}
-use Rattle.explain.specs.declared.inputs.TheConstants.{MOST_TEXT}
+use Rattle.file_commands.specs.Counts.{CommandCounts}
+use Rattle.file_commands.specs.Ending.{IsEndOf, IsUnwritten, file_alone}
+use Rattle.file_commands.specs.declared.ending.CommandFault.{CommandFault}
+use Rattle.file_commands.specs.declared.inputs.TheConstants.{MOST_TEXT}
 use Rattle.farm_cli.specs.Summary.{summary_of, summary_text}
 use Rattle.farm_cli.specs.declared.checking.CheckFault.{CheckFault}
 

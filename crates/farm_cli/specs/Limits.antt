@@ -18,7 +18,7 @@ use Rattle.farm_replay.specs.Output.{IsWritten, IsCutBy, Marked}
 use Rattle.farm_replay.specs.declared.script.ReplayFault.TheVariants as fault
 use Rattle.farm_replay.specs.Counts.{Counts}
 use Rattle.farm_cli.specs.declared.arguments.TheConstants.{MOST_SESSIONS}
-use Rattle.explain.specs.declared.inputs.TheConstants.{MOST_TEXT}
+use Rattle.file_commands.specs.declared.inputs.TheConstants.{MOST_TEXT}
 
 -- the limits of a project, its schedules and its file
 pub record ProblemLimits : Type 0 where

@@ -1,10 +1,11 @@
 //! The line of a file's project, over any reader and writer.
 ghost use Rattle.std.specs.Process.{exit_status};
-ghost use Rattle.explain.specs.Ending.{Ends};
+ghost use Rattle.file_commands.specs.Ending.{Ends};
 ghost use Rattle.farm_cli.specs.Checked.{IsCheckOf};
 
 use crate::summary::summarize;
-use explain::{CommandFault, CommandWatches, MOST_TEXT, Paths, end_command, why_file};
+use explain::why_file;
+use file_commands::{CommandFault, CommandWatches, MOST_TEXT, Paths, end_command};
 use psplib_mm::{MmFault, read};
 use std::alloc::Global;
 use std::env::Env;

@@ -1,7 +1,7 @@
 //! Reading the whole of an input that is not too long.
 ghost use Rattle.std.specs.Prelude.{◌≡◌, ◌<◌, ◌≤◌, length, IfOk, IfSome, MatchOption};
 
-use explain::MOST_TEXT;
+use file_commands::MOST_TEXT;
 use std::alloc::Global;
 use std::io;
 use std::io::Read;

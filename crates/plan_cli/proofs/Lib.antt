@@ -1,4 +1,3 @@
 pub mod SlackLemmas
 pub mod TableLemmas
 pub mod PlanLemmas
-pub mod CommandLemmas

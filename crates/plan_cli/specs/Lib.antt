@@ -4,4 +4,3 @@ pub mod Table
 pub mod Moves
 pub mod Plan
 pub mod Shown
-pub mod Commands

@@ -2,7 +2,7 @@
 use crate::layout::Layout;
 use clap::builder::ValueParser;
 use clap::{Arg, ArgAction, ArgMatches, Command};
-use explain::{UNITS, unit_of};
+use file_commands::{UNITS, unit_of};
 use schedule_labels::Unit;
 use std::alloc::{AllocError, Global};
 

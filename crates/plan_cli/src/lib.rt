@@ -8,7 +8,7 @@
 //! - `slack`, `tabling`, `comparing`: the slack of an activity; tables; what differs.
 //! - `plan`: the schedule that a text has, and what it breaks first.
 //! - `labels`: dates and names as columns.
-//! - `showing`, `commands`: what is written of a file; the commands over any readers and writer.
+//! - `showing`, `commands`: what is written of a file; the commands, for the runner of all.
 //! - `arguments`, `program`: the words of a command line, and the commands on files.
 #![tactic(auto)]
 
@@ -24,7 +24,7 @@ mod slack;
 mod tabling;
 
 pub use arguments::with_commands;
-pub use commands::{compare_to, show_to};
+pub use commands::{Compare, Show};
 pub use comparing::moves;
 pub use layout::Layout;
 pub use plan::{Plan, PlanFault, read_plan};

@@ -3,10 +3,10 @@ ghost use Rattle.std.specs.Prelude.{◌≤◌, IfSome};
 ghost use Rattle.std.specs.Process.{exit_status};
 
 use crate::arguments::{Comparing, PlanTask, Showing, task_of};
-use crate::commands::{compare_to, show_to};
+use crate::commands::{Compare, Show};
 use crate::showing::ShowOptions;
 use clap::ArgMatches;
-use explain::{CommandWatches, Paths, calendar_of, open_path, read_names, refuse_same};
+use file_commands::{CommandWatches, calendar_of, open_sources, read_names, refuse_same};
 use std::io;
 use std::process::ExitCode;
 use std::rt::Runtime;
@@ -23,11 +23,15 @@ pub fn run_command<R: Runtime + AllocGlobal>(rt: &R, matches: &ArgMatches<'_>) -
     }
 }
 
+fn is_input_twice(showing: &Showing<'_>) -> bool {
+    let given = [showing.file, showing.text, showing.names.unwrap_or("")];
+    given.iter().filter(|path| **path == "-").count() > 1
+}
+
 fn run_show<R: Runtime + AllocGlobal>(rt: &R, showing: Showing<'_>) -> ExitCode
     ensures { exit_status result ≤ 2 }
 {
-    let given = [showing.file, showing.text, showing.names.unwrap_or("")];
-    if given.iter().filter(|path| **path == "-").count() > 1 {
+    if is_input_twice(&showing) {
         return refuse_same(rt);
     }
     let calendar = match calendar_of(rt, showing.start, showing.unit) {
@@ -38,12 +42,6 @@ fn run_show<R: Runtime + AllocGlobal>(rt: &R, showing: Showing<'_>) -> ExitCode
         Ok(names) => names,
         Err(status) => return status,
     };
-    let Some(file) = open_path(rt, showing.file) else {
-        return ExitCode::FAILURE;
-    };
-    let Some(text) = open_path(rt, showing.text) else {
-        return ExitCode::FAILURE;
-    };
     let asked = ShowOptions {
         layout: showing.layout,
         calendar,
@@ -52,21 +50,22 @@ fn run_show<R: Runtime + AllocGlobal>(rt: &R, showing: Showing<'_>) -> ExitCode
             None => None,
         },
     };
-    let paths = Paths {
-        file: showing.file,
-        text: showing.text,
-        proof: showing.file,
+    show_files(rt, showing.file, showing.text, &asked)
+}
+
+fn show_files<'a, R: Runtime + AllocGlobal>(
+    rt: &R,
+    file: &'a str,
+    text: &'a str,
+    asked: &ShowOptions<'_>,
+) -> ExitCode
+    ensures { exit_status result ≤ 1 }
+{
+    let Some(sources) = open_sources(rt, file, Some(text), None) else {
+        return ExitCode::FAILURE;
     };
-    let mut watches = CommandWatches::new();
-    show_to(
-        rt,
-        paths,
-        file,
-        text,
-        &asked,
-        &mut io::writer(rt),
-        &mut watches,
-    )
+    let (mut writer, mut watches) = (io::writer(rt), CommandWatches::new());
+    file_commands::run_command(rt, sources, Show { asked }, &mut writer, &mut watches)
 }
 
 fn run_compare<R: Runtime + AllocGlobal>(rt: &R, comparing: Comparing<'_>) -> ExitCode
@@ -76,28 +75,10 @@ fn run_compare<R: Runtime + AllocGlobal>(rt: &R, comparing: Comparing<'_>) -> Ex
     if given.iter().filter(|path| **path == "-").count() > 1 {
         return refuse_same(rt);
     }
-    let Some(file) = open_path(rt, comparing.file) else {
+    let (before, after) = (Some(comparing.before), Some(comparing.after));
+    let Some(sources) = open_sources(rt, comparing.file, before, after) else {
         return ExitCode::FAILURE;
     };
-    let Some(before) = open_path(rt, comparing.before) else {
-        return ExitCode::FAILURE;
-    };
-    let Some(after) = open_path(rt, comparing.after) else {
-        return ExitCode::FAILURE;
-    };
-    let paths = Paths {
-        file: comparing.file,
-        text: comparing.before,
-        proof: comparing.after,
-    };
-    let mut watches = CommandWatches::new();
-    compare_to(
-        rt,
-        paths,
-        file,
-        before,
-        after,
-        &mut io::writer(rt),
-        &mut watches,
-    )
+    let (mut writer, mut watches) = (io::writer(rt), CommandWatches::new());
+    file_commands::run_command(rt, sources, Compare, &mut writer, &mut watches)
 }

@@ -2,10 +2,10 @@
 use Rattle.std.specs.Prelude.{◌≡◌, ℕ, Bool, List, ⊤, Option, Result, Ok, Err, IfSome, take}
 use Rattle.psplib_mm.specs.Gives.{Fails}
 use Rattle.psplib_mm.specs.Reading.{reading}
-use Rattle.explain.specs.Counts.{CommandCounts, AreKept}
-use Rattle.explain.specs.Ending.{IsStopOf, IsUnwritten, file_alone}
-use Rattle.explain.specs.declared.ending.CommandFault.{CommandFault}
-use Rattle.explain.specs.declared.inputs.TheConstants.{MOST_TEXT}
+use Rattle.file_commands.specs.Counts.{CommandCounts, AreKept}
+use Rattle.file_commands.specs.Ending.{IsStopOf, IsUnwritten, file_alone}
+use Rattle.file_commands.specs.declared.ending.CommandFault.{CommandFault}
+use Rattle.file_commands.specs.declared.inputs.TheConstants.{MOST_TEXT}
 use Rattle.prove_cli.specs.Proved.{IsProved}
 use Rattle.prove_cli.specs.declared.fault.ProveFault.{ProveFault}
 use Rattle.prove_cli.specs.declared.fault.ProveFault.TheVariants as why

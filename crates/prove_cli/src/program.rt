@@ -7,9 +7,8 @@ use crate::proving::{Ended, ProveOptions, prove_read};
 use crate::reporting::{Reporter, Style};
 use crate::stopping::stop_at_end_of_input;
 use clap::ArgMatches;
-use explain::{
-    CommandWatches, MOST_TEXT, Paths, end_command, end_no_memory, open_path, told, why_no_schedule,
-};
+use explain::why_no_schedule;
+use file_commands::{CommandWatches, MOST_TEXT, Paths, end_command, end_no_memory, open_path, told};
 use mrcpsp::Schedule;
 use prover::Limits;
 use schedule_files::{MOST_BYTES, read_schedule};

@@ -1,7 +1,7 @@
 //! What is proved of a file's project, over any reader and writer.
 ghost use Rattle.std.specs.Prelude.{◌≡◌, ℕ, List, Option, IfOk, IfErr, IfSome, OnOk, Ok, take};
 ghost use Rattle.psplib_mm.specs.Reading.{reading};
-ghost use Rattle.explain.specs.Counts.{AreReadWell};
+ghost use Rattle.file_commands.specs.Counts.{AreReadWell};
 ghost use Rattle.prover.specs.Answers.{IsAnswer};
 ghost use Rattle.prove_cli.specs.Command.{IsProveOf, IsUnproved};
 ghost use Rattle.prove_cli.specs.Proved.{ended_by};
@@ -10,7 +10,8 @@ use crate::beginning::begin_with;
 use crate::cost::cost_since;
 use crate::fault::ProveFault;
 use crate::telling::told;
-use explain::{CommandFault, CommandWatches, MOST_TEXT, why_file};
+use explain::why_file;
+use file_commands::{CommandFault, CommandWatches, MOST_TEXT};
 use mrcpsp::{Project, Schedule};
 use prover::{Answer, Herald, Limits, Proved, Task, prove};
 use psplib_mm::read;

@@ -1,7 +1,6 @@
 pub mod ExecutableLemmas
 pub mod SearchLemmas
 pub mod SeveralLemmas
-pub mod CommandLemmas
 pub mod KindLemmas
 pub mod Examples
 pub mod TellingLemmas

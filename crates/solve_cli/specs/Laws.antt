@@ -6,7 +6,7 @@ use Rattle.mrcpsp.specs.Schedule.{ScheduleData}
 use Rattle.strategy.specs.declared.kind.Kind.{Kind}
 use Rattle.psplib_mm.specs.declared.reading.TheConstants as file
 use Rattle.schedule_files.specs.declared.reading.TheConstants as schedule
-use Rattle.explain.specs.declared.inputs.TheConstants.{MOST_TEXT}
+use Rattle.file_commands.specs.declared.inputs.TheConstants.{MOST_TEXT}
 use Rattle.schedule_files.specs.Laws.{IsWritable}
 use Rattle.schedule_files.specs.ScheduleText.{Tells}
 use Rattle.solve_cli.specs.Found.{IsFound}

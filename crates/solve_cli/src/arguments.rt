@@ -2,7 +2,8 @@
 use crate::searching::MOST_NODES;
 use clap::builder::ValueParser;
 use clap::{Arg, ArgAction, ArgMatches, Command};
-use explain::{MOST_CONFLICTS, Paths, UNITS, unit_of};
+use explain::MOST_CONFLICTS;
+use file_commands::{Paths, UNITS, unit_of};
 use schedule_labels::Unit;
 use schedule_picture::Order;
 use std::alloc::{AllocError, Global};

@@ -3,19 +3,21 @@ ghost use Rattle.std.specs.Prelude.{◌≡◌, ◌≤◌, IfOk, IfErr, IfSome, v
 ghost use Rattle.std.specs.Process.{exit_status};
 
 use crate::arguments::{DrawWords, Listing, ProjectTask, Solving, task_of};
+use crate::draw_command::Draw;
 use crate::improvements::{Improvements, Style};
 use crate::kinds::{SearchFault, kinds_of};
-use crate::picture::{PictureWords, picture_of};
+use crate::picture::PictureWords;
 use crate::progress::{Progress, Telling};
 use crate::search_kinds::SearchKind;
-use crate::searching::MOST_NODES;
+use crate::searching::{MOST_NODES, Observer};
 use crate::several::MOST_SEARCHES;
-use crate::showing::{draw_to, verify_to};
-use crate::solving::{SolveOptions, solve_to};
+use crate::solve_command::{Solve, SolveOptions};
+use crate::verify_command::Verify;
 use clap::ArgMatches;
-use explain::{
-    CommandWatches, Paths, calendar_of, end_no_memory, open_path, read_names, read_path,
-    refuse_same, why_no_schedule, why_no_search,
+use explain::{why_no_schedule, why_no_search};
+use file_commands::{
+    CommandWatches, Paths, calendar_of, end_no_memory, open_sources, read_names, read_path,
+    refuse_same,
 };
 use mrcpsp::Schedule;
 use schedule_files::{MOST_BYTES, read_schedule};
@@ -64,15 +66,14 @@ fn run_task<R: Runtime + AllocGlobal>(rt: &R, task: ProjectTask<'_>) -> ExitCode
 fn run_verify<R: Runtime + AllocGlobal>(rt: &R, paths: Paths<'_>, told: Listing) -> ExitCode
     ensures { exit_status result ≤ 1 }
 {
-    let Some(file) = open_path(rt, paths.file) else {
+    let Some(sources) = open_sources(rt, paths.file, Some(paths.text), None) else {
         return ExitCode::FAILURE;
     };
-    let Some(text) = open_path(rt, paths.text) else {
-        return ExitCode::FAILURE;
+    let verify = Verify {
+        lists_all: told == Listing::All,
     };
-    let mut watches = CommandWatches::new();
-    watches.lists_all = told == Listing::All;
-    verify_to(rt, paths, file, text, &mut io::writer(rt), &mut watches)
+    let (mut writer, mut watches) = (io::writer(rt), CommandWatches::new());
+    file_commands::run_command(rt, sources, verify, &mut writer, &mut watches)
 }
 
 /// Writes on standard error that the text of `--before` has no schedule.
@@ -112,12 +113,16 @@ fn read_before<R: Runtime + AllocGlobal>(
     }
 }
 
+fn is_input_twice(paths: &Paths<'_>, asked: &DrawWords<'_>) -> bool {
+    let others = [asked.names.unwrap_or(""), asked.before.unwrap_or("")];
+    let given = [paths.file, paths.text, others[0], others[1]];
+    given.iter().filter(|path| **path == "-").count() > 1
+}
+
 fn run_draw<R: Runtime + AllocGlobal>(rt: &R, paths: Paths<'_>, asked: DrawWords<'_>) -> ExitCode
     ensures { exit_status result ≤ 2 }
 {
-    let others = [asked.names.unwrap_or(""), asked.before.unwrap_or("")];
-    let given = [paths.file, paths.text, others[0], others[1]];
-    if given.iter().filter(|path| **path == "-").count() > 1 {
+    if is_input_twice(&paths, &asked) {
         return refuse_same(rt);
     }
     let calendar = match calendar_of(rt, asked.start, asked.unit) {
@@ -152,23 +157,11 @@ fn draw_files<R: Runtime + AllocGlobal>(
 ) -> ExitCode
     ensures { exit_status result ≤ 1 }
 {
-    let Some(file) = open_path(rt, paths.file) else {
+    let Some(sources) = open_sources(rt, paths.file, Some(paths.text), None) else {
         return ExitCode::FAILURE;
     };
-    let Some(text) = open_path(rt, paths.text) else {
-        return ExitCode::FAILURE;
-    };
-    let alloc = rt.alloc();
-    let mut watches = CommandWatches::new();
-    draw_to(
-        rt,
-        paths,
-        file,
-        text,
-        &mut io::writer(rt),
-        &mut watches,
-        |verified| picture_of(alloc, &verified, words),
-    )
+    let (mut writer, mut watches) = (io::writer(rt), CommandWatches::new());
+    file_commands::run_command(rt, sources, Draw { words }, &mut writer, &mut watches)
 }
 
 /// An error is the status: 1 for want of memory, and 2 for words that are refused.
@@ -203,9 +196,6 @@ fn run_solve<R: Runtime + AllocGlobal>(rt: &R, solving: Solving<'_>) -> ExitCode
     let Ok(each) = solving.nodes.parse::<u64>() else {
         return ExitCode::from(2);
     };
-    let Some(file) = open_path(rt, solving.file) else {
-        return ExitCode::FAILURE;
-    };
     let style = match (solving.is_improving, solving.is_json) {
         (false, _) => Style::Silent,
         (true, false) => Style::Lines,
@@ -219,19 +209,22 @@ fn run_solve<R: Runtime + AllocGlobal>(rt: &R, solving: Solving<'_>) -> ExitCode
     let most = each.saturating_mul(kinds.len() as u64);
     let progress = Progress::new(rt, telling, most);
     let mut looks = Improvements::new(rt, style, progress);
-    let asked = SolveOptions {
-        kinds: kinds.as_slice(),
-        most: each.min(MOST_NODES),
-        is_json: solving.is_json,
+    let asked = SolveOptions::new(kinds.as_slice(), each.min(MOST_NODES), solving.is_json);
+    solve_file(rt, solving.file, asked, &mut looks)
+}
+
+fn solve_file<R: Runtime + AllocGlobal, L: Observer>(
+    rt: &R,
+    path: &str,
+    asked: SolveOptions<'_>,
+    looks: &mut L,
+) -> ExitCode
+    ensures { exit_status result ≤ 1 }
+{
+    let Some(sources) = open_sources(rt, path, None, None) else {
+        return ExitCode::FAILURE;
     };
-    let mut watches = CommandWatches::new();
-    solve_to(
-        rt,
-        solving.file,
-        file,
-        asked,
-        &mut looks,
-        &mut io::writer(rt),
-        &mut watches,
-    )
+    let solve = Solve { asked, looks };
+    let (mut writer, mut watches) = (io::writer(rt), CommandWatches::new());
+    file_commands::run_command(rt, sources, solve, &mut writer, &mut watches)
 }

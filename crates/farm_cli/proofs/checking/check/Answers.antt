@@ -1,6 +1,6 @@
 use Rattle.std.proofs.Common.{◌≡◌, Ok, ap, ◌∙◌, sym}
 use Rattle.psplib_mm.specs.Reading.{reading}
-use Rattle.explain.specs.declared.inputs.TheConstants.{MOST_TEXT}
+use Rattle.file_commands.specs.declared.inputs.TheConstants.{MOST_TEXT}
 use Rattle.farm_cli.proofs.CheckLemmas.{summed}
 use Rattle.farm_cli.proofs.checking.check.Goals as goal
 

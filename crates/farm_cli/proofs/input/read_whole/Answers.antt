@@ -1,5 +1,5 @@
 use Rattle.std.proofs.Common.{rules}
-use Rattle.explain.specs.declared.inputs.TheConstants.{MOST_TEXT}
+use Rattle.file_commands.specs.declared.inputs.TheConstants.{MOST_TEXT}
 use Rattle.farm_cli.proofs.InputLemmas.{whole_known, cut_known}
 use Rattle.farm_cli.proofs.input.read_whole.Goals as goal
 

@@ -1,1 +1,0 @@
--- The bytes that were read of a reader.

@@ -1,0 +1,51 @@
+ghost use Rattle.std.specs.Prelude.{◌≡◌, List, ℕ, IfOk, IfErr, string_bytes};
+ghost use Rattle.file_commands.specs.Run.{TextsData, texts_of};
+
+use std::alloc::{AllocError, Global};
+use std::fmt::Display;
+
+/// A `Texts` is the bytes of a command's inputs. An input that it does not read has none.
+#[derive(Clone, Copy, Debug)]
+pub struct Texts<'a> {
+    pub file: &'a [u8],
+    pub text: &'a [u8],
+    pub proof: &'a [u8],
+}
+
+/// An `Answer` is the text that a command gives, or why it gives none, and what standard error has
+/// beside that.
+#[derive(Drop)]
+pub struct Answer<F> {
+    pub text: Result<String, F>,
+    /// The second line on standard error.
+    pub why: Option<String>,
+    /// Lines in place of the second one, if these are asked for. An error is want of memory.
+    pub list: Result<Option<String>, AllocError>,
+}
+
+impl<F> Answer<F> {
+    /// Returns the answer `text`, with this second line on standard error.
+    pub fn new(text: Result<String, F>, why: Option<String>) -> Answer<F>
+        ensures { result.text ≡ text }
+    {
+        Answer {
+            text,
+            why,
+            list: Ok(None),
+        }
+    }
+}
+
+/// A `FileCommand` is a command over files, with its options.
+pub trait FileCommand: Drop {
+    type Fault: Display + Copy;
+
+    // The texts that it may give for the texts of its inputs, and the faults for which it refuses them.
+    ghost gives: { Self → TextsData → List ℕ → Type 0 };
+
+    ghost refuses: { Self → TextsData → Self.Fault → Type 0 };
+
+    fn answer(&mut self, alloc: Global, texts: &Texts<'_>) -> Answer<Self::Fault>
+        ensures gives { IfOk result.text (λ text. gives self.old (texts_of texts.now) (string_bytes text)) }
+        ensures refuses { IfErr result.text (λ fault. refuses self.old (texts_of texts.now) fault) };
+}
