@@ -34,7 +34,7 @@ impl FileCommand for Certify {
     }
 }
 
-/// A `CertifyInfeasible` is the command `certify --infeasible`: that no schedule is feasible.
+/// A `CertifyInfeasible` is the command `infeasible`: that no schedule is feasible.
 #[derive(Clone, Copy, Debug)]
 pub struct CertifyInfeasible;
 
