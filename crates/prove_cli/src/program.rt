@@ -8,7 +8,9 @@ use crate::reporting::{Reporter, Style};
 use crate::stopping::stop_at_end_of_input;
 use clap::ArgMatches;
 use explain::why_no_schedule;
-use file_commands::{CommandWatches, MOST_TEXT, Paths, end_command, end_no_memory, open_path, told};
+use file_commands::{
+    CommandWatches, MOST_TEXT, Paths, end_command, end_no_memory, open_path, told,
+};
 use mrcpsp::Schedule;
 use prover::Limits;
 use schedule_files::{MOST_BYTES, read_schedule};
