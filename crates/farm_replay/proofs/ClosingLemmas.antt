@@ -1,5 +1,5 @@
 -- What a script's farm holds once the turns that are still out are given back unrun.
-use Rattle.std.proofs.Common.{◌≡◌, ◌≢◌, ℕ, zero, suc, ◌+◌, ◌-◌, ◌<◌, ◌==◌, ◌&&◌, ◌||◌, Bool, true, false, cond, List, [], ◌∷◌, ◌++◌, length, map, filter, set, get_or, Option, Some, None, refl, sym, ap, ◌∙◌, subst, arith, ◌⊎◌, inl, inr, ⊎_elim}
+use Rattle.std.proofs.Common.{◌≡◌, ℕ, zero, suc, ◌+◌, ◌<◌, ◌==◌, ◌&&◌, ◌||◌, Bool, true, false, cond, List, [], ◌∷◌, length, map, filter, set, get_or, Option, Some, None, refl, sym, ap, ◌∙◌, subst, arith, inl, inr, ⊎_elim}
 use Rattle.std.specs.Prelude.{if◌then◌else◌}
 use Rattle.std.proofs.lemmas.Bool.{cases_eq, eq-eqb, eqb-true}
 use Rattle.strategy.specs.Search.{Meaning}
@@ -12,9 +12,8 @@ use Rattle.farm_core.specs.declared.reply.Reply.{Reply}
 use Rattle.farm_core.specs.declared.reply.Reply.TheVariants as reply
 use Rattle.farm_core.specs.Step.{Replied, NoTurn, Nothing, Changes, done, about, may_have_run, to_give, step}
 use Rattle.farm_core.specs.Tenant.{Tenant, Member, Purse, find_job, put_job, no_member, own_of, seat, with_seat, line_of, nodes_out_in}
-use Rattle.farm_core.specs.Turn.{TurnData}
-use Rattle.farm_core.specs.World.{World, purse_in, place_in, member, purse, view, events_of, opened_purse, after_alone, Follows, IsOfJournal}
-use Rattle.farm_core.specs.Config.{ConfigData, purse_names, member_lines}
+use Rattle.farm_core.specs.World.{World, purse_in, place_in, member, purse, view, events_of, Follows, IsOfJournal}
+use Rattle.farm_core.specs.Config.{purse_names, member_lines}
 use Rattle.farm_core.specs.Purses.{members_of}
 use Rattle.farm_core.specs.Held.{is_out_of, IsOutFor}
 use Rattle.farm_core.proofs.NeedLemmas.{IsNumberOf, AreDistinct, alone_distinct}

@@ -1,6 +1,6 @@
 -- The turns that a script holds, over the calls of its farm.
 use Rattle.std.proofs.Common.{◌≡◌, ℕ, suc, ◌<◌, ◌+◌, ◌-◌, get_or, take, drop, position, ◌||◌, ◌&&◌, ◌==◌, ◌≤◌, nat_lt, Bool, true, false, cond, List, [], ◌∷◌, ◌++◌, length, Option, Some, None, refl, sym, ap, ◌∙◌, subst, arith, ◌⊎◌, inl, inr, ⊎_elim, append-nil, zero, set, ◌≢◌}
-use Rattle.std.specs.Prelude.{option_map, not, IfSome}
+use Rattle.std.specs.Prelude.{option_map, not, ⊤}
 use Rattle.std.specs.List.{list_any, position_or_len}
 use Rattle.std.proofs.lemmas.Bool.{cond_both, cases_eq, cases_lt, eqb-true, and_parts, or_parts, both_ways}
 use Rattle.std.proofs.lemmas.Bool.Decides.{nat_tests}
@@ -35,11 +35,14 @@ use Rattle.farm_core.specs.Held.{is_out_of, nodes_out, takes, gives, IsOutFor, A
 use Rattle.farm_core.proofs.HeldLemmas.{taken_out, taken_turns_are_held, taken_jobs_were_not_out, turns_stay_held, held_turns_are_no_strangers, held_turns_run_their_nodes, only_taken_jobs_are_out, given_jobs_are_not_out}
 use Rattle.farm_core.proofs.ReplayLemmas.{farms_are_replayed}
 use Rattle.farm_core.proofs.ReplyLemmas.{by_reply, command_needs}
-use Rattle.session_lines.specs.declared.request.What.{What}
-use Rattle.session_lines.specs.declared.request.What.TheVariants as what
 use Rattle.session_lines.specs.declared.said.Said.{Said}
 use Rattle.session_lines.specs.declared.said.Said.TheVariants as said
-use Rattle.farm_session.specs.Command.{event_in, IsSubmit}
+use Rattle.farm_core.specs.declared.command.Command.{Command}
+use Rattle.farm_core.specs.declared.command.Command.TheVariants as calls_for
+use Rattle.farm_session.specs.declared.ask.Ask.{Ask}
+use Rattle.farm_session.specs.declared.ask.Ask.TheVariants as ask
+use Rattle.farm_session.specs.declared.ask.TurnAsk.TheVariants as turn
+use Rattle.farm_session.specs.Ask.{IsSubmit}
 use Rattle.farm_replay.specs.Output.{Answered, said_for, told_by, told_to, told_under, given_back, turned, request_may_need}
 use Rattle.farm_replay.specs.Floor.{is_turn_of, has_turn, AreApart, IsFloor, IsTold, untaken}
 
@@ -259,20 +262,20 @@ purse_at w t = purse (purse_in w.config t) w
 stands : (w : World) (t : ℕ) → t < length w.config.tenants → purse_at w t ≡ with_seat (purse_at w t) (place_in w.config t) (view t w)
 stands w t known = sym (seated_same (purse_at w t) (place_in w.config t)) ∙ ap (with_seat (purse_at w t) (place_in w.config t)) (sym (each_view_is_a_seat w t known))
 
-pub unanswered : (old : World) (t : ℕ) (what : What) → t < length old.config.tenants → request_may_need (view t old) what ≡ true → IsTold old t what (said.Reply reply.NoMemory) old
-unanswered old t what known may = record {
+pub unanswered : (old : World) (t : ℕ) (request : Ask) → t < length old.config.tenants → request_may_need (view t old) request ≡ true → IsTold old t request (said.Reply reply.NoMemory) old
+unanswered old t request known may = record {
   refused = true;
-  said = ap (λ b. (cond b (record { said = said.Reply reply.NoMemory; after = view t old }) (told_to (view t old) what)).said) (sym may);
+  said = ap (λ b. (cond b (record { said = said.Reply reply.NoMemory; after = view t old }) (told_to (view t old) request)).said) (sym may);
   own = stands old t known
-      ∙ ap (λ b. with_seat (purse_at old t) (place_in old.config t) (cond b (record { said = said.Reply reply.NoMemory; after = view t old }) (told_to (view t old) what)).after) (sym may);
+      ∙ ap (λ b. with_seat (purse_at old t) (place_in old.config t) (cond b (record { said = said.Reply reply.NoMemory; after = view t old }) (told_to (view t old) request)).after) (sym may);
   others = λ p other. refl;
   config = refl;
 }
 
 -- a submit for whose search there is no memory
-pub unmade : (w : World) (t : ℕ) (what : What) → t < length w.config.tenants → IsSubmit what → IsTold w t what (said.Reply reply.NoMemory) w
-unmade w t (what.Submit kind quanta project) known submits = unanswered w t (what.Submit kind quanta project) known refl
-unmade w t what known submits = absurd submits
+pub unmade : (w : World) (t : ℕ) (call : Command ⊤) → t < length w.config.tenants → IsSubmit call → IsTold w t (ask.Call call) (said.Reply reply.NoMemory) w
+unmade w t (calls_for.Submit plan quanta search) known submits = unanswered w t (ask.Call (calls_for.Submit plan quanta search)) known refl
+unmade w t call known submits = absurd submits
 
 -- after a call
 called : (old new : World) (t : ℕ) (e : Event) (answer : Answer) → Follows old t e answer new
@@ -282,9 +285,9 @@ called old new t e answer f = purse_after old new t e answer (steps_of old new t
 others_stay : (old new : World) (t : ℕ) (e : Event) (answer : Answer) → Follows old t e answer new → (p : ℕ) → p ≢ purse_in old.config t → purse p new ≡ purse p old
 others_stay old new t e answer f p other = purse_stays old new t e answer (steps_of old new t e answer f) p other
 
-stepped : (old new : World) (t : ℕ) (what : What) (e : Event) (answer : Answer) → told_to (view t old) what ≡ told_by (step (view t old) e) → Follows old t e answer new
-    → IsTold old t what (said_for answer) new
-stepped old new t what e answer same f = record {
+stepped : (old new : World) (t : ℕ) (request : Ask) (e : Event) (answer : Answer) → told_to (view t old) request ≡ told_by (step (view t old) e) → Follows old t e answer new
+    → IsTold old t request (said_for answer) new
+stepped old new t request e answer same f = record {
   refused = false;
   said = ap said_for f.answer_is ∙ ap (λ (it : Answered). it.said) (sym same);
   own = called old new t e answer f ∙ ap (λ (it : Answered). with_seat (purse_at old t) (place_in old.config t) it.after) (sym same);
@@ -293,13 +296,13 @@ stepped old new t what e answer same f = record {
 }
 
 -- a command's reply is what is said
-pub replied : (old new : World) (t : ℕ) (what : What) (e : Event) (answer : Reply) → t < length old.config.tenants → told_to (view t old) what ≡ told_by (step (view t old) e)
-    → (answer ≡ reply.NoMemory → has_room 1 (view t old) ≡ true → request_may_need (view t old) what ≡ true) → IsReply old t e answer new → IsTold old t what (said.Reply answer) new
-replied old new t what e answer known same may h =
+pub replied : (old new : World) (t : ℕ) (request : Ask) (e : Event) (answer : Reply) → t < length old.config.tenants → told_to (view t old) request ≡ told_by (step (view t old) e)
+    → (answer ≡ reply.NoMemory → has_room 1 (view t old) ≡ true → request_may_need (view t old) request ≡ true) → IsReply old t e answer new → IsTold old t request (said.Reply answer) new
+replied old new t request e answer known same may h =
     ⊎_elim
     (λ (none : (answer ≡ reply.NoMemory) × (new ≡ old) × (has_room 1 (view t old) ≡ true)).
-    subst (λ a. IsTold old t what (said.Reply a) new) (sym none.0) (subst (λ w. IsTold old t what (said.Reply reply.NoMemory) w) (sym none.1) (unanswered old t what known (may none.0 none.2))))
-    (λ f. stepped old new t what e (Replied answer) same f)
+    subst (λ a. IsTold old t request (said.Reply a) new) (sym none.0) (subst (λ w. IsTold old t request (said.Reply reply.NoMemory) w) (sym none.1) (unanswered old t request known (may none.0 none.2))))
+    (λ f. stepped old new t request e (Replied answer) same f)
     (by_reply old t e answer new h)
 
 -- a command leaves the turns as they are
@@ -311,46 +314,43 @@ floor_replied meaning old new t e answer nor_gives nor_takes turns h floor =
     (λ f. floor_over meaning old new t e (Replied answer) f nor_gives nor_takes turns floor)
     (by_reply old t e answer new h)
 
--- a request for this event is told what its step answers, may need memory where the step may, and neither takes nor gives a turn
-record AsksFor (t : Tenant) (request : What) (e : Event) : Type 0 where
-  pub told : told_to t request ≡ told_by (step t e)
-  pub needs : command.may_need t e ≡ true → request_may_need t request ≡ true
+-- a call is told what the step of its event answers, may need memory where the step may, and neither takes nor gives a turn
+record AsksFor (t : Tenant) (call : Command ⊤) (e : Event) : Type 0 where
+  pub told : told_to t (ask.Call call) ≡ told_by (step t e)
+  pub needs : command.may_need t e ≡ true → request_may_need t (ask.Call call) ≡ true
   pub nor_gives : (s : ℕ) → gives s e ≡ false
   pub nor_takes : (s : ℕ) → takes s e ≡ false
 
-asks_for : (t : Tenant) (request : What) → IfSome (event_in request) (AsksFor t request)
-asks_for t (what.Submit kind quanta project) = record { told = refl; needs = λ _. refl; nor_gives = λ _. refl; nor_takes = λ _. refl }
-asks_for t (what.Take s slice) = tt
-asks_for t (what.Give s) = tt
-asks_for t (what.Turn s slice) = tt
-asks_for t request = record { told = refl; needs = λ h. h; nor_gives = λ _. refl; nor_takes = λ _. refl }
+asks_for : (t : Tenant) (call : Command ⊤) → AsksFor t call (command.event_of call)
+asks_for t (calls_for.Submit plan quanta search) = record { told = refl; needs = λ _. refl; nor_gives = λ _. refl; nor_takes = λ _. refl }
+asks_for t call = record { told = refl; needs = λ h. h; nor_gives = λ _. refl; nor_takes = λ _. refl }
 
-asked_for : (t : Tenant) (request : What) (e : Event) → event_in request ≡ Some e → AsksFor t request e
-asked_for t request e is = subst (λ (o : Option Event). IfSome o (AsksFor t request)) is (asks_for t request)
+asked_for : (t : Tenant) (call : Command ⊤) (e : Event) → e ≡ command.event_of call → AsksFor t call e
+asked_for t call e is = subst (AsksFor t call) (sym is) (asks_for t call)
 
--- the reply to a command is what is said to its request,
-pub commanded : (old new : World) (t : ℕ) (request : What) (e : Event) (answer : Reply) → t < length old.config.tenants → event_in request ≡ Some e → IsReply old t e answer new
-    → ((s : ℕ) (line : Line) → e ≡ Cancel s → (step (view t old) (Cancel s)).answer ≡ Replied (reply.Line line) → answer ≡ reply.Line line) → IsTold old t request (said.Reply answer) new
-commanded old new t request e answer known is h accepted =
-    let it = asked_for (view t old) request e is in
-    replied old new t request e answer known it.told (λ none _. it.needs (command_needs old new t e answer h accepted none)) h
+-- the reply to a command is what is said to its call,
+pub commanded : (old new : World) (t : ℕ) (call : Command ⊤) (e : Event) (answer : Reply) → t < length old.config.tenants → e ≡ command.event_of call → IsReply old t e answer new
+    → ((s : ℕ) (line : Line) → e ≡ Cancel s → (step (view t old) (Cancel s)).answer ≡ Replied (reply.Line line) → answer ≡ reply.Line line) → IsTold old t (ask.Call call) (said.Reply answer) new
+commanded old new t call e answer known is h accepted =
+    let it = asked_for (view t old) call e is in
+    replied old new t (ask.Call call) e answer known it.told (λ none _. it.needs (command_needs old new t e answer h accepted none)) h
 
 -- and it leaves the turns as they are
-pub floor_commanded : {J : Type 0} (meaning : J → Meaning) (old new : World) (t : ℕ) (request : What) (e : Event) (answer : Reply) → event_in request ≡ Some e → (turns : List (TurnData J))
+pub floor_commanded : {J : Type 0} (meaning : J → Meaning) (old new : World) (t : ℕ) (call : Command ⊤) (e : Event) (answer : Reply) → e ≡ command.event_of call → (turns : List (TurnData J))
     → IsReply old t e answer new → IsFloor meaning old turns → IsFloor meaning new turns
-floor_commanded meaning old new t request e answer is turns h floor =
-    let it = asked_for (view t old) request e is in
+floor_commanded meaning old new t call e answer is turns h floor =
+    let it = asked_for (view t old) call e is in
     floor_replied meaning old new t e answer it.nor_gives it.nor_takes turns h floor
 
-pub told_taken : (old new : World) (t s slice : ℕ) (line : Line) → Follows old t (Take s slice) (Sent line) new → IsTold old t (what.Take s slice) (said.Reply (reply.Line line)) new
-told_taken old new t s slice line f = stepped old new t (what.Take s slice) (Take s slice) (Sent line) refl f
+pub told_taken : (old new : World) (t s slice : ℕ) (line : Line) → Follows old t (Take s slice) (Sent line) new → IsTold old t (ask.Turn (turn.Take s slice)) (said.Reply (reply.Line line)) new
+told_taken old new t s slice line f = stepped old new t (ask.Turn (turn.Take s slice)) (Take s slice) (Sent line) refl f
 
-pub told_untaken : (old new : World) (t s slice : ℕ) (why : NoTurn) → t < length old.config.tenants → IsNotTaken old t s slice why new → IsTold old t (what.Take s slice) (untaken why) new
-told_untaken old new t s slice no_turn.None known f = stepped old new t (what.Take s slice) (Take s slice) calls.NoTurn refl f
-told_untaken old new t s slice no_turn.NoMemory known same = subst (λ w. IsTold old t (what.Take s slice) (said.Reply reply.NoMemory) w) (sym same) (unanswered old t (what.Take s slice) known refl)
+pub told_untaken : (old new : World) (t s slice : ℕ) (why : NoTurn) → t < length old.config.tenants → IsNotTaken old t s slice why new → IsTold old t (ask.Turn (turn.Take s slice)) (untaken why) new
+told_untaken old new t s slice no_turn.None known f = stepped old new t (ask.Turn (turn.Take s slice)) (Take s slice) calls.NoTurn refl f
+told_untaken old new t s slice no_turn.NoMemory known same = subst (λ w. IsTold old t (ask.Turn (turn.Take s slice)) (said.Reply reply.NoMemory) w) (sym same) (unanswered old t (ask.Turn (turn.Take s slice)) known refl)
 
 -- a whole turn that was not taken
-pub turned_untaken : (old new : World) (t s slice : ℕ) (why : NoTurn) → t < length old.config.tenants → IsNotTaken old t s slice why new → IsTold old t (what.Turn s slice) (untaken why) new
+pub turned_untaken : (old new : World) (t s slice : ℕ) (why : NoTurn) → t < length old.config.tenants → IsNotTaken old t s slice why new → IsTold old t (ask.Turn (turn.Whole s slice)) (untaken why) new
 turned_untaken old new t s slice no_turn.None known f =
     let answer : (step (view t old) (Take s slice)).answer ≡ calls.NoTurn = sym f.answer_is in
     record {
@@ -361,7 +361,7 @@ turned_untaken old new t s slice no_turn.None known f =
       others = others_stay old new t (Take s slice) calls.NoTurn f;
       config = f.config;
     }
-turned_untaken old new t s slice no_turn.NoMemory known same = subst (λ w. IsTold old t (what.Turn s slice) (said.Reply reply.NoMemory) w) (sym same) (unanswered old t (what.Turn s slice) known refl)
+turned_untaken old new t s slice no_turn.NoMemory known same = subst (λ w. IsTold old t (ask.Turn (turn.Whole s slice)) (said.Reply reply.NoMemory) w) (sym same) (unanswered old t (ask.Turn (turn.Whole s slice)) known refl)
 
 -- a purse after a call and a further change of the same tenant
 given_own : (old mid new : World) (t : ℕ) (e : Event) (answer : Answer) (then : Tenant) → Follows old t e answer mid
@@ -375,25 +375,25 @@ given_own old mid new t e answer then f own =
     ∙ seated_twice (purse_at old t) place (step (view t old) e).after then
 
 -- a whole turn that was taken and given back
-pub turned_whole : (old mid new : World) (t s slice : ℕ) (line : Line) (answer : Said) → Follows old t (Take s slice) (Sent line) mid → IsTold mid t (what.Give s) answer new
-    → IsTold old t (what.Turn s slice) answer new
+pub turned_whole : (old mid new : World) (t s slice : ℕ) (line : Line) (answer : Said) → Follows old t (Take s slice) (Sent line) mid → IsTold mid t (ask.Turn (turn.Give s)) answer new
+    → IsTold old t (ask.Turn (turn.Whole s slice)) answer new
 turned_whole old mid new t s slice line answer f it =
-    let back : told_under it.refused (view t mid) (what.Give s) ≡ given_back (view t mid) s = elim it.refused as (λ b. told_under b (view t mid) (what.Give s) ≡ given_back (view t mid) s) [ true ↦ refl | false ↦ refl ] in
-    let whole : given_back (view t mid) s ≡ told_to (view t old) (what.Turn s slice) =
+    let back : told_under it.refused (view t mid) (ask.Turn (turn.Give s)) ≡ given_back (view t mid) s = elim it.refused as (λ b. told_under b (view t mid) (ask.Turn (turn.Give s)) ≡ given_back (view t mid) s) [ true ↦ refl | false ↦ refl ] in
+    let whole : given_back (view t mid) s ≡ told_to (view t old) (ask.Turn (turn.Whole s slice)) =
     ap (λ v. given_back v s) f.own ∙ ap (λ a. turned a (step (view t old) (Take s slice)).after s) f.answer_is in
     record {
       refused = false;
       said = it.said ∙ ap (λ (x : Answered). x.said) (back ∙ whole);
-      own = given_own old mid new t (Take s slice) (Sent line) (told_under it.refused (view t mid) (what.Give s)).after f it.own
+      own = given_own old mid new t (Take s slice) (Sent line) (told_under it.refused (view t mid) (ask.Turn (turn.Give s))).after f it.own
           ∙ ap (λ (x : Answered). with_seat (purse_at old t) (place_in old.config t) x.after) (back ∙ whole);
       others = λ p other. it.others p (λ e. other (e ∙ ap (λ (c : ConfigData). purse_in c t) f.config)) ∙ others_stay old mid t (Take s slice) (Sent line) f p other;
       config = it.config ∙ f.config;
     }
 
 pub told_given : (old new : World) (t s ran : ℕ) (answer : Reply) → Follows old t (Give s ran) (Replied answer) new → ran ≡ nodes_out (find_job s (view t old).jobs)
-    → IsTold old t (what.Give s) (said.Reply answer) new
+    → IsTold old t (ask.Turn (turn.Give s)) (said.Reply answer) new
 told_given old new t s ran answer f is =
-    stepped old new t (what.Give s) (Give s ran) (Replied answer) (ap (λ n. told_by (step (view t old) (Give s n))) (sym is)) f
+    stepped old new t (ask.Turn (turn.Give s)) (Give s ran) (Replied answer) (ap (λ n. told_by (step (view t old) (Give s n))) (sym is)) f
 
 not_out : (found : Option JobData) → is_out_of found ≡ false → about (Nothing calls.NoTurn) (to_give (nodes_out found)) found ≡ Nothing calls.NoTurn
 not_out None h = refl
@@ -403,7 +403,7 @@ not_out (Some job) h =
     rw not refl
 
 -- no turn of the job is held
-pub told_none : {J : Type 0} (meaning : J → Meaning) (w : World) (t s : ℕ) (turns : List (TurnData J)) → t < length w.config.tenants → IsFloor meaning w turns → has_turn t s turns ≡ false → IsTold w t (what.Give s) said.NoTurn w
+pub told_none : {J : Type 0} (meaning : J → Meaning) (w : World) (t s : ℕ) (turns : List (TurnData J)) → t < length w.config.tenants → IsFloor meaning w turns → has_turn t s turns ≡ false → IsTold w t (ask.Turn (turn.Give s)) said.NoTurn w
 told_none meaning w t s turns known floor none =
     let quiet : is_out_of (find_job s (view t w).jobs) ≡ false =
     elim (is_out_of (find_job s (view t w).jobs)) as (λ b. is_out_of (find_job s (view t w).jobs) ≡ b → b ≡ false) [
@@ -493,7 +493,7 @@ found_follows meaning old new t s turns rest x tenant seq slice ran result m ans
 
 pub found_told : {J : Type 0} (meaning : J → Meaning) (old new : World) (t s : ℕ) (turns rest : List (TurnData J)) (x : TurnData J) (tenant seq slice ran result : ℕ) (m : Meaning) (answer : Reply)
     → IsFound meaning old t s turns rest x → IsRun meaning x tenant seq slice ran result m → Follows old tenant (Give seq ran) (Replied answer) new
-    → IsTold old t (what.Give s) (said.Reply answer) new
+    → IsTold old t (ask.Turn (turn.Give s)) (said.Reply answer) new
 found_told meaning old new t s turns rest x tenant seq slice ran result m answer it run f =
     told_given old new t s ran answer (found_follows meaning old new t s turns rest x tenant seq slice ran result m answer it run f)
     (ran_all meaning x tenant seq slice ran result m run it.ran ∙ held_turns_run_their_nodes old x.tenant x.seq x.slice (meaning x.search) it.held

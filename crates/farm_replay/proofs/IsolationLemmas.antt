@@ -13,7 +13,8 @@ use Rattle.farm_core.specs.World.{terms_in, purse_in, place_in, opened_purse}
 use Rattle.farm_core.specs.Laws.{IsLone}
 use Rattle.farm_core.specs.declared.reply.Reply.TheVariants as reply
 use Rattle.session_lines.specs.declared.request.Request.{Request}
-use Rattle.session_lines.specs.declared.request.What.{What}
+use Rattle.farm_session.specs.declared.ask.Ask.{Ask}
+use Rattle.farm_session.specs.Ask.{ask_of}
 use Rattle.session_lines.specs.declared.request.LineFault.{LineFault}
 use Rattle.session_lines.specs.declared.request.LineFault.TheVariants.{Eof, Read, TooLong, Syntax, File, NoMemory}
 use Rattle.session_lines.specs.declared.said.Said.{Said}
@@ -57,12 +58,12 @@ seated config p k t = by (purse_in config t == p) refl
     by false is h = absurd (cc)
 
 -- what is said to it, and its purse then
-own_asked : (config : ConfigData) (refused : Bool) (parts : Parts) (who : List ℕ) (what : What) (p k t : ℕ) → IsSeated config p k t
-    → let it : Answered = told_under refused (seat (parts p) k) what in
-    (let n : Next = answered config refused parts (heard_for who what (Some t)) in
+own_asked : (config : ConfigData) (refused : Bool) (parts : Parts) (who : List ℕ) (ask : Ask) (p k t : ℕ) → IsSeated config p k t
+    → let it : Answered = told_under refused (seat (parts p) k) ask in
+    (let n : Next = answered config refused parts (heard_for who ask (Some t)) in
     (n.line ≡ record { who = Some who; said = it.said }) × (n.parts p ≡ with_seat (parts p) k it.after))
-own_asked config refused parts who what p k t at =
-    let said : ℕ → ℕ → Answered = λ x y. told_under refused (seat (parts x) y) what in
+own_asked config refused parts who ask p k t at =
+    let said : ℕ → ℕ → Answered = λ x y. told_under refused (seat (parts x) y) ask in
     let told : said (purse_in config t) (place_in config t) ≡ said p k = ap (λ x. said x (place_in config t)) at.purse ∙ ap (said p) at.place in
     let first = purse_in config t in (
       ap (λ (x : Answered). let l : Saying = record { who = Some who; said = x.said } in l) told,
@@ -71,15 +72,15 @@ own_asked config refused parts who what p k t at =
           ∙ ap (λ y. with_seat (parts p) y (said p y).after) at.place,
     )
 
-same_asked : (config elsewhere : ConfigData) (refused : Bool) (one other : Parts) (who : List ℕ) (what : What) (p q : ℕ) (t s k : Option ℕ) → place_if config p t ≡ k → place_if elsewhere q s ≡ k
-    → is_some k ≡ true → one p ≡ other q → IsSame p q (answered config refused one (heard_for who what t)) (answered elsewhere refused other (heard_for who what s))
-same_asked config elsewhere refused one other who what p q t s None at there own h = absurd (cc)
-same_asked config elsewhere refused one other who what p q None s (Some k) at there own h = absurd (cc)
-same_asked config elsewhere refused one other who what p q (Some t) None (Some k) at there own h = absurd (cc)
-same_asked config elsewhere refused one other who what p q (Some t) (Some s) (Some k) at there own h =
-    let here = own_asked config refused one who what p k t (seated config p k t at) in
-    let over = own_asked elsewhere refused other who what q k s (seated elsewhere q k s there) in
-    let said : Purse → Answered = λ x. told_under refused (seat x k) what in
+same_asked : (config elsewhere : ConfigData) (refused : Bool) (one other : Parts) (who : List ℕ) (ask : Ask) (p q : ℕ) (t s k : Option ℕ) → place_if config p t ≡ k → place_if elsewhere q s ≡ k
+    → is_some k ≡ true → one p ≡ other q → IsSame p q (answered config refused one (heard_for who ask t)) (answered elsewhere refused other (heard_for who ask s))
+same_asked config elsewhere refused one other who ask p q t s None at there own h = absurd (cc)
+same_asked config elsewhere refused one other who ask p q None s (Some k) at there own h = absurd (cc)
+same_asked config elsewhere refused one other who ask p q (Some t) None (Some k) at there own h = absurd (cc)
+same_asked config elsewhere refused one other who ask p q (Some t) (Some s) (Some k) at there own h =
+    let here = own_asked config refused one who ask p k t (seated config p k t at) in
+    let over = own_asked elsewhere refused other who ask q k s (seated elsewhere q k s there) in
+    let said : Purse → Answered = λ x. told_under refused (seat x k) ask in
     record {
       line = here.0 ∙ ap (λ (x : Purse). let l : Saying = record { who = Some who; said = (said x).said } in l) h ∙ sym over.0;
       agree = here.1 ∙ ap (λ (x : Purse). with_seat x k (said x).after) h ∙ sym over.1;
@@ -100,7 +101,7 @@ SameSeats config elsewhere p q = (who : List ℕ) → seat_of config p who ≡ s
 same_answered : (config elsewhere : ConfigData) (refused : Bool) (one other : Parts) (p q : ℕ) → SameSeats config elsewhere p q → (answer : Result Request LineFault)
     → is_members config p (who_in answer) ≡ true → one p ≡ other q → IsSame p q (answered config refused one (heard_of config answer)) (answered elsewhere refused other (heard_of elsewhere answer))
 same_answered config elsewhere refused one other p q seats (Ok request) own h =
-    same_asked config elsewhere refused one other request.who request.what p q (tenant_number request.who config) (tenant_number request.who elsewhere) (seat_of config p request.who) refl (sym (seats request.who)) own h
+    same_asked config elsewhere refused one other request.who (ask_of request.what) p q (tenant_number request.who config) (tenant_number request.who elsewhere) (seat_of config p request.who) refl (sym (seats request.who)) own h
 same_answered config elsewhere refused one other p q seats (Err fault) own h =
     let here = (settled fault).1 config refused one in
     let there = (settled fault).1 elsewhere refused other in
@@ -120,12 +121,12 @@ same_next config elsewhere one other p q seats m own h = elim (is_unread m) as (
 ]
 
 -- another's request leaves the purse as it is
-apart_asked : (config : ConfigData) (refused : Bool) (parts : Parts) (who : List ℕ) (what : What) (p : ℕ) (t : Option ℕ) → is_some (place_if config p t) ≡ false
-    → (answered config refused parts (heard_for who what t)).parts p ≡ parts p
-apart_asked config refused parts who what p None other = refl
-apart_asked config refused parts who what p (Some t) other =
+apart_asked : (config : ConfigData) (refused : Bool) (parts : Parts) (who : List ℕ) (ask : Ask) (p : ℕ) (t : Option ℕ) → is_some (place_if config p t) ≡ false
+    → (answered config refused parts (heard_for who ask t)).parts p ≡ parts p
+apart_asked config refused parts who ask p None other = refl
+apart_asked config refused parts who ask p (Some t) other =
     let first = purse_in config t in
-    let moved : Purse = with_seat (parts first) (place_in config t) (told_under refused (part_of config parts t) what).after in
+    let moved : Purse = with_seat (parts first) (place_in config t) (told_under refused (part_of config parts t) ask).after in
     ap (λ b. cond b moved (parts p))
     (elim (p == first) as (λ b. (p == first) ≡ b → b ≡ false) [
       | true ↦ λ e.
@@ -136,7 +137,7 @@ apart_asked config refused parts who what p (Some t) other =
 
 apart_answered : (config : ConfigData) (refused : Bool) (parts : Parts) (p : ℕ) (answer : Result Request LineFault) → is_members config p (who_in answer) ≡ false
     → (answered config refused parts (heard_of config answer)).parts p ≡ parts p
-apart_answered config refused parts p (Ok request) other = apart_asked config refused parts request.who request.what p (tenant_number request.who config) other
+apart_answered config refused parts p (Ok request) other = apart_asked config refused parts request.who (ask_of request.what) p (tenant_number request.who config) other
 apart_answered config refused parts p (Err fault) other = ap (λ (n : Next). n.parts p) ((settled fault).1 config refused parts)
 
 apart_next : (config : ConfigData) (parts : Parts) (p : ℕ) (m : Marked) → is_members config p (whose m) ≡ false → (next config parts m).parts p ≡ parts p
@@ -145,12 +146,12 @@ apart_next config parts p m other =
 
 -- ---- lines
 
-asked_who : (config : ConfigData) (refused : Bool) (p : Parts) (who : List ℕ) (what : What) (t : Option ℕ) → (answered config refused p (heard_for who what t)).line.who ≡ Some who
-asked_who config refused p who what None = refl
-asked_who config refused p who what (Some t) = refl
+asked_who : (config : ConfigData) (refused : Bool) (p : Parts) (who : List ℕ) (ask : Ask) (t : Option ℕ) → (answered config refused p (heard_for who ask t)).line.who ≡ Some who
+asked_who config refused p who ask None = refl
+asked_who config refused p who ask (Some t) = refl
 
 answered_who : (config : ConfigData) (refused : Bool) (p : Parts) (answer : Result Request LineFault) → (answered config refused p (heard_of config answer)).line.who ≡ who_in answer
-answered_who config refused p (Ok request) = asked_who config refused p request.who request.what (tenant_number request.who config)
+answered_who config refused p (Ok request) = asked_who config refused p request.who (ask_of request.what) (tenant_number request.who config)
 answered_who config refused p (Err fault) = ap (λ (n : Next). n.line.who) ((settled fault).1 config refused p)
 
 pub next_who : (config : ConfigData) (p : Parts) (m : Marked) → (next config p m).line.who ≡ whose m

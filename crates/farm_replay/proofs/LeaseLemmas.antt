@@ -3,13 +3,13 @@ use Rattle.std.proofs.Common.{◌≡◌, ℕ, List, [], ◌∷◌, Option, None,
 use Rattle.std.specs.Prelude.{Result}
 use Rattle.farm_core.specs.Config.{ConfigData}
 use Rattle.session_lines.specs.declared.request.Request.{Request}
-use Rattle.session_lines.specs.declared.request.What.{What}
 use Rattle.session_lines.specs.declared.request.LineFault.{LineFault}
 use Rattle.session_lines.specs.declared.reading.TheConstants.{MOST_REQUEST_BYTES}
 use Rattle.session_lines.specs.declared.said.Said.{Said}
 use Rattle.session_lines.specs.Script.{Takes}
+use Rattle.farm_session.specs.declared.ask.Ask.{Ask}
 use Rattle.farm_session.specs.declared.heard.Heard.TheVariants.{Told, Asked}
-use Rattle.farm_session.specs.Branch.{BranchValue, HasLeasedOne, HasLeasedBy}
+use Rattle.farm_session.specs.Branch.{BranchValue, HasLeasedTo, HasLeasedBy}
 use Rattle.farm_session.specs.Heard.{heard_of}
 use Rattle.farm_session.specs.Ready.{ReadyData}
 use Rattle.farm_replay.specs.Leases.{ScriptPoint, IsHeard, HaveLeased, AreLeasesOf}
@@ -39,10 +39,10 @@ module _ {J : Type 0} (config : ConfigData) (made : ReadyData → Option J → T
   leases_told script left mid rest old bs cs read who said is begun takes kept so =
       leased_on script left mid rest old bs cs read begun takes (subst (λ h. IsHeard h) (sym is) tt) (subst (λ h. HasLeasedBy made config h bs cs) (sym is) kept) so
 
-  pub leases_asked : (script left mid rest : Option (List ℕ)) (old bs cs : List BranchValue) (read : Result Request LineFault) (t : ℕ) (who : List ℕ) (what : What)
-      → heard_of config read ≡ Asked t who what → mid ≡ left → Takes MOST_REQUEST_BYTES None mid rest read → HasLeasedOne made config t what bs cs
+  pub leases_asked : (script left mid rest : Option (List ℕ)) (old bs cs : List BranchValue) (read : Result Request LineFault) (t : ℕ) (who : List ℕ) (ask : Ask)
+      → heard_of config read ≡ Asked t who ask → mid ≡ left → Takes MOST_REQUEST_BYTES None mid rest read → HasLeasedTo made config t ask bs cs
       → LeasedTo script old left bs → LeasedTo script old rest cs
-  leases_asked script left mid rest old bs cs read t who what is begun takes leased so =
+  leases_asked script left mid rest old bs cs read t who ask is begun takes leased so =
       leased_on script left mid rest old bs cs read begun takes (subst (λ h. IsHeard h) (sym is) tt) (subst (λ h. HasLeasedBy made config h bs cs) (sym is) leased) so
 
   pub leases_of : (script rest : Option (List ℕ)) (old new : List BranchValue) → LeasedTo script old rest new → AreLeasesOf config made script old new

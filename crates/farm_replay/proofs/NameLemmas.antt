@@ -1,8 +1,8 @@
 -- Each purse of a configuration has names: those of its members' lines.
-use Rattle.std.proofs.Common.{◌≡◌, ℕ, zero, suc, ◌+◌, ◌<◌, ◌≤◌, ◌==◌, ◌||◌, nat_lt, Bool, true, false, cond, List, [], ◌∷◌, length, map, filter, get_or, Option, Some, None, refl, sym, ap, ◌∙◌, subst, arith, ⊎_elim}
+use Rattle.std.proofs.Common.{◌≡◌, ℕ, zero, suc, ◌+◌, ◌<◌, ◌≤◌, ◌==◌, ◌||◌, nat_lt, Bool, true, false, cond, List, [], ◌∷◌, length, map, filter, get_or, Option, Some, None, refl, sym, ap, ◌∙◌, arith, ⊎_elim}
 use Rattle.std.specs.Prelude.{is_some, not}
 use Rattle.std.specs.List.{list_all, list_any, position, position_or_len, range_with_len}
-use Rattle.std.proofs.lemmas.Bool.{cases_eq, and_parts, and_from, or_parts, eq-eqb}
+use Rattle.std.proofs.lemmas.Bool.{cases_eq, and_parts, and_from, or_parts}
 use Rattle.std.proofs.lemmas.Bool.Decides.{nat_tests}
 use Rattle.std.proofs.lemmas.List.{length-map}
 use Rattle.std.proofs.lemmas.List.Quantifiers.{position-Some}
@@ -15,7 +15,7 @@ use Rattle.farm_core.specs.World.{purse_in, place_in}
 use Rattle.farm_core.proofs.NameLemmas.{same_bytes_is}
 use Rattle.farm_session.specs.Heard.{is_line_of, tenant_number}
 use Rattle.farm_replay.specs.Isolation.{place_if, is_members}
-use Rattle.farm_replay.specs.Bytes.{AreNamesOf, names_of, EachPurseHasNames}
+use Rattle.farm_replay.specs.Bytes.{EachPurseHasNames}
 
 -- ---- lines of different names
 

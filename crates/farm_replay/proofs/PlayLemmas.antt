@@ -18,6 +18,8 @@ use Rattle.farm_core.specs.Held.{FarmsAreReplayed}
 use Rattle.watched_io.specs.Failure.{HasFailed, FailsAtMostOnce}
 use Rattle.session_lines.specs.declared.request.Request.{Request}
 use Rattle.session_lines.specs.declared.request.What.{What}
+use Rattle.farm_session.specs.declared.ask.Ask.{Ask}
+use Rattle.farm_session.specs.Ask.{ask_of}
 use Rattle.session_lines.specs.declared.request.LineFault.{LineFault}
 use Rattle.session_lines.specs.declared.request.LineFault.TheVariants.{Eof, Read, TooLong, Syntax, File, NoMemory}
 use Rattle.session_lines.specs.declared.said.Said.{Said}
@@ -29,6 +31,7 @@ use Rattle.session_lines.specs.ReplyText.{reply_line}
 use Rattle.session_lines.specs.Script.{Item, lines_of, first, first_request, requests_of, IsAnswerFor, Cuts, Ends, Takes}
 use Rattle.farm_replay.specs.declared.script.ReplayFault.{ReplayFault}
 use Rattle.farm_replay.specs.declared.script.ReplayFault.TheVariants as fault
+use Rattle.farm_session.specs.declared.heard.Heard.{Heard}
 use Rattle.farm_session.specs.declared.heard.Heard.TheVariants as heard
 use Rattle.farm_replay.specs.Output.{Answered, request_may_need, told_to, told_under, Parts, opening, part_of, with_tenant, Saying, Next, says, answered, who_in, Marked, next, lines_for, parts_after, AreTrueMarks, line_text, output_of, items_of, has_refusal, lines_past, IsLongNext, IsCutBy, IsCutOff}
 use Rattle.farm_session.specs.Heard.{tenant_number, heard_for, heard_of}
@@ -257,10 +260,12 @@ pub record IsSettled (config : ConfigData) (line : Saying) (ys zs : List ℕ) : 
   pub next_is : (parts : Parts) → next config parts request ≡ record { line = line; parts = parts }
 
 -- one that it is asked for
-pub record IsAsked (config : ConfigData) (t : ℕ) (who : List ℕ) (what : What) (ys zs : List ℕ) : Type 0 where
+pub record IsAsked (config : ConfigData) (t : ℕ) (who : List ℕ) (ask : Ask) (ys zs : List ℕ) : Type 0 where
   pub item : Item
+  pub what : What
   pub cut : first_request ys ≡ Some (record { item = item; rest = lines_of zs })
   pub answer_is : item.answer ≡ Ok (record { who = who; what = what })
+  pub asks : ask_of what ≡ ask
   pub number : tenant_number who config ≡ Some t
 
 -- what is heard of it is its line
@@ -285,7 +290,7 @@ next_unread config parts item who text own =
     ap (λ b. if b then says (who_in item.answer) (said.Reply reply.NoMemory) parts else answered config true parts (heard_of config item.answer)) text
     ∙ ap (λ w. says w (said.Reply reply.NoMemory) parts) own
 
-unread_settled : EachInTurn → (config : ConfigData) (most : ℕ) (w : List ℕ) (who : Option (List ℕ)) (words : Said) → heard.Told who words ≡ heard.Told (Some w) (said.Reply reply.NoMemory)
+unread_settled : EachInTurn → (config : ConfigData) (most : ℕ) (w : List ℕ) (who : Option (List ℕ)) (words : Said) → (let h : Heard Ask = heard.Told who words in h) ≡ heard.Told (Some w) (said.Reply reply.NoMemory)
     → (ys zs : List ℕ) → Cuts most (first None (lines_of ys)) (Err (NoMemory w)) ys zs → IsSettled config (record { who = who; said = words }) ys zs
 unread_settled turns config most w who words is ys zs it = record {
   request = record { item = it.item; refused = true };
@@ -315,36 +320,38 @@ told_takes turns config most old new (Err (NoMemory w)) who words is h =
     goes_to old new (λ ys zs. Cuts most (first None (lines_of ys)) (Err (NoMemory w)) ys zs) (IsSettled config (record { who = who; said = words })) h
     (unread_settled turns config most w who words is)
 
-asked_request : (config : ConfigData) (most : ℕ) (request : Request) (t : ℕ) (who : List ℕ) (what : What) (n : Option ℕ) → tenant_number request.who config ≡ n
-    → heard.Asked t who what ≡ heard_for request.who request.what n → (ys zs : List ℕ) → Cuts most (first None (lines_of ys)) (Ok request) ys zs → IsAsked config t who what ys zs
-asked_request config most request t who what None at is ys zs it = absurd (cc)
-asked_request config most request t who what (Some n) at is ys zs it =
+asked_request : (config : ConfigData) (most : ℕ) (request : Request) (t : ℕ) (who : List ℕ) (ask : Ask) (n : Option ℕ) → tenant_number request.who config ≡ n
+    → heard.Asked t who ask ≡ heard_for request.who (ask_of request.what) n → (ys zs : List ℕ) → Cuts most (first None (lines_of ys)) (Ok request) ys zs → IsAsked config t who ask ys zs
+asked_request config most request t who ask None at is ys zs it = absurd (cc)
+asked_request config most request t who ask (Some n) at is ys zs it =
     let a : request.who ≡ who = cc in
-    let b : request.what ≡ what = cc in
+    let b : ask_of request.what ≡ ask = cc in
     let d : n ≡ t = cc in
     record {
       item = it.item;
+      what = request.what;
       cut = it.cut;
-      answer_is = it.answers ∙ ap (λ w. Ok (let r : Request = record { who = w; what = request.what } in r)) a ∙ ap (λ w. Ok (let r : Request = record { who = who; what = w } in r)) b;
+      answer_is = it.answers ∙ ap (λ w. Ok (let r : Request = record { who = w; what = request.what } in r)) a;
+      asks = b;
       number = ap (λ w. tenant_number w config) (sym a) ∙ at ∙ ap (λ k. Some k) d;
     }
 
-asked_takes : (config : ConfigData) (most : ℕ) (old new : Option (List ℕ)) (answer : Result Request LineFault) (t : ℕ) (who : List ℕ) (what : What) → heard.Asked t who what ≡ heard_of config answer
-    → Takes most None old new answer → Goes old new (IsAsked config t who what)
-asked_takes config most old new (Ok request) t who what is h =
-    goes_to old new (λ ys zs. Cuts most (first None (lines_of ys)) (Ok request) ys zs) (IsAsked config t who what) h (asked_request config most request t who what (tenant_number request.who config) refl is)
-asked_takes config most old new (Err Eof) t who what is h = absurd (cc)
-asked_takes config most old new (Err Read) t who what is h = absurd (cc)
-asked_takes config most old new (Err (TooLong w)) t who what is h = absurd (cc)
-asked_takes config most old new (Err (Syntax w)) t who what is h = absurd (cc)
-asked_takes config most old new (Err (File w why)) t who what is h = absurd (cc)
-asked_takes config most old new (Err (NoMemory w)) t who what is h = absurd (cc)
+asked_takes : (config : ConfigData) (most : ℕ) (old new : Option (List ℕ)) (answer : Result Request LineFault) (t : ℕ) (who : List ℕ) (ask : Ask) → heard.Asked t who ask ≡ heard_of config answer
+    → Takes most None old new answer → Goes old new (IsAsked config t who ask)
+asked_takes config most old new (Ok request) t who ask is h =
+    goes_to old new (λ ys zs. Cuts most (first None (lines_of ys)) (Ok request) ys zs) (IsAsked config t who ask) h (asked_request config most request t who ask (tenant_number request.who config) refl is)
+asked_takes config most old new (Err Eof) t who ask is h = absurd (cc)
+asked_takes config most old new (Err Read) t who ask is h = absurd (cc)
+asked_takes config most old new (Err (TooLong w)) t who ask is h = absurd (cc)
+asked_takes config most old new (Err (Syntax w)) t who ask is h = absurd (cc)
+asked_takes config most old new (Err (File w why)) t who ask is h = absurd (cc)
+asked_takes config most old new (Err (NoMemory w)) t who ask is h = absurd (cc)
 
 over_takes : EachInTurn → (config : ConfigData) (most : ℕ) (old new : Option (List ℕ)) (answer : Result Request LineFault) → heard.Over ≡ heard_of config answer → Takes most None old new answer
     → Goes old new (λ ys zs. requests_of ys ≡ [])
 over_takes turns config most old new (Ok request) is h = absurd (nowhere (tenant_number request.who config) is)
   where
-    nowhere : (n : Option ℕ) → heard.Over ≡ heard_for request.who request.what n → ⊥
+    nowhere : (n : Option ℕ) → heard.Over ≡ heard_for request.who (ask_of request.what) n → ⊥
     nowhere None e = cc
     nowhere (Some t) e = cc
 over_takes turns config most old new (Err Eof) is h =
@@ -400,13 +407,15 @@ record IsLed (config : ConfigData) (parts : Parts) (item : Item) (t : ℕ) (who 
   marks : IsTrueMark refused told.said
   leads : (q : ℕ) → (next config parts (record { item = item; refused = refused })).parts q ≡ with_tenant config parts t told.after q
 
-led_asked : (config : ConfigData) (parts : Parts) (item : Item) (t : ℕ) (who : List ℕ) (what : What) (refused : Bool) → item.answer ≡ Ok (record { who = who; what = what }) → tenant_number who config ≡ Some t
-    → (refused && is_some item.submits) ≡ false → IsTrueMark refused (told_under refused (part_of config parts t) what).said
-    → IsLed config parts item t who (told_under refused (part_of config parts t) what) refused
-led_asked config parts item t who what refused is at text marks =
-    let same : next config parts (record { item = item; refused = refused }) ≡ answered config refused parts (heard.Asked t who what) =
+led_asked : (config : ConfigData) (parts : Parts) (item : Item) (t : ℕ) (who : List ℕ) (what : What) (ask : Ask) (refused : Bool) → item.answer ≡ Ok (record { who = who; what = what })
+    → ask_of what ≡ ask → tenant_number who config ≡ Some t
+    → (refused && is_some item.submits) ≡ false → IsTrueMark refused (told_under refused (part_of config parts t) ask).said
+    → IsLed config parts item t who (told_under refused (part_of config parts t) ask) refused
+led_asked config parts item t who what ask refused is asks at text marks =
+    let same : next config parts (record { item = item; refused = refused }) ≡ answered config refused parts (heard.Asked t who ask) =
     ap (λ b. if b then says (who_in item.answer) (said.Reply reply.NoMemory) parts else answered config refused parts (heard_of config item.answer)) text
-    ∙ ap (λ a. answered config refused parts (heard_of config a)) is ∙ ap (λ n. answered config refused parts (heard_for who what n)) at in
+    ∙ ap (λ a. answered config refused parts (heard_of config a)) is ∙ ap (λ n. answered config refused parts (heard_for who (ask_of what) n)) at
+    ∙ ap (λ k. answered config refused parts (heard.Asked t who k)) asks in
     record { line = ap (λ (n : Next). n.line) same; marks = marks; leads = λ q. ap (λ (n : Next). n.parts q) same }
 
 -- a tenant that stands as it did
@@ -418,33 +427,33 @@ stays config parts t q =
       | false ↦ λ _. refl
     ] refl
 
-abbrev told_if : Bool → Tenant → What → Answered
-told_if silent t what = cond silent (record { said = said.Reply reply.NoMemory; after = t }) (told_to t what)
+abbrev told_if : Bool → Tenant → Ask → Answered
+told_if silent t ask = cond silent (record { said = said.Reply reply.NoMemory; after = t }) (told_to t ask)
 
 unmarked : (words : Said) → IsTrueMark false words
 unmarked words h = absurd (cc)
 
 -- whatever is told to it, there is a mark that leads there: memory that is refused for a submit refuses its text
-marked : (config : ConfigData) (parts : Parts) (item : Item) (t : ℕ) (who : List ℕ) (what : What) (refused : Bool) → item.answer ≡ Ok (record { who = who; what = what }) → tenant_number who config ≡ Some t
-    → (mark : Bool) × IsLed config parts item t who (told_under refused (part_of config parts t) what) mark
-marked config parts item t who what false is at =
-    (false, led_asked config parts item t who what false is at refl (unmarked (told_to (part_of config parts t) what).said))
-marked config parts item t who what true is at = by (is_some item.submits) refl (request_may_need (part_of config parts t) what) refl
+marked : (config : ConfigData) (parts : Parts) (item : Item) (t : ℕ) (who : List ℕ) (what : What) (ask : Ask) (refused : Bool) → item.answer ≡ Ok (record { who = who; what = what }) → ask_of what ≡ ask → tenant_number who config ≡ Some t
+    → (mark : Bool) × IsLed config parts item t who (told_under refused (part_of config parts t) ask) mark
+marked config parts item t who what ask false is asks at =
+    (false, led_asked config parts item t who what ask false is asks at refl (unmarked (told_to (part_of config parts t) ask).said))
+marked config parts item t who what ask true is asks at = by (is_some item.submits) refl (request_may_need (part_of config parts t) ask) refl
   where
-    by : (text : Bool) → is_some item.submits ≡ text → (need : Bool) → request_may_need (part_of config parts t) what ≡ need
-        → (mark : Bool) × IsLed config parts item t who (told_if (request_may_need (part_of config parts t) what) (part_of config parts t) what) mark
+    by : (text : Bool) → is_some item.submits ≡ text → (need : Bool) → request_may_need (part_of config parts t) ask ≡ need
+        → (mark : Bool) × IsLed config parts item t who (told_if (request_may_need (part_of config parts t) ask) (part_of config parts t) ask) mark
     by false text true is_needed =
-        (true, led_asked config parts item t who what true is at text (λ _. ap (λ b. (told_if b (part_of config parts t) what).said) is_needed))
+        (true, led_asked config parts item t who what ask true is asks at text (λ _. ap (λ b. (told_if b (part_of config parts t) ask).said) is_needed))
     by true text true is_needed =
         let silent = next_unread config parts item (Some who) text (ap who_in is) in (
           true,
-          subst (λ b. IsLed config parts item t who (told_if b (part_of config parts t) what) true) (sym is_needed)
+          subst (λ b. IsLed config parts item t who (told_if b (part_of config parts t) ask) true) (sym is_needed)
               (record { line = ap (λ (n : Next). n.line) silent; marks = λ _. refl; leads = λ q. ap (λ (n : Next). n.parts q) silent ∙ stays config parts t q }),
         )
     by all text false is_needed = (
       false,
-      subst (λ b. IsLed config parts item t who (told_if b (part_of config parts t) what) false) (sym is_needed)
-          (led_asked config parts item t who what false is at refl (unmarked (told_to (part_of config parts t) what).said)),
+      subst (λ b. IsLed config parts item t who (told_if b (part_of config parts t) ask) false) (sym is_needed)
+          (led_asked config parts item t who what ask false is asks at refl (unmarked (told_to (part_of config parts t) ask).said)),
     )
 
 not_same : (u t : ℕ) → u ≢ t → (u == t) ≡ false
@@ -472,53 +481,53 @@ leads_to config parts w w' t new is own others at q =
     (λ (d : q ≡ p → ⊥). others q (λ e. d (e ∙ ap (λ (c : ConfigData). purse_in c t) is)) ∙ at q ∙ ap (λ b. cond b moved (parts q)) (sym (not_same q p d)))
     (cases_eq q p)
 
-answered_asked : (config : ConfigData) (xs ys zs : List ℕ) (old mid : Option (List ℕ)) (count : ℕ) (noted : Bool) (w w' : World) (t : ℕ) (who : List ℕ) (what : What) (words : Said) (it : IsPlayed config xs ys old mid count noted w)
-    (s : IsAsked config t who what ys zs) → IsTold w t what words w'
+answered_asked : (config : ConfigData) (xs ys zs : List ℕ) (old mid : Option (List ℕ)) (count : ℕ) (noted : Bool) (w w' : World) (t : ℕ) (who : List ℕ) (ask : Ask) (words : Said) (it : IsPlayed config xs ys old mid count noted w)
+    (s : IsAsked config t who ask ys zs) → IsTold w t ask words w'
     → (refused : Bool) × IsAnsweredBy config (parts_after config (opening config) it.requests) (record { item = s.item; refused = refused }) (record { who = Some who; said = words }) w'
-answered_asked config xs ys zs old mid count noted w w' t who what words it s h =
+answered_asked config xs ys zs old mid count noted w w' t who ask words it s h =
     let parts : Parts = parts_after config (opening config) it.requests in
-    let led = marked config parts s.item t who what h.refused s.answer_is s.number in
+    let led = marked config parts s.item t who s.what ask h.refused s.answer_is s.asks s.number in
     let known : t < length config.tenants = known_number who config t s.number in
-    let same : told_under h.refused (view t w) what ≡ told_under h.refused (part_of config parts t) what = ap (λ v. told_under h.refused v what) (view_is config parts w t it.of_config known it.parts) in (
+    let same : told_under h.refused (view t w) ask ≡ told_under h.refused (part_of config parts t) ask = ap (λ v. told_under h.refused v ask) (view_is config parts w t it.of_config known it.parts) in (
       led.0,
       record {
         says = led.1.line ∙ ap (λ v. let l : Saying = record { who = Some who; said = v } in l) (sym (h.said ∙ ap (λ (x : Answered). x.said) same));
         marks = λ marked. h.said ∙ ap (λ (x : Answered). x.said) same ∙ led.1.marks marked;
         of_config = h.config ∙ it.of_config;
-        leads = λ q. leads_to config parts w w' t (told_under h.refused (view t w) what).after it.of_config h.own h.others it.parts q
+        leads = λ q. leads_to config parts w w' t (told_under h.refused (view t w) ask).after it.of_config h.own h.others it.parts q
             ∙ ap (λ (x : Answered). with_tenant config parts t x.after q) same ∙ sym (led.1.leads q);
       },
     )
 
-pub asked_on : EachInTurn → (config : ConfigData) (a b c old mid new : Option (List ℕ)) (count : ℕ) (noted noted' : Bool) (w w' : World) (answer : Result Request LineFault) (t : ℕ) (who : List ℕ) (what : What) (words : Said)
-    → heard.Asked t who what ≡ heard_of config answer → Takes 100000000 None b c answer → IsTold w t what words w' → Played config a b old mid count noted w → Appends mid new (reply_line (Some who) words) → noted' ≡ (noted || is_refusal words)
+pub asked_on : EachInTurn → (config : ConfigData) (a b c old mid new : Option (List ℕ)) (count : ℕ) (noted noted' : Bool) (w w' : World) (answer : Result Request LineFault) (t : ℕ) (who : List ℕ) (ask : Ask) (words : Said)
+    → heard.Asked t who ask ≡ heard_of config answer → Takes 100000000 None b c answer → IsTold w t ask words w' → Played config a b old mid count noted w → Appends mid new (reply_line (Some who) words) → noted' ≡ (noted || is_refusal words)
     → Played config a c old new (count + 1) noted' w'
-asked_on turns config a b c old mid new count noted noted' w w' answer t who what words is takes told played written refusal =
-    goes_on a b c (λ xs ys. IsPlayed config xs ys old mid count noted w) (IsAsked config t who what) (λ xs zs. IsPlayed config xs zs old new (count + 1) noted' w')
-    played (asked_takes config 100000000 b c answer t who what is takes)
+asked_on turns config a b c old mid new count noted noted' w w' answer t who ask words is takes told played written refusal =
+    goes_on a b c (λ xs ys. IsPlayed config xs ys old mid count noted w) (IsAsked config t who ask) (λ xs zs. IsPlayed config xs zs old new (count + 1) noted' w')
+    played (asked_takes config 100000000 b c answer t who ask is takes)
     (λ xs ys zs it s.
-    let by = answered_asked config xs ys zs old mid count noted w w' t who what words it s told in
+    let by = answered_asked config xs ys zs old mid count noted w w' t who ask words it s told in
     play_on turns config xs ys zs old mid new count noted noted' w w' (record { who = Some who; said = words }) it (record { item = s.item; refused = by.0 }) (record { cut = s.cut }) by.1 written refusal)
 
-pub asked_cut : EachInTurn → (config : ConfigData) (a b c old mid new : Option (List ℕ)) (count : ℕ) (noted : Bool) (w w' : World) (answer : Result Request LineFault) (t : ℕ) (who : List ℕ) (what : What) (words : Said)
-    → heard.Asked t who what ≡ heard_of config answer → Takes 100000000 None b c answer → IsTold w t what words w' → Played config a b old mid count noted w → AppendsPart mid new (reply_line (Some who) words)
+pub asked_cut : EachInTurn → (config : ConfigData) (a b c old mid new : Option (List ℕ)) (count : ℕ) (noted : Bool) (w w' : World) (answer : Result Request LineFault) (t : ℕ) (who : List ℕ) (ask : Ask) (words : Said)
+    → heard.Asked t who ask ≡ heard_of config answer → Takes 100000000 None b c answer → IsTold w t ask words w' → Played config a b old mid count noted w → AppendsPart mid new (reply_line (Some who) words)
     → (before seen : Counts) → HasFailed before.writes seen.writes → IfSome a (λ xs. IsCutOff config fault.Write before seen xs old new)
-asked_cut turns config a b c old mid new count noted w w' answer t who what words is takes told played part before seen failed =
+asked_cut turns config a b c old mid new count noted w w' answer t who ask words is takes told played part before seen failed =
     known_first a c (λ xs zs. IsCutOff config fault.Write before seen xs old new) (λ xs. IsCutOff config fault.Write before seen xs old new)
-    (goes_on a b c (λ xs ys. IsPlayed config xs ys old mid count noted w) (IsAsked config t who what) (λ xs zs. IsCutOff config fault.Write before seen xs old new)
-    played (asked_takes config 100000000 b c answer t who what is takes)
+    (goes_on a b c (λ xs ys. IsPlayed config xs ys old mid count noted w) (IsAsked config t who ask) (λ xs zs. IsCutOff config fault.Write before seen xs old new)
+    played (asked_takes config 100000000 b c answer t who ask is takes)
     (λ xs ys zs it s.
-    let by = answered_asked config xs ys zs old mid count noted w w' t who what words it s told in
+    let by = answered_asked config xs ys zs old mid count noted w w' t who ask words it s told in
     cut_by_write turns config xs ys zs old mid new count noted w w' (record { who = Some who; said = words }) it (record { item = s.item; refused = by.0 }) (record { cut = s.cut }) by.1 part before seen failed))
     (λ xs zs known it. it)
 
 -- nothing could be sent before it is answered
-pub asked_unsent : EachInTurn → (config : ConfigData) (a b c old new : Option (List ℕ)) (count : ℕ) (noted : Bool) (w : World) (answer : Result Request LineFault) (t : ℕ) (who : List ℕ) (what : What)
-    → heard.Asked t who what ≡ heard_of config answer → Takes 100000000 None b c answer → Played config a b old new count noted w → (before seen : Counts) → HasFailed before.writes seen.writes → IfSome a (λ xs. IsCutOff config fault.Write before seen xs old new)
-asked_unsent turns config a b c old new count noted w answer t who what is takes played before seen failed =
+pub asked_unsent : EachInTurn → (config : ConfigData) (a b c old new : Option (List ℕ)) (count : ℕ) (noted : Bool) (w : World) (answer : Result Request LineFault) (t : ℕ) (who : List ℕ) (ask : Ask)
+    → heard.Asked t who ask ≡ heard_of config answer → Takes 100000000 None b c answer → Played config a b old new count noted w → (before seen : Counts) → HasFailed before.writes seen.writes → IfSome a (λ xs. IsCutOff config fault.Write before seen xs old new)
+asked_unsent turns config a b c old new count noted w answer t who ask is takes played before seen failed =
     known_first a c (λ xs zs. IsCutOff config fault.Write before seen xs old new) (λ xs. IsCutOff config fault.Write before seen xs old new)
-    (goes_on a b c (λ xs ys. IsPlayed config xs ys old new count noted w) (IsAsked config t who what) (λ xs zs. IsCutOff config fault.Write before seen xs old new)
-    played (asked_takes config 100000000 b c answer t who what is takes)
+    (goes_on a b c (λ xs ys. IsPlayed config xs ys old new count noted w) (IsAsked config t who ask) (λ xs zs. IsCutOff config fault.Write before seen xs old new)
+    played (asked_takes config 100000000 b c answer t who ask is takes)
     (λ xs ys zs it s. cut_before turns config xs ys zs old new count noted w it (record { item = s.item; refused = false }) (record { cut = s.cut }) before seen failed))
     (λ xs zs known it. it)
 
@@ -544,7 +553,7 @@ given_up : (config : ConfigData) (Failed : Type 0) (old : Option (List ℕ)) (an
     → HasCause Failed old (λ bytes. IsPast 100000000 None (lines_of bytes))
 given_up config Failed old (Ok request) is h = absurd (nowhere (tenant_number request.who config) is)
   where
-    nowhere : (n : Option ℕ) → heard.Broken ≡ heard_for request.who request.what n → ⊥
+    nowhere : (n : Option ℕ) → heard.Broken ≡ heard_for request.who (ask_of request.what) n → ⊥
     nowhere None e = cc
     nowhere (Some t) e = cc
 given_up config Failed old (Err Eof) is h = absurd (cc)
@@ -564,14 +573,14 @@ told_well config old new (Err (Syntax w)) who words is h = h
 told_well config old new (Err (File w why)) who words is h = h
 told_well config old new (Err (NoMemory w)) who words is h = h
 
-pub asked_well : (config : ConfigData) (old new : ℕ) (answer : Result Request LineFault) (t : ℕ) (who : List ℕ) (what : What) → heard.Asked t who what ≡ heard_of config answer → HasReadWell answer old new → new ≡ old
-asked_well config old new (Ok request) t who what is h = h
-asked_well config old new (Err Eof) t who what is h = h
-asked_well config old new (Err Read) t who what is h = absurd (cc)
-asked_well config old new (Err (TooLong w)) t who what is h = h
-asked_well config old new (Err (Syntax w)) t who what is h = h
-asked_well config old new (Err (File w why)) t who what is h = h
-asked_well config old new (Err (NoMemory w)) t who what is h = h
+pub asked_well : (config : ConfigData) (old new : ℕ) (answer : Result Request LineFault) (t : ℕ) (who : List ℕ) (ask : Ask) → heard.Asked t who ask ≡ heard_of config answer → HasReadWell answer old new → new ≡ old
+asked_well config old new (Ok request) t who ask is h = h
+asked_well config old new (Err Eof) t who ask is h = h
+asked_well config old new (Err Read) t who ask is h = absurd (cc)
+asked_well config old new (Err (TooLong w)) t who ask is h = h
+asked_well config old new (Err (Syntax w)) t who ask is h = h
+asked_well config old new (Err (File w why)) t who ask is h = h
+asked_well config old new (Err (NoMemory w)) t who ask is h = h
 
 -- what ends a script was read with no failure, and what breaks it off with at most one
 pub over_well : (config : ConfigData) (old new : ℕ) (answer : Result Request LineFault) → heard.Over ≡ heard_of config answer → HasReadWell answer old new → new ≡ old

@@ -28,6 +28,7 @@ use Rattle.session_lines.specs.declared.request.What.TheVariants.{Submit, Fund, 
 use Rattle.session_lines.specs.declared.request.LineFault.{LineFault}
 use Rattle.session_lines.specs.declared.said.Said.{Said}
 use Rattle.session_lines.specs.declared.said.Said.TheVariants as said
+use Rattle.farm_session.specs.Ask.{ask_of}
 use Rattle.farm_session.specs.Heard.{tenant_number, heard_for, heard_of}
 use Rattle.farm_replay.specs.Output.{Answered, said_for, told_by, turned, told_to, request_may_need, told_under, Parts, opening, Next, says, answered, who_in, Marked, is_unread, next, parts_after, part_of, with_tenant}
 use Rattle.farm_replay.proofs.IsolationLemmas.{settled}
@@ -54,13 +55,13 @@ call_for t (Turn s slice) = event.Take s slice
 record Cases (t : Tenant) (P : Event → Answered → Type 0) : Type 0 where
   refuses : (e : Event) → P e (record { said = said.Reply reply.NoMemory; after = t })
   steps : (e : Event) → P e (told_by (step t e))
-  turns : (s slice : ℕ) → P (event.Take s slice) (told_to t (Turn s slice))
+  turns : (s slice : ℕ) → P (event.Take s slice) (told_to t (ask_of (Turn s slice)))
 
-each_told : (t : Tenant) (P : Event → Answered → Type 0) → Cases t P → (refused : Bool) (what : What) → P (call_for t what) (told_under refused t what)
+each_told : (t : Tenant) (P : Event → Answered → Type 0) → Cases t P → (refused : Bool) (what : What) → P (call_for t what) (told_under refused t (ask_of what))
 each_told t P c refused what =
-    cond_both (refused && request_may_need t what) _ (told_to t what) (P (call_for t what)) (λ _. c.refuses (call_for t what)) (λ _. by what)
+    cond_both (refused && request_may_need t (ask_of what)) _ (told_to t (ask_of what)) (P (call_for t what)) (λ _. c.refuses (call_for t what)) (λ _. by what)
   where
-    by : (what : What) → P (call_for t what) (told_to t what)
+    by : (what : What) → P (call_for t what) (told_to t (ask_of what))
     by (Turn s slice) = c.turns s slice
     by what = c.steps (call_for t what)
 
@@ -198,7 +199,7 @@ own_asked config m a t own = let same : Some a.tenant ≡ Some t = sym a.number 
 -- what is so where nothing changes and no tenant is told of a job, and where one asks for something, is so of each request
 next_so : (config : ConfigData) (parts : Parts) (m : Marked) (P : Next → Type 0)
     → ((who : Option (List ℕ)) (words : Said) → ((t : ℕ) → owner_of config m.item.answer ≡ Some t → words ≡ said.Reply reply.NoMemory) → P (says who words parts))
-    → ((a : IsAsked config m) → let it : Answered = told_under m.refused (part_of config parts a.tenant) a.what in P (says (Some a.who) it.said (with_tenant config parts a.tenant it.after)))
+    → ((a : IsAsked config m) → let it : Answered = told_under m.refused (part_of config parts a.tenant) (ask_of a.what) in P (says (Some a.who) it.said (with_tenant config parts a.tenant it.after)))
     → P (next config parts m)
 next_so config parts m P quiet asked =
     cond_both (is_unread m) _ _ P (λ _. quiet (who_in m.item.answer) (said.Reply reply.NoMemory) (λ t own. refl)) (λ _. by m.item.answer refl)
@@ -207,7 +208,7 @@ next_so config parts m P quiet asked =
     silent a words is none t own = let nobody : None ≡ Some t = sym none ∙ sym (ap (owner_of config) is) ∙ own in absurd (cc)
 
     owned : (request : Request) (owner : Option ℕ) → m.item.answer ≡ Ok request → tenant_number request.who config ≡ owner
-        → P (answered config m.refused parts (heard_for request.who request.what owner))
+        → P (answered config m.refused parts (heard_for request.who (ask_of request.what) owner))
     owned request None is at = quiet (Some request.who) said.NoTenant (silent (Ok request) said.NoTenant is at)
     owned request (Some t) is at = asked (record { who = request.who; what = request.what; tenant = t; asks = is; number = at })
 
@@ -245,7 +246,7 @@ next_good config made parts m known =
     (λ who words silent. record { said = λ t own. subst (IsTrueSaid (made t)) (sym (silent t own)) tt; jobs = λ ok new. known })
     (λ a.
     let t : Tenant = part_of config parts a.tenant in
-    let it : Answered = told_under m.refused t a.what in
+    let it : Answered = told_under m.refused t (ask_of a.what) in
     let there = known_number a.who config a.tenant a.number in
     let good : IsGoodTold (made a.tenant) (call_for t a.what) it =
     each_told t (IsGoodTold (made a.tenant)) (told_good (made a.tenant) t (known a.tenant there).own) m.refused a.what in
@@ -278,7 +279,7 @@ next_numbered config t b parts m from =
     })
     (λ a.
     let v : Tenant = part_of config parts a.tenant in
-    let it : Answered = told_under m.refused v a.what in
+    let it : Answered = told_under m.refused v (ask_of a.what) in
     let there = known_number a.who config a.tenant a.number in
     let number = each_told v (IsNumberedTold v) (told_numbered v) m.refused a.what in
     record {

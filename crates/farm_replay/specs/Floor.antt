@@ -9,9 +9,9 @@ use Rattle.farm_core.specs.declared.reply.NoTurn.TheVariants as no_turn
 use Rattle.farm_core.specs.Tenant.{find_job, with_seat}
 use Rattle.farm_core.specs.World.{World, view, purse_in, place_in, purse, IsOfJournal}
 use Rattle.farm_core.specs.Held.{AreHeld, is_out_of}
-use Rattle.session_lines.specs.declared.request.What.{What}
 use Rattle.session_lines.specs.declared.said.Said.{Said}
 use Rattle.session_lines.specs.declared.said.Said.TheVariants as said
+use Rattle.farm_session.specs.declared.ask.Ask.{Ask}
 use Rattle.farm_replay.specs.Output.{told_under}
 
 -- whether a turn is of tenant t's job s
@@ -37,10 +37,10 @@ pub record IsFloor {J : Type 0} (meaning : J → Meaning) (w : World) (turns : L
 
 -- a tenant's request was answered, whether or not memory was refused: its purse is as after that,
 -- and no other purse changed
-pub record IsTold (old : World) (t : ℕ) (what : What) (answer : Said) (new : World) : Type 0 where
+pub record IsTold (old : World) (t : ℕ) (ask : Ask) (answer : Said) (new : World) : Type 0 where
   pub refused : Bool
-  pub said : answer ≡ (told_under refused (view t old) what).said
-  pub own : purse (purse_in old.config t) new ≡ with_seat (purse (purse_in old.config t) old) (place_in old.config t) (told_under refused (view t old) what).after
+  pub said : answer ≡ (told_under refused (view t old) ask).said
+  pub own : purse (purse_in old.config t) new ≡ with_seat (purse (purse_in old.config t) old) (place_in old.config t) (told_under refused (view t old) ask).after
   pub others : (p : ℕ) → p ≢ purse_in old.config t → purse p new ≡ purse p old
   pub config : new.config ≡ old.config
 

@@ -6,6 +6,7 @@ use Rattle.session_lines.specs.declared.request.LineFault.{LineFault}
 use Rattle.session_lines.specs.declared.reading.TheConstants.{MOST_REQUEST_BYTES}
 use Rattle.session_lines.specs.Script.{Takes}
 use Rattle.farm_session.specs.Branch.{BranchValue, HasLeasedBy}
+use Rattle.farm_session.specs.declared.ask.Ask.{Ask}
 use Rattle.farm_session.specs.declared.heard.Heard.{Heard}
 use Rattle.farm_session.specs.declared.heard.Heard.TheVariants.{Over, Broken}
 use Rattle.farm_session.specs.Heard.{heard_of}
@@ -17,7 +18,7 @@ pub record ScriptPoint : Type 0 where
   pub branches : List BranchValue
 
 -- there was a request, and it could be read
-abbrev pub IsHeard : Heard → Type 0
+abbrev pub IsHeard : Heard Ask → Type 0
 IsHeard Over = ⊥
 IsHeard Broken = ⊥
 IsHeard heard = ⊤

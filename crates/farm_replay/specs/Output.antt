@@ -1,21 +1,20 @@
 -- What a replay writes: one line for each request of its script, given by the farm's steps.
-use Rattle.std.specs.Prelude.{◌≡◌, ◌≢◌, ◌⊎◌, ⊤, ℕ, zero, suc, Bool, true, false, not, cond, ◌&&◌, ◌==◌, ◌≤◌, List, [], ◌∷◌, ◌++◌, if◌then◌else◌, Option, Some, None, is_some, Result, Ok, Err, length, map}
+use Rattle.std.specs.Prelude.{◌≡◌, ◌≢◌, ◌⊎◌, ⊤, ℕ, zero, suc, Bool, true, false, cond, ◌&&◌, ◌==◌, ◌≤◌, List, [], ◌∷◌, ◌++◌, if◌then◌else◌, Option, Some, None, is_some, Result, Ok, Err, length, map}
 use Rattle.std.specs.Io.KnownBytes.{Appends}
 use Rattle.std.specs.List.{flat_map, list_any}
-use Rattle.farm_core.specs.declared.entry.Event.{Event}
 use Rattle.farm_core.specs.declared.entry.Event.TheVariants as event
 use Rattle.farm_core.specs.declared.reply.Reply.TheVariants as reply
 use Rattle.farm_core.specs.Config.{ConfigData}
 use Rattle.farm_core.specs.Tenant.{Tenant, Purse, seat, with_seat, find_job}
 use Rattle.farm_core.specs.Step as step
 use Rattle.farm_core.specs.Step.{Step, Answer, Replied, Sent, step, has_room}
-use Rattle.farm_core.specs.Command.{is_line}
+use Rattle.farm_core.specs.Command.{event_of, may_need}
+use Rattle.farm_core.specs.declared.command.Command.{Command}
+use Rattle.farm_core.specs.declared.command.Command.TheVariants as command
 use Rattle.farm_core.specs.World.{purse_in, place_in, opened_purse}
 use Rattle.farm_core.specs.Held.{nodes_out}
 use Rattle.watched_io.specs.Failure.{HasFailed}
 use Rattle.session_lines.specs.declared.request.Request.{Request}
-use Rattle.session_lines.specs.declared.request.What.{What}
-use Rattle.session_lines.specs.declared.request.What.TheVariants.{Submit, Cancel, Take, Give, Turn}
 use Rattle.session_lines.specs.declared.request.LineFault.{LineFault}
 use Rattle.session_lines.specs.declared.request.LineFault.TheVariants.{TooLong, Syntax, File, NoMemory}
 use Rattle.session_lines.specs.declared.reading.TheConstants.{MOST_REQUEST_BYTES}
@@ -24,7 +23,9 @@ use Rattle.session_lines.specs.declared.said.Said.TheVariants as said
 use Rattle.session_lines.specs.ReplyText.{reply_line}
 use Rattle.session_lines.specs.Cause.{lines_after, IsPast}
 use Rattle.session_lines.specs.Script.{Item, lines_of, first, requests_of}
-use Rattle.farm_session.specs.Command.{event_in}
+use Rattle.farm_session.specs.declared.ask.Ask.{Ask}
+use Rattle.farm_session.specs.declared.ask.Ask.TheVariants.{Call, Turn}
+use Rattle.farm_session.specs.declared.ask.TurnAsk.TheVariants.{Take, Give, Whole}
 use Rattle.farm_session.specs.declared.heard.Heard.{Heard}
 use Rattle.farm_session.specs.declared.heard.Heard.TheVariants as heard
 use Rattle.farm_session.specs.Heard.{heard_of}
@@ -60,32 +61,28 @@ abbrev pub turned : Answer → Tenant → ℕ → Answered
 turned (Sent line) t s = given_back t s
 turned answer t s = record { said = said_for answer; after = t }
 
--- the reply to a call, and to what is no request
-abbrev pub told_for : Tenant → Option Event → Answered
-told_for t (Some e) = told_by (step t e)
-told_for t None = record { said = said.Syntax; after = t }
+-- what a tenant asks for is a call of the farm; a whole turn is two calls
+abbrev pub told_to : Tenant → Ask → Answered
+told_to t (Call call) = told_by (step t (event_of call))
+told_to t (Turn (Take s slice)) = told_by (step t (event.Take s slice))
+told_to t (Turn (Give s)) = given_back t s
+told_to t (Turn (Whole s slice)) = turned (step t (event.Take s slice)).answer (step t (event.Take s slice)).after s
 
--- a tenant's request is a call of the farm; a whole turn is two calls
-abbrev pub told_to : Tenant → What → Answered
-told_to t (Take s slice) = told_by (step t (event.Take s slice))
-told_to t (Give s) = given_back t s
-told_to t (Turn s slice) = turned (step t (event.Take s slice)).answer (step t (event.Take s slice)).after s
-told_to t what = told_for t (event_in what)
+-- whether a call may need memory: a submit does, as its search needs it
+abbrev pub call_may_need : Tenant → Command ⊤ → Bool
+call_may_need t (command.Submit plan quanta search) = true
+call_may_need t call = may_need t (event_of call)
 
--- whether a request may need memory: a submit and a request for a turn do, a give does not; another
--- request does if the journal has room for its entry, but for an accepted cancel
-abbrev pub request_may_need : Tenant → What → Bool
-request_may_need t (Submit kind quanta project) = true
-request_may_need t (Take s slice) = true
-request_may_need t (Turn s slice) = true
-request_may_need t (Give s) = false
-request_may_need t (Cancel s) = has_room 1 t && not (is_line (step t (event.Cancel s)).answer)
-request_may_need t what = has_room 1 t
+-- whether a request may need memory: each turn does but one that is given back
+abbrev pub request_may_need : Tenant → Ask → Bool
+request_may_need t (Call call) = call_may_need t call
+request_may_need t (Turn (Give s)) = false
+request_may_need t (Turn turn) = true
 
 -- a request for which memory is refused that it may need changes nothing, and its reply is *no
 -- memory*
-abbrev pub told_under : Bool → Tenant → What → Answered
-told_under refused t what = cond (refused && request_may_need t what) (record { said = said.Reply reply.NoMemory; after = t }) (told_to t what)
+abbrev pub told_under : Bool → Tenant → Ask → Answered
+told_under refused t ask = cond (refused && request_may_need t ask) (record { said = said.Reply reply.NoMemory; after = t }) (told_to t ask)
 
 -- ---- all purses
 
@@ -125,10 +122,10 @@ says who words parts = record { line = record { who = who; said = words }; parts
 
 -- a request that is routed: its reply is settled, or one tenant's part is asked. The end of the
 -- script and a failed read are no requests
-abbrev pub answered : ConfigData → Bool → Parts → Heard → Next
+abbrev pub answered : ConfigData → Bool → Parts → Heard Ask → Next
 answered config refused parts (heard.Told who words) = says who words parts
-answered config refused parts (heard.Asked t who what) =
-    let it : Answered = told_under refused (part_of config parts t) what in
+answered config refused parts (heard.Asked t who ask) =
+    let it : Answered = told_under refused (part_of config parts t) ask in
     says (Some who) it.said (with_tenant config parts t it.after)
 answered config refused parts no_request = says None said.Syntax parts
 

@@ -5,17 +5,15 @@ ghost use Rattle.farm_core.specs.World.{opened, purse, view, Follows};
 ghost use Rattle.farm_core.specs.Step.{Sent};
 ghost use Rattle.farm_core.specs.Turn.{IsNotTaken};
 ghost use Rattle.farm_core.specs.Held.{is_out_of};
-ghost use Rattle.session_lines.specs.declared.request.What.TheVariants as what;
 ghost use Rattle.farm_core.specs.Tills.{AreTillsOf};
-ghost use Rattle.farm_session.specs.Branch.{tills_of, HasLeasedOne};
-ghost use Rattle.farm_session.specs.Command.{event_in};
+ghost use Rattle.farm_session.specs.Branch.{tills_of, HasLeasedTo};
 ghost use Rattle.farm_session.specs.Ready.{MakesFresh};
 ghost use Rattle.farm_replay.specs.Closing.{all_back};
 ghost use Rattle.farm_replay.specs.Floor.{IsFloor, IsTold, is_turn_of, untaken};
 
 use farm_core::{Config, Event, Farm, Line, NoTurn, Reply, Stranger, Turn};
-use farm_session::{Branch, Errand, Ready, Workshop, errand_of};
-use session_lines::{Said, What};
+use farm_session::{Ask, Branch, Ready, TurnAsk, Workshop, command_of};
+use session_lines::Said;
 use std::alloc::{AllocError, Global};
 use strategy::Strategy;
 
@@ -76,7 +74,7 @@ impl<J: Strategy> Floor<J> {
     fn take(&mut self, tenant: u32, seq: u64, slice: u64) -> Said
         requires known { tenant < length self.old.farm.config.tenants }
         requires floor { IsFloor J.meaning self.old.farm self.old.held.items }
-        ensures told { IsTold self.old.farm tenant (what.Take seq slice) result self.new.farm }
+        ensures told { IsTold self.old.farm tenant (Ask.Turn (TurnAsk.Take seq slice)) result self.new.farm }
         ensures floor { IsFloor J.meaning self.new.farm self.new.held.items }
     {
         match self.hold(tenant, seq, slice) {
@@ -88,7 +86,7 @@ impl<J: Strategy> Floor<J> {
     fn give(&mut self, tenant: u32, seq: u64) -> Said
         requires known { tenant < length self.old.farm.config.tenants }
         requires floor { IsFloor J.meaning self.old.farm self.old.held.items }
-        ensures told { IsTold self.old.farm tenant (what.Give seq) result self.new.farm }
+        ensures told { IsTold self.old.farm tenant (Ask.Turn (TurnAsk.Give seq)) result self.new.farm }
         ensures floor { IsFloor J.meaning self.new.farm self.new.held.items }
     {
         let Some(place) = place_of(&self.held, tenant, seq) else {
@@ -108,7 +106,7 @@ impl<J: Strategy> Floor<J> {
     fn turn(&mut self, tenant: u32, seq: u64, slice: u64) -> Said
         requires known { tenant < length self.old.farm.config.tenants }
         requires floor { IsFloor J.meaning self.old.farm self.old.held.items }
-        ensures told { IsTold self.old.farm tenant (what.Turn seq slice) result self.new.farm }
+        ensures told { IsTold self.old.farm tenant (Ask.Turn (TurnAsk.Whole seq slice)) result self.new.farm }
         ensures floor { IsFloor J.meaning self.new.farm self.new.held.items }
     {
         match self.hold(tenant, seq, slice) {
@@ -117,18 +115,16 @@ impl<J: Strategy> Floor<J> {
         }
     }
 
-    fn play_turn(&mut self, tenant: u32, asked: What) -> Said
+    fn play_turn(&mut self, tenant: u32, asked: TurnAsk) -> Said
         requires known { tenant < length self.old.farm.config.tenants }
-        requires scripted { event_in asked ≡ None }
         requires floor { IsFloor J.meaning self.old.farm self.old.held.items }
-        ensures told { IsTold self.old.farm tenant asked result self.new.farm }
+        ensures told { IsTold self.old.farm tenant (Ask.Turn asked) result self.new.farm }
         ensures floor { IsFloor J.meaning self.new.farm self.new.held.items }
     {
         match asked {
-            What::Take { seq, slice } => self.take(tenant, seq, slice),
-            What::Give(seq) => self.give(tenant, seq),
-            What::Turn { seq, slice } => self.turn(tenant, seq, slice),
-            _ => unreachable!(),
+            TurnAsk::Take { seq, slice } => self.take(tenant, seq, slice),
+            TurnAsk::Give(seq) => self.give(tenant, seq),
+            TurnAsk::Whole { seq, slice } => self.turn(tenant, seq, slice),
         }
     }
 
@@ -137,7 +133,7 @@ impl<J: Strategy> Floor<J> {
         shop: &Workshop<'_, M>,
         branches: &mut [Branch<'_>],
         tenant: u32,
-        asked: What,
+        asked: Ask,
     ) -> Said
         requires config { self.old.farm.config ≡ shop.now.config.now }
         requires known { tenant < length shop.now.config.now.tenants }
@@ -145,15 +141,17 @@ impl<J: Strategy> Floor<J> {
         requires make { M.IsAlwaysCallable shop.now.make.now }
         requires fresh { MakesFresh J.meaning J.lease (M.post shop.now.make.now) }
         requires floor { IsFloor J.meaning self.old.farm self.old.held.items }
-        ensures leased { HasLeasedOne (M.post shop.now.make.now)
+        ensures leased { HasLeasedTo (M.post shop.now.make.now)
             shop.now.config.now tenant asked branches.old branches.new }
         ensures told { IsTold self.old.farm tenant asked result self.new.farm }
         ensures floor { IsFloor J.meaning self.new.farm self.new.held.items }
     {
-        match errand_of(shop, branches, tenant, asked) {
-            Errand::Call(command) => Said::Reply(self.farm.command(tenant, command)),
-            Errand::NoMemory => Said::Reply(Reply::NoMemory),
-            Errand::Scripted(asked) => self.play_turn(tenant, asked),
+        match asked {
+            Ask::Call(call) => match command_of(shop, branches, tenant, call) {
+                Some(command) => Said::Reply(self.farm.command(tenant, command)),
+                None => Said::Reply(Reply::NoMemory),
+            },
+            Ask::Turn(turn) => self.play_turn(tenant, turn),
         }
     }
 

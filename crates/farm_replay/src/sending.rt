@@ -5,7 +5,7 @@ ghost use Rattle.watched_io.specs.Failure.{IsNoted};
 
 use crate::reader::Script;
 use crate::script::ReplayFault;
-use session_lines::What;
+use farm_session::{Ask, TurnAsk};
 use std::io::{Read, Write};
 use watched_io::Watch;
 
@@ -20,7 +20,7 @@ pub(crate) fn send_before_wait<R: Read, W: Write>(script: &Script<R>, writer: &m
 }
 
 pub(crate) fn send_before_nodes<W: Write>(
-    asked: &What,
+    asked: &Ask,
     writer: &mut W,
     watch: &mut Watch<W>,
 ) -> Result<(), ReplayFault>
@@ -28,7 +28,7 @@ pub(crate) fn send_before_nodes<W: Write>(
     ensures fault { IfErr result (λ fault. fault ≡ ReplayFault.Write) }
     ensures noted { IsNoted result watch.old watch.new }
 {
-    if !matches!(asked, What::Turn { .. } | What::Give(_)) {
+    if !matches!(asked, Ask::Turn(TurnAsk::Whole { .. } | TurnAsk::Give(_))) {
         return Ok(());
     }
     match watch.flush(writer) {

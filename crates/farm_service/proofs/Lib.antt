@@ -1,4 +1,3 @@
-pub mod KnownLemmas
 pub mod SessionLemmas
 pub mod AskedLemmas
 pub mod SettledLemmas

@@ -1,5 +1,5 @@
--- The answer to a request.
-use Rattle.std.specs.Prelude.{◌≡◌, ◌⊎◌, ⊤, Option, Some, None}
+-- The answer to a tenant's call.
+use Rattle.std.specs.Prelude.{◌≡◌, ◌⊎◌}
 use Rattle.farm_core.specs.declared.entry.Event.{Event}
 use Rattle.farm_core.specs.declared.entry.Event.TheVariants as event
 use Rattle.farm_core.specs.declared.reply.Reply.{Reply}
@@ -16,9 +16,3 @@ abbrev pub IsCallAnswered : {T : Type 0} → (Event → Reply → T → Type 0) 
 IsCallAnswered tells old (event.Submit plan quanta) (said.Reply answer) new = IsSubmitted tells old (event.Submit plan quanta) answer new
 IsCallAnswered tells old e (said.Reply answer) new = tells e answer new
 IsCallAnswered tells old e words new = ⊥
-
--- the answer to a tenant's request: the reply to its call, or that it is no request, and no call
--- was made
-abbrev pub IsSaidTo : {T : Type 0} → (Event → Reply → T → Type 0) → T → Option Event → Said → T → Type 0
-IsSaidTo tells old (Some e) words new = IsCallAnswered tells old e words new
-IsSaidTo tells old None words new = (words ≡ said.Syntax) × (new ≡ old)

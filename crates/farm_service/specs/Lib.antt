@@ -1,5 +1,4 @@
 pub mod Asked
-pub mod Known
 pub mod Role
 pub mod Session
 pub mod Tills

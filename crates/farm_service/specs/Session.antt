@@ -2,6 +2,7 @@
 -- the lines that it writes.
 use Rattle.std.specs.Prelude.{◌≡◌, ℕ, ⊤, ◌⊎◌, Bool, true, false, not, ◌&&◌, is_ok, List, [], ◌∷◌, Option, None, Result}
 use Rattle.watched_io.specs.Failure.{HasFailed, IsNoted}
+use Rattle.farm_core.specs.declared.command.Command.{Command}
 use Rattle.farm_core.specs.declared.entry.Event.{Event}
 use Rattle.farm_core.specs.declared.reply.Reply.{Reply}
 use Rattle.farm_core.specs.Config.{ConfigData}
@@ -13,11 +14,12 @@ use Rattle.session_lines.specs.Script.{Takes}
 use Rattle.session_lines.specs.Cause.{IsReadGivenUp, HasReadWell}
 use Rattle.farm_session.specs.declared.heard.Heard.{Heard}
 use Rattle.farm_session.specs.declared.heard.Heard.TheVariants.{Over, Broken}
-use Rattle.farm_session.specs.Branch.{BranchValue, HasLeasedBy}
+use Rattle.farm_session.specs.Branch.{BranchValue, HasLeasedIn}
+use Rattle.farm_session.specs.Heard.{heard_in}
 use Rattle.farm_session.specs.Ready.{ReadyData}
 use Rattle.farm_service.specs.declared.service.Role.{Role}
 use Rattle.farm_service.specs.declared.service.Role.TheVariants.{Worker, Client}
-use Rattle.farm_service.specs.Told.{heard_in, IsToldOf}
+use Rattle.farm_service.specs.Told.{IsToldOf}
 
 -- the state of a session: its token of the pool, its branches, if known the bytes left to read and
 -- the written bytes, and how many reads and writes have failed
@@ -35,7 +37,7 @@ stand token branches left written reads writes =
     record { token = token; branches = branches; left = left; written = written; reads = reads; writes = writes }
 
 -- there is no further request, or it cannot be read
-abbrev pub is_end : Heard → Bool
+abbrev pub is_end : {A : Type 0} → Heard A → Bool
 is_end Over = true
 is_end Broken = true
 is_end heard = false
@@ -44,7 +46,7 @@ module _ {T J : Type 0} (config : ConfigData) (tells : T → ℕ → Event → R
   -- one request was read and answered: its call was made, the lease that it needs, and its line was
   -- written; nothing else was done. The session goes on unless its input has ended, a read or a
   -- write has failed, or a request is too long
-  pub record HasAnswered (old : Stand T) (heard : Heard) (goes_on : Bool) (new : Stand T) : Type 0 where
+  pub record HasAnswered (old : Stand T) (heard : Heard (Command ⊤)) (goes_on : Bool) (new : Stand T) : Type 0 where
     pub read : Result Request LineFault
     pub result : Result ⊤ WriteFault
     pub takes : Takes MOST_REQUEST_BYTES None old.left new.left read
@@ -52,18 +54,18 @@ module _ {T J : Type 0} (config : ConfigData) (tells : T → ℕ → Event → R
     pub counted : HasReadWell read old.reads new.reads
     pub is : heard ≡ heard_in config read
     pub told : IsToldOf tells old.token heard result old.written new.written new.token
-    pub leased : HasLeasedBy made config heard old.branches new.branches
+    pub leased : HasLeasedIn made config heard old.branches new.branches
     pub noted : IsNoted result old.writes new.writes
     pub goes : goes_on ≡ (not (is_end heard) && is_ok result)
 
   -- requests one after another, the last one first; the session goes on after each
-  abbrev pub HasServed : Stand T → List Heard → Stand T → Type 0
+  abbrev pub HasServed : Stand T → List (Heard (Command ⊤)) → Stand T → Type 0
   HasServed old [] new = new ≡ old
   HasServed old (h ∷ heard) new = (mid : Stand T) × HasServed old heard mid × HasAnswered mid h true new
 
   -- a session: requests were answered until one ended it, and nothing else was done
   abbrev pub IsSession : Stand T → Stand T → Type 0
-  IsSession old new = (mid : Stand T) × (heard : List Heard) × HasServed old heard mid × (last : Heard) × HasAnswered mid last false new
+  IsSession old new = (mid : Stand T) × (heard : List (Heard (Command ⊤))) × HasServed old heard mid × (last : Heard (Command ⊤)) × HasAnswered mid last false new
 
   -- a client was served, whatever its connection sends, and no lease was made before or after; or
   -- there was no memory for a session, and nothing was done

@@ -1,42 +1,24 @@
 //! One connection: its requests are read, called and answered in their order.
-ghost use Rattle.std.specs.Prelude.{◌≡◌, ◌<◌, ℕ, length};
+ghost use Rattle.std.specs.Prelude.{◌≡◌, ◌<◌, ⊤, ℕ, length};
 ghost use Rattle.watched_io.specs.Failure.{IsNoted};
 ghost use Rattle.farm_core.specs.Command.{event_of, IsFresh};
-ghost use Rattle.farm_session.specs.Branch.{tills_of, HasLeasedOne, HasLeasedBy};
+ghost use Rattle.farm_session.specs.Branch.{tills_of, HasLeasedOne, HasLeasedIn};
 ghost use Rattle.farm_session.specs.Ready.{MakesFresh};
-ghost use Rattle.farm_session.specs.Command.{event_in};
-ghost use Rattle.farm_service.specs.Asked.{IsSaidTo};
-ghost use Rattle.farm_service.specs.Known.{IsKnown};
+ghost use Rattle.farm_session.specs.Heard.{IsKnown};
+ghost use Rattle.farm_service.specs.Asked.{IsCallAnswered};
 ghost use Rattle.farm_session.specs.declared.heard.Heard.{Heard};
 ghost use Rattle.farm_service.specs.Session.{stand, is_end, HasAnswered, IsSession};
-ghost use Rattle.farm_service.specs.Told.{heard_in, IsToldOf};
+ghost use Rattle.farm_service.specs.Told.{IsToldOf};
 ghost use Rattle.farm_core.specs.Tills.{AreTillsOf};
 
 use crate::lobby::Lobby;
 use crate::shared::Shared;
-use farm_core::{Command, Config, Reply};
-use farm_session::{Branch, Errand, Heard, Ready, Workshop, errand_of, hear};
-use session_lines::{LineFault, Request, Said, What, WriteFault, read_request, write_reply};
+use farm_core::{Command, Reply};
+use farm_session::{Branch, Heard, Ready, Workshop, command_of, hear_call};
+use session_lines::{Said, WriteFault, read_request, write_reply};
 use std::io::{BufRead, Write};
 use std::sync::Wait;
 use watched_io::Watch;
-
-/// A request that only a script may make is a `Syntax` fault here.
-#[tactic(auto, using(crate::proofs::KnownLemmas::heard_known))]
-fn heard(config: &Config, read: Result<Request, LineFault>) -> Heard
-    ensures exact { result ≡ heard_in config.now read }
-    ensures known { IsKnown config.now result }
-{
-    match read {
-        Ok(
-            Request {
-                who: _,
-                what: What::Take { .. } | What::Give(_) | What::Turn { .. },
-            },
-        ) => Heard::Told(None, Said::Syntax),
-        other => hear(config, other),
-    }
-}
 
 #[derive(Drop)]
 struct ConnectionWatches<I, O> {
@@ -92,7 +74,7 @@ fn answer<D: Shared, R: Wait, M: Fn(Ready) -> Option<D::Search>>(
     token: &mut D::Token,
     branches: &mut [Branch<'_>],
     tenant: u32,
-    asked: What,
+    asked: Command<()>,
 ) -> Said
     requires own { D.owns office.now.shared.now token.old }
     requires config { D.config office.now.shared.now ≡ office.now.shop.config.now }
@@ -101,18 +83,14 @@ fn answer<D: Shared, R: Wait, M: Fn(Ready) -> Option<D::Search>>(
     requires make { M.IsAlwaysCallable office.now.shop.make.now }
     requires fresh { MakesFresh D.means D.leases (M.post office.now.shop.make.now) }
     ensures own { D.owns office.now.shared.now token.new }
-    ensures said { IsSaidTo (D.tells office.now.shared.now token.old tenant)
-        token.old (event_in asked) result token.new }
+    ensures said { IsCallAnswered (D.tells office.now.shared.now token.old tenant)
+        token.old (event_of asked) result token.new }
     ensures leased { HasLeasedOne (M.post office.now.shop.make.now)
         office.now.shop.config.now tenant asked branches.old branches.new }
 {
-    match errand_of(&office.shop, branches, tenant, asked) {
-        Errand::Call(command) => Said::Reply(call(office, token, tenant, command)),
-        Errand::NoMemory => Said::Reply(Reply::NoMemory),
-        Errand::Scripted(asked) => {
-            drop(asked);
-            Said::Syntax
-        }
+    match command_of(&office.shop, branches, tenant, asked) {
+        Some(command) => Said::Reply(call(office, token, tenant, command)),
+        None => Said::Reply(Reply::NoMemory),
     }
 }
 
@@ -123,7 +101,7 @@ fn reply<D: Shared, R: Wait, W: Write, M: Fn(Ready) -> Option<D::Search>>(
     branches: &mut [Branch<'_>],
     writer: &mut W,
     watch: &mut Watch<W>,
-    heard: Heard,
+    heard: Heard<Command<()>>,
 ) -> Result<(), WriteFault>
     requires own { D.owns office.now.shared.now token.old }
     requires config { D.config office.now.shared.now ≡ office.now.shop.config.now }
@@ -136,7 +114,7 @@ fn reply<D: Shared, R: Wait, W: Write, M: Fn(Ready) -> Option<D::Search>>(
         (W.contents writer.old)
         (W.contents writer.new)
         token.new }
-    ensures leased { HasLeasedBy (M.post office.now.shop.make.now)
+    ensures leased { HasLeasedIn (M.post office.now.shop.make.now)
         office.now.shop.config.now heard branches.old branches.new }
     ensures noted { IsNoted result watch.old watch.new }
 {
@@ -150,7 +128,7 @@ fn reply<D: Shared, R: Wait, W: Write, M: Fn(Ready) -> Option<D::Search>>(
     }
 }
 
-fn is_end(heard: &Heard) -> bool
+fn is_end(heard: &Heard<Command<()>>) -> bool
     ensures { result ≡ is_end heard.now }
 {
     matches!(heard, Heard::Over | Heard::Broken)
@@ -172,7 +150,7 @@ fn serve_next<D: Shared, R: Wait, I: BufRead, O: Write, M: Fn(Ready) -> Option<D
     requires fresh { MakesFresh D.means D.leases (M.post office.now.shop.make.now) }
     ensures own { D.owns office.now.shared.now token.new }
     ensures tills { AreTillsOf office.now.shop.config.now (tills_of branches.new) }
-    ensures answered { (heard : Heard) × HasAnswered office.now.shop.config.now
+    ensures answered { (heard : Heard (Command ⊤)) × HasAnswered office.now.shop.config.now
         (D.tells office.now.shared.now)
         (M.post office.now.shop.make.now)
         (stand token.old branches.old
@@ -184,7 +162,7 @@ fn serve_next<D: Shared, R: Wait, I: BufRead, O: Write, M: Fn(Ready) -> Option<D
         (I.remaining reader.new) (O.contents writer.new)
         watches.new.reads watches.new.writes) }
 {
-    let heard = heard(
+    let heard = hear_call(
         office.shop.config,
         read_request(office.shop.alloc, reader, &mut watches.reads),
     );

@@ -1,6 +1,6 @@
 -- The tills of purses, by their numbers.
 use Rattle.std.proofs.Common.{◌≡◌, ℕ, zero, suc, ◌+◌, ◌<◌, List, [], ◌∷◌, ◌++◌, length, map, get_or, set, Option, Some, None, refl, sym, ap, ◌∙◌, subst, arith, ⊎_elim}
-use Rattle.std.specs.Prelude.{slice_get}
+use Rattle.std.specs.Prelude.{⊤, slice_get}
 use Rattle.std.proofs.lemmas.List.{map-append, get_or-map, length-map, same_lists}
 use Rattle.std.proofs.lemmas.List.FromFn.{map-range_with_len_more, get_or-map-range_with_len}
 use Rattle.std.specs.List.{range_with_len}
@@ -10,12 +10,13 @@ use Rattle.farm_core.specs.Config.{ConfigData, member_lines, granted_by}
 use Rattle.farm_core.specs.World.{purses_in, purse_in}
 use Rattle.farm_core.proofs.TillLemmas.{tills_length}
 use Rattle.farm_core.specs.Tills.{Opening, opening_of, opening_for, AreTillsOf}
-use Rattle.mrcpsp.specs.Project.{ProjectData}
-use Rattle.strategy.specs.declared.kind.Kind.{Kind}
-use Rattle.session_lines.specs.declared.request.What.{What}
-use Rattle.session_lines.specs.declared.request.What.TheVariants.{Submit}
-use Rattle.farm_session.specs.Branch.{BranchValue, new_branch, AreNew, lease_at, tills_of, first_desk, HaveSeated, HasLeased, HasLeasedFor, HasLeasedOne, HasLeasedBy}
+use Rattle.strategy.specs.declared.plan.Plan.{Plan}
+use Rattle.farm_core.specs.declared.command.Command.{Command}
+use Rattle.farm_core.specs.declared.command.Command.TheVariants.{Submit}
+use Rattle.farm_session.specs.Branch.{BranchValue, new_branch, AreNew, lease_at, tills_of, first_desk, HaveSeated, HasLeased, HasLeasedFor, HasLeasedOne, HasLeasedTo, HasLeasedBy, HasLeasedIn}
 use Rattle.farm_session.specs.Ready.{ReadyData}
+use Rattle.farm_session.specs.declared.ask.Ask.{Ask}
+use Rattle.farm_session.specs.declared.ask.Ask.TheVariants.{Call, Turn}
 use Rattle.farm_session.specs.declared.heard.Heard.{Heard}
 use Rattle.farm_session.specs.declared.heard.Heard.TheVariants.{Asked}
 
@@ -78,22 +79,32 @@ leased_till made old new ready None has =
     ⊎_elim (λ none. ap (λ (b : BranchValue). b.till) none) (λ one. ap (λ (b : BranchValue). b.till) one.0) has
 
 -- branches stay at their tills
-kept_for : {J : Type 0} (made : ReadyData → Option J → Type 0) (config : ConfigData) (t : ℕ) (what : What) (search : Option J) (old new : List BranchValue)
-    → HasLeasedFor made config t what search old new → tills_of new ≡ tills_of old
-kept_for made config t (Submit kind quanta project) search old new has =
+kept_for : {J : Type 0} (made : ReadyData → Option J → Type 0) (config : ConfigData) (t : ℕ) (call : Command ⊤) (search : Option J) (old new : List BranchValue)
+    → HasLeasedFor made config t call search old new → tills_of new ≡ tills_of old
+kept_for made config t (Submit plan quanta none) search old new has =
     ap tills_of has.after
     ∙ tills_set old (purse_in config t) has.here has.then has.found
-    (leased_till made has.here has.then (record { plan = record { project = project; kind = kind }; lease = lease_at has.here t }) search has.leased)
-kept_for made config t what search old new has = ap tills_of has
+    (leased_till made has.here has.then (record { plan = plan; lease = lease_at has.here t }) search has.leased)
+kept_for made config t call search old new has = ap tills_of has
 
-pub tills_kept : {J : Type 0} (made : ReadyData → Option J → Type 0) (config : ConfigData) (t : ℕ) (what : What) (old new : List BranchValue)
-    → HasLeasedOne made config t what old new → tills_of new ≡ tills_of old
-tills_kept made config t what old new has = kept_for made config t what has.0 old new has.1
+pub tills_kept : {J : Type 0} (made : ReadyData → Option J → Type 0) (config : ConfigData) (t : ℕ) (call : Command ⊤) (old new : List BranchValue)
+    → HasLeasedOne made config t call old new → tills_of new ≡ tills_of old
+tills_kept made config t call old new has = kept_for made config t call has.0 old new has.1
 
-pub tills_kept_by : {J : Type 0} (made : ReadyData → Option J → Type 0) (config : ConfigData) (heard : Heard) (old new : List BranchValue)
+pub tills_kept_to : {J : Type 0} (made : ReadyData → Option J → Type 0) (config : ConfigData) (t : ℕ) (ask : Ask) (old new : List BranchValue)
+    → HasLeasedTo made config t ask old new → tills_of new ≡ tills_of old
+tills_kept_to made config t (Call call) old new has = tills_kept made config t call old new has
+tills_kept_to made config t (Turn turn) old new has = ap tills_of has
+
+pub tills_kept_by : {J : Type 0} (made : ReadyData → Option J → Type 0) (config : ConfigData) (heard : Heard Ask) (old new : List BranchValue)
     → HasLeasedBy made config heard old new → tills_of new ≡ tills_of old
-tills_kept_by made config (Asked t who what) old new has = tills_kept made config t what old new has
+tills_kept_by made config (Asked t who ask) old new has = tills_kept_to made config t ask old new has
 tills_kept_by made config heard old new has = ap tills_of has
+
+pub tills_kept_in : {J : Type 0} (made : ReadyData → Option J → Type 0) (config : ConfigData) (heard : Heard (Command ⊤)) (old new : List BranchValue)
+    → HasLeasedIn made config heard old new → tills_of new ≡ tills_of old
+tills_kept_in made config (Asked t who call) old new has = tills_kept made config t call old new has
+tills_kept_in made config heard old new has = ap tills_of has
 
 -- one first desk more
 pub desks_on : (purse granted : ℕ) (tills new : List TillValue) (desks then : List DeskValue) (till : TillValue) (desk : DeskValue)
@@ -111,15 +122,15 @@ set_found (b ∷ bs) zero d few = refl
 set_found (b ∷ bs) (suc p) d few = set_found bs p d (omega arith)
 
 -- a submit has the lease made that its branch shows
-pub submit_leased : {J : Type 0} (made : ReadyData → Option J → Type 0) (config : ConfigData) (t quanta p : ℕ) (kind : Kind) (project : ProjectData)
+pub submit_leased : {J : Type 0} (made : ReadyData → Option J → Type 0) (config : ConfigData) (t quanta p : ℕ) (plan : Plan)
     (bs : List BranchValue) (here then : BranchValue) → p ≡ purse_in config t → p < length bs → here ≡ get_or bs p here
-    → (found search : Option J) → found ≡ search → HasLeased made here (record { plan = record { project = project; kind = kind }; lease = lease_at here t }) found then
-    → HasLeasedFor made config t (Submit kind quanta project) search bs (set bs p then)
-submit_leased {J} made config t quanta p kind project bs here then is few at found search same leased = record {
+    → (found search : Option J) → found ≡ search → HasLeased made here (record { plan = plan; lease = lease_at here t }) found then
+    → HasLeasedFor made config t (Submit plan quanta tt) search bs (set bs p then)
+submit_leased {J} made config t quanta p plan bs here then is few at found search same leased = record {
   here = here;
   then = then;
   found = ap (slice_get bs) (sym is) ∙ set_found bs p here few ∙ ap Some (sym at);
-  leased = subst (λ (s : Option J). HasLeased made here (record { plan = record { project = project; kind = kind }; lease = lease_at here t }) s then) same leased;
+  leased = subst (λ (s : Option J). HasLeased made here (record { plan = plan; lease = lease_at here t }) s then) same leased;
   after = ap (λ n. set bs n then) is;
 }
 

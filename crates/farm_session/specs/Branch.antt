@@ -1,14 +1,16 @@
 -- A purse's till with a desk, as contracts see them, and the leases that are made there.
-use Rattle.std.specs.Prelude.{◌≡◌, ◌⊎◌, ℕ, ◌+◌, ◌<◌, List, map, length, set, get_or, slice_get, Option, Some, None}
+use Rattle.std.specs.Prelude.{◌≡◌, ◌⊎◌, ⊤, ℕ, ◌+◌, ◌<◌, List, map, length, set, get_or, slice_get, Option, Some, None}
 use Rattle.strategy.specs.declared.plan.Plan.{Plan}
 use Rattle.quanta_till.specs.Desk.{DeskValue, new_desk}
 use Rattle.quanta_till.specs.Lease.{LeaseValue, empty_lease}
 use Rattle.quanta_till.specs.Till.{TillValue}
 use Rattle.farm_core.specs.Config.{ConfigData}
+use Rattle.farm_core.specs.declared.command.Command.{Command}
+use Rattle.farm_core.specs.declared.command.Command.TheVariants.{Submit}
 use Rattle.farm_core.specs.World.{purse_in}
-use Rattle.session_lines.specs.declared.request.What.{What}
-use Rattle.session_lines.specs.declared.request.What.TheVariants.{Submit}
 use Rattle.farm_session.specs.Ready.{ReadyData}
+use Rattle.farm_session.specs.declared.ask.Ask.{Ask}
+use Rattle.farm_session.specs.declared.ask.Ask.TheVariants.{Call, Turn}
 use Rattle.farm_session.specs.declared.heard.Heard.{Heard}
 use Rattle.farm_session.specs.declared.heard.Heard.TheVariants.{Asked}
 
@@ -65,17 +67,26 @@ module _ {J : Type 0} (made : ReadyData → Option J → Type 0) where
     pub leased : HasLeased here (record { plan = plan; lease = lease_at here t }) search then
     pub after : new ≡ set old p then
 
-  -- a submit has a lease made for this search, at the branch of the tenant's purse; no other request
+  -- a submit has a lease made for this search, at the branch of the tenant's purse; no other call
   -- has one
-  abbrev pub HasLeasedFor : ConfigData → ℕ → What → Option J → List BranchValue → List BranchValue → Type 0
-  HasLeasedFor config t (Submit kind quanta project) search old new = HasLeasedAt (purse_in config t) t (record { project = project; kind = kind }) search old new
-  HasLeasedFor config t what search old new = new ≡ old
+  abbrev pub HasLeasedFor : ConfigData → ℕ → Command ⊤ → Option J → List BranchValue → List BranchValue → Type 0
+  HasLeasedFor config t (Submit plan quanta search) found old new = HasLeasedAt (purse_in config t) t plan found old new
+  HasLeasedFor config t call found old new = new ≡ old
 
   -- whichever the search is
-  abbrev pub HasLeasedOne : ConfigData → ℕ → What → List BranchValue → List BranchValue → Type 0
-  HasLeasedOne config t what old new = (search : Option J) × HasLeasedFor config t what search old new
+  abbrev pub HasLeasedOne : ConfigData → ℕ → Command ⊤ → List BranchValue → List BranchValue → Type 0
+  HasLeasedOne config t call old new = (search : Option J) × HasLeasedFor config t call search old new
 
-  -- only a tenant's request has a lease made
-  abbrev pub HasLeasedBy : ConfigData → Heard → List BranchValue → List BranchValue → Type 0
-  HasLeasedBy config (Asked t who what) old new = HasLeasedOne config t what old new
+  -- a turn has no lease made
+  abbrev pub HasLeasedTo : ConfigData → ℕ → Ask → List BranchValue → List BranchValue → Type 0
+  HasLeasedTo config t (Call call) old new = HasLeasedOne config t call old new
+  HasLeasedTo config t (Turn turn) old new = new ≡ old
+
+  -- only a tenant has a lease made: of a script, and of a session
+  abbrev pub HasLeasedBy : ConfigData → Heard Ask → List BranchValue → List BranchValue → Type 0
+  HasLeasedBy config (Asked t who ask) old new = HasLeasedTo config t ask old new
   HasLeasedBy config heard old new = new ≡ old
+
+  abbrev pub HasLeasedIn : ConfigData → Heard (Command ⊤) → List BranchValue → List BranchValue → Type 0
+  HasLeasedIn config (Asked t who call) old new = HasLeasedOne config t call old new
+  HasLeasedIn config heard old new = new ≡ old

@@ -1,4 +1,4 @@
+pub mod Ask
 pub mod Branch
-pub mod Command
 pub mod Heard
 pub mod Ready

@@ -33,22 +33,30 @@ impl<J> Model for JobTable<J> {
     ghost invariant = { λ t. IsTable t.jobs.entries t.counts.entries t.queue };
 }
 
-/// Updates counts and queue after job `(tenant, seq)` moved from phase `was` to `is`.
+/// A `Shift` is the phase that a job has left, and the one that it is in now.
+#[derive(Clone, Copy)]
+struct Shift {
+    was: Phase,
+    is: Phase,
+}
+
+/// Updates counts and queue after the phase of job `(tenant, seq)` changed.
 fn follow<J>(
     jobs: &mut IndexMap<(u32, u64), Linked<J>>,
     counts: &mut IndexMap<u32, Counts>,
     queue: &mut Queue,
     tenant: u32,
     seq: u64,
-    was: Phase,
-    is: Phase,
+    shift: Shift,
 )
-    requires { IsChanging tenant seq was is jobs.old.entries counts.old.entries queue.old }
+    requires { IsChanging tenant seq shift.was shift.is jobs.old.entries counts.old.entries queue.old }
     ensures table { IsTable jobs.new.entries counts.new.entries queue.new }
-    ensures changed { (change : IsChanging tenant seq was is jobs.old.entries counts.old.entries queue.old)
+    ensures changed { (change : IsChanging tenant seq shift.was shift.is
+        jobs.old.entries counts.old.entries queue.old)
         → whole jobs.new.entries queue.new
         ≡ change_job tenant seq change.old.job change.then (whole change.before queue.old) }
 {
+    let Shift { was, is } = shift;
     recount(counts, tenant, was.is_out(), is.is_out());
     requeue(jobs, queue, tenant, seq, was.is_waiting(), is.is_waiting());
 }
@@ -153,7 +161,7 @@ impl<J> JobTable<J> {
         };
         let was = linked.job.phase();
         linked.job.set_phase(phase);
-        follow(jobs, counts, queue, tenant, seq, was, phase);
+        follow(jobs, counts, queue, tenant, seq, Shift { was, is: phase });
         true
     }
 

@@ -3,7 +3,7 @@ use Rattle.std.specs.Prelude.{is_some}
 use Rattle.farm_core.specs.World.{opened}
 use Rattle.farm_core.specs.Tills.{opening_of}
 use Rattle.farm_session.specs.Branch.{tills_of}
-use Rattle.farm_session.proofs.TillLemmas.{tills_kept}
+use Rattle.farm_session.proofs.TillLemmas.{tills_kept_to}
 use Rattle.farm_replay.specs.Floor.{IsFloor}
 use Rattle.farm_replay.specs.Reader.{script_rest}
 use Rattle.farm_replay.proofs.LeaseLemmas.{LeasedTo, none_leased, leases_told, leases_asked, leases_of}
@@ -29,7 +29,7 @@ loop-answered-init g c = (
 pub returns-in-Over-clause-written : goal.returns-in-Over-clause-written
 returns-in-Over-clause-written g c =
     play_over c.requests_come_in_turn.ensures c.args.shop.now.config.now (script_rest g.R.Read.remaining c.args.script.now) (script_rest g.R.Read.remaining c.begin.new.self) (script_rest g.R.Read.remaining c.read_request.new.reader)
-    (g.W.Write.contents c.args.writer.now) (g.W.Write.contents c.send_before_wait.new.writer) c.loop-answered._answered (is_some c.loop-answered.notes.refused) c.loop-answered.floor.farm c.read_request.result (omega arith) (cc (c.in-Over.is, c.hear.ensures))
+    (g.W.Write.contents c.args.writer.now) (g.W.Write.contents c.send_before_wait.new.writer) c.loop-answered._answered (is_some c.loop-answered.notes.refused) c.loop-answered.floor.farm c.read_request.result (omega arith) (cc (c.in-Over.is, c.hear.ensures.exact))
     c.read_request.ensures.takes (played_sent c.args.shop.now.config.now (script_rest g.R.Read.remaining c.args.script.now) (script_rest g.R.Read.remaining c.loop-answered.script) (script_rest g.R.Read.remaining c.begin.new.self)
     (g.W.Write.contents c.args.writer.now) (g.W.Write.contents c.loop-answered.writer) (g.W.Write.contents c.send_before_wait.new.writer) c.loop-answered._answered (is_some c.loop-answered.notes.refused) c.loop-answered.floor.farm c.begin.ensures
     c.send_before_wait.ensures c.loop-answered.invariant.3)
@@ -39,7 +39,7 @@ returns-in-Err-clause-cut_off g c =
     rw c.in-Err.ensures.fault
     (settled_cut c.requests_come_in_turn.ensures c.args.shop.now.config.now (script_rest g.R.Read.remaining c.args.script.now) (script_rest g.R.Read.remaining c.begin.new.self) (script_rest g.R.Read.remaining c.read_request.new.reader)
     (g.W.Write.contents c.args.writer.now) (g.W.Write.contents c.send_before_wait.new.writer) (g.W.Write.contents c.tell.new.writer) c.loop-answered._answered (is_some c.loop-answered.notes.refused) c.loop-answered.floor.farm c.read_request.result
-    c.in-Told.who c.in-Told.said (cc (c.in-Told.is, c.hear.ensures)) c.read_request.ensures.takes (played_sent c.args.shop.now.config.now (script_rest g.R.Read.remaining c.args.script.now) (script_rest g.R.Read.remaining c.loop-answered.script) (script_rest g.R.Read.remaining c.begin.new.self)
+    c.in-Told.who c.in-Told.said (cc (c.in-Told.is, c.hear.ensures.exact)) c.read_request.ensures.takes (played_sent c.args.shop.now.config.now (script_rest g.R.Read.remaining c.args.script.now) (script_rest g.R.Read.remaining c.loop-answered.script) (script_rest g.R.Read.remaining c.begin.new.self)
     (g.W.Write.contents c.args.writer.now) (g.W.Write.contents c.loop-answered.writer) (g.W.Write.contents c.send_before_wait.new.writer) c.loop-answered._answered (is_some c.loop-answered.notes.refused) c.loop-answered.floor.farm c.begin.ensures
     c.send_before_wait.ensures c.loop-answered.invariant.3) c.in-Err.ensures.writes.err _ _ (rw c.loop-answered.invariant.6 at c.in-Err.ensures.noted))
 
@@ -48,7 +48,7 @@ returns-in-Err-send_before_nodes-clause-cut_off g c =
     rw c.in-Err-send_before_nodes.ensures.fault
     (asked_unsent c.requests_come_in_turn.ensures c.args.shop.now.config.now (script_rest g.R.Read.remaining c.args.script.now) (script_rest g.R.Read.remaining c.begin.new.self) (script_rest g.R.Read.remaining c.read_request.new.reader)
     (g.W.Write.contents c.args.writer.now) (g.W.Write.contents c.send_before_nodes.new.writer) c.loop-answered._answered (is_some c.loop-answered.notes.refused) c.loop-answered.floor.farm c.read_request.result
-    c.in-Asked.tenant c.in-Asked.who c.in-Asked.asked (cc (c.in-Asked.is, c.hear.ensures)) c.read_request.ensures.takes
+    c.in-Asked.tenant c.in-Asked.who c.in-Asked.asked (cc (c.in-Asked.is, c.hear.ensures.exact)) c.read_request.ensures.takes
     (played_sent c.args.shop.now.config.now (script_rest g.R.Read.remaining c.args.script.now) (script_rest g.R.Read.remaining c.begin.new.self) (script_rest g.R.Read.remaining c.begin.new.self)
     (g.W.Write.contents c.args.writer.now) (g.W.Write.contents c.send_before_wait.new.writer) (g.W.Write.contents c.send_before_nodes.new.writer) c.loop-answered._answered (is_some c.loop-answered.notes.refused) c.loop-answered.floor.farm refl
     c.send_before_nodes.ensures.kept (played_sent c.args.shop.now.config.now (script_rest g.R.Read.remaining c.args.script.now) (script_rest g.R.Read.remaining c.loop-answered.script) (script_rest g.R.Read.remaining c.begin.new.self)
@@ -60,7 +60,7 @@ returns-in-Err-tell-clause-cut_off g c =
     rw c.in-Err-tell.ensures.fault
     (asked_cut c.requests_come_in_turn.ensures c.args.shop.now.config.now (script_rest g.R.Read.remaining c.args.script.now) (script_rest g.R.Read.remaining c.begin.new.self) (script_rest g.R.Read.remaining c.read_request.new.reader)
     (g.W.Write.contents c.args.writer.now) (g.W.Write.contents c.send_before_nodes.new.writer) (g.W.Write.contents c.tell-in-Asked.new.writer) c.loop-answered._answered (is_some c.loop-answered.notes.refused) c.loop-answered.floor.farm
-    c.answer-said.new.self.farm c.read_request.result c.in-Asked.tenant c.in-Asked.who c.in-Asked.asked c.answer-said.result (cc (c.in-Asked.is, c.hear.ensures)) c.read_request.ensures.takes
+    c.answer-said.new.self.farm c.read_request.result c.in-Asked.tenant c.in-Asked.who c.in-Asked.asked c.answer-said.result (cc (c.in-Asked.is, c.hear.ensures.exact)) c.read_request.ensures.takes
     c.answer-said.ensures.told (played_sent c.args.shop.now.config.now (script_rest g.R.Read.remaining c.args.script.now) (script_rest g.R.Read.remaining c.begin.new.self) (script_rest g.R.Read.remaining c.begin.new.self)
     (g.W.Write.contents c.args.writer.now) (g.W.Write.contents c.send_before_wait.new.writer) (g.W.Write.contents c.send_before_nodes.new.writer) c.loop-answered._answered (is_some c.loop-answered.notes.refused) c.loop-answered.floor.farm refl
     c.send_before_nodes.ensures.kept (played_sent c.args.shop.now.config.now (script_rest g.R.Read.remaining c.args.script.now) (script_rest g.R.Read.remaining c.loop-answered.script) (script_rest g.R.Read.remaining c.begin.new.self)
@@ -78,14 +78,14 @@ loop-answered-preserved g c =
         rw (w.floor-is, w.writer-is, w.notes-is)
             (settled_on c.requests_come_in_turn.ensures c.args.shop.now.config.now (script_rest g.R.Read.remaining c.args.script.now) (script_rest g.R.Read.remaining c.begin.new.self) (script_rest g.R.Read.remaining c.read_request.new.reader)
             (g.W.Write.contents c.args.writer.now) (g.W.Write.contents c.send_before_wait.new.writer) (g.W.Write.contents w.tell.new.writer) c.loop-answered._answered (is_some c.loop-answered.notes.refused) (is_some w.add.new.self.refused) c.loop-answered.floor.farm c.read_request.result
-            w.in-Told.who w.in-Told.said (cc (w.in-Told.is, c.hear.ensures)) c.read_request.ensures.takes (played_sent c.args.shop.now.config.now (script_rest g.R.Read.remaining c.args.script.now) (script_rest g.R.Read.remaining c.loop-answered.script) (script_rest g.R.Read.remaining c.begin.new.self)
+            w.in-Told.who w.in-Told.said (cc (w.in-Told.is, c.hear.ensures.exact)) c.read_request.ensures.takes (played_sent c.args.shop.now.config.now (script_rest g.R.Read.remaining c.args.script.now) (script_rest g.R.Read.remaining c.loop-answered.script) (script_rest g.R.Read.remaining c.begin.new.self)
             (g.W.Write.contents c.args.writer.now) (g.W.Write.contents c.loop-answered.writer) (g.W.Write.contents c.send_before_wait.new.writer) c.loop-answered._answered (is_some c.loop-answered.notes.refused) c.loop-answered.floor.farm c.begin.ensures
             c.send_before_wait.ensures c.loop-answered.invariant.3) w.in_default.ensures.writes.ok w.add.ensures.any),
         leases_told c.args.shop.now.config.now (goal.M-post g c.args.shop.now.make.now) (script_rest g.R.Read.remaining c.args.script.now) (script_rest g.R.Read.remaining c.loop-answered.script) (script_rest g.R.Read.remaining c.begin.new.self)
             (script_rest g.R.Read.remaining c.read_request.new.reader) c.args.branches.now c.loop-answered.branches _ c.read_request.result w.in-Told.who w.in-Told.said
-            (cc (w.in-Told.is, c.hear.ensures)) c.begin.ensures c.read_request.ensures.takes w.branches-is inv.4,
+            (cc (w.in-Told.is, c.hear.ensures.exact)) c.begin.ensures c.read_request.ensures.takes w.branches-is inv.4,
         ap (λ v. v.reads) w.watches-inside-is
-            ∙ told_well c.args.shop.now.config.now c.loop-answered.watches-inside.reads c.read_request.new.watch c.read_request.result w.in-Told.who w.in-Told.said (cc (w.in-Told.is, c.hear.ensures)) c.read_request.ensures.kept
+            ∙ told_well c.args.shop.now.config.now c.loop-answered.watches-inside.reads c.read_request.new.watch c.read_request.result w.in-Told.who w.in-Told.said (cc (w.in-Told.is, c.hear.ensures.exact)) c.read_request.ensures.kept
             ∙ inv.5,
         ap (λ v. v.writes) w.watches-inside-is ∙ w.in_default.ensures.noted ∙ inv.6,
       )
@@ -93,13 +93,13 @@ loop-answered-preserved g c =
         ap (λ x. x.farm.config) w.floor-is ∙ w.answer-said.ensures.told.config ∙ inv.0,
         ap (map opening_of)
             (ap tills_of w.branches-is
-            ∙ tills_kept _ c.args.shop.now.config.now w.in-Asked.tenant w.in-Asked.asked c.loop-answered.branches w.answer-said.new.branches w.answer-said.ensures.leased)
+            ∙ tills_kept_to _ c.args.shop.now.config.now w.in-Asked.tenant w.in-Asked.asked c.loop-answered.branches w.answer-said.new.branches w.answer-said.ensures.leased)
             ∙ inv.1,
         subst (λ x. IsFloor g.J.Strategy.meaning x.farm x.held.items) (sym w.floor-is) w.answer-said.ensures.floor,
         rw (w.floor-is, w.writer-is, w.notes-is)
             (asked_on c.requests_come_in_turn.ensures c.args.shop.now.config.now (script_rest g.R.Read.remaining c.args.script.now) (script_rest g.R.Read.remaining c.begin.new.self) (script_rest g.R.Read.remaining c.read_request.new.reader)
             (g.W.Write.contents c.args.writer.now) (g.W.Write.contents w.send_before_nodes.new.writer) (g.W.Write.contents w.tell-in-Asked.new.writer) c.loop-answered._answered (is_some c.loop-answered.notes.refused) (is_some w.add-in-Asked.new.self.refused) c.loop-answered.floor.farm
-            w.answer-said.new.self.farm c.read_request.result w.in-Asked.tenant w.in-Asked.who w.in-Asked.asked w.answer-said.result (cc (w.in-Asked.is, c.hear.ensures)) c.read_request.ensures.takes
+            w.answer-said.new.self.farm c.read_request.result w.in-Asked.tenant w.in-Asked.who w.in-Asked.asked w.answer-said.result (cc (w.in-Asked.is, c.hear.ensures.exact)) c.read_request.ensures.takes
             w.answer-said.ensures.told (played_sent c.args.shop.now.config.now (script_rest g.R.Read.remaining c.args.script.now) (script_rest g.R.Read.remaining c.begin.new.self) (script_rest g.R.Read.remaining c.begin.new.self)
             (g.W.Write.contents c.args.writer.now) (g.W.Write.contents c.send_before_wait.new.writer) (g.W.Write.contents w.send_before_nodes.new.writer) c.loop-answered._answered (is_some c.loop-answered.notes.refused) c.loop-answered.floor.farm refl
             w.send_before_nodes.ensures.kept (played_sent c.args.shop.now.config.now (script_rest g.R.Read.remaining c.args.script.now) (script_rest g.R.Read.remaining c.loop-answered.script) (script_rest g.R.Read.remaining c.begin.new.self)
@@ -108,10 +108,10 @@ loop-answered-preserved g c =
         subst (LeasedTo c.args.shop.now.config.now (goal.M-post g c.args.shop.now.make.now) (script_rest g.R.Read.remaining c.args.script.now) c.args.branches.now (script_rest g.R.Read.remaining c.read_request.new.reader)) (sym w.branches-is)
             (leases_asked c.args.shop.now.config.now (goal.M-post g c.args.shop.now.make.now) (script_rest g.R.Read.remaining c.args.script.now) (script_rest g.R.Read.remaining c.loop-answered.script) (script_rest g.R.Read.remaining c.begin.new.self)
             (script_rest g.R.Read.remaining c.read_request.new.reader) c.args.branches.now c.loop-answered.branches w.answer-said.new.branches c.read_request.result w.in-Asked.tenant w.in-Asked.who w.in-Asked.asked
-            (cc (w.in-Asked.is, c.hear.ensures)) c.begin.ensures c.read_request.ensures.takes
+            (cc (w.in-Asked.is, c.hear.ensures.exact)) c.begin.ensures c.read_request.ensures.takes
             w.answer-said.ensures.leased inv.4),
         ap (λ v. v.reads) w.watches-inside-is
-            ∙ asked_well c.args.shop.now.config.now c.loop-answered.watches-inside.reads c.read_request.new.watch c.read_request.result w.in-Asked.tenant w.in-Asked.who w.in-Asked.asked (cc (w.in-Asked.is, c.hear.ensures)) c.read_request.ensures.kept
+            ∙ asked_well c.args.shop.now.config.now c.loop-answered.watches-inside.reads c.read_request.new.watch c.read_request.result w.in-Asked.tenant w.in-Asked.who w.in-Asked.asked (cc (w.in-Asked.is, c.hear.ensures.exact)) c.read_request.ensures.kept
             ∙ inv.5,
         ap (λ v. v.writes) w.watches-inside-is ∙ w.in_default-tell.ensures.noted ∙ w.in_default-send_before_nodes.ensures.noted ∙ inv.6,
       )
@@ -133,7 +133,7 @@ returns-clause-cut_off g c =
 pub returns-in-Broken-clause-cut_off : goal.returns-in-Broken-clause-cut_off
 returns-in-Broken-clause-cut_off g c =
     play_broken c.args.shop.now.config.now (script_rest g.R.Read.remaining c.args.script.now) (script_rest g.R.Read.remaining c.begin.new.self) (g.W.Write.contents c.args.writer.now) (g.W.Write.contents c.send_before_wait.new.writer)
-    c.loop-answered._answered (is_some c.loop-answered.notes.refused) c.loop-answered.floor.farm c.read_request.result _ _ (cc (c.in-Broken.is, c.hear.ensures)) (rw c.loop-answered.invariant.5 at c.read_request.ensures.cause)
+    c.loop-answered._answered (is_some c.loop-answered.notes.refused) c.loop-answered.floor.farm c.read_request.result _ _ (cc (c.in-Broken.is, c.hear.ensures.exact)) (rw c.loop-answered.invariant.5 at c.read_request.ensures.cause)
     (played_sent c.args.shop.now.config.now (script_rest g.R.Read.remaining c.args.script.now) (script_rest g.R.Read.remaining c.loop-answered.script) (script_rest g.R.Read.remaining c.begin.new.self)
     (g.W.Write.contents c.args.writer.now) (g.W.Write.contents c.loop-answered.writer) (g.W.Write.contents c.send_before_wait.new.writer) c.loop-answered._answered (is_some c.loop-answered.notes.refused) c.loop-answered.floor.farm c.begin.ensures
     c.send_before_wait.ensures c.loop-answered.invariant.3)
@@ -163,12 +163,12 @@ returns-in-Err-tell-clause-leased g c =
     leases_of c.args.shop.now.config.now (goal.M-post g c.args.shop.now.make.now) (script_rest g.R.Read.remaining c.args.script.now) (script_rest g.R.Read.remaining c.read_request.new.reader) c.args.branches.now c.answer-said.new.branches
     (leases_asked c.args.shop.now.config.now (goal.M-post g c.args.shop.now.make.now) (script_rest g.R.Read.remaining c.args.script.now) (script_rest g.R.Read.remaining c.loop-answered.script) (script_rest g.R.Read.remaining c.begin.new.self)
     (script_rest g.R.Read.remaining c.read_request.new.reader) c.args.branches.now c.loop-answered.branches c.answer-said.new.branches c.read_request.result c.in-Asked.tenant c.in-Asked.who c.in-Asked.asked
-    (cc (c.in-Asked.is, c.hear.ensures)) c.begin.ensures c.read_request.ensures.takes
+    (cc (c.in-Asked.is, c.hear.ensures.exact)) c.begin.ensures c.read_request.ensures.takes
     c.answer-said.ensures.leased c.loop-answered.invariant.4)
 
 pub returns-in-Over-clause-noted : goal.returns-in-Over-clause-noted
 returns-in-Over-clause-noted g c = record {
-  reads = over_well c.args.shop.now.config.now c.loop-answered.watches-inside.reads c.read_request.new.watch c.read_request.result (cc (c.in-Over.is, c.hear.ensures)) c.read_request.ensures.kept ∙ c.loop-answered.invariant.5;
+  reads = over_well c.args.shop.now.config.now c.loop-answered.watches-inside.reads c.read_request.new.watch c.read_request.result (cc (c.in-Over.is, c.hear.ensures.exact)) c.read_request.ensures.kept ∙ c.loop-answered.invariant.5;
   writes = c.loop-answered.invariant.6;
 }
 
@@ -181,19 +181,19 @@ returns-in-Broken-clause-noted g c = record {
 pub returns-in-Err-clause-noted : goal.returns-in-Err-clause-noted
 returns-in-Err-clause-noted g c =
     noted_write _ _ _ c.in-Err.ensures.fault
-    (told_well c.args.shop.now.config.now c.loop-answered.watches-inside.reads c.read_request.new.watch c.read_request.result c.in-Told.who c.in-Told.said (cc (c.in-Told.is, c.hear.ensures)) c.read_request.ensures.kept ∙ c.loop-answered.invariant.5)
+    (told_well c.args.shop.now.config.now c.loop-answered.watches-inside.reads c.read_request.new.watch c.read_request.result c.in-Told.who c.in-Told.said (cc (c.in-Told.is, c.hear.ensures.exact)) c.read_request.ensures.kept ∙ c.loop-answered.invariant.5)
     (rw c.loop-answered.invariant.6 at c.in-Err.ensures.noted)
 
 pub returns-in-Err-send_before_nodes-clause-noted : goal.returns-in-Err-send_before_nodes-clause-noted
 returns-in-Err-send_before_nodes-clause-noted g c =
     noted_write _ _ _ c.in-Err-send_before_nodes.ensures.fault
-    (asked_well c.args.shop.now.config.now c.loop-answered.watches-inside.reads c.read_request.new.watch c.read_request.result c.in-Asked.tenant c.in-Asked.who c.in-Asked.asked (cc (c.in-Asked.is, c.hear.ensures)) c.read_request.ensures.kept ∙ c.loop-answered.invariant.5)
+    (asked_well c.args.shop.now.config.now c.loop-answered.watches-inside.reads c.read_request.new.watch c.read_request.result c.in-Asked.tenant c.in-Asked.who c.in-Asked.asked (cc (c.in-Asked.is, c.hear.ensures.exact)) c.read_request.ensures.kept ∙ c.loop-answered.invariant.5)
     (rw c.loop-answered.invariant.6 at c.in-Err-send_before_nodes.ensures.noted)
 
 pub returns-in-Err-tell-clause-noted : goal.returns-in-Err-tell-clause-noted
 returns-in-Err-tell-clause-noted g c =
     noted_write _ _ _ c.in-Err-tell.ensures.fault
-    (asked_well c.args.shop.now.config.now c.loop-answered.watches-inside.reads c.read_request.new.watch c.read_request.result c.in-Asked.tenant c.in-Asked.who c.in-Asked.asked (cc (c.in-Asked.is, c.hear.ensures)) c.read_request.ensures.kept ∙ c.loop-answered.invariant.5)
+    (asked_well c.args.shop.now.config.now c.loop-answered.watches-inside.reads c.read_request.new.watch c.read_request.result c.in-Asked.tenant c.in-Asked.who c.in-Asked.asked (cc (c.in-Asked.is, c.hear.ensures.exact)) c.read_request.ensures.kept ∙ c.loop-answered.invariant.5)
     (rw (c.in_default-send_before_nodes.ensures.noted ∙ c.loop-answered.invariant.6) at c.in-Err-tell.ensures.noted)
 
 pub returns-clause-noted : goal.returns-clause-noted

@@ -1,5 +1,5 @@
-use Rattle.std.specs.Prelude.{is_some, IfSome, OnOk, IfErr}
-use Rattle.std.proofs.Common.{◌∙◌, map, ap, sym, subst}
+use Rattle.std.specs.Prelude.{is_some, IfSome, IfErr}
+use Rattle.std.proofs.Common.{◌∙◌, map, ap, subst}
 use Rattle.farm_core.specs.Tills.{opening_of}
 use Rattle.farm_session.specs.Branch.{tills_of}
 use Rattle.farm_session.proofs.TillLemmas.{tills_new}

@@ -1,4 +1,4 @@
-use Rattle.std.proofs.Common.{◌≡◌, ◌∙◌, None, map, ap, sym, subst}
+use Rattle.std.proofs.Common.{◌≡◌, ◌∙◌, None, map, ap, subst}
 use Rattle.farm_core.specs.Tills.{opening_of, AreSeated}
 use Rattle.farm_session.specs.Branch.{HaveSeated}
 use Rattle.farm_session.proofs.TillLemmas.{tills_new}

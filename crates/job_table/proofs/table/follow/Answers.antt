@@ -27,10 +27,10 @@ requeue-requires-clause-few g c was is =
 
 pub returns-clause-table : goal.returns-clause-table
 returns-clause-table g c =
-    (changed_whole c.args.tenant c.args.seq c.args.was c.args.is c.args.jobs.now.entries c.requeue.new.jobs.entries c.args.queue.now c.requeue.new.queue c.args.counts.now.entries c.recount.new.counts.entries _ _ _ _ c.requires
+    (changed_whole c.args.tenant c.args.seq c.args.shift.was c.args.shift.is c.args.jobs.now.entries c.requeue.new.jobs.entries c.args.queue.now c.requeue.new.queue c.args.counts.now.entries c.recount.new.counts.entries _ _ _ _ c.requires
     c.is_out.ensures c.is_out-2.ensures c.is_waiting.ensures c.is_waiting-2.ensures c.recount.ensures c.requeue.ensures.jobs c.requeue.ensures.linked).table
 
 pub returns-clause-changed : goal.returns-clause-changed
 returns-clause-changed g c change =
-    (changed_whole c.args.tenant c.args.seq c.args.was c.args.is c.args.jobs.now.entries c.requeue.new.jobs.entries c.args.queue.now c.requeue.new.queue c.args.counts.now.entries c.recount.new.counts.entries _ _ _ _ change
+    (changed_whole c.args.tenant c.args.seq c.args.shift.was c.args.shift.is c.args.jobs.now.entries c.requeue.new.jobs.entries c.args.queue.now c.requeue.new.queue c.args.counts.now.entries c.recount.new.counts.entries _ _ _ _ change
     c.is_out.ensures c.is_out-2.ensures c.is_waiting.ensures c.is_waiting-2.ensures c.recount.ensures c.requeue.ensures.jobs c.requeue.ensures.linked).is

@@ -1,5 +1,6 @@
 use Rattle.std.proofs.Common.{subst, sym}
-use Rattle.session_lines.specs.declared.request.What.TheVariants as what
+use Rattle.farm_session.specs.declared.ask.Ask.TheVariants as ask
+use Rattle.farm_session.specs.declared.ask.TurnAsk.TheVariants as turn
 use Rattle.farm_replay.specs.Floor.{IsTold}
 use Rattle.farm_replay.proofs.FloorLemmas.{turned_untaken, turned_whole}
 use Rattle.farm_replay.proofs.floor.Floor.turn.Goals as goal
@@ -10,5 +11,5 @@ returns-in-Ok-clause-told g c =
 
 pub returns-in-Err-clause-told : goal.returns-in-Err-clause-told
 returns-in-Err-clause-told g c =
-    subst (λ a. IsTold c.args.self.now.farm c.args.tenant (what.Turn c.args.seq c.args.slice) a c.hold.new.self.farm) (sym c.untaken.ensures)
+    subst (λ a. IsTold c.args.self.now.farm c.args.tenant (ask.Turn (turn.Whole c.args.seq c.args.slice)) a c.hold.new.self.farm) (sym c.untaken.ensures)
     (turned_untaken c.args.self.now.farm c.hold.new.self.farm c.args.tenant c.args.seq c.args.slice c.in-Err.why c.requires.known c.in-Err.ensures.refused)

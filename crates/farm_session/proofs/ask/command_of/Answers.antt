@@ -4,7 +4,7 @@ use Rattle.farm_core.proofs.TillLemmas.{tills_length}
 use Rattle.farm_session.specs.Branch.{BranchValue, tills_of, lease_at}
 use Rattle.farm_session.proofs.FreshLemmas.{made_drawn, found_branch}
 use Rattle.farm_session.proofs.TillLemmas.{submit_leased, set_found}
-use Rattle.farm_session.proofs.errand.errand_of.Goals as goal
+use Rattle.farm_session.proofs.ask.command_of.Goals as goal
 
 pub bounds-branches-purse : goal.bounds-branches-purse
 bounds-branches-purse g c =
@@ -20,7 +20,7 @@ returns-in-Some-clause-leased g c =
     let same = length-map branches (λ (b : BranchValue). b.till) in
     let few : purse < length branches = omega (arith, count, same, c.purse_of-purse.ensures.known) in
     rw c.in-Submit.is
-    (submit_leased (goal.M-post g c.args.shop.now.make.now) c.args.shop.now.config.now c.args.tenant c.in-Submit.quanta purse c.in-Submit.kind c.in-Submit.project
+    (submit_leased (goal.M-post g c.args.shop.now.make.now) c.args.shop.now.config.now c.args.tenant c.in-Submit.quanta purse c.in-Submit.plan
     branches (get_or branches purse c.index-branches-purse.result) c.search_of.new.branch c.purse_of-purse.ensures.exact few
     (ap (get_or branches purse) c.index-branches-purse.is) c.search_of.result (Some c.in-Some.search) c.in-Some.is c.search_of.ensures)
 
@@ -32,7 +32,7 @@ returns-in-None-clause-leased g c =
     let same = length-map branches (λ (b : BranchValue). b.till) in
     let few : purse < length branches = omega (arith, count, same, c.purse_of-purse.ensures.known) in
     rw c.in-Submit.is
-    (submit_leased (goal.M-post g c.args.shop.now.make.now) c.args.shop.now.config.now c.args.tenant c.in-Submit.quanta purse c.in-Submit.kind c.in-Submit.project
+    (submit_leased (goal.M-post g c.args.shop.now.make.now) c.args.shop.now.config.now c.args.tenant c.in-Submit.quanta purse c.in-Submit.plan
     branches (get_or branches purse c.index-branches-purse.result) c.search_of.new.branch c.purse_of-purse.ensures.exact few
     (ap (get_or branches purse) c.index-branches-purse.is) c.search_of.result None c.in-None.is c.search_of.ensures)
 
