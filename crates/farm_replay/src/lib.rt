@@ -10,6 +10,7 @@
 //! - `watches`: whether a read or a write has failed.
 //! - `notes`: what is noted beside the replies.
 //! - `floor`: the farm with the turns that the script holds.
+//! - `stage`: a floor with the desks at which its searches draw.
 //! - `laws`: laws of outputs.
 #![tactic(auto)]
 
@@ -19,6 +20,7 @@ mod notes;
 mod reader;
 mod script;
 mod sending;
+mod stage;
 mod watches;
 
 pub use notes::{Notes, is_refused};

@@ -23,10 +23,11 @@ use crate::laws::{each_line_is_true, each_output_is_alone, outputs_are_isolated}
 use crate::notes::Notes;
 use crate::reader::Script;
 use crate::sending::{send_before_nodes, send_before_wait};
+use crate::stage::Stage;
 use crate::watches::ReplayWatches;
 use farm_core::laws::farms_are_replayed;
 use farm_core::{Config, Farm, Name};
-use farm_session::{Branch, Heard, Ready, Workshop, boxed_search, branches, hear, open_tills};
+use farm_session::{Heard, Ready, Workshop, boxed_search, branches, hear, open_tills};
 use session_lines::laws::requests_come_in_turn;
 use session_lines::{LineFault, Request, Said, read_request, write_reply};
 use std::alloc::Global;
@@ -94,28 +95,27 @@ fn end<R: BufRead>(alloc: Global, script: &mut R, watch: &mut Watch<R>) -> Resul
 
 fn play<J: Strategy, R: Read, W: Write, M: Fn(Ready) -> Option<J>>(
     shop: &Workshop<'_, M>,
-    floor: &mut Floor<J>,
-    branches: &mut [Branch<'_>],
+    stage: &mut Stage<'_, J>,
     script: &mut Script<R>,
     writer: &mut W,
     watches: &mut ReplayWatches<R, W>,
     notes: &mut Notes,
 ) -> Result<(), ReplayFault>
-    requires farm { floor.old.farm ≡ opened shop.now.config.now }
-    requires tills { AreTillsOf shop.now.config.now (tills_of branches.old) }
+    requires farm { stage.old.floor.farm ≡ opened shop.now.config.now }
+    requires tills { AreTillsOf shop.now.config.now (tills_of stage.old.branches.items) }
     requires make { M.IsAlwaysCallable shop.now.make.now }
     requires fresh { MakesFresh J.meaning J.lease (M.post shop.now.make.now) }
-    requires floor { IsFloor J.meaning floor.old.farm floor.old.held.items }
+    requires floor { IsFloor J.meaning stage.old.floor.farm stage.old.floor.held.items }
     requires notes { is_some notes.old.refused ≡ false }
     ensures written { OnOk result (IfSome (script_rest R.remaining script.old) (λ bytes.
         HasLed (parts_after shop.now.config.now (opening shop.now.config.now)) shop.now.config.now bytes
-        (is_some notes.new.refused) (W.contents writer.old) (W.contents writer.new) floor.new.farm)) }
+        (is_some notes.new.refused) (W.contents writer.old) (W.contents writer.new) stage.new.floor.farm)) }
     ensures cut_off { IfErr result (λ fault. IfSome (script_rest R.remaining script.old) (λ bytes.
         IsCutOff shop.now.config.now fault watches.old watches.new bytes (W.contents writer.old) (W.contents writer.new))) }
     ensures noted { AreNoted result watches.old watches.new }
-    ensures floor { IsFloor J.meaning floor.new.farm floor.new.held.items }
+    ensures floor { IsFloor J.meaning stage.new.floor.farm stage.new.floor.held.items }
     ensures leased { AreLeasesOf shop.now.config.now (M.post shop.now.make.now)
-        (script_rest R.remaining script.old) branches.old branches.new }
+        (script_rest R.remaining script.old) stage.old.branches.items stage.new.branches.items }
 {
     requests_come_in_turn();
     farms_are_replayed();
@@ -138,7 +138,7 @@ fn play<J: Strategy, R: Read, W: Write, M: Fn(Ready) -> Option<J>>(
                 if let Err(fault) = send_before_nodes(&asked, writer, &mut watches.writes) {
                     return Err(fault);
                 }
-                let said = floor.answer(shop, branches, tenant, asked);
+                let said = stage.answer(shop, tenant, asked);
                 notes.add(script.line(), script.is_doubtful(), &said);
                 if let Err(fault) = tell(writer, &mut watches.writes, Some(who), said) {
                     return Err(fault);
@@ -152,18 +152,17 @@ fn play<J: Strategy, R: Read, W: Write, M: Fn(Ready) -> Option<J>>(
 /// Plays the script, and gives back unrun the turns that it holds at its end.
 fn play_out<J: Strategy, R: Read, W: Write, M: Fn(Ready) -> Option<J>>(
     shop: &Workshop<'_, M>,
-    floor: Floor<J>,
-    branches: &mut [Branch<'_>],
+    stage: Stage<'_, J>,
     script: &mut Script<R>,
     writer: &mut W,
     watches: &mut ReplayWatches<R, W>,
     notes: &mut Notes,
 ) -> (Result<(), ReplayFault>, Farm<J>)
-    requires farm { floor.farm ≡ opened shop.now.config.now }
-    requires tills { AreTillsOf shop.now.config.now (tills_of branches.old) }
+    requires farm { stage.floor.farm ≡ opened shop.now.config.now }
+    requires tills { AreTillsOf shop.now.config.now (tills_of stage.branches.items) }
     requires make { M.IsAlwaysCallable shop.now.make.now }
     requires fresh { MakesFresh J.meaning J.lease (M.post shop.now.make.now) }
-    requires floor { IsFloor J.meaning floor.farm floor.held.items }
+    requires floor { IsFloor J.meaning stage.floor.farm stage.floor.held.items }
     requires notes { is_some notes.old.refused ≡ false }
     ensures written { OnOk result.0 (IfSome (script_rest R.remaining script.old) (λ bytes.
         HasLed (parts_at_end shop.now.config.now) shop.now.config.now bytes
@@ -172,8 +171,10 @@ fn play_out<J: Strategy, R: Read, W: Write, M: Fn(Ready) -> Option<J>>(
         IsCutOff shop.now.config.now fault watches.old watches.new bytes (W.contents writer.old) (W.contents writer.new))) }
     ensures noted { AreNoted result.0 watches.old watches.new }
 {
-    let mut floor = floor;
-    let ended = play(shop, &mut floor, branches, script, writer, watches, notes);
+    let mut stage = stage;
+    let ended = play(shop, &mut stage, script, writer, watches, notes);
+    let Stage { floor, branches } = stage;
+    drop(branches);
     (ended, floor.close())
 }
 
@@ -206,7 +207,7 @@ pub fn replay<R: Read + Drop, W: Write>(
     let Ok((tills, mut desks)) = open_tills(alloc, config) else {
         return Err(ReplayFault::NoMemory);
     };
-    let Ok(mut branches) = branches(alloc, &tills, &mut desks) else {
+    let Ok(branches) = branches(alloc, &tills, &mut desks) else {
         return Err(ReplayFault::NoMemory);
     };
     let Ok(floor) = Floor::<Box<dyn Strategy>>::new(alloc, config) else {
@@ -224,8 +225,7 @@ pub fn replay<R: Read + Drop, W: Write>(
     };
     let (ended, farm) = play_out(
         &shop,
-        floor,
-        &mut branches,
+        Stage { floor, branches },
         &mut script,
         writer,
         watches,

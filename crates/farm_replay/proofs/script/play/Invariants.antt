@@ -11,7 +11,7 @@ use Rattle.farm_replay.proofs.script.play.Given as goal
 -- so many requests are answered, the farm is where they lead and holds their turns, it is noted whether one was refused, and nothing has failed
 abbrev pub invariant-loop-answered : goal.invariant-loop-answered
 invariant-loop-answered g l =
-    (l.floor.farm.config ≡ l.shop.config.now) × AreTillsOf l.shop.config.now (tills_of l.branches) × IsFloor g.J.Strategy.meaning l.floor.farm l.floor.held.items
-    × Played l.shop.config.now (script_rest g.R.Read.remaining l.fn.script) (script_rest g.R.Read.remaining l.script) (g.W.Write.contents l.fn.writer) (g.W.Write.contents l.writer) l._answered (is_some l.notes.refused) l.floor.farm
-    × LeasedTo l.shop.config.now (goal.M-post g l.shop.make.now) (script_rest g.R.Read.remaining l.fn.script) l.fn.branches (script_rest g.R.Read.remaining l.script) l.branches
+    (l.stage.floor.farm.config ≡ l.shop.config.now) × AreTillsOf l.shop.config.now (tills_of l.stage.branches.items) × IsFloor g.J.Strategy.meaning l.stage.floor.farm l.stage.floor.held.items
+    × Played l.shop.config.now (script_rest g.R.Read.remaining l.fn.script) (script_rest g.R.Read.remaining l.script) (g.W.Write.contents l.fn.writer) (g.W.Write.contents l.writer) l._answered (is_some l.notes.refused) l.stage.floor.farm
+    × LeasedTo l.shop.config.now (goal.M-post g l.shop.make.now) (script_rest g.R.Read.remaining l.fn.script) l.fn.stage.branches.items (script_rest g.R.Read.remaining l.script) l.stage.branches.items
     × (l.watches-inside.reads ≡ l.fn.watches.reads) × (l.watches-inside.writes ≡ l.fn.watches.writes)

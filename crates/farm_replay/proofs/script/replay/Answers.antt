@@ -1,7 +1,6 @@
 use Rattle.std.specs.Prelude.{is_some, IfSome, IfErr}
 use Rattle.std.proofs.Common.{◌∙◌, map, ap, subst}
 use Rattle.farm_core.specs.Tills.{opening_of}
-use Rattle.farm_session.specs.Branch.{tills_of}
 use Rattle.farm_session.proofs.TillLemmas.{tills_new}
 use Rattle.farm_replay.specs.Reader.{script_rest}
 use Rattle.farm_replay.specs.Output.{IsCutOff}
@@ -10,7 +9,7 @@ use Rattle.farm_replay.proofs.script.replay.Goals as goal
 
 pub play_out-ended-requires-clause-tills : goal.play_out-ended-requires-clause-tills
 play_out-ended-requires-clause-tills g c κs within =
-    ap (map opening_of) (ap tills_of c.deref_mut-2.ensures.value ∙ tills_new _ _ _ c.in-Ok-branches.ensures.new ∙ c.deref.ensures.value)
+    ap (map opening_of) (tills_new _ _ _ c.in-Ok-branches.ensures.new ∙ c.deref.ensures.value)
     ∙ c.in-Ok-open_tills.ensures.tills
 
 pub returns-clause-written : goal.returns-clause-written
