@@ -1,9 +1,8 @@
 //! Lower bounds of a file's project, with and without a proof.
 ghost use Rattle.std.specs.Prelude.{◌-◌, IfOk, IfErr, string_bytes};
 ghost use Rattle.schedule_clauses.specs.Fault.{IsOfBound};
-ghost use Rattle.certify_cli.specs.Certified.{CertifiesBound, CertifiesLeast};
+ghost use Rattle.certify_cli.specs.Certified.{CertifiesBound, CertifiesLeast, IsOfFile, IsOfFileAlone, IsOfPeriods};
 ghost use Rattle.price_search.specs.LowerBound.{TakesAtLeast};
-ghost use Rattle.certify_cli.specs.Commands.{IsOfFile, IsOfFileAlone, IsOfPeriods};
 
 use crate::fault::CertifyFault;
 use mrcpsp::Project;

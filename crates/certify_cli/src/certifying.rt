@@ -4,8 +4,7 @@ ghost use Rattle.psplib_mm.specs.Gives.{Gives};
 ghost use Rattle.psplib_mm.specs.Reading.{reading};
 ghost use Rattle.mrcpsp.specs.Schedule.{IsOptimal, IsInfeasible, makespan};
 ghost use Rattle.schedule_clauses.specs.Fault.{IsOfStocks, IsOfSchedule};
-ghost use Rattle.certify_cli.specs.Certified.{CertifiesOptimal, CertifiesInfeasible};
-ghost use Rattle.certify_cli.specs.Commands.{IsOfFile, IsOfText, IsOfProofAlone, IsClausesFault};
+ghost use Rattle.certify_cli.specs.Certified.{CertifiesOptimal, CertifiesInfeasible, IsOfFile, IsOfText, IsOfProofAlone, IsClausesFault};
 
 use crate::bounding::STEPS;
 use crate::dimacs::write_formula;

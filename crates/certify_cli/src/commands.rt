@@ -1,6 +1,5 @@
 //! The commands that check proofs: what each answers to the bytes of its inputs.
-ghost use Rattle.certify_cli.specs.Certified.{CertifiesOptimal, CertifiesInfeasible, CertifiesBound, CertifiesLeast};
-ghost use Rattle.certify_cli.specs.Commands.{IsOfFile, IsOfText, IsOfProofAlone, IsOfPeriods, IsOfFileAlone};
+ghost use Rattle.certify_cli.specs.Certified.{CertifiesOptimal, CertifiesInfeasible, CertifiesBound, CertifiesLeast, IsOfFile, IsOfText, IsOfProofAlone, IsOfPeriods, IsOfFileAlone};
 
 use crate::bounding::{certify_bound, certify_least};
 use crate::certifying::{certify, certify_infeasible};
@@ -24,7 +23,7 @@ impl FileCommand for Certify {
     ghost refuses = { λ _ texts fault. IsOfFile fault texts.file × IsOfText fault texts.file texts.text };
 
     fn answer(&mut self, alloc: Global, texts: &Texts<'_>) -> Answer<CertifyFault> {
-        match certify(alloc, texts.file, texts.text, texts.proof) {
+        match certify(alloc, texts.file, texts.text, texts.other) {
             Ok(line) => Answer::new(Ok(line), None),
             Err(fault) => {
                 let why = why_uncertified(alloc, texts.file, texts.text, fault);
@@ -46,7 +45,7 @@ impl FileCommand for CertifyInfeasible {
     ghost refuses = { λ _ texts fault. IsOfFile fault texts.file × IsOfProofAlone fault };
 
     fn answer(&mut self, alloc: Global, texts: &Texts<'_>) -> Answer<CertifyFault> {
-        match certify_infeasible(alloc, texts.file, texts.proof) {
+        match certify_infeasible(alloc, texts.file, texts.other) {
             Ok(line) => Answer::new(Ok(line), None),
             Err(fault) => {
                 let why = why_not_infeasible(alloc, texts.file, fault);
@@ -70,7 +69,7 @@ impl FileCommand for CertifyBound {
     ghost refuses = { λ bound texts fault. IsOfFile fault texts.file × IsOfPeriods fault texts.file bound.periods };
 
     fn answer(&mut self, alloc: Global, texts: &Texts<'_>) -> Answer<CertifyFault> {
-        match certify_bound(alloc, texts.file, self.periods, texts.proof) {
+        match certify_bound(alloc, texts.file, self.periods, texts.other) {
             Ok(line) => Answer::new(Ok(line), None),
             Err(fault) => {
                 let why = why_uncertified(alloc, texts.file, &[], fault);

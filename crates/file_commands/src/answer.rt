@@ -9,7 +9,8 @@ use std::fmt::Display;
 pub struct Texts<'a> {
     pub file: &'a [u8],
     pub text: &'a [u8],
-    pub proof: &'a [u8],
+    /// A proof, or a second schedule.
+    pub other: &'a [u8],
 }
 
 /// An `Answer` is the text that a command gives, or why it gives none, and what standard error has

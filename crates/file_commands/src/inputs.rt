@@ -17,13 +17,13 @@ pub const MOST_TEXT: u64 = MOST_BYTES as u64 + 1;
 
 const _: () = prove!((psplib_mm::MOST_BYTES as u64) < MOST_TEXT);
 
-/// A `Paths` is the paths of a project's file, a schedule's text and a proof, for messages. A
-/// command without a text or a proof has the file's path there.
+/// A `Paths` is the paths of a command's inputs: a project's file, and with some commands a
+/// schedule's text, and a proof or a second schedule. The path `-` is standard input.
 #[derive(Clone, Copy, Debug, PartialEq, Eq)]
 pub struct Paths<'a> {
     pub file: &'a str,
-    pub text: &'a str,
-    pub proof: &'a str,
+    pub text: Option<&'a str>,
+    pub other: Option<&'a str>,
 }
 
 impl<'a> Paths<'a> {
@@ -31,8 +31,8 @@ impl<'a> Paths<'a> {
     pub fn of(file: &'a str) -> Paths<'a> {
         Paths {
             file,
-            text: file,
-            proof: file,
+            text: None,
+            other: None,
         }
     }
 }

@@ -13,7 +13,12 @@ use std::process::ExitCode;
 use std::rt::Runtime;
 use watched_io::{Watch, tell_why};
 
-/// Standard input gives its bytes only once. Writes so on standard error.
+/// Whether two of `paths` are standard input, which gives its bytes only once.
+pub fn is_input_twice(paths: &[&str]) -> bool {
+    paths.iter().filter(|path| **path == "-").count() > 1
+}
+
+/// Writes on standard error that two inputs are standard input.
 pub fn refuse_same<R: Eprint>(rt: &R) -> ExitCode
     ensures { exit_status result ≡ 2 }
 {

@@ -21,7 +21,7 @@ fn why_unplanned(alloc: Global, file: &[u8], text: &[u8], fault: PlanFault) -> O
 fn why_apart(alloc: Global, texts: &Texts<'_>, fault: CompareFault) -> Option<String> {
     match fault {
         CompareFault::First(fault) => why_unplanned(alloc, texts.file, texts.text, fault),
-        CompareFault::Second(fault) => why_unplanned(alloc, texts.file, texts.proof, fault),
+        CompareFault::Second(fault) => why_unplanned(alloc, texts.file, texts.other, fault),
     }
 }
 
@@ -56,20 +56,19 @@ impl FileCommand for Show<'_, '_> {
     }
 }
 
-/// A `Compare` is the command `compare`: what differs between the schedules of two texts, the second
-/// of which stands in the place of a proof.
+/// A `Compare` is the command `compare`: what differs between the schedules of two texts.
 #[derive(Clone, Copy)]
 pub struct Compare;
 
 impl FileCommand for Compare {
     type Fault = CompareFault;
 
-    ghost gives = { λ _ texts told. IsComparison texts.file texts.text texts.proof told };
+    ghost gives = { λ _ texts told. IsComparison texts.file texts.text texts.other told };
 
-    ghost refuses = { λ _ texts fault. IsCompareFault texts.file texts.text texts.proof fault };
+    ghost refuses = { λ _ texts fault. IsCompareFault texts.file texts.text texts.other fault };
 
     fn answer(&mut self, alloc: Global, texts: &Texts<'_>) -> Answer<CompareFault> {
-        match compare(alloc, texts.file, texts.text, texts.proof) {
+        match compare(alloc, texts.file, texts.text, texts.other) {
             Ok(text) => Answer::new(Ok(text), None),
             Err(fault) => Answer::new(Err(fault), why_apart(alloc, texts, fault)),
         }

@@ -221,11 +221,10 @@ fn draw_words_of<'a>(chosen: &ArgMatches<'a>) -> DrawWords<'a> {
 }
 
 fn paths_of<'a>(chosen: &ArgMatches<'a>) -> Option<Paths<'a>> {
-    let file = chosen.get_str("FILE")?;
     Some(Paths {
-        file,
-        text: chosen.get_str("SCHEDULE")?,
-        proof: file,
+        file: chosen.get_str("FILE")?,
+        text: Some(chosen.get_str("SCHEDULE")?),
+        other: None,
     })
 }
 
