@@ -6,7 +6,7 @@ ghost use Rattle.mrcpsp.specs.Schedule.{IsOptimal, IsInfeasible, makespan};
 ghost use Rattle.schedule_clauses.specs.Fault.{IsOfStocks, IsOfSchedule};
 ghost use Rattle.certify_cli.specs.Certified.{CertifiesOptimal, CertifiesInfeasible, IsOfFile, IsOfText, IsOfProofAlone, IsClausesFault};
 
-use crate::bounding::STEPS;
+use crate::bounds::STEPS;
 use crate::dimacs::write_formula;
 use crate::fault::CertifyFault;
 use file_commands::CommandFault;

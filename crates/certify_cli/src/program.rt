@@ -3,9 +3,9 @@ ghost use Rattle.std.specs.Prelude.{◌≡◌, ◌≤◌, IfSome};
 ghost use Rattle.std.specs.Process.{exit_status};
 
 use crate::arguments::{CertificateTask, task_of};
-use crate::certifying::write_clauses;
+use crate::certificates::write_clauses;
 use crate::commands::{Certify, CertifyBound, CertifyInfeasible, FindBound, MOST_PROOF};
-use crate::explaining::why_uncertified;
+use crate::reasons::why_uncertified;
 use clap::ArgMatches;
 use file_commands::{
     CommandFault, CommandWatches, FileCommand, Paths, end_command, end_no_memory, open_sources,

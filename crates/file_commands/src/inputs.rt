@@ -37,9 +37,9 @@ impl<'a> Paths<'a> {
     }
 }
 
-/// On `None` it is on standard error that `path` cannot be read, and why.
+/// Returns what was got, or reports on standard error why `path` cannot be read.
 #[inline(always)]
-pub fn told<R: Env + Eprint, T: Drop>(rt: &R, path: &str, got: io::Result<T>) -> Option<T> {
+pub fn or_report<R: Env + Eprint, T: Drop>(rt: &R, path: &str, got: io::Result<T>) -> Option<T> {
     match got {
         Ok(value) => Some(value),
         Err(error) => {
@@ -56,7 +56,7 @@ pub fn open_path<R: Input + Files + Env + Eprint>(
     rt: &R,
     path: &str,
 ) -> Option<Source<R::Reader, R::File>> {
-    told(rt, path, open(rt, path))
+    or_report(rt, path, open(rt, path))
 }
 
 fn read_words<R: Runtime + AllocGlobal>(rt: &R) -> io::Result<Vec<String>> {

@@ -2,7 +2,7 @@
 ghost use Rattle.std.specs.Prelude.{◌≡◌, IfOk, None};
 ghost use Rattle.std.specs.Option.{option_copied};
 ghost use Rattle.improve_search.specs.Best.{best_in, length_in, IsKept};
-ghost use Rattle.improve_search.specs.Improving.{IsNoLonger};
+ghost use Rattle.improve_search.specs.LocalSearch.{IsNoLonger};
 
 use crate::annealing::Annealing;
 use crate::rows::copy;

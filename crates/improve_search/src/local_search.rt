@@ -2,7 +2,7 @@
 ghost use Rattle.std.specs.Prelude.{◌≡◌, ◌⊎◌, ◌+◌, ◌<◌, ◌≤◌, true, false, IsTrue, IsFalse, IfOk, IfSome, option_map};
 ghost use Rattle.std.specs.Option.{option_copied};
 ghost use Rattle.mrcpsp.specs.Schedule.{IsFeasible, makespan};
-ghost use Rattle.improve_search.specs.Improving.{fresh, is_over, is_shortest, IsNoLonger};
+ghost use Rattle.improve_search.specs.LocalSearch.{fresh, is_over, is_shortest, IsNoLonger};
 
 use crate::annealing::{Annealing, Stocks};
 use crate::best::{BestChecked, better};
@@ -25,10 +25,10 @@ const STRICT_LENGTH: u64 = 1_000;
 /// The last run, which may exceed the nonrenewable capacities.
 const LAST_RUN: u64 = u64::MAX;
 
-/// An `Improving` is a search for better schedules of a project by simulated annealing. It has a
+/// A `LocalSearch` is a search for better schedules of a project by simulated annealing. It has a
 /// number of schedules that it may generate.
 #[derive(Drop)]
-pub struct Improving {
+pub struct LocalSearch {
     alloc: Global,
     project: Project,
     annealing: Annealing,
@@ -41,20 +41,20 @@ pub struct Improving {
     bound: u32,
 }
 
-impl Model for Improving {
+impl Model for LocalSearch {
     ghost use Rattle.std.specs.Prelude.{◌≡◌};
     ghost use Rattle.mrcpsp.specs.Values.{bound as chain_of};
-    ghost use Rattle.improve_search.specs.Improving.{ImprovingData};
+    ghost use Rattle.improve_search.specs.LocalSearch.{LocalSearchData};
     ghost use Rattle.improve_search.specs.Best.{best_in, IsKept};
 
-    ghost Value = { ImprovingData };
+    ghost Value = { LocalSearchData };
 
     ghost view = { λ s. record { project = s.project; most = s.budget.most; spent = s.budget.spent; best = best_in s.best } };
 
     ghost invariant = { λ s. IsKept s.project s.best × (s.bound ≡ chain_of s.project) };
 }
 
-impl Improving {
+impl LocalSearch {
     /// A search that may generate `most` schedules, or `None` if an activity has no mode that may
     /// run. A seed gives equal schedules anywhere. The search takes no memory later on.
     pub fn new(
@@ -62,7 +62,7 @@ impl Improving {
         project: &Project,
         seed: u64,
         most: u64,
-    ) -> Result<Option<Improving>, AllocError>
+    ) -> Result<Option<LocalSearch>, AllocError>
         ensures { IfOk result (λ made. IfSome made (λ search. search ≡ fresh project.now most)) }
     {
         let Some(annealing) = Annealing::new(alloc, project, seed)? else {
@@ -75,7 +75,7 @@ impl Improving {
         } else {
             most / STRICT_SHARE
         };
-        Ok(Some(Improving {
+        Ok(Some(LocalSearch {
             alloc,
             project: project.clone_in(alloc)?,
             annealing,

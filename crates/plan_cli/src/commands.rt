@@ -3,10 +3,10 @@ ghost use Rattle.std.specs.Prelude.{◌≡◌, ◌&&◌, ℕ, List, IfOk, IfErr,
 ghost use Rattle.plan_cli.specs.Plan.{IsAtFault};
 ghost use Rattle.plan_cli.specs.Shown.{IsShown, IsComparison, IsCompareFault};
 
+use crate::output::{CompareFault, ShowOptions, compare, show};
 use crate::plan::PlanFault;
-use crate::showing::{CompareFault, ShowOptions, compare, show};
 use explain::{why_breach_of, why_file, why_no_schedule};
-use file_commands::{Answer, FileCommand, Texts};
+use file_commands::{CommandAnswer, FileCommand, Texts};
 use std::alloc::Global;
 
 fn why_unplanned(alloc: Global, file: &[u8], text: &[u8], fault: PlanFault) -> Option<String> {
@@ -25,15 +25,19 @@ fn why_apart(alloc: Global, texts: &Texts<'_>, fault: CompareFault) -> Option<St
     }
 }
 
-fn answer_show(alloc: Global, texts: &Texts<'_>, asked: &ShowOptions<'_>) -> Answer<PlanFault>
+fn answer_show(
+    alloc: Global,
+    texts: &Texts<'_>,
+    asked: &ShowOptions<'_>,
+) -> CommandAnswer<PlanFault>
     ensures gives { IfOk result.text (λ shown. IsShown asked.now.layout (is_none asked.now.calendar && is_none asked.now.names) texts.now.file.now texts.now.text.now (string_bytes shown)) }
     ensures refuses { IfErr result.text (λ fault. IsAtFault texts.now.file.now texts.now.text.now fault) }
 {
     match show(alloc, texts.file, texts.text, asked) {
-        Ok(text) => Answer::new(Ok(text), None),
+        Ok(text) => CommandAnswer::new(Ok(text), None),
         Err(fault) => {
             let why = why_unplanned(alloc, texts.file, texts.text, fault);
-            Answer::new(Err(fault), why)
+            CommandAnswer::new(Err(fault), why)
         }
     }
 }
@@ -51,7 +55,7 @@ impl FileCommand for Show<'_, '_> {
 
     ghost refuses = { λ show texts fault. IsAtFault texts.file texts.text fault };
 
-    fn answer(&mut self, alloc: Global, texts: &Texts<'_>) -> Answer<PlanFault> {
+    fn answer(&mut self, alloc: Global, texts: &Texts<'_>) -> CommandAnswer<PlanFault> {
         answer_show(alloc, texts, self.asked)
     }
 }
@@ -67,10 +71,10 @@ impl FileCommand for Compare {
 
     ghost refuses = { λ _ texts fault. IsCompareFault texts.file texts.text texts.other fault };
 
-    fn answer(&mut self, alloc: Global, texts: &Texts<'_>) -> Answer<CompareFault> {
+    fn answer(&mut self, alloc: Global, texts: &Texts<'_>) -> CommandAnswer<CompareFault> {
         match compare(alloc, texts.file, texts.text, texts.other) {
-            Ok(text) => Answer::new(Ok(text), None),
-            Err(fault) => Answer::new(Err(fault), why_apart(alloc, texts, fault)),
+            Ok(text) => CommandAnswer::new(Ok(text), None),
+            Err(fault) => CommandAnswer::new(Err(fault), why_apart(alloc, texts, fault)),
         }
     }
 }

@@ -7,15 +7,15 @@ ghost use Rattle.plan_cli.specs.Plan.{IsAtFault};
 ghost use Rattle.plan_cli.specs.Table.{IsTable};
 ghost use Rattle.plan_cli.specs.Shown.{IsShown, IsComparison, IsCompareFault};
 
-use crate::comparing::moves;
+use crate::differences::moves;
 use crate::labels::{longest, put_date_titles, put_moment, put_name};
 use crate::layout::Layout;
 use crate::plan::{PlanFault, read_plan};
+use crate::schedule_table::{Extra, table};
 use crate::slack::{finish_of, start_at};
-use crate::tabling::{Extra, table};
 use mrcpsp::{Project, Schedule};
 use psplib_mm::read;
-use schedule_labels::{Calendar, Name, name_at};
+use schedule_labels::{ActivityName, Calendar, name_at};
 use std::alloc::{AllocError, Global};
 use thiserror::Error;
 
@@ -24,7 +24,7 @@ use thiserror::Error;
 pub struct ShowOptions<'a> {
     pub layout: Layout,
     pub calendar: Option<Calendar>,
-    pub names: Option<&'a [Name]>,
+    pub names: Option<&'a [ActivityName]>,
 }
 
 /// A `CompareFault` is why two schedules of a file are not compared: of the file and the first

@@ -4,7 +4,7 @@ ghost use Rattle.std.specs.Process.{exit_status};
 
 use crate::arguments::{Comparing, PlanTask, Showing, task_of};
 use crate::commands::{Compare, Show};
-use crate::showing::ShowOptions;
+use crate::output::ShowOptions;
 use clap::ArgMatches;
 use file_commands::{Paths, calendar_of, is_input_twice, read_names, refuse_same, run_files};
 use std::process::ExitCode;

@@ -9,7 +9,7 @@ use Rattle.file_commands.specs.declared.inputs.TheConstants.{MOST_TEXT}
 use Rattle.prove_cli.specs.Proved.{IsProved}
 use Rattle.prove_cli.specs.declared.fault.ProveFault.{ProveFault}
 use Rattle.prove_cli.specs.declared.fault.ProveFault.TheVariants as why
-use Rattle.prove_cli.specs.declared.proving.Ended.{Ended}
+use Rattle.prove_cli.specs.declared.proof_run.Ended.{Ended}
 
 -- the file is at fault, or there was no memory
 abbrev pub IsOfFile : ProveFault → Option (List ℕ) → Type 0

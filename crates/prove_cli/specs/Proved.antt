@@ -10,8 +10,8 @@ use Rattle.prover.specs.Answers.{IsAnswer}
 use Rattle.prover.specs.declared.known.Answer.{Answer}
 use Rattle.prover.specs.declared.known.Answer.TheVariants.{Optimal, Gap, AtLeast, Infeasible}
 use Rattle.prove_cli.specs.declared.cost.Cost.{Cost}
-use Rattle.prove_cli.specs.declared.proving.Ended.{Ended}
-use Rattle.prove_cli.specs.declared.proving.Ended.TheVariants as end
+use Rattle.prove_cli.specs.declared.proof_run.Ended.{Ended}
+use Rattle.prove_cli.specs.declared.proof_run.Ended.TheVariants as end
 
 -- ---- as lines
 

@@ -8,7 +8,7 @@ ghost use Rattle.schedule_files.specs.ScheduleText.{schedule_text};
 
 use crate::cost::Cost;
 use mrcpsp::Schedule;
-use prover::{Answer, Best};
+use prover::{Answer, BestKnown};
 use schedule_files::put_schedule;
 use schedule_json::{put_number_json, put_schedule_json};
 use std::alloc::{AllocError, Global};
@@ -67,7 +67,7 @@ pub fn tell(alloc: Global, answer: &Answer) -> Result<String, AllocError>
 }
 
 /// A line of a better schedule, as `solve` prints it. An error is want of memory.
-pub(crate) fn tell_better(alloc: Global, best: &Best) -> Result<String, AllocError>
+pub(crate) fn tell_better(alloc: Global, best: &BestKnown) -> Result<String, AllocError>
     ensures { IfOk result (λ text. string_bytes text ≡ better_line best.now.makespan best.now.schedule) }
 {
     let makespan = best.makespan;
@@ -135,7 +135,7 @@ fn put_object(
 /// A schedule with a bound, as the JSON object of an answer. An error is want of memory.
 pub fn tell_gap_json(
     alloc: Global,
-    best: &Best,
+    best: &BestKnown,
     bound: u32,
     cost: Cost,
 ) -> Result<String, AllocError>
@@ -179,7 +179,7 @@ pub fn tell_json(alloc: Global, answer: &Answer, cost: Cost) -> Result<String, A
 }
 
 /// `tell_json`, or `tell` if `is_json` is not set.
-pub(crate) fn told(
+pub(crate) fn output_text(
     alloc: Global,
     is_json: bool,
     answer: &Answer,

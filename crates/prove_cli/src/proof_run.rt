@@ -6,14 +6,14 @@ ghost use Rattle.prover.specs.Answers.{IsAnswer};
 ghost use Rattle.prove_cli.specs.Command.{IsProveOf, IsUnproved};
 ghost use Rattle.prove_cli.specs.Proved.{ended_by};
 
-use crate::beginning::begin_with;
 use crate::cost::cost_since;
 use crate::fault::ProveFault;
-use crate::telling::told;
+use crate::first_schedule::begin_with;
+use crate::output::output_text;
 use explain::why_file;
 use file_commands::{CommandFault, CommandWatches, MOST_TEXT};
 use mrcpsp::{Project, Schedule};
-use prover::{Answer, Herald, Limits, Proved, Task, prove};
+use prover::{Answer, Herald, Limits, ProofTask, Proved, prove};
 use psplib_mm::read;
 use std::alloc::{AllocError, Global};
 use std::io::{Eprint, Read, Write};
@@ -83,8 +83,8 @@ fn task_of<'a>(
     limits: Limits,
     first: Option<&'a Schedule>,
     stop: &'a AtomicBool,
-) -> Task<'a> {
-    Task {
+) -> ProofTask<'a> {
+    ProofTask {
         jobs,
         limits,
         first,
@@ -134,7 +134,7 @@ pub fn prove_read<
     };
     let ended = ended_by(&proved.answer);
     let cost = cost_since(rt, begun, asked.jobs, Some(proved.conflicts));
-    let text = match told(alloc, asked.is_json, &proved.answer, cost) {
+    let text = match output_text(alloc, asked.is_json, &proved.answer, cost) {
         Ok(text) => text,
         Err(_) => return Err(CommandFault::Refused(ProveFault::NoMemory)),
     };

@@ -4,9 +4,9 @@ ghost use Rattle.price_search.specs.LowerBound.{TakesAtLeast};
 ghost use Rattle.prover.specs.Known.{IsBest};
 
 use crate::cost::cost_since;
-use crate::telling::{tell_better, tell_gap_json};
+use crate::output::{tell_better, tell_gap_json};
 use mrcpsp::Project;
-use prover::{Best, Herald};
+use prover::{BestKnown, Herald};
 use std::alloc::Global;
 use std::io::{Eprint, Print};
 use std::time::{Clock, Instant};
@@ -60,7 +60,7 @@ impl<'a, R: Clock + Eprint + Print> Reporter<'a, R> {
 }
 
 impl<R: Clock + Eprint + Print> Herald for Reporter<'_, R> {
-    fn better(&self, _project: &Project, best: &Best, bound: u32)
+    fn better(&self, _project: &Project, best: &BestKnown, bound: u32)
         requires best { IsBest _project.now best.now }
         requires bound { TakesAtLeast _project.now bound }
     {

@@ -3,17 +3,17 @@ use Rattle.std.specs.Prelude.{◌≡◌, ◌≤◌, ◌<◌, ℕ, Bool, true, Op
 use Rattle.mrcpsp.specs.Project.{ProjectData}
 use Rattle.mrcpsp.specs.Schedule.{IsFeasible, IsInfeasible, makespan}
 use Rattle.price_search.specs.LowerBound.{TakesAtLeast}
-use Rattle.prover.specs.declared.known.Best.{Best}
+use Rattle.prover.specs.declared.known.BestKnown.{BestKnown}
 use Rattle.prover.specs.declared.known.Question.{Question}
 
 -- the schedule is feasible, and the makespan is its own
-pub record IsBest (p : ProjectData) (best : Best) : Type 0 where
+pub record IsBest (p : ProjectData) (best : BestKnown) : Type 0 where
   pub feasible : IsFeasible p best.schedule
   pub makespan_is : best.makespan ≡ makespan p best.schedule
 
 -- the best schedule, a lower bound, and whether no schedule is feasible
 pub record Facts : Type 0 where
-  pub best : Option Best
+  pub best : Option BestKnown
   pub bound : ℕ
   pub infeasible : Bool
 

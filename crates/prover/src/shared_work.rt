@@ -8,7 +8,7 @@ ghost use Rattle.prover.specs.Decided.{IsDecided};
 
 use crate::decide::Decision;
 use crate::herald::Herald;
-use crate::known::{Best, Known, Question, Subject};
+use crate::known::{BestKnown, Known, Question, Subject};
 use crate::task::{Deadline, Limits};
 use mrcpsp::{Project, Schedule, check};
 use std::alloc::{AllocError, Global};
@@ -20,9 +20,9 @@ use std::time::{Clock, Duration};
 /// How long a worker that has nothing to ask waits between two looks, in milliseconds.
 const WAIT: u64 = 20;
 
-/// A `Desk` is what the workers of a project share.
+/// A `SharedWork` is what the workers of a project share.
 #[derive(Drop)]
-pub(crate) struct Desk<'a, F: Subject, R, H> {
+pub(crate) struct SharedWork<'a, F: Subject, R, H> {
     pub(crate) alloc: Global,
     pub(crate) project: &'a Project,
     pub(crate) known: &'a Mutex<Known<F>>,
@@ -42,13 +42,13 @@ pub(crate) struct Desk<'a, F: Subject, R, H> {
 
 /// What a decision has changed.
 #[derive(Clone, Copy, Debug, PartialEq, Eq)]
-pub(crate) enum Taken {
+pub(crate) enum Gain {
     Shorter,
     Higher,
     Nothing,
 }
 
-impl<F: Subject, R: Wait + Clock, H: Herald> Desk<'_, F, R, H> {
+impl<F: Subject, R: Wait + Clock, H: Herald> SharedWork<'_, F, R, H> {
     pub(crate) fn is_decided(&self) -> bool {
         self.known.lock(self.deadline.rt).is_decided()
     }
@@ -96,7 +96,7 @@ impl<F: Subject, R: Wait + Clock, H: Herald> Desk<'_, F, R, H> {
     }
 
     /// Keeps a schedule if it is shorter than the best one.
-    pub(crate) fn offer(&self, best: Best)
+    pub(crate) fn offer(&self, best: BestKnown)
         requires { IsBest F.project best }
     {
         let mut known = self.known.lock(self.deadline.rt);
@@ -125,7 +125,7 @@ impl<F: Subject, R: Wait + Clock, H: Herald> Desk<'_, F, R, H> {
             starts: schedule.starts.clone_in(self.alloc)?,
         };
         if let Ok(makespan) = check(self.project, &copy) {
-            self.offer(Best {
+            self.offer(BestKnown {
                 schedule: copy,
                 makespan,
             });
@@ -142,23 +142,23 @@ impl<F: Subject, R: Wait + Clock, H: Herald> Desk<'_, F, R, H> {
     }
 
     /// Takes the answer to a question in.
-    #[tactic(auto, using(crate::proofs::DeskLemmas::bound_rules))]
-    pub(crate) fn take_in(&self, question: Question, decision: Decision) -> Taken
+    #[tactic(auto, using(crate::proofs::SharedWorkLemmas::bound_rules))]
+    pub(crate) fn take_in(&self, question: Question, decision: Decision) -> Gain
         requires { IsDecided F.project question.within decision }
     {
         match decision {
             Decision::Found(best) => {
                 self.offer(best);
-                Taken::Shorter
+                Gain::Shorter
             }
             Decision::None => {
                 if question.within < u32::MAX {
                     self.raise(question.within + 1);
                 }
-                Taken::Higher
+                Gain::Higher
             }
-            Decision::Open => Taken::Nothing,
-            Decision::Full => Taken::Nothing,
+            Decision::Open => Gain::Nothing,
+            Decision::Full => Gain::Nothing,
         }
     }
 

@@ -1,7 +1,7 @@
-/// A `Piece` is a set of choices of one activity: the starts `from` to `to`, both included, in one
-/// mode or in every mode. Activities and modes are places from 0.
+/// A `ChoiceRange` is a set of choices of one activity: the starts `from` to `to`, both included,
+/// in one mode or in every mode. Activities and modes are places from 0.
 #[derive(Clone, Copy, Debug, PartialEq, Eq)]
-pub struct Piece {
+pub struct ChoiceRange {
     pub activity: usize,
     /// `None` for every mode.
     pub mode: Option<usize>,

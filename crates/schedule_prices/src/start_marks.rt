@@ -7,14 +7,14 @@ use crate::costs::Costs;
 use std::alloc::{AllocError, Global};
 use std::marker::Model;
 
-/// A mark for each start of an activity in a mode, true if it is barred. What has no mark is
-/// barred.
+/// A `StartMarks` is a mark for each start of an activity in a mode, true if it is barred. A start
+/// without a mark is barred.
 #[derive(Drop)]
-pub(crate) struct Starts {
+pub(crate) struct StartMarks {
     barred: Vec<bool>,
 }
 
-impl Model for Starts {
+impl Model for StartMarks {
     ghost use Rattle.std.specs.Prelude.{List, Bool};
 
     ghost Value = { List Bool };
@@ -22,12 +22,12 @@ impl Model for Starts {
     ghost view = { λ starts. starts.barred.items };
 }
 
-impl Starts {
-    pub(crate) fn new(alloc: Global, count: usize) -> Result<Starts, AllocError>
+impl StartMarks {
+    pub(crate) fn new(alloc: Global, count: usize) -> Result<StartMarks, AllocError>
         ensures { IfOk result (λ starts. starts ≡ replicate count false) }
     {
         let barred = vec![in alloc; false; count]?;
-        Ok(Starts { barred })
+        Ok(StartMarks { barred })
     }
 
     pub(crate) fn is_barred(&self, start: usize) -> bool

@@ -4,13 +4,13 @@ ghost use Rattle.std.specs.Prelude.{◌≡◌, ℕ, ◌+◌, ◌<◌, ◌^◌, [
 use std::alloc::{AllocError, Global};
 use std::marker::Model;
 
-/// A number for each time from 0 on.
+/// A `TimeSums` is a number for each time from 0 on.
 #[derive(Drop)]
-pub(crate) struct Line {
+pub(crate) struct TimeSums {
     sums: Vec<u64>,
 }
 
-impl Model for Line {
+impl Model for TimeSums {
     ghost use Rattle.std.specs.Prelude.{List, ℕ};
 
     ghost Value = { List ℕ };
@@ -18,7 +18,7 @@ impl Model for Line {
     ghost view = { λ line. line.sums.items };
 }
 
-#[tactic(auto, using(crate::proofs::LineLemmas::line_rules))]
+#[tactic(auto, using(crate::proofs::TimeSumLemmas::line_rules))]
 fn sum_before(sums: &mut [u64])
     requires { sum sums.old < 2 ^ 64 }
     ensures { (t : ℕ) → t < length sums.old → get_or sums.new t 0 ≡ sum (take t sums.old) }
@@ -31,7 +31,7 @@ fn sum_before(sums: &mut [u64])
     }
 }
 
-#[tactic(auto, using(crate::proofs::LineLemmas::line_rules))]
+#[tactic(auto, using(crate::proofs::TimeSumLemmas::line_rules))]
 fn sum_behind(sums: &mut [u64])
     requires { sum sums.old < 2 ^ 64 }
     ensures { (t : ℕ) → t < length sums.old → get_or sums.new t 0 ≡ sum (drop t sums.old) }
@@ -43,12 +43,12 @@ fn sum_behind(sums: &mut [u64])
     }
 }
 
-impl Line {
-    pub(crate) fn new(alloc: Global, count: usize) -> Result<Line, AllocError>
+impl TimeSums {
+    pub(crate) fn new(alloc: Global, count: usize) -> Result<TimeSums, AllocError>
         ensures { IfOk result (λ line. line ≡ replicate count 0) }
     {
         let sums = vec![in alloc; 0u64; count]?;
-        Ok(Line { sums })
+        Ok(TimeSums { sums })
     }
 
     pub(crate) fn add(&mut self, time: usize, price: u64)
@@ -87,7 +87,7 @@ impl Line {
 }
 
 /// The number at `time` of a line of a list, 0 if there is none.
-pub(crate) fn sum_at(lines: &[Line], line: usize, time: usize) -> u64
+pub(crate) fn sum_at(lines: &[TimeSums], line: usize, time: usize) -> u64
     ensures { result ≡ get_or (get_or lines.now line []) time 0 }
 {
     if line < lines.len() {

@@ -7,7 +7,7 @@ use Rattle.schedule_files.specs.declared.reading.TheConstants.{MOST_BYTES}
 use Rattle.schedule_files.proofs.WrittenLemmas.{words_are_told}
 use Rattle.solve_cli.specs.FoundText.{places_of, shown_text, nodes_line, found_text, better_line}
 use Rattle.solve_cli.specs.Laws.{LinesTellTheBest, BetterLineTells}
-use Rattle.solve_cli.specs.declared.searching.SearchResult.{SearchResult}
+use Rattle.solve_cli.specs.declared.search_result.SearchResult.{SearchResult}
 
 -- what is told at the end of a text of two parts
 at_the_end : (text front : List ℕ) (s : ScheduleData) → text ≡ front ++ (schedule_text s ++ 10 ∷ []) → IsWritable s → length text ≤ MOST_BYTES → Tells text s

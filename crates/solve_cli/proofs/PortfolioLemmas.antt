@@ -17,11 +17,11 @@ use Rattle.strategy.proofs.OutcomeLemmas.{each_best, optimal_is_true, infeasible
 use Rattle.solve_cli.specs.Found.{IsFound}
 use Rattle.solve_cli.specs.Improved.{IsImproved, can_all_run}
 use Rattle.solve_cli.proofs.ExecutableLemmas.{stuck_is_infeasible}
-use Rattle.solve_cli.specs.Several.{is_decided, stronger, joined, nothing, is_shorter, IsFoundBy, AreFound, IsFoundByEach, IsTrueOf}
+use Rattle.solve_cli.specs.Portfolio.{is_decided, stronger, joined, nothing, is_shorter, IsFoundBy, AreFound, IsFoundByEach, IsTrueOf}
 use Rattle.solve_cli.specs.Laws.{SeveralAreTrue, OneIsItself}
 use Rattle.solve_cli.specs.declared.search_kinds.SearchKind.{SearchKind}
 use Rattle.solve_cli.specs.declared.search_kinds.SearchKind.TheVariants.{Planned, Improve, Prove}
-use Rattle.solve_cli.specs.declared.searching.SearchResult.{SearchResult}
+use Rattle.solve_cli.specs.declared.search_result.SearchResult.{SearchResult}
 use Rattle.solve_cli.proofs.SearchLemmas.{found_few}
 
 -- the better one is the shorter one

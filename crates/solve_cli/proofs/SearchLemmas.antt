@@ -8,7 +8,7 @@ use Rattle.strategy.specs.Outcome.{is_closed}
 use Rattle.strategy.specs.Search.{Meaning, shown_closed, ran_on, nodes_within}
 use Rattle.strategy.specs.declared.plan.Plan.{Plan}
 use Rattle.solve_cli.specs.Found.{IsAt, IsBegun, IsOver, IsShown, IsFound}
-use Rattle.solve_cli.specs.declared.searching.SearchResult.{SearchResult}
+use Rattle.solve_cli.specs.declared.search_result.SearchResult.{SearchResult}
 
 from_most : (test : ℕ → Bool) (k t : ℕ) → first_from test k t ≤ t + k
 from_most test zero t = omega arith

@@ -6,7 +6,7 @@ use Rattle.schedule_files.specs.ScheduleText.{schedule_text}
 use Rattle.schedule_json.specs.ScheduleJson.{number_json, schedule_json}
 use Rattle.strategy.specs.declared.verdict.Verdict.{Verdict}
 use Rattle.strategy.specs.declared.verdict.Verdict.TheVariants.{Going, Optimal, Infeasible, Ended}
-use Rattle.solve_cli.specs.declared.searching.SearchResult.{SearchResult}
+use Rattle.solve_cli.specs.declared.search_result.SearchResult.{SearchResult}
 
 -- the word of a verdict
 abbrev pub verdict_text : Verdict → List ℕ

@@ -11,10 +11,10 @@ use Rattle.schedule_files.specs.Laws.{IsWritable}
 use Rattle.schedule_files.specs.ScheduleText.{Tells}
 use Rattle.solve_cli.specs.Found.{IsFound}
 use Rattle.solve_cli.specs.FoundText.{found_text, found_json, better_line, object_json}
-use Rattle.solve_cli.specs.Several.{IsFoundByEach, IsTrueOf}
+use Rattle.solve_cli.specs.Portfolio.{IsFoundByEach, IsTrueOf}
 use Rattle.solve_cli.specs.declared.search_kinds.SearchKind.{SearchKind}
 use Rattle.solve_cli.specs.declared.search_kinds.SearchKind.TheVariants.{Planned}
-use Rattle.solve_cli.specs.declared.searching.SearchResult.{SearchResult}
+use Rattle.solve_cli.specs.declared.search_result.SearchResult.{SearchResult}
 
 -- the result of several searches is true of the project
 abbrev pub SeveralAreTrue : Type 0

@@ -10,7 +10,7 @@ use Rattle.solve_cli.specs.Found.{IsFound}
 use Rattle.solve_cli.specs.Improved.{IsImproved}
 use Rattle.solve_cli.specs.declared.search_kinds.SearchKind.{SearchKind}
 use Rattle.solve_cli.specs.declared.search_kinds.SearchKind.TheVariants.{Planned, Improve, Prove}
-use Rattle.solve_cli.specs.declared.searching.SearchResult.{SearchResult}
+use Rattle.solve_cli.specs.declared.search_result.SearchResult.{SearchResult}
 
 -- whether a verdict decides the project
 abbrev pub is_decided : Verdict → Bool

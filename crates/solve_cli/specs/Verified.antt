@@ -9,7 +9,7 @@ use Rattle.psplib_mm.specs.Reading.{reading}
 use Rattle.schedule_files.specs.Places.{IsUntold}
 use Rattle.schedule_files.specs.ScheduleText.{Tells}
 use Rattle.schedule_files.specs.declared.reading.TheConstants.{MOST_BYTES}
-use Rattle.solve_cli.specs.declared.verifying.Verified.{Verified}
+use Rattle.solve_cli.specs.declared.verification.Verified.{Verified}
 use Rattle.solve_cli.specs.declared.fault.VerifyFault.{VerifyFault}
 use Rattle.solve_cli.specs.declared.fault.VerifyFault.TheVariants as fault
 

@@ -1,5 +1,5 @@
 //! The words of a command line.
-use crate::searching::MOST_NODES;
+use crate::search_result::MOST_NODES;
 use clap::builder::ValueParser;
 use clap::{Arg, ArgAction, ArgMatches, Command};
 use explain::MOST_CONFLICTS;
@@ -232,12 +232,12 @@ pub(crate) fn task_of<'a>(matches: &ArgMatches<'a>) -> Option<ProjectTask<'a>> {
     match matches.subcommand() {
         Some(("verify", chosen)) => {
             let paths = paths_of(chosen)?;
-            let told = if chosen.get_flag("all") {
+            let listing = if chosen.get_flag("all") {
                 Listing::All
             } else {
                 Listing::First
             };
-            Some(ProjectTask::Verify(paths, told))
+            Some(ProjectTask::Verify(paths, listing))
         }
         Some(("solve", chosen)) => Some(ProjectTask::Solve(Solving {
             file: chosen.get_str("FILE")?,

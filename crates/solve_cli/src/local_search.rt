@@ -5,14 +5,14 @@ ghost use Rattle.strategy.specs.Outcome.{is_at_bound};
 ghost use Rattle.solve_cli.specs.Improved.{IsImproved, can_all_run};
 
 use crate::executable::can_all_run;
-use crate::searching::{CHUNK, Observer, SearchResult};
-use improve_search::Improving;
+use crate::search_result::{CHUNK, Observer, SearchResult};
+use improve_search::LocalSearch;
 use measures::Measures;
 use mrcpsp::Project;
 use std::alloc::{AllocError, Global};
 use strategy::Verdict;
 
-fn run_all<W: Observer>(search: &mut Improving, project: &Project, observer: &mut W)
+fn run_all<W: Observer>(search: &mut LocalSearch, project: &Project, observer: &mut W)
     ensures project { search.new.project ≡ search.old.project }
     ensures most { search.new.most ≡ search.old.most }
 {
@@ -35,7 +35,7 @@ fn found_nothing(verdict: Verdict) -> SearchResult
     }
 }
 
-fn found_by(search: Improving, bound: u32) -> SearchResult
+fn found_by(search: LocalSearch, bound: u32) -> SearchResult
     requires bound { bound ≡ Rattle.mrcpsp.specs.Values.bound search.project }
     requires runs { can_all_run search.project ≡ true }
     ensures { IsImproved search.project search.most result }
@@ -73,7 +73,7 @@ pub fn improve<W: Observer>(
         return Ok(found_nothing(Verdict::Infeasible));
     }
     let bound = Measures::of(alloc, project)?.bound();
-    match Improving::new(alloc, project, seed, most)? {
+    match LocalSearch::new(alloc, project, seed, most)? {
         Some(mut search) => {
             run_all(&mut search, project, observer);
             Ok(found_by(search, bound))

@@ -5,7 +5,7 @@ ghost use Rattle.solve_cli.specs.FoundText.{verdict_text, best_text, places_of, 
 ghost use Rattle.solve_cli.specs.FoundText.{object_json, found_json};
 ghost use Rattle.schedule_json.specs.ScheduleJson.{number_json};
 
-use crate::searching::SearchResult;
+use crate::search_result::SearchResult;
 use mrcpsp::Schedule;
 use schedule_files::put_schedule;
 use schedule_json::{put_number_json, put_schedule_json};

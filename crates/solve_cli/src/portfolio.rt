@@ -1,12 +1,12 @@
 //! Running several searches of one project, one after another.
 ghost use Rattle.std.specs.Prelude.{◌≡◌, ◌+◌, ◌<◌, ◌≤◌, ◌^◌, length, option_map, IfOk};
 ghost use Rattle.mrcpsp.specs.Schedule.{makespan};
-ghost use Rattle.solve_cli.specs.Several.{is_decided, is_shorter, stronger, joined, IsFoundBy, IsFoundByEach};
+ghost use Rattle.solve_cli.specs.Portfolio.{is_decided, is_shorter, stronger, joined, IsFoundBy, IsFoundByEach};
 
-use crate::local::improve;
+use crate::local_search::improve;
 use crate::proof::prove_within;
 use crate::search_kinds::SearchKind;
-use crate::searching::{MOST_NODES, Observer, SearchResult, solve};
+use crate::search_result::{MOST_NODES, Observer, SearchResult, solve};
 use mrcpsp::{Project, Schedule};
 use std::alloc::{AllocError, Global};
 use strategy::{Plan, Verdict};

@@ -7,10 +7,10 @@ use crate::draw_command::Draw;
 use crate::improvements::{Improvements, Style};
 use crate::kinds::{SearchFault, kinds_of};
 use crate::picture::PictureWords;
-use crate::progress::{Progress, Telling};
+use crate::portfolio::MOST_SEARCHES;
+use crate::progress::{ProgressLine, Telling};
 use crate::search_kinds::SearchKind;
-use crate::searching::MOST_NODES;
-use crate::several::MOST_SEARCHES;
+use crate::search_result::MOST_NODES;
 use crate::solve_command::{Solve, SolveOptions};
 use crate::verify_command::Verify;
 use clap::ArgMatches;
@@ -183,7 +183,7 @@ fn run_solve<R: Runtime + AllocGlobal>(rt: &R, solving: Solving<'_>) -> ExitCode
         (_, true, _) => Telling::All,
     };
     let most = each.saturating_mul(kinds.len() as u64);
-    let progress = Progress::new(rt, telling, most);
+    let progress = ProgressLine::new(rt, telling, most);
     let mut looks = Improvements::new(rt, style, progress);
     let asked = SolveOptions::new(kinds.as_slice(), each.min(MOST_NODES), solving.is_json);
     let solve = Solve {

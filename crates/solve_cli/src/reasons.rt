@@ -3,7 +3,7 @@ ghost use Rattle.std.specs.Prelude.{◌≡◌, IfOk};
 ghost use Rattle.mrcpsp.specs.Values.{bound};
 
 use crate::fault::VerifyFault;
-use crate::searching::SearchResult;
+use crate::search_result::SearchResult;
 use explain::{all_breaches, why_breach_of, why_file, why_infeasible, why_no_schedule};
 use measures::Measures;
 use mrcpsp::Project;

@@ -1,6 +1,6 @@
 use Rattle.std.proofs.Common.{◌≤◌, rules, arith, inl, inr}
 use Rattle.mrcpsp.specs.Schedule.{makespan}
-use Rattle.certify_cli.proofs.bounding.certify_least.Goals as goal
+use Rattle.certify_cli.proofs.bounds.certify_least.Goals as goal
 
 pub returns-clause-ok : goal.returns-clause-ok
 returns-clause-ok c =

@@ -2,7 +2,7 @@ use Rattle.std.proofs.Common.{◌++◌, string_bytes, sym, ap, ◌∙◌, append
 use Rattle.plan_cli.specs.Table.{concat_below}
 use Rattle.plan_cli.specs.Moves.{move_line}
 use Rattle.plan_cli.proofs.TableLemmas.{concat_more}
-use Rattle.plan_cli.proofs.comparing.put_moves.Goals as goal
+use Rattle.plan_cli.proofs.differences.put_moves.Goals as goal
 
 pub loop-activity-preserved : goal.loop-activity-preserved
 loop-activity-preserved c =

@@ -1,6 +1,6 @@
 use Rattle.std.proofs.Common.{◌++◌, string_bytes, refl, append_assoc}
 use Rattle.plan_cli.specs.Table.{numbers, rest}
-use Rattle.plan_cli.proofs.tabling.put_line.Goals as goal
+use Rattle.plan_cli.proofs.schedule_table.put_line.Goals as goal
 
 pub returns : goal.returns
 returns c =

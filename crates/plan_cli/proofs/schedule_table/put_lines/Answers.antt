@@ -1,7 +1,7 @@
 use Rattle.std.specs.Prelude.{is_none}
 use Rattle.std.proofs.Common.{◌++◌, string_bytes, ap, ◌∙◌, append_assoc}
 use Rattle.plan_cli.proofs.TableLemmas.{lines_more}
-use Rattle.plan_cli.proofs.tabling.put_lines.Goals as goal
+use Rattle.plan_cli.proofs.schedule_table.put_lines.Goals as goal
 
 pub loop-activity-preserved : goal.loop-activity-preserved
 loop-activity-preserved c =

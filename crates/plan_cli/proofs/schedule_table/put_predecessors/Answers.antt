@@ -1,8 +1,8 @@
 use Rattle.std.proofs.Common.{◌≡◌, ◌+◌, ◌++◌, string_bytes, sym, ap, ◌∙◌, append_assoc}
 use Rattle.plan_cli.specs.Table.{joined, predecessors, next_number}
 use Rattle.plan_cli.proofs.TableLemmas.{next_predecessor, other_predecessor, joined_more, not_empty}
-use Rattle.plan_cli.proofs.tabling.put_predecessors.Goals.{then-precedes+in_ok-put_number, else-precedes}
-use Rattle.plan_cli.proofs.tabling.put_predecessors.Goals as goal
+use Rattle.plan_cli.proofs.schedule_table.put_predecessors.Goals.{then-precedes+in_ok-put_number, else-precedes}
+use Rattle.plan_cli.proofs.schedule_table.put_predecessors.Goals as goal
 
 pub loop-before-preserved : goal.loop-before-preserved
 loop-before-preserved c =

@@ -3,7 +3,7 @@ use Rattle.std.specs.Option.{option_copied}
 use Rattle.schedule_json.specs.ScheduleJson.{schedule_json}
 use Rattle.prove_cli.specs.Proved.{verdict_json, cost_json}
 use Rattle.prove_cli.proofs.ObjectLemmas.{whole-object}
-use Rattle.prove_cli.proofs.telling.put_object.Goals as goal
+use Rattle.prove_cli.proofs.output.put_object.Goals as goal
 
 pub returns : goal.returns
 returns c =

@@ -1,5 +1,5 @@
 use Rattle.std.proofs.Common.{◌≡◌, ℕ, ◌<◌, ◌≤◌, take, get_or, sum}
-use Rattle.schedule_prices.proofs.line.sum_before.Given as goal
+use Rattle.schedule_prices.proofs.time_sums.sum_before.Given as goal
 
 abbrev pub invariant-loop-time : goal.invariant-loop-time
 invariant-loop-time l =

@@ -1,6 +1,6 @@
 use Rattle.std.proofs.Common.{◌≡◌, ◌-◌, get_or, arith}
-use Rattle.schedule_prices.proofs.LineLemmas.{sum-drop_back, sum-drop-le, behind-step}
-use Rattle.schedule_prices.proofs.line.sum_behind.Goals as goal
+use Rattle.schedule_prices.proofs.TimeSumLemmas.{sum-drop_back, sum-drop-le, behind-step}
+use Rattle.schedule_prices.proofs.time_sums.sum_behind.Goals as goal
 
 pub overflow_add-total : goal.overflow_add-total
 overflow_add-total c =

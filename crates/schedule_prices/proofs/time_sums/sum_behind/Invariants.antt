@@ -1,5 +1,5 @@
 use Rattle.std.proofs.Common.{◌≡◌, ℕ, ◌<◌, ◌≤◌, drop, get_or, length, sum}
-use Rattle.schedule_prices.proofs.line.sum_behind.Given as goal
+use Rattle.schedule_prices.proofs.time_sums.sum_behind.Given as goal
 
 abbrev pub invariant-loop-time : goal.invariant-loop-time
 invariant-loop-time l =

@@ -1,6 +1,6 @@
 -- The project and the most schedules stay, and at most 65,536 are generated next.
 use Rattle.std.proofs.Common.{◌≡◌, ◌-◌, ◌≤◌}
-use Rattle.solve_cli.proofs.local.run_all.Given as goal
+use Rattle.solve_cli.proofs.local_search.run_all.Given as goal
 
 abbrev pub invariant-loop-observer : goal.invariant-loop-observer
 invariant-loop-observer g l = record {

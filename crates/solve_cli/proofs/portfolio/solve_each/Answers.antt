@@ -1,9 +1,9 @@
 use Rattle.std.proofs.Common.{◌≡◌, ◌+◌, ap, arith, refl, sym, ◌∙◌}
 use Rattle.strategy.specs.declared.kind.Kind.TheVariants.{Tree}
 use Rattle.solve_cli.specs.declared.search_kinds.SearchKind.TheVariants.{Planned}
-use Rattle.solve_cli.specs.declared.searching.SearchResult.{SearchResult}
-use Rattle.solve_cli.proofs.SeveralLemmas.{by_few, last_at, next_at, all_at}
-use Rattle.solve_cli.proofs.several.solve_each.Goals as goal
+use Rattle.solve_cli.specs.declared.search_result.SearchResult.{SearchResult}
+use Rattle.solve_cli.proofs.PortfolioLemmas.{by_few, last_at, next_at, all_at}
+use Rattle.solve_cli.proofs.portfolio.solve_each.Goals as goal
 
 pub returns-then-is_decided : goal.returns-then-is_decided
 returns-then-is_decided g c =

@@ -1,8 +1,8 @@
 use Rattle.std.proofs.Common.{◌≡◌, ◌≤◌, ◌*◌, List, drop, fold, option_map}
 use Rattle.mrcpsp.specs.Schedule.{makespan}
-use Rattle.solve_cli.specs.Several.{joined, AreFound, IsFoundByEach}
-use Rattle.solve_cli.specs.declared.searching.SearchResult.{SearchResult}
-use Rattle.solve_cli.proofs.several.solve_each.Given as goal
+use Rattle.solve_cli.specs.Portfolio.{joined, AreFound, IsFoundByEach}
+use Rattle.solve_cli.specs.declared.search_result.SearchResult.{SearchResult}
+use Rattle.solve_cli.proofs.portfolio.solve_each.Given as goal
 
 -- whatever later searches find, all have found it together with what was found
 abbrev pub invariant-loop-kind : goal.invariant-loop-kind

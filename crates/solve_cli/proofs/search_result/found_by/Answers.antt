@@ -1,5 +1,5 @@
 use Rattle.solve_cli.proofs.SearchLemmas.{found_of}
-use Rattle.solve_cli.proofs.searching.found_by.Goals as goal
+use Rattle.solve_cli.proofs.search_result.found_by.Goals as goal
 
 pub returns : goal.returns
 returns g c =

@@ -4,7 +4,7 @@ use Rattle.mrcpsp.specs.Project.{is_project}
 use Rattle.strategy.specs.Outcome.{best_after}
 use Rattle.std.proofs.lemmas.Bool.{iff_false}
 use Rattle.solve_cli.proofs.SearchLemmas.{known_of}
-use Rattle.solve_cli.proofs.searching.makespan_of.Goals as goal
+use Rattle.solve_cli.proofs.search_result.makespan_of.Goals as goal
 
 pub returns-in-Err : goal.returns-in-Err
 returns-in-Err c =

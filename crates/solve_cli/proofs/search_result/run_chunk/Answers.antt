@@ -1,7 +1,7 @@
 use Rattle.std.proofs.Common.{ap, ◌∙◌, arith}
 use Rattle.strategy.specs.Search.{ran_on}
 use Rattle.solve_cli.proofs.SearchLemmas.{ran_at, ran_less}
-use Rattle.solve_cli.proofs.searching.run_chunk.Goals as goal
+use Rattle.solve_cli.proofs.search_result.run_chunk.Goals as goal
 
 pub returns-clause-at : goal.returns-clause-at
 returns-clause-at g c =

@@ -1,6 +1,6 @@
 use Rattle.std.proofs.Common.{◌<◌, ◌≤◌}
 use Rattle.solve_cli.specs.Found.{IsAt}
-use Rattle.solve_cli.proofs.searching.run_nodes.Given as goal
+use Rattle.solve_cli.proofs.search_result.run_nodes.Given as goal
 
 -- nodes were run, and at most 65,536 are run next
 abbrev pub invariant-loop-search : goal.invariant-loop-search

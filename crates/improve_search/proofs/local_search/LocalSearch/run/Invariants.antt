@@ -1,7 +1,7 @@
 -- The project and the most schedules stay, the best gets no longer, and what was generated only grows.
 use Rattle.std.proofs.Common.{◌≡◌, ◌+◌, ◌≤◌, true}
-use Rattle.improve_search.specs.Improving.{IsNoLonger, is_over}
-use Rattle.improve_search.proofs.improving.Improving.run.Given as goal
+use Rattle.improve_search.specs.LocalSearch.{IsNoLonger, is_over}
+use Rattle.improve_search.proofs.local_search.LocalSearch.run.Given as goal
 
 abbrev pub invariant-loop : goal.invariant-loop
 invariant-loop l = record {

@@ -1,5 +1,5 @@
 use Rattle.std.proofs.Common.{◌≡◌, ℕ, true, ◌||◌, ◌&&◌, nat_le, nat_lt, get_or, length}
-use Rattle.schedule_prices.proofs.starts.Starts.bar.Given as goal
+use Rattle.schedule_prices.proofs.start_marks.StartMarks.bar.Given as goal
 
 -- what is below the start is barred if it is in the range
 abbrev pub invariant-loop-start : goal.invariant-loop-start

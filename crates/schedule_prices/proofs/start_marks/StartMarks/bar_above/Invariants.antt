@@ -1,7 +1,7 @@
 use Rattle.std.proofs.Common.{◌≡◌, ℕ, true, ◌||◌, ◌&&◌, get_or, length}
 use Rattle.std.specs.Prelude.{nat_lt}
 use Rattle.schedule_prices.specs.Rows.{cost}
-use Rattle.schedule_prices.proofs.starts.Starts.bar_above.Given as goal
+use Rattle.schedule_prices.proofs.start_marks.StartMarks.bar_above.Given as goal
 
 -- below the start what is too dear is barred
 abbrev pub invariant-loop-start : goal.invariant-loop-start
