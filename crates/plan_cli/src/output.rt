@@ -2,7 +2,6 @@
 ghost use Rattle.std.specs.Prelude.{◌≡◌, ◌<◌, ◌&&◌, IfOk, IfErr, is_none, string_bytes};
 ghost use Rattle.mrcpsp.specs.Project.{size};
 ghost use Rattle.mrcpsp.specs.Schedule.{IsFeasible};
-ghost use Rattle.mrcpsp.specs.Breach.{HasShape, HasModes};
 ghost use Rattle.plan_cli.specs.Plan.{IsAtFault};
 ghost use Rattle.plan_cli.specs.Table.{IsTable};
 ghost use Rattle.plan_cli.specs.Shown.{IsShown, IsComparison, IsCompareFault};
@@ -12,8 +11,7 @@ use crate::labels::{longest, put_date_titles, put_moment, put_name};
 use crate::layout::Layout;
 use crate::plan::{PlanFault, read_plan};
 use crate::schedule_table::{Extra, table};
-use crate::slack::{finish_of, start_at};
-use mrcpsp::{Project, Schedule};
+use mrcpsp::Fitting;
 use psplib_mm::read;
 use schedule_labels::{ActivityName, Calendar, name_at};
 use std::alloc::{AllocError, Global};
@@ -50,21 +48,15 @@ fn extra_titles(alloc: Global, asked: &ShowOptions<'_>) -> Result<String, AllocE
 
 fn extra_cell(
     alloc: Global,
-    project: &Project,
-    schedule: &Schedule,
+    fitting: &Fitting<'_>,
     activity: usize,
     asked: &ShowOptions<'_>,
 ) -> Result<String, AllocError>
-    requires shape { HasShape project.now schedule.now }
-    requires modes { HasModes project.now schedule.now }
-    requires activity { activity < size project.now }
+    requires activity { activity < size fitting.now.project.now }
 {
     let mut text = String::new(alloc);
-    let (start, finish) = (
-        start_at(project, schedule, activity),
-        finish_of(project, schedule, activity),
-    );
-    let size = project.size();
+    let (start, finish) = (fitting.start(activity), fitting.finish(activity));
+    let size = fitting.project.size();
     prove!(activity < size);
     if let Some(calendar) = &asked.calendar {
         put_moment(&mut text, asked.layout, calendar, start)?;
@@ -79,16 +71,12 @@ fn extra_cell(
 
 fn extra_of(
     alloc: Global,
-    project: &Project,
-    schedule: &Schedule,
+    fitting: &Fitting<'_>,
     asked: &ShowOptions<'_>,
-) -> Result<Extra, AllocError>
-    requires shape { HasShape project.now schedule.now }
-    requires modes { HasModes project.now schedule.now }
-{
+) -> Result<Extra, AllocError> {
     let mut cells = Vec::new(alloc);
-    for activity in 0..project.size() {
-        cells.push(extra_cell(alloc, project, schedule, activity, asked)?)?;
+    for activity in 0..fitting.project.size() {
+        cells.push(extra_cell(alloc, fitting, activity, asked)?)?;
     }
     Ok(Extra {
         title: extra_titles(alloc, asked)?,
@@ -98,34 +86,28 @@ fn extra_of(
 
 fn extra_if(
     alloc: Global,
-    project: &Project,
-    schedule: &Schedule,
+    fitting: &Fitting<'_>,
     asked: &ShowOptions<'_>,
 ) -> Result<Option<Extra>, AllocError>
-    requires shape { HasShape project.now schedule.now }
-    requires modes { HasModes project.now schedule.now }
     ensures { IfOk result (λ extra. is_none extra ≡ (is_none asked.now.calendar && is_none asked.now.names)) }
 {
     if asked.calendar.is_none() && asked.names.is_none() {
         return Ok(None);
     }
-    Ok(Some(extra_of(alloc, project, schedule, asked)?))
+    Ok(Some(extra_of(alloc, fitting, asked)?))
 }
 
 fn tabled(
     alloc: Global,
-    project: &Project,
-    schedule: &Schedule,
+    fitting: &Fitting<'_>,
     asked: &ShowOptions<'_>,
 ) -> Result<String, AllocError>
-    requires shape { HasShape project.now schedule.now }
-    requires modes { HasModes project.now schedule.now }
-    requires feasible { IsFeasible project.now schedule.now }
-    ensures { IfOk result (λ text. IsTable asked.now.layout project.now schedule.now (is_none asked.now.calendar && is_none asked.now.names) (string_bytes text)) }
+    requires feasible { IsFeasible fitting.now.project.now fitting.now.schedule.now }
+    ensures { IfOk result (λ text. IsTable asked.now.layout fitting.now.project.now fitting.now.schedule.now (is_none asked.now.calendar && is_none asked.now.names) (string_bytes text)) }
 {
-    match extra_if(alloc, project, schedule, asked)? {
-        Some(extra) => table(alloc, asked.layout, project, schedule, Some(&extra)),
-        None => table(alloc, asked.layout, project, schedule, None),
+    match extra_if(alloc, fitting, asked)? {
+        Some(extra) => table(alloc, asked.layout, fitting, Some(&extra)),
+        None => table(alloc, asked.layout, fitting, None),
     }
 }
 
@@ -151,7 +133,11 @@ pub fn show(
     if let Some(breach) = plan.breach {
         return Err(PlanFault::Breach(breach));
     }
-    match tabled(alloc, &project, &plan.schedule, asked) {
+    let fitting = Fitting {
+        project: &project,
+        schedule: &plan.schedule,
+    };
+    match tabled(alloc, &fitting, asked) {
         Ok(shown) => Ok(shown),
         Err(_) => Err(PlanFault::NoMemory),
     }
@@ -182,7 +168,15 @@ pub fn compare(
         Err(fault) => return Err(CompareFault::Second(fault)),
     };
     let breaches = (before.breach, after.breach);
-    match moves(alloc, &project, &before.schedule, &after.schedule, breaches) {
+    let first = Fitting {
+        project: &project,
+        schedule: &before.schedule,
+    };
+    let second = Fitting {
+        project: &project,
+        schedule: &after.schedule,
+    };
+    match moves(alloc, &first, &second, breaches) {
         Ok(told) => Ok(told),
         Err(_) => Err(CompareFault::First(PlanFault::NoMemory)),
     }

@@ -2,13 +2,12 @@
 ghost use Rattle.std.specs.Prelude.{◌≡◌, ◌++◌, ◌+◌, ◌<◌, ℕ, List, IfOk, is_none, string_bytes};
 ghost use Rattle.mrcpsp.specs.Project.{size, renewables, nonrenewables, mode_count, request, consumption};
 ghost use Rattle.mrcpsp.specs.Schedule.{IsFeasible};
-ghost use Rattle.mrcpsp.specs.Breach.{HasShape, HasModes};
 ghost use Rattle.plan_cli.specs.Layout.{cell, title};
 ghost use Rattle.plan_cli.specs.Table.{concat_below, predecessors, joined, is_empty, next_number, dash, last_cell, gap, numbers, rest, IsBare, IsLine, AreLines, first_titles, titles, IsTable};
 
 use crate::layout::{Layout, put_cell, put_first, put_title};
-use crate::slack::{finish_of, place_of_mode, slack_of, start_at};
-use mrcpsp::{Project, Schedule};
+use crate::slack::slack_of;
+use mrcpsp::{Fitting, Project};
 use std::alloc::{AllocError, Global};
 
 /// An `Extra` is what a table has behind its numbers: a title, and a text for each activity, each
@@ -122,27 +121,24 @@ fn put_gap(text: &mut String, layout: Layout) -> Result<(), AllocError>
 fn put_numbers(
     text: &mut String,
     layout: Layout,
-    project: &Project,
-    schedule: &Schedule,
+    fitting: &Fitting<'_>,
     activity: usize,
     slack: u32,
 ) -> Result<(), AllocError>
-    requires shape { HasShape project.now schedule.now }
-    requires modes { HasModes project.now schedule.now }
-    requires activity { activity < size project.now }
+    requires activity { activity < size fitting.now.project.now }
     ensures { IfOk result (λ _. string_bytes text.new
-        ≡ string_bytes text.old ++ numbers layout project.now schedule.now activity slack) }
+        ≡ string_bytes text.old ++ numbers layout fitting.now.project.now fitting.now.schedule.now activity slack) }
 {
-    let mode = place_of_mode(project, schedule, activity);
-    let size = project.size();
+    let mode = fitting.mode_place(activity);
+    let size = fitting.project.size();
     prove!(activity < size);
     put_first(text, layout, activity + 1)?;
-    put_cell(text, layout, schedule.mode(activity))?;
-    put_cell(text, layout, start_at(project, schedule, activity))?;
-    put_cell(text, layout, finish_of(project, schedule, activity))?;
+    put_cell(text, layout, fitting.mode(activity))?;
+    put_cell(text, layout, fitting.start(activity))?;
+    put_cell(text, layout, fitting.finish(activity))?;
     put_cell(text, layout, slack)?;
-    put_requests(text, layout, project, activity, mode)?;
-    put_consumptions(text, layout, project, activity, mode)?;
+    put_requests(text, layout, fitting.project, activity, mode)?;
+    put_consumptions(text, layout, fitting.project, activity, mode)?;
     Ok(())
 }
 
@@ -187,20 +183,18 @@ fn put_rest(
 fn put_line(
     text: &mut String,
     layout: Layout,
-    project: &Project,
-    schedule: &Schedule,
+    fitting: &Fitting<'_>,
     activity: usize,
     more: &str,
 ) -> Result<(), AllocError>
-    requires shape { HasShape project.now schedule.now }
-    requires feasible { IsFeasible project.now schedule.now }
-    requires activity { activity < size project.now }
+    requires feasible { IsFeasible fitting.now.project.now fitting.now.schedule.now }
+    requires activity { activity < size fitting.now.project.now }
     ensures { IfOk result (λ _. (line : List ℕ)
-        × IsLine layout project.now schedule.now activity more.now line × (string_bytes text.new ≡ string_bytes text.old ++ line)) }
+        × IsLine layout fitting.now.project.now fitting.now.schedule.now activity more.now line × (string_bytes text.new ≡ string_bytes text.old ++ line)) }
 {
-    let slack = slack_of(project, schedule, activity);
-    put_numbers(text, layout, project, schedule, activity, slack)?;
-    put_rest(text, layout, project, activity, more)?;
+    let slack = slack_of(fitting, activity);
+    put_numbers(text, layout, fitting, activity, slack)?;
+    put_rest(text, layout, fitting.project, activity, more)?;
     Ok(())
 }
 
@@ -261,25 +255,16 @@ fn put_titles(
 fn put_lines(
     text: &mut String,
     layout: Layout,
-    project: &Project,
-    schedule: &Schedule,
+    fitting: &Fitting<'_>,
     extra: Option<&Extra>,
 ) -> Result<(), AllocError>
-    requires shape { HasShape project.now schedule.now }
-    requires feasible { IsFeasible project.now schedule.now }
+    requires feasible { IsFeasible fitting.now.project.now fitting.now.schedule.now }
     ensures { IfOk result (λ _. (lines : List ℕ)
-        × AreLines layout project.now schedule.now (is_none extra.entry) (size project.now) lines
+        × AreLines layout fitting.now.project.now fitting.now.schedule.now (is_none extra.entry) (size fitting.now.project.now) lines
         × (string_bytes text.new ≡ string_bytes text.old ++ lines)) }
 {
-    for activity in 0..project.size() {
-        put_line(
-            text,
-            layout,
-            project,
-            schedule,
-            activity,
-            more_of(extra, activity),
-        )?;
+    for activity in 0..fitting.project.size() {
+        put_line(text, layout, fitting, activity, more_of(extra, activity))?;
     }
     Ok(())
 }
@@ -289,16 +274,14 @@ fn put_lines(
 pub fn table(
     alloc: Global,
     layout: Layout,
-    project: &Project,
-    schedule: &Schedule,
+    fitting: &Fitting<'_>,
     extra: Option<&Extra>,
 ) -> Result<String, AllocError>
-    requires shape { HasShape project.now schedule.now }
-    requires feasible { IsFeasible project.now schedule.now }
-    ensures { IfOk result (λ text. IsTable layout project.now schedule.now (is_none extra.entry) (string_bytes text)) }
+    requires feasible { IsFeasible fitting.now.project.now fitting.now.schedule.now }
+    ensures { IfOk result (λ text. IsTable layout fitting.now.project.now fitting.now.schedule.now (is_none extra.entry) (string_bytes text)) }
 {
     let mut text = String::new(alloc);
-    put_titles(&mut text, layout, project, title_of(extra))?;
-    put_lines(&mut text, layout, project, schedule, extra)?;
+    put_titles(&mut text, layout, fitting.project, title_of(extra))?;
+    put_lines(&mut text, layout, fitting, extra)?;
     Ok(text)
 }
