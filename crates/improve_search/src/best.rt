@@ -18,15 +18,6 @@ pub(crate) enum BestChecked {
     Known(Schedule, u32, Schedule),
 }
 
-fn blank(alloc: Global, size: usize) -> Result<Schedule, AllocError> {
-    let modes = vec![in alloc; 0u32; size]?;
-    let starts = vec![in alloc; 0u32; size]?;
-    Ok(Schedule {
-        modes: Sequence::from(modes),
-        starts: Sequence::from(starts),
-    })
-}
-
 fn written(room: Schedule, annealing: &Annealing) -> Schedule {
     let Schedule { modes, starts } = room;
     let mut modes = modes.into_vec();
@@ -47,7 +38,8 @@ impl BestChecked {
     pub(crate) fn none(alloc: Global, size: usize) -> Result<BestChecked, AllocError>
         ensures { IfOk result (λ best. best_in best ≡ None × length_in best ≡ None) }
     {
-        Ok(BestChecked::Unknown(blank(alloc, size)?, blank(alloc, size)?))
+        let room = Schedule::blank(alloc, size)?;
+        Ok(BestChecked::Unknown(room, Schedule::blank(alloc, size)?))
     }
 
     pub(crate) fn empty(alloc: Global) -> BestChecked

@@ -20,7 +20,8 @@ use Rattle.schedule_files.proofs.ObjectLemmas.{numeral, schedule_tree, schedule_
 use Rattle.schedule_files.proofs.ToldLemmas.{is_odd, IsPlain, plain, decimal_plain, number_plain, schedule_plain, then_plain, line_utf8, IsObject, AreObjects, with_feeds, lines_told}
 use Rattle.strategy.specs.declared.verdict.Verdict.{Verdict}
 use Rattle.strategy.specs.declared.verdict.Verdict.TheVariants.{Going, Optimal, Infeasible, Ended}
-use Rattle.solve_cli.specs.FoundText.{verdict_text, object_json, found_json}
+use Rattle.strategy.specs.VerdictText.{verdict_text}
+use Rattle.solve_cli.specs.FoundText.{object_json, found_json}
 use Rattle.solve_cli.specs.Laws.{Improvement, improvements_json, CanBeWritten, JsonTellsTheBest, BetterJsonTells, AllJsonTells}
 
 -- ---- numbers that may be missing

@@ -43,7 +43,7 @@ pub use arguments::with_commands;
 pub use fault::VerifyFault;
 pub use kinds::{SearchFault, kinds_of};
 pub use local_search::improve;
-pub use output::{put_best, tell, tell_better, tell_better_json, tell_json, verdict_word};
+pub use output::{put_best, tell, tell_better, tell_better_json, tell_json};
 pub use portfolio::{MOST_SEARCHES, solve_each};
 pub use program::run_command;
 pub use proof::prove_within;

@@ -1,7 +1,7 @@
 //! What a search has found, as text.
 ghost use Rattle.std.specs.Prelude.{◌≡◌, ◌++◌, IfOk, codes, string_bytes};
 ghost use Rattle.std.specs.Option.{option_copied};
-ghost use Rattle.solve_cli.specs.FoundText.{verdict_text, best_text, places_of, shown_text, better_line, found_text};
+ghost use Rattle.solve_cli.specs.FoundText.{best_text, places_of, shown_text, better_line, found_text};
 ghost use Rattle.solve_cli.specs.FoundText.{object_json, found_json};
 ghost use Rattle.schedule_json.specs.ScheduleJson.{number_json};
 
@@ -10,19 +10,6 @@ use mrcpsp::Schedule;
 use schedule_files::put_schedule;
 use schedule_json::{put_number_json, put_schedule_json};
 use std::alloc::{AllocError, Global};
-use strategy::Verdict;
-
-/// The word of `verdict` in a result.
-pub fn verdict_word(verdict: Verdict) -> &'static str
-    ensures { result.now ≡ verdict_text verdict }
-{
-    match verdict {
-        Verdict::Going => "open",
-        Verdict::Optimal => "optimal",
-        Verdict::Infeasible => "infeasible",
-        Verdict::Ended => "ended",
-    }
-}
 
 /// Adds a makespan, or `none`. An error is want of memory.
 pub fn put_best(text: &mut String, makespan: Option<u32>) -> Result<(), AllocError>
@@ -38,7 +25,7 @@ pub fn put_best(text: &mut String, makespan: Option<u32>) -> Result<(), AllocErr
 fn put_shown(text: &mut String, found: &SearchResult) -> Result<(), AllocError>
     ensures { IfOk result (λ _. string_bytes text.new ≡ string_bytes text.old ++ shown_text found.now) }
 {
-    let word = verdict_word(found.verdict);
+    let word = found.verdict.word();
     put_best(text, found.makespan)?;
     write!(text, " {word}")?;
     Ok(())
@@ -116,7 +103,7 @@ fn put_object(
 pub fn tell_json(alloc: Global, found: &SearchResult) -> Result<String, AllocError>
     ensures { IfOk result (λ text. string_bytes text ≡ found_json found.now) }
 {
-    let word = verdict_word(found.verdict);
+    let word = found.verdict.word();
     let mut text = String::new(alloc);
     put_object(
         &mut text,
