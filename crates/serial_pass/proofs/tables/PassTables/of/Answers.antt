@@ -2,7 +2,7 @@ use Rattle.std.proofs.Common.{arith}
 use Rattle.mrcpsp.specs.Project.{size, precedes}
 use Rattle.serial_sgs.proofs.OrderLemmas.{count_small}
 use Rattle.serial_pass.proofs.StateLemmas.{first_are, sources_are}
-use Rattle.serial_pass.proofs.tables.Tables.of.Goals as goal
+use Rattle.serial_pass.proofs.tables.PassTables.of.Goals as goal
 
 pub first_waits-requires : goal.first_waits-requires
 first_waits-requires c =
