@@ -26,4 +26,4 @@ pub use cost::Cost;
 pub use fault::ProveFault;
 pub use output::{tell, tell_gap_json, tell_json};
 pub use program::run_command;
-pub use proof_run::{Ended, ProveOptions, prove_read};
+pub use proof_run::{ProofEnd, ProveOptions, prove_read};

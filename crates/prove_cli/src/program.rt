@@ -3,7 +3,7 @@ ghost use Rattle.std.specs.Prelude.{◌≤◌, IfErr, IfSome};
 ghost use Rattle.std.specs.Process.{exit_status};
 
 use crate::arguments::{Proving, proving_of};
-use crate::proof_run::{Ended, ProveOptions, prove_read};
+use crate::proof_run::{ProofEnd, ProveOptions, prove_read};
 use crate::reporter::{Reporter, Style};
 use crate::stop_flag::stop_at_end_of_input;
 use clap::ArgMatches;
@@ -173,8 +173,8 @@ fn run<
     };
     let mut watches = CommandWatches::new();
     match prove_read(rt, alloc, file, &asked, &mut io::writer(rt), &mut watches) {
-        Ok(Ended::Decided) => ExitCode::SUCCESS,
-        Ok(Ended::Gap) => ExitCode::from(GAP),
+        Ok(ProofEnd::Decided) => ExitCode::SUCCESS,
+        Ok(ProofEnd::Gap) => ExitCode::from(GAP),
         Err(fault) => end_command(rt, Paths::of(proving.file), Err(fault), &mut watches),
     }
 }

@@ -22,9 +22,9 @@ use std::sync::atomic::AtomicBool;
 use std::thread::Threads;
 use std::time::{Clock, Instant};
 
-/// How a run of `prove` ends.
+/// A `ProofEnd` is how a run of `prove` ends.
 #[derive(Clone, Copy, Debug, PartialEq, Eq)]
-pub enum Ended {
+pub enum ProofEnd {
     /// The project is decided.
     Decided,
     /// A gap is left.
@@ -69,12 +69,12 @@ fn read_project<S: Read + Drop, W>(
     }
 }
 
-fn ended_by(answer: &Answer) -> Ended
+fn ended_by(answer: &Answer) -> ProofEnd
     ensures { result ≡ ended_by answer.now }
 {
     match answer {
-        Answer::Optimal(_) | Answer::Infeasible => Ended::Decided,
-        Answer::Gap(_, _) | Answer::AtLeast(_) => Ended::Gap,
+        Answer::Optimal(_) | Answer::Infeasible => ProofEnd::Decided,
+        Answer::Gap(_, _) | Answer::AtLeast(_) => ProofEnd::Gap,
     }
 }
 
@@ -120,7 +120,7 @@ pub fn prove_read<
     asked: &ProveOptions<'_, H>,
     writer: &mut W,
     watches: &mut CommandWatches<S, (), (), W>,
-) -> Result<Ended, CommandFault<ProveFault>>
+) -> Result<ProofEnd, CommandFault<ProveFault>>
     ensures { IsProveOf asked.now.is_json result watches.old watches.new (S.remaining file) (W.contents writer.old) (W.contents writer.new) }
 {
     let begun = Instant::now(rt).ok();
