@@ -89,7 +89,7 @@ pub record IsUncertified (file text : List ℕ) (fault : CertificateFault) : Typ
   pub told : Tells text schedule
   pub of_schedule : IsOfSchedule project schedule fault
 
--- a text without a schedule tells none; a fault of the certificate is that of the schedule
+-- a text without a schedule holds none; a fault of the certificate is that of the schedule
 abbrev pub IsOfText : CertifyFault → List ℕ → List ℕ → Type 0
 IsOfText (why.File fault) file text = ⊤
 IsOfText why.Words file text = (length text ≤ MOST_BYTES) × IsUntold (Tells text)

@@ -17,7 +17,7 @@ use schedule_labels::{ActivityName, Calendar, name_at};
 use std::alloc::{AllocError, Global};
 use thiserror::Error;
 
-/// A `ShowOptions` is the form of a table, and what it has beside its numbers: dates and names.
+/// A `ShowOptions` is the form of a table, and its dates and names.
 #[derive(Clone, Copy)]
 pub struct ShowOptions<'a> {
     pub layout: Layout,

@@ -101,7 +101,8 @@ pub enum Barring<'a> {
     TooLarge,
 }
 
-/// Is `bar_choices` with an effort, and with `left` steps for pieces. Subtracts those that it takes.
+/// Bars choices as `bar_choices` does, with an effort and at most `left` steps for ranges of
+/// choices. Subtracts the steps that it takes.
 fn bar_by_cases<'a>(
     alloc: Global,
     project: &'a Project,

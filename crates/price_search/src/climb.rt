@@ -9,7 +9,7 @@ pub(crate) struct BoundAnswer {
     pub(crate) stretch: u64,
 }
 
-/// A `Climb` is the way up from a lower bound: a stretch above 1 says how far to go, and questions
+/// A `Climb` is the way up from a lower bound: a stretch above 1 gives the distance, and questions
 /// that stay open are halved back.
 #[derive(Clone, Copy)]
 pub(crate) struct Climb {

@@ -13,7 +13,7 @@ const WHOLE: i64 = 1 << 36;
 /// How much above the best stretch steps aim, in parts of 2^16.
 const TARGET: i64 = 400;
 
-/// Where steps have come to.
+/// A `StepsEnd` is how a run of steps ends.
 #[derive(Clone, Copy, PartialEq, Eq)]
 pub(crate) enum StepsEnd {
     Open,

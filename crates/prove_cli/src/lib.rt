@@ -5,7 +5,8 @@
 //!
 //! - `output`, `cost`: an answer as lines or as JSON, and what a run takes.
 //! - `first_schedule`: a schedule to begin with.
-//! - `proof_run`, `reporter`: the command over any reader and writer; what is told while it runs.
+//! - `proof_run`, `reporter`: the command over any reader and writer; what is reported while it
+//!   runs.
 //! - `stop_flag`: a flag that is set when the standard input ends.
 //! - `fault`: why nothing is proved.
 //! - `arguments`, `program`: the words of a command line, and the command on files.

@@ -1,5 +1,5 @@
-//! What is told while workers work: better schedules on standard output, and progress on standard
-//! error.
+//! What is reported while workers work: better schedules on standard output, and progress on
+//! standard error.
 ghost use Rattle.price_search.specs.LowerBound.{TakesAtLeast};
 ghost use Rattle.prover.specs.Known.{IsBest};
 

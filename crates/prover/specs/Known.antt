@@ -23,7 +23,7 @@ pub record IsTrue (p : ProjectData) (known : Facts) : Type 0 where
   pub bound_is : TakesAtLeast p known.bound
   pub infeasible_is : known.infeasible ≡ true → IsInfeasible p
 
--- an answer to the question tells something new: it is not below the bound, and the best schedule is
+-- an answer to the question is something new: it is not below the bound, and the best schedule is
 -- longer
 pub record IsOpen (known : Facts) (question : Question) : Type 0 where
   pub from_bound : known.bound ≤ question.within

@@ -180,7 +180,8 @@ impl<F: Subject, O: Overseer> Solo<'_, F, O> {
     }
 }
 
-/// Asks the question. Only want of memory is an error; a question of too many clauses tells nothing.
+/// Asks the question. Only want of memory is an error; a question of too many clauses decides
+/// nothing.
 fn ask<F: Subject, O: Overseer>(solo: &mut Solo<'_, F, O>) -> Result<Gain, AllocError> {
     let (alloc, project, question) = (solo.notebook.alloc, solo.notebook.project, solo.question);
     let words = solo.allowance.words;

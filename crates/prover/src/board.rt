@@ -1,4 +1,4 @@
-//! What the searches of a team have told each other.
+//! What the searches of a team have sent each other.
 use clause_kernel::Formula;
 use clause_search::Message;
 use std::alloc::{AllocError, Global};

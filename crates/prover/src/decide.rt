@@ -1,4 +1,4 @@
-//! Whether a feasible schedule takes at most so many periods, by a search of clauses.
+//! Whether a feasible schedule is within a number of periods, by a search of clauses.
 ghost use Rattle.std.specs.Prelude.{◌≡◌, ◌+◌, ◌≤◌, ◌<◌, length, IfOk, IfSome, true};
 ghost use Rattle.mrcpsp.specs.Schedule.{IsInfeasible};
 ghost use Rattle.clause_kernel.specs.Clauses.{IsUnsatisfiable};
@@ -104,7 +104,7 @@ pub(crate) fn found_by(project: &Project, bound: u32, schedule: Schedule) -> Dec
     }
 }
 
-/// What a search of clauses comes to, whatever they mean.
+/// The end of a search of clauses, whatever they mean.
 #[derive(Clone, Copy, PartialEq, Eq)]
 enum Outcome {
     Values,

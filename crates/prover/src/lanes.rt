@@ -113,7 +113,8 @@ pub(crate) fn question_of(
     Some(Question { within })
 }
 
-/// Asks the question. Only want of memory is an error; a question of too many clauses tells nothing.
+/// Asks the question. Only want of memory is an error; a question of too many clauses decides
+/// nothing.
 fn ask<F: Subject, R: Wait + Clock, H: Herald>(
     shift: &mut Shift<'_, '_, F, R, H>,
 ) -> Result<Gain, AllocError> {
@@ -293,7 +294,7 @@ fn improve<F: Subject, R: Wait + Clock, H: Herald>(
     Ok(())
 }
 
-/// Does what the lane says, and then, if there is a time limit, improves. Without one, all workers
+/// Works as the lane asks, and then, if there is a time limit, improves. Without one, all workers
 /// end with the one that raises the bound: its conflicts or its memory are used up.
 fn run_lane<F: Subject + Send + Sync, R: Threads + Wait + Clock + Sync, H: Herald + Sync>(
     shift: &mut Shift<'_, '_, F, R, H>,

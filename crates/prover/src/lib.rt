@@ -5,7 +5,7 @@
 //! - `task`, `herald`: what is asked for, and who hears of what is proved.
 //! - `shared_work`: what the workers share; `improver`: local search in runs.
 //! - `lanes`: what each worker does; `threads`: the workers in threads.
-//! - `team`: searches of one question that tell each other what they learn, on a `board`.
+//! - `team`: searches of one question that share what they learn, on a `board`.
 //! - `alone`: one worker without threads, locks or a clock. It returns, whatever it is given.
 #![tactic(auto)]
 

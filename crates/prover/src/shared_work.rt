@@ -67,7 +67,7 @@ impl<F: Subject, R: Wait + Clock, H: Herald> SharedWork<'_, F, R, H> {
         (known.bound(), known.makespan())
     }
 
-    /// Whether at most so many makespans below the best one are open.
+    /// Whether at most `gap` makespans below the best one are open.
     pub(crate) fn is_gap_at_most(&self, gap: u32) -> bool {
         match self.gap() {
             (bound, Some(makespan)) => makespan.saturating_sub(bound) <= gap,
@@ -75,7 +75,7 @@ impl<F: Subject, R: Wait + Clock, H: Herald> SharedWork<'_, F, R, H> {
         }
     }
 
-    /// Whether the team asks all that is left, if at most so many periods are open.
+    /// Whether the team asks all that is left, if at most `gap` periods are open.
     pub(crate) fn is_left_to_the_team(&self, gap: u32) -> bool {
         self.is_teamed.load(Ordering::SeqCst) && self.is_gap_at_most(gap) && !self.is_decided()
     }

@@ -85,7 +85,7 @@ fn prepare(search: &mut Search, style: TeamStyle) {
 }
 
 impl<F: Subject, L: clause_kernel::Formula, R: Wait + Clock, H: Herald> Team<'_, '_, F, L, R, H> {
-    /// What a search has come to, or `None` if it goes on.
+    /// The end of a search, or `None` if it goes on.
     fn decision_of(
         &self,
         kernel: &Kernel<L>,
@@ -113,8 +113,8 @@ impl<F: Subject, L: clause_kernel::Formula, R: Wait + Clock, H: Herald> Team<'_,
         })
     }
 
-    /// Tells the others what a search has learned, and takes what they have told. Returns how many
-    /// messages were ever told.
+    /// Sends what a search has learned to the others, and takes what they have sent. Returns the
+    /// number of all messages.
     fn exchange(
         &self,
         place: usize,
@@ -219,7 +219,7 @@ fn ask_as<
 }
 
 /// Asks the question by a search, which others join as the gap closes. Only want of memory is an
-/// error; a question of too many clauses tells nothing.
+/// error; a question of too many clauses decides nothing.
 pub(crate) fn ask_together<
     F: Subject + Send + Sync,
     R: Threads + Wait + Clock + Sync,

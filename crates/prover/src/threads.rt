@@ -37,7 +37,7 @@ fn lane_at(place: usize, activities: usize) -> Lane {
     }
 }
 
-/// Several workers of a project of so many activities.
+/// Several workers of a project of `activities` activities.
 fn workers(alloc: Global, jobs: usize, activities: usize) -> Result<Vec<Worker>, AllocError> {
     let mut workers = Vec::new(alloc);
     for place in 0..jobs {
@@ -48,7 +48,7 @@ fn workers(alloc: Global, jobs: usize, activities: usize) -> Result<Vec<Worker>,
     Ok(workers)
 }
 
-/// A `Clerk` tells a herald what the only worker has proved, and ends it at a deadline.
+/// A `Clerk` reports to a herald what the only worker has proved, and ends it at a deadline.
 #[derive(Drop)]
 struct Clerk<'a, R, H> {
     deadline: Deadline<'a, R>,

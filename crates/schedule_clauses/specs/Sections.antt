@@ -12,7 +12,7 @@ use Rattle.schedule_clauses.specs.declared.formula.SectionKind.TheVariants.{Mode
 abbrev pub kinds_of : List Section → List SectionKind
 kinds_of sections = map (λ s. s.kind) sections
 
--- the sections are of these kinds, in order, and together have as many clauses as there are
+-- the sections are of these kinds, in order, and together have all clauses
 pub record AreSections (kinds : List SectionKind) (sections : List Section) (clauses : List (List ℕ)) : Type 0 where
   pub in_order : kinds_of sections ≡ kinds
   pub counts : sum_by (λ s. s.count) sections ≡ length clauses

@@ -41,7 +41,7 @@ use Rattle.serial_pass.proofs.BoardLemmas.{IsOpenFor, early_grown, next-executab
 
 -- ---- what is left, and the points
 
--- some point before the end of time tells of each period
+-- each period has a point before the end of time
 cover : (points : List FreePoint) (fuel k u : ℕ) → IsLinked points → 4294967295 ≤ time_at points k + fuel → k < length points → time_at points k ≤ u → u < 4294967295 → (i : ℕ) × (i < length points) × (time_at points i ≤ u) × (u < time_at points (next_at points i))
 cover points zero k u linked enough inside from under = absurd (omega (arith, enough, from, under))
 cover points (suc fuel) k u linked enough inside from under =

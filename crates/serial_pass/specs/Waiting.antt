@@ -28,7 +28,7 @@ pub record AreWaiting (p : ProjectData) (placed : List Placed) (points : List Fr
   pub count : length waits ≡ size p
   pub each : (j : ℕ) → j < size p → IsWait p placed points j (get_or waits j no_wait)
 
--- those in `after` are told that a predecessor has been placed, and no others
+-- those in `after` wait for one predecessor less, and no others
 pub record AreTold (after : List ℕ) (finish point : ℕ) (waits later : List Wait) : Type 0 where
   pub count : length later ≡ length waits
   pub own : (s : ℕ) → list_any (λ x. x == s) after ≡ true → get_or later s no_wait ≡ told finish point (get_or waits s no_wait)

@@ -78,7 +78,7 @@ fn take_in(points: &mut [FreePoint], request: &Amounts, start: usize, finish: u3
     (before, at)
 }
 
-/// Is `take_in` for all points.
+/// Calls `take_in` for all points.
 #[inline(always)]
 fn take(points: &mut Vec<FreePoint>, request: &Amounts, start: usize, finish: u32) -> (usize, usize)
     requires linked { IsLinked points.old.items }

@@ -1,4 +1,4 @@
--- The JSON of a result and of a better schedule tells the schedule.
+-- The JSON of a result and of a better schedule holds the schedule.
 use Rattle.std.proofs.Common.{◌≡◌, ℕ, ◌<◌, ◌≤◌, ◌^◌, false, List, [], ◌∷◌, ◌++◌, length, drop, refl, sym, ap, ◌∙◌, subst, arith, append_assoc, codes, decimal, Option, Some, None, IfSome, IsUtf8, option_map, option_and_then}
 use Rattle.std.specs.List.{list_any}
 use Rattle.json.specs.Token.{Token}
@@ -136,7 +136,7 @@ is_json nodes makespan word s n m same odd can =
     let json = object_is o.members found s can utf8 o.numbers o.shallow (members_read nodes makespan word s n m can) (get_member-put (codes "schedule") (schedule_data s) (front_data nodes makespan word)) in
     subst (λ (l : List ℕ). IsJsonOf (l ++ 10 ∷ []) s) o.printed json
 
--- the object of a result with a best schedule tells this
+-- the object of a result with a best schedule holds it
 object_tells : (nodes : ℕ) (makespan : Option ℕ) (word : List ℕ) (s : ScheduleData) → nodes < 2 ^ 64 → IfSome makespan (λ m. m < 2 ^ 64) → escape word ≡ word → list_any is_odd word ≡ false
     → IsWritable s → length (object_json nodes makespan word (Some s)) ≤ MOST_BYTES → Tells (object_json nodes makespan word (Some s)) s
 object_tells nodes makespan word s n m same odd can short =

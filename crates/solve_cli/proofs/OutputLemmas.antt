@@ -9,7 +9,7 @@ use Rattle.solve_cli.specs.FoundText.{places_of, shown_text, nodes_line, found_t
 use Rattle.solve_cli.specs.Laws.{LinesTellTheBest, BetterLineTells}
 use Rattle.solve_cli.specs.declared.search_result.SearchResult.{SearchResult}
 
--- what is told at the end of a text of two parts
+-- the schedule at the end of a text of two parts
 at_the_end : (text front : List ℕ) (s : ScheduleData) → text ≡ front ++ (schedule_text s ++ 10 ∷ []) → IsWritable s → length text ≤ MOST_BYTES → Tells text s
 at_the_end text front s is can short =
     subst (λ (l : List ℕ). Tells l s) (sym is) (words_are_told front s can (subst (λ (l : List ℕ). length l ≤ MOST_BYTES) is short))

@@ -85,7 +85,8 @@ at_then a b c ab bc = record {
 closed_of : (m : Meaning) → m.taken ≡ false → shown_closed m ≡ true → is_closed m.plan m.nodes ≡ true
 closed_of m kept h = rw kept at h
 
--- a search that was begun with so many quanta, and that ran until it was over or had none left, has run as many nodes as that takes
+-- a search with a number of quanta that ran until it was over or had none left has run the lesser
+-- of its quanta and its need
 nodes_of : (of : Plan) (most : ℕ) (begun over : Meaning) → IsBegun of most begun → IsAt begun over → IsOver over → over.nodes ≡ first_from (is_closed of) most 0
 nodes_of of most begun over is ran end =
     let none : begun.nodes ≡ 0 = is.nodes in

@@ -35,7 +35,7 @@ pub record IsToldBroken (file text : List ℕ) (b : Breach) : Type 0 where
   pub told : Tells text schedule
   pub first : IsFirstBreach project schedule b
 
--- why a file and a text are no verified schedule. A text without a schedule tells none
+-- why a file and a text are no verified schedule. A text without a schedule holds none
 abbrev pub IsAtFault : List ℕ → List ℕ → VerifyFault → Type 0
 IsAtFault file text (fault.File f) = Fails f (reading file)
 IsAtFault file text fault.Words = IsFile file × (length text ≤ MOST_BYTES) × IsUntold (Tells text)

@@ -1,4 +1,4 @@
-//! The picture of a schedule, and what its heading says.
+//! The picture of a schedule, and its heading.
 ghost use Rattle.std.specs.Prelude.{◌≡◌, IfOk, IfSome};
 ghost use Rattle.mrcpsp.specs.Schedule.{IsFeasible};
 ghost use Rattle.price_search.specs.LowerBound.{TakesAtLeast};

@@ -12,7 +12,7 @@ use prover::{Allowance, Answer, BestKnown, Overseer, Pace, Proved, prove_alone};
 use std::alloc::Global;
 use strategy::Verdict;
 
-/// The most words of four bytes in clauses, as many again in their kernel: 500 megabytes in all.
+/// The most words of four bytes in clauses, and equally many in their kernel: 500 megabytes in all.
 const WORDS: usize = 62_500_000;
 
 /// An observer of a search that proves. A node is a conflict.
