@@ -36,7 +36,7 @@ impl WordLayout {
         }
     }
 
-    /// As many amounts from `from` on as there are fields. An amount that is too large is cut.
+    /// One amount for each field, from `from` on. An amount that is too large is cut.
     fn packed(self, amounts: &[u32], from: u32) -> u64 {
         let most = self.base / 2;
         let mut word = 0u64;

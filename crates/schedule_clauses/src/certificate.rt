@@ -97,7 +97,7 @@ pub fn clauses(
     Ok(encode(alloc, project, bound, &barring)?)
 }
 
-/// Is [`clauses`] if prices leave the bound open, and `None` if they refute it.
+/// Returns the formula of [`clauses`] if prices leave the bound open, and `None` if they refute it.
 #[tactic(auto, using(crate::proofs::EncodingLemmas::short_rules))]
 pub fn open_clauses(
     alloc: Global,
