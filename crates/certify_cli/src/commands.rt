@@ -1,12 +1,11 @@
 //! The commands that check proofs: what each answers to the bytes of its inputs.
-ghost use Rattle.certify_cli.specs.Certified.{CertifiesOptimal, CertifiesInfeasible, CertifiesBound, CertifiesLeast};
-ghost use Rattle.certify_cli.specs.Commands.{IsOfFile, IsOfText, IsOfProofAlone, IsOfPeriods, IsOfFileAlone};
+ghost use Rattle.certify_cli.specs.Certified.{CertifiesOptimal, CertifiesInfeasible, CertifiesBound, CertifiesLeast, IsOfFile, IsOfText, IsOfProofAlone, IsOfPeriods, IsOfFileAlone};
 
-use crate::bounding::{certify_bound, certify_least};
-use crate::certifying::{certify, certify_infeasible};
-use crate::explaining::{why_not_infeasible, why_uncertified};
+use crate::bounds::{certify_bound, certify_least};
+use crate::certificates::{certify, certify_infeasible};
 use crate::fault::CertifyFault;
-use file_commands::{Answer, FileCommand, Texts};
+use crate::reasons::{why_not_infeasible, why_uncertified};
+use file_commands::{CommandAnswer, FileCommand, Texts};
 use std::alloc::Global;
 
 /// The most bytes that are read of a proof.
@@ -23,12 +22,12 @@ impl FileCommand for Certify {
 
     ghost refuses = { λ _ texts fault. IsOfFile fault texts.file × IsOfText fault texts.file texts.text };
 
-    fn answer(&mut self, alloc: Global, texts: &Texts<'_>) -> Answer<CertifyFault> {
-        match certify(alloc, texts.file, texts.text, texts.proof) {
-            Ok(line) => Answer::new(Ok(line), None),
+    fn answer(&mut self, alloc: Global, texts: &Texts<'_>) -> CommandAnswer<CertifyFault> {
+        match certify(alloc, texts.file, texts.text, texts.other) {
+            Ok(line) => CommandAnswer::new(Ok(line), None),
             Err(fault) => {
                 let why = why_uncertified(alloc, texts.file, texts.text, fault);
-                Answer::new(Err(fault), why)
+                CommandAnswer::new(Err(fault), why)
             }
         }
     }
@@ -45,12 +44,12 @@ impl FileCommand for CertifyInfeasible {
 
     ghost refuses = { λ _ texts fault. IsOfFile fault texts.file × IsOfProofAlone fault };
 
-    fn answer(&mut self, alloc: Global, texts: &Texts<'_>) -> Answer<CertifyFault> {
-        match certify_infeasible(alloc, texts.file, texts.proof) {
-            Ok(line) => Answer::new(Ok(line), None),
+    fn answer(&mut self, alloc: Global, texts: &Texts<'_>) -> CommandAnswer<CertifyFault> {
+        match certify_infeasible(alloc, texts.file, texts.other) {
+            Ok(line) => CommandAnswer::new(Ok(line), None),
             Err(fault) => {
                 let why = why_not_infeasible(alloc, texts.file, fault);
-                Answer::new(Err(fault), why)
+                CommandAnswer::new(Err(fault), why)
             }
         }
     }
@@ -69,12 +68,12 @@ impl FileCommand for CertifyBound {
 
     ghost refuses = { λ bound texts fault. IsOfFile fault texts.file × IsOfPeriods fault texts.file bound.periods };
 
-    fn answer(&mut self, alloc: Global, texts: &Texts<'_>) -> Answer<CertifyFault> {
-        match certify_bound(alloc, texts.file, self.periods, texts.proof) {
-            Ok(line) => Answer::new(Ok(line), None),
+    fn answer(&mut self, alloc: Global, texts: &Texts<'_>) -> CommandAnswer<CertifyFault> {
+        match certify_bound(alloc, texts.file, self.periods, texts.other) {
+            Ok(line) => CommandAnswer::new(Ok(line), None),
             Err(fault) => {
                 let why = why_uncertified(alloc, texts.file, &[], fault);
-                Answer::new(Err(fault), why)
+                CommandAnswer::new(Err(fault), why)
             }
         }
     }
@@ -95,12 +94,12 @@ impl FileCommand for FindBound {
 
     ghost refuses = { λ _ texts fault. IsOfFile fault texts.file × IsOfFileAlone fault };
 
-    fn answer(&mut self, alloc: Global, texts: &Texts<'_>) -> Answer<CertifyFault> {
+    fn answer(&mut self, alloc: Global, texts: &Texts<'_>) -> CommandAnswer<CertifyFault> {
         match certify_least(alloc, texts.file, self.steps) {
-            Ok(line) => Answer::new(Ok(line), None),
+            Ok(line) => CommandAnswer::new(Ok(line), None),
             Err(fault) => {
                 let why = why_uncertified(alloc, texts.file, &[], fault);
-                Answer::new(Err(fault), why)
+                CommandAnswer::new(Err(fault), why)
             }
         }
     }

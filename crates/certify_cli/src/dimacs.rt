@@ -2,23 +2,23 @@
 //! that begin with `c` explain the clauses and the variables: `starts J T`, activity J starts at T
 //! or before, and `mode J M`, it has mode M.
 use itoa::Buffer;
-use schedule_clauses::{CapacityRow, Fact, Formula, Kind};
+use schedule_clauses::{CapacityRow, Fact, ScheduleFormula, SectionKind};
 use std::io::{self, Write};
 
-fn said_by(kind: Kind) -> &'static str {
+fn said_by(kind: SectionKind) -> &'static str {
     match kind {
-        Kind::Modes => "each activity has exactly one mode",
-        Kind::Starts => "what starts by a time starts by each later one",
-        Kind::Ends => "what comes behind each activity ends within the bound",
-        Kind::Precedence => "each successor starts where the activity has ended",
-        Kind::Runs => "when each activity runs",
-        Kind::Renewable => "what runs fits the renewable capacities in each period",
-        Kind::Nonrenewable => "the modes fit the stocks of the nonrenewable resources",
-        Kind::Barred => "starts that prices show to be in no schedule within the bound",
+        SectionKind::Modes => "each activity has exactly one mode",
+        SectionKind::Starts => "what starts by a time starts by each later one",
+        SectionKind::Ends => "what comes behind each activity ends within the bound",
+        SectionKind::Precedence => "each successor starts where the activity has ended",
+        SectionKind::Runs => "when each activity runs",
+        SectionKind::Renewable => "what runs fits the renewable capacities in each period",
+        SectionKind::Nonrenewable => "the modes fit the stocks of the nonrenewable resources",
+        SectionKind::Barred => "starts that prices show to be in no schedule within the bound",
     }
 }
 
-fn write_sections<W: Write>(writer: &mut W, formula: &Formula) -> io::Result<()> {
+fn write_sections<W: Write>(writer: &mut W, formula: &ScheduleFormula) -> io::Result<()> {
     let mut before = 0usize;
     for section in &formula.sections {
         let last = before.saturating_add(section.count);
@@ -32,7 +32,7 @@ fn write_sections<W: Write>(writer: &mut W, formula: &Formula) -> io::Result<()>
     Ok(())
 }
 
-fn write_left_out<W: Write>(writer: &mut W, formula: &Formula) -> io::Result<()> {
+fn write_left_out<W: Write>(writer: &mut W, formula: &ScheduleFormula) -> io::Result<()> {
     for row in &formula.left_out {
         match row {
             CapacityRow::Use { resource, time } => {
@@ -70,7 +70,7 @@ fn write_meaning<W: Write>(writer: &mut W, variable: usize, meaning: Fact) -> io
     }
 }
 
-fn write_meanings<W: Write>(writer: &mut W, formula: &Formula) -> io::Result<()> {
+fn write_meanings<W: Write>(writer: &mut W, formula: &ScheduleFormula) -> io::Result<()> {
     for variable in 1..formula.meanings.len() {
         write_meaning(writer, variable, formula.meanings[variable])?;
     }
@@ -91,7 +91,7 @@ fn write_clause<W: Write>(writer: &mut W, digits: &mut Buffer, clause: &[u32]) -
     writer.write_all(b"0\n")
 }
 
-pub(crate) fn write_formula<W: Write>(writer: &mut W, formula: &Formula) -> io::Result<()> {
+pub(crate) fn write_formula<W: Write>(writer: &mut W, formula: &ScheduleFormula) -> io::Result<()> {
     write_sections(writer, formula)?;
     write_left_out(writer, formula)?;
     write_meanings(writer, formula)?;

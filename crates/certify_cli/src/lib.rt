@@ -5,29 +5,29 @@
 //! What [`write_clauses`] writes is only tested: if it misleads a solver, the proof is refused.
 //!
 //! [`Certify`], [`CertifyInfeasible`], [`CertifyBound`] and [`FindBound`] are the commands, for the
-//! runner of all (`specs/Commands`).
+//! runner of all.
 //!
-//! - `certifying`, `bounding`: checks of proofs, and `write_clauses`.
+//! - `certificates`, `bounds`: checks of proofs, and `write_clauses`.
 //! - `commands`: the commands, for the runner of all.
-//! - `fault`, `explaining`: why nothing is certified.
+//! - `fault`, `reasons`: why nothing is certified.
 //! - `dimacs`: clauses in DIMACS form.
 //! - `arguments`, `program`: the words of a command line, and the commands on files.
 //! - `laws`: the limits of what is read, in figures.
 #![tactic(auto)]
 
 mod arguments;
-mod bounding;
-mod certifying;
+mod bounds;
+mod certificates;
 mod commands;
 mod dimacs;
-mod explaining;
 mod fault;
 pub mod laws;
 mod program;
+mod reasons;
 
 pub use arguments::with_commands;
-pub use bounding::{certify_bound, certify_least};
-pub use certifying::{certify, certify_infeasible, write_clauses};
+pub use bounds::{certify_bound, certify_least};
+pub use certificates::{certify, certify_infeasible, write_clauses};
 pub use commands::{Certify, CertifyBound, CertifyInfeasible, FindBound, MOST_PROOF};
 pub use fault::CertifyFault;
 pub use program::run_command;

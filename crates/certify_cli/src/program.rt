@@ -3,13 +3,13 @@ ghost use Rattle.std.specs.Prelude.{◌≡◌, ◌≤◌, IfSome};
 ghost use Rattle.std.specs.Process.{exit_status};
 
 use crate::arguments::{CertificateTask, task_of};
-use crate::certifying::write_clauses;
+use crate::certificates::write_clauses;
 use crate::commands::{Certify, CertifyBound, CertifyInfeasible, FindBound, MOST_PROOF};
-use crate::explaining::why_uncertified;
+use crate::reasons::why_uncertified;
 use clap::ArgMatches;
 use file_commands::{
     CommandFault, CommandWatches, FileCommand, Paths, end_command, end_no_memory, open_sources,
-    read_path,
+    read_path, run_sources,
 };
 use std::env::Env;
 use std::io;
@@ -31,9 +31,9 @@ pub fn run_command<R: Runtime + AllocGlobal>(rt: &R, matches: &ArgMatches<'_>) -
                 schedule,
                 proof,
             },
-        ) => Some(run_on(rt, file, Some(schedule), proof, Certify)),
+        ) => Some(run_proof(rt, file, Some(schedule), proof, Certify)),
         Some(CertificateTask::Infeasible { file, proof }) => {
-            Some(run_on(rt, file, None, proof, CertifyInfeasible))
+            Some(run_proof(rt, file, None, proof, CertifyInfeasible))
         }
         Some(
             CertificateTask::Bound {
@@ -59,8 +59,8 @@ fn end_unbounded<R: Env + Eprint>(rt: &R, bound: &str, others: &str) -> ExitCode
     ExitCode::FAILURE
 }
 
-/// Runs `command` on these files. Without a path the proof is empty.
-fn run_on<R: Runtime + AllocGlobal, C: FileCommand>(
+/// Runs `command` on these inputs. Without the path of a proof the proof is empty.
+fn run_proof<R: Runtime + AllocGlobal, C: FileCommand>(
     rt: &R,
     file: &str,
     text: Option<&str>,
@@ -69,12 +69,16 @@ fn run_on<R: Runtime + AllocGlobal, C: FileCommand>(
 ) -> ExitCode
     ensures { exit_status result ≤ 1 }
 {
-    let Some(mut sources) = open_sources(rt, file, text, proof) else {
+    let paths = Paths {
+        file,
+        text,
+        other: proof,
+    };
+    let Some(mut sources) = open_sources(rt, paths) else {
         return ExitCode::FAILURE;
     };
-    sources.most_proof = MOST_PROOF;
-    let (mut writer, mut watches) = (io::writer(rt), CommandWatches::new());
-    file_commands::run_command(rt, sources, command, &mut writer, &mut watches)
+    sources.most_other = MOST_PROOF;
+    run_sources(rt, sources, command)
 }
 
 /// Prints `at least L` if `proof` shows that no schedule of `file` takes fewer than `bound`
@@ -90,12 +94,12 @@ fn run_bound<R: Runtime + AllocGlobal>(
     ensures { exit_status result ≤ 1 }
 {
     let Some(bound) = bound else {
-        return run_on(rt, file, None, None, FindBound { steps });
+        return run_proof(rt, file, None, None, FindBound { steps });
     };
     let Ok(periods) = bound.parse::<u32>() else {
         return end_unbounded(rt, bound, "");
     };
-    run_on(rt, file, None, proof, CertifyBound { periods })
+    run_proof(rt, file, None, proof, CertifyBound { periods })
 }
 
 /// Prints the clauses of `file` and `bound`, a number of periods or `none`.

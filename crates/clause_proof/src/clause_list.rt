@@ -10,7 +10,7 @@ pub(crate) const NO_LITERAL: u32 = u32::MAX;
 const MOST_LITERALS: usize = 1_000_000_000;
 
 #[derive(Clone, Copy, PartialEq, Eq)]
-pub(crate) enum State {
+pub(crate) enum ClauseState {
     /// No literals watch it.
     Idle,
     Watched,
@@ -28,40 +28,40 @@ pub(crate) struct NumberedClauses {
 }
 
 #[derive(Clone, Copy)]
-pub(crate) struct Span {
+pub(crate) struct LiteralSpan {
     pub(crate) start: usize,
     pub(crate) end: usize,
 }
 
 #[derive(Clone, Copy)]
-pub(crate) struct Entry {
+pub(crate) struct ClauseEntry {
     pub(crate) clause: u32,
-    pub(crate) state: State,
-    pub(crate) span: Span,
+    pub(crate) state: ClauseState,
+    pub(crate) span: LiteralSpan,
 }
 
-fn code_of(state: State) -> u32
+fn code_of(state: ClauseState) -> u32
     ensures { result < 4 }
 {
     match state {
-        State::Idle => 0,
-        State::Watched => 1,
-        State::Core => 2,
-        State::Deleted => 3,
+        ClauseState::Idle => 0,
+        ClauseState::Watched => 1,
+        ClauseState::Core => 2,
+        ClauseState::Deleted => 3,
     }
 }
 
-fn state_of(word: u32) -> State {
+fn state_of(word: u32) -> ClauseState {
     match word % 4 {
-        0 => State::Idle,
-        1 => State::Watched,
-        2 => State::Core,
-        _ => State::Deleted,
+        0 => ClauseState::Idle,
+        1 => ClauseState::Watched,
+        2 => ClauseState::Core,
+        _ => ClauseState::Deleted,
     }
 }
 
-fn span_of(start: usize, word: u32) -> Span {
-    Span {
+fn span_of(start: usize, word: u32) -> LiteralSpan {
+    LiteralSpan {
         start,
         end: start.saturating_add((word / 4) as usize),
     }
@@ -86,7 +86,7 @@ impl NumberedClauses {
         let length = clause.len().min(MOST_LITERALS) as u32;
         let number = self.count();
         self.words.push(number)?;
-        self.words.push(4 * length + code_of(State::Idle))?;
+        self.words.push(4 * length + code_of(ClauseState::Idle))?;
         self.starts.push(self.words.len())?;
         for literal in clause {
             self.words.push(*literal)?;
@@ -105,30 +105,30 @@ impl NumberedClauses {
         self.starts.get(clause as usize).copied()
     }
 
-    pub(crate) fn entry(&self, start: usize) -> Entry {
+    pub(crate) fn entry(&self, start: usize) -> ClauseEntry {
         let word = self.literal(start.saturating_sub(1));
-        Entry {
+        ClauseEntry {
             clause: self.literal(start.saturating_sub(2)),
             state: state_of(word),
             span: span_of(start, word),
         }
     }
 
-    pub(crate) fn span(&self, clause: u32) -> Span {
+    pub(crate) fn span(&self, clause: u32) -> LiteralSpan {
         match self.start(clause) {
             Some(start) => span_of(start, self.literal(start.saturating_sub(1))),
-            None => Span { start: 0, end: 0 },
+            None => LiteralSpan { start: 0, end: 0 },
         }
     }
 
-    pub(crate) fn state(&self, clause: u32) -> State {
+    pub(crate) fn state(&self, clause: u32) -> ClauseState {
         match self.start(clause) {
             Some(start) => state_of(self.literal(start.saturating_sub(1))),
-            None => State::Idle,
+            None => ClauseState::Idle,
         }
     }
 
-    pub(crate) fn set_state(&mut self, clause: u32, state: State) {
+    pub(crate) fn set_state(&mut self, clause: u32, state: ClauseState) {
         if let Some(start) = self.start(clause) {
             let at = start.saturating_sub(1);
             if at < self.words.len() {

@@ -1,5 +1,5 @@
 //! The hints of a clause: the reasons of a propagation, collected backwards from its conflict.
-use crate::clause_list::{NO_CLAUSE, State};
+use crate::clause_list::{ClauseState, NO_CLAUSE};
 use crate::propagator::Propagator;
 use clause_kernel::negated;
 use std::alloc::{AllocError, Global};
@@ -42,8 +42,8 @@ impl Derivations {
     fn push_hint(&mut self, clause: u32, implied: u32) -> Result<(), AllocError> {
         self.hints.push(clause)?;
         let clauses = &mut self.propagator.clauses;
-        if clauses.state(clause) == State::Watched {
-            clauses.set_state(clause, State::Core);
+        if clauses.state(clause) == ClauseState::Watched {
+            clauses.set_state(clause, ClauseState::Core);
         }
         let span = clauses.span(clause);
         for place in span.start..span.end {

@@ -1,10 +1,10 @@
 //! The steps of a proof, read from the first to the last, and taken back again.
 ghost use Rattle.std.specs.Prelude.{◌≤◌, length};
 
-use crate::clause_list::{NO_CLAUSE, State};
+use crate::clause_list::{ClauseState, NO_CLAUSE};
 use crate::derivations::Derivations;
 use crate::fault::ProofFault;
-use crate::index::{Index, signature};
+use crate::index::{ClauseIndex, signature};
 use crate::reader::{Reader, Step};
 use clause_kernel::ClauseList;
 use std::alloc::{AllocError, Global};
@@ -30,7 +30,7 @@ struct Deletion {
 pub(crate) struct History {
     alloc: Global,
     derivations: Derivations,
-    index: Index,
+    index: ClauseIndex,
     roots: Vec<Root>,
     deletions: Vec<Deletion>,
     /// How many clauses there were before the first step.
@@ -52,7 +52,7 @@ impl History {
         let mut history = History {
             alloc,
             derivations: Derivations::new(alloc, size)?,
-            index: Index::new(alloc, chains)?,
+            index: ClauseIndex::new(alloc, chains)?,
             roots: Vec::new(alloc),
             deletions: Vec::new(alloc),
             originals: 0,
@@ -167,10 +167,10 @@ impl History {
     fn delete(&mut self, clause: &[u32]) -> Result<(), AllocError> {
         if let Some(at) = self.index.remove(signature(clause))
             && let Ok(number) = u32::try_from(at)
-            && self.derivations.propagator.clauses.state(number) != State::Idle
+            && self.derivations.propagator.clauses.state(number) != ClauseState::Idle
         {
             let clauses = &mut self.derivations.propagator.clauses;
-            clauses.set_state(number, State::Deleted);
+            clauses.set_state(number, ClauseState::Deleted);
             let count = self.count();
             self.deletions.push(Deletion {
                 clause: number,
@@ -208,7 +208,7 @@ impl History {
 
     /// Begins to take back steps. No clause is looked for from now on.
     pub(crate) fn turn(&mut self) -> Result<(), AllocError> {
-        self.index = Index::new(self.alloc, 0)?;
+        self.index = ClauseIndex::new(self.alloc, 0)?;
         self.derivations.propagator.watch_all()
     }
 
@@ -222,7 +222,9 @@ impl History {
             }
             self.deletions.pop();
             let propagator = &mut self.derivations.propagator;
-            propagator.clauses.set_state(last.clause, State::Watched);
+            propagator
+                .clauses
+                .set_state(last.clause, ClauseState::Watched);
             propagator.watch(last.clause)?;
         }
         Ok(())
@@ -235,7 +237,7 @@ impl History {
         };
         self.undelete(clause)?;
         let clauses = &mut self.derivations.propagator.clauses;
-        clauses.set_state(clause, State::Idle);
+        clauses.set_state(clause, ClauseState::Idle);
         let mut reason = NO_CLAUSE;
         if let Some(root) = self.roots.last().copied()
             && root.unit == clause

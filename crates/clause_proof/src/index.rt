@@ -5,7 +5,7 @@ const NONE: u32 = u32::MAX;
 
 /// Chains of clauses whose signatures share a remainder.
 #[derive(Drop)]
-pub(crate) struct Index {
+pub(crate) struct ClauseIndex {
     heads: Vec<u32>,
     nexts: Vec<u32>,
     signatures: Vec<u64>,
@@ -22,11 +22,11 @@ pub(crate) fn signature(clause: &[u32]) -> u64 {
     sum
 }
 
-impl Index {
-    pub(crate) fn new(alloc: Global, size: usize) -> Result<Index, AllocError> {
+impl ClauseIndex {
+    pub(crate) fn new(alloc: Global, size: usize) -> Result<ClauseIndex, AllocError> {
         let mut heads = Vec::with_capacity(alloc, size)?;
         heads.resize(size, NONE)?;
-        Ok(Index {
+        Ok(ClauseIndex {
             heads,
             nexts: Vec::new(alloc),
             signatures: Vec::new(alloc),

@@ -1,7 +1,9 @@
 //! Unit propagation over two watched literals (Moskewicz, Madigan, Zhao, Zhang and Malik 2001),
 //! clauses of the core first (Wetzler, Heule and Hunt 2014). No proof rests on what it finds.
 use crate::assignment::Assignment;
-use crate::clause_list::{Entry, NO_CLAUSE, NO_LITERAL, NumberedClauses, Span, State};
+use crate::clause_list::{
+    ClauseEntry, ClauseState, LiteralSpan, NO_CLAUSE, NO_LITERAL, NumberedClauses,
+};
 use crate::watches::{WatchLists, Watcher};
 use clause_kernel::negated;
 use std::alloc::{AllocError, Global};
@@ -10,7 +12,7 @@ use std::alloc::{AllocError, Global};
 const MOST_PLACE: usize = 2_000_000_000;
 
 #[derive(Clone, Copy)]
-enum Visit {
+enum ClauseVisit {
     Stays { blocker: u32 },
     Gone,
     Conflict { clause: u32 },
@@ -64,7 +66,7 @@ impl Propagator {
     /// Lets a clause watch two literals that are not false, or makes the only such literal true.
     /// Returns whether all its literals are false.
     pub(crate) fn attach(&mut self, clause: u32) -> Result<bool, AllocError> {
-        let Span { start, end } = self.clauses.span(clause);
+        let LiteralSpan { start, end } = self.clauses.span(clause);
         if end <= start {
             return Ok(true);
         }
@@ -80,13 +82,13 @@ impl Propagator {
             return Ok(false);
         };
         self.clauses.swap(start + 1, place);
-        self.clauses.set_state(clause, State::Watched);
+        self.clauses.set_state(clause, ClauseState::Watched);
         self.watch(clause)?;
         Ok(false)
     }
 
     pub(crate) fn watch(&mut self, clause: u32) -> Result<(), AllocError> {
-        let Span { start, end } = self.clauses.span(clause);
+        let LiteralSpan { start, end } = self.clauses.span(clause);
         if end < 2 || end - 2 < start || MOST_PLACE < start {
             return Ok(());
         }
@@ -102,7 +104,7 @@ impl Propagator {
     pub(crate) fn watch_all(&mut self) -> Result<(), AllocError> {
         self.watches.clear();
         for clause in 0..self.clauses.count() {
-            if self.clauses.state(clause) == State::Watched {
+            if self.clauses.state(clause) == ClauseState::Watched {
                 self.watch(clause)?;
             }
         }
@@ -110,8 +112,8 @@ impl Propagator {
     }
 
     /// The clause has three or more literals, and watches `falsified`.
-    fn look(&mut self, span: Span, falsified: u32) -> Look {
-        let Span { start, end } = span;
+    fn look(&mut self, span: LiteralSpan, falsified: u32) -> Look {
+        let LiteralSpan { start, end } = span;
         if end < 2 || end - 2 < start {
             return Look::IsTrue(NO_LITERAL);
         }
@@ -138,14 +140,14 @@ impl Propagator {
         watch: Watcher,
         falsified: u32,
         moves_to_core: bool,
-    ) -> Result<Visit, AllocError> {
+    ) -> Result<ClauseVisit, AllocError> {
         if !moves_to_core {
-            return Ok(Visit::Stays {
+            return Ok(ClauseVisit::Stays {
                 blocker: watch.blocker,
             });
         }
         self.watches.add(falsified, watch, true)?;
-        Ok(Visit::Gone)
+        Ok(ClauseVisit::Gone)
     }
 
     /// The clause watches `falsified`, and its blocker is not true.
@@ -154,17 +156,17 @@ impl Propagator {
         watch: Watcher,
         falsified: u32,
         is_core: bool,
-    ) -> Result<Visit, AllocError> {
+    ) -> Result<ClauseVisit, AllocError> {
         let Watcher { code, blocker } = watch;
-        let Entry {
+        let ClauseEntry {
             clause,
             state,
             span,
         } = self.clauses.entry((code / 2) as usize);
-        if state == State::Idle || state == State::Deleted {
-            return Ok(Visit::Gone);
+        if state == ClauseState::Idle || state == ClauseState::Deleted {
+            return Ok(ClauseVisit::Gone);
         }
-        let moves_to_core = !is_core && state == State::Core;
+        let moves_to_core = !is_core && state == ClauseState::Core;
         let look = if code % 2 == 1 {
             Look::Forces(blocker)
         } else {
@@ -174,13 +176,16 @@ impl Propagator {
             Look::IsTrue(blocker) => self.keep(Watcher { code, blocker }, falsified, moves_to_core),
             Look::Moves { literal, other } => {
                 let blocker = other;
-                self.watches
-                    .add(literal, Watcher { code, blocker }, state == State::Core)?;
-                Ok(Visit::Gone)
+                self.watches.add(
+                    literal,
+                    Watcher { code, blocker },
+                    state == ClauseState::Core,
+                )?;
+                Ok(ClauseVisit::Gone)
             }
             Look::Forces(blocker) => {
                 if self.assignment.is_false(blocker) {
-                    return Ok(Visit::Conflict { clause });
+                    return Ok(ClauseVisit::Conflict { clause });
                 }
                 self.assignment.assign(blocker, clause)?;
                 self.keep(Watcher { code, blocker }, falsified, moves_to_core)
@@ -202,9 +207,9 @@ impl Propagator {
             let mut blocker = watch.blocker;
             if conflict == NO_CLAUSE && !self.assignment.is_true(blocker) {
                 match self.visit(watch, falsified, is_core)? {
-                    Visit::Gone => continue,
-                    Visit::Stays { blocker: other } => blocker = other,
-                    Visit::Conflict { clause } => conflict = clause,
+                    ClauseVisit::Gone => continue,
+                    ClauseVisit::Stays { blocker: other } => blocker = other,
+                    ClauseVisit::Conflict { clause } => conflict = clause,
                 }
             }
             list[kept] = Watcher {

@@ -10,6 +10,16 @@ use std::alloc::{AllocError, Global};
 /// A variable with a longer resolvent stays.
 const LONGEST: usize = 20;
 
+/// A `Parent` is a clause with the literal of `variable` that is resolved away. `marks` has its
+/// literals.
+#[derive(Clone, Copy)]
+struct Parent<'a> {
+    arena: &'a Arena,
+    marks: &'a Marks,
+    clause: u32,
+    variable: u32,
+}
+
 /// A resolvent is a clause in `Resolvents::literals`, up to the place `end`, and the numbers of its
 /// parents.
 #[derive(Clone, Copy)]
@@ -39,55 +49,45 @@ impl Resolvents {
         self.list.clear();
     }
 
-    /// Resolves a clause, whose literals are marked, with another. Returns the resolvent's length.
-    fn resolve(
-        &mut self,
-        arena: &Arena,
-        marks: &Marks,
-        one: u32,
-        other: u32,
-        variable: u32,
-    ) -> Result<usize, AllocError> {
+    /// Resolves `parent` with the clause `other`. Returns the resolvent's length, 0 for a tautology.
+    fn resolve(&mut self, parent: &Parent<'_>, other: u32) -> Result<usize, AllocError> {
         let begun = self.literals.len();
-        for literal in arena.literals(other) {
-            if *literal / 2 == variable {
+        for literal in parent.arena.literals(other) {
+            if *literal / 2 == parent.variable {
                 continue;
             }
-            if marks.has(*literal ^ 1) {
+            if parent.marks.has(*literal ^ 1) {
                 self.literals.truncate(begun);
                 return Ok(0);
             }
-            if !marks.has(*literal) {
+            if !parent.marks.has(*literal) {
                 self.literals.push(*literal)?;
             }
         }
-        for literal in arena.literals(one) {
-            if *literal / 2 != variable {
+        for literal in parent.arena.literals(parent.clause) {
+            if *literal / 2 != parent.variable {
                 self.literals.push(*literal)?;
             }
         }
         let end = self.literals.len();
         self.list.push(Resolvent {
             end,
-            one: arena.number(one),
-            other: arena.number(other),
+            one: parent.arena.number(parent.clause),
+            other: parent.arena.number(other),
         })?;
         Ok(end.saturating_sub(begun))
     }
 
-    /// Resolves a clause with each of a list. Returns false if there are more than `most`
-    /// resolvents, or one is too long.
+    /// Resolves `parent` with each of `others`. Returns false if there are more than `most`
+    /// resolvents, or if one is longer than `LONGEST`.
     fn resolve_each(
         &mut self,
-        arena: &Arena,
-        marks: &Marks,
-        one: u32,
+        parent: &Parent<'_>,
         others: &[u32],
-        variable: u32,
         most: usize,
     ) -> Result<bool, AllocError> {
         for other in others {
-            let length = self.resolve(arena, marks, one, *other, variable)?;
+            let length = self.resolve(parent, *other)?;
             if length > LONGEST || self.list.len() > most {
                 return Ok(false);
             }
@@ -113,10 +113,13 @@ impl Simplifier {
         self.resolvents.clear();
         for one in positive {
             self.marks.begin(arena.literals(*one));
-            if !self
-                .resolvents
-                .resolve_each(arena, &self.marks, *one, negative, variable, most)?
-            {
+            let parent = Parent {
+                arena,
+                marks: &self.marks,
+                clause: *one,
+                variable,
+            };
+            if !self.resolvents.resolve_each(&parent, negative, most)? {
                 return Ok(false);
             }
         }

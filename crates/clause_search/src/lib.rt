@@ -12,4 +12,4 @@ mod simplifier;
 mod subsumption;
 
 pub use clause_engine::exchange::Message;
-pub use search::{Answer, Limits, Search};
+pub use search::{Search, SearchAnswer, SearchLimits};

@@ -13,7 +13,7 @@ use std::marker::Model;
 
 /// An answer is what a run of a search came to.
 #[derive(Clone, Copy, PartialEq, Eq, Debug)]
-pub enum Answer {
+pub enum SearchAnswer {
     /// Values were found (`Search::values`). They are not checked.
     Satisfied,
     /// The kernel holds the empty clause.
@@ -26,7 +26,7 @@ pub enum Answer {
 
 /// The limits of a search.
 #[derive(Clone, Copy, Debug)]
-pub struct Limits {
+pub struct SearchLimits {
     /// The most words, of 4 bytes, that a search holds in clauses. The kernel holds as many.
     pub words: usize,
 }
@@ -36,7 +36,7 @@ pub struct Limits {
 pub struct Search {
     engine: Engine,
     conflicts: u64,
-    limits: Limits,
+    limits: SearchLimits,
     values: Vec<bool>,
     /// No run ended for want of memory.
     is_whole: bool,
@@ -118,9 +118,9 @@ fn run_engine<F: Formula>(
     conflicts: &mut u64,
     kernel: &mut Kernel<F>,
     budget: u64,
-) -> Result<Answer, AllocError>
+) -> Result<SearchAnswer, AllocError>
     ensures budget { conflicts.new ≤ conflicts.old + budget }
-    ensures refuted { IfOk result (λ answer. answer ≡ Answer.Refuted → kernel.new.refuted ≡ true) }
+    ensures refuted { IfOk result (λ answer. answer ≡ SearchAnswer.Refuted → kernel.new.refuted ≡ true) }
 {
     let end = conflicts.saturating_add(budget);
     if budget > 0 && !engine.is_watched() && !engine.is_full {
@@ -128,7 +128,7 @@ fn run_engine<F: Formula>(
     }
     for _ in 0..u64::MAX {
         if kernel.is_refuted() {
-            return Ok(Answer::Refuted);
+            return Ok(SearchAnswer::Refuted);
         }
         if engine.refused > 0 || end <= *conflicts {
             break;
@@ -137,8 +137,8 @@ fn run_engine<F: Formula>(
         if conflict == NO_CLAUSE {
             match engine.step(kernel, *conflicts)? {
                 Progress::Goes => {}
-                Progress::Ends => return Ok(Answer::Satisfied),
-                Progress::Full => return Ok(Answer::Full),
+                Progress::Ends => return Ok(SearchAnswer::Satisfied),
+                Progress::Full => return Ok(SearchAnswer::Full),
             }
         } else if engine.trail.depth() == 0 {
             engine.refute(kernel, conflict)?;
@@ -147,12 +147,16 @@ fn run_engine<F: Formula>(
             engine.learn(kernel, conflict)?;
         }
     }
-    Ok(Answer::Open)
+    Ok(SearchAnswer::Open)
 }
 
 impl Search {
     /// Takes the clauses of a formula. The number of a clause in the kernel is its place.
-    pub fn new(alloc: Global, formula: &ClauseList, limits: Limits) -> Result<Search, AllocError>
+    pub fn new(
+        alloc: Global,
+        formula: &ClauseList,
+        limits: SearchLimits,
+    ) -> Result<Search, AllocError>
         ensures conflicts { IfOk result (λ search. search.conflicts ≡ 0) }
         ensures words { IfOk result (λ search. search.words ≤ limits.words) }
         ensures limits { IfOk result (λ search. search.most_words ≡ limits.words) }
@@ -253,11 +257,11 @@ impl Search {
         &mut self,
         kernel: &mut Kernel<F>,
         conflicts: u64,
-    ) -> Result<Answer, AllocError>
+    ) -> Result<SearchAnswer, AllocError>
         ensures budget { self.new.conflicts ≤ self.old.conflicts + conflicts }
         ensures memory { self.new.words ≤ self.new.most_words }
         ensures limits { self.new.most_words ≡ self.old.most_words }
-        ensures refuted { IfOk result (λ answer. answer ≡ Answer.Refuted → kernel.new.refuted ≡ true) }
+        ensures refuted { IfOk result (λ answer. answer ≡ SearchAnswer.Refuted → kernel.new.refuted ≡ true) }
     {
         let budget = if self.is_whole { conflicts } else { 0 };
         let outcome = run_engine(&mut self.engine, &mut self.conflicts, kernel, budget);

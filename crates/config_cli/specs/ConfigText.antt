@@ -57,8 +57,8 @@ first_line c =
     codes "tenants " ++ decimal (length c.tenants) ++ codes " purses " ++ decimal (purses_in c) ++ codes " workers " ++ decimal c.workers
     ++ codes " slice " ++ decimal c.slice ++ codes "\n"
 
--- the entries of all tenants, and the kilobytes of as many submits of the largest projects with
--- three modes and four resources: 104 each, as measured
+-- the entries of all tenants, and the kilobytes of equally many submits of the largest projects
+-- with three modes and four resources: 104 each, as measured
 abbrev pub last_line : ConfigData → List ℕ
 last_line c =
     codes "entries " ++ decimal (entries_below c (length c.tenants)) ++ codes " kilobytes " ++ decimal (104 * entries_below c (length c.tenants)) ++ codes "\n"

@@ -5,7 +5,7 @@ ghost use Rattle.config_cli.specs.Configured.{IsShown, IsRefused};
 use crate::meaning::config_text;
 use crate::unread::why_unread;
 use farm_config::{ConfigFault, place_of, read_config};
-use file_commands::{Answer, FileCommand, MOST_TEXT, Texts};
+use file_commands::{CommandAnswer, FileCommand, MOST_TEXT, Texts};
 use std::alloc::Global;
 use std::fmt;
 
@@ -67,10 +67,13 @@ impl FileCommand for Configure {
 
     ghost refuses = { λ _ texts refusal. IsRefused texts.file refusal };
 
-    fn answer(&mut self, alloc: Global, texts: &Texts<'_>) -> Answer<ConfigRefusal> {
+    fn answer(&mut self, alloc: Global, texts: &Texts<'_>) -> CommandAnswer<ConfigRefusal> {
         match configured(alloc, texts.file) {
-            Ok(text) => Answer::new(Ok(text), why_unread(alloc, texts.file)),
-            Err(refusal) => Answer::new(Err(refusal), why_refused(alloc, texts.file, refusal)),
+            Ok(text) => CommandAnswer::new(Ok(text), why_unread(alloc, texts.file)),
+            Err(refusal) => CommandAnswer::new(
+                Err(refusal),
+                why_refused(alloc, texts.file, refusal),
+            ),
         }
     }
 }

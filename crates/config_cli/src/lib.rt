@@ -1,8 +1,8 @@
 //! The command `config`: what a configuration means.
 //!
 //! [`config_text`] returns the lines that `specs/ConfigText` defines of a configuration.
-//! [`Configure`] is the command, for the runner of all (`specs/Configured`). Which file it opens is in
-//! no contract, nor what it says of keys that are not read.
+//! [`Configure`] is the command, for the runner of all (`specs/Configured`). Which file it opens is
+//! in no contract, nor what it prints of keys that are not read.
 //!
 //! - `meaning`: the lines of a configuration.
 //! - `unread`: the first key that is not read, and the key that is near.

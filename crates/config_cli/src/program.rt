@@ -5,8 +5,7 @@ ghost use Rattle.std.specs.Process.{exit_status};
 use crate::arguments::path_of;
 use crate::command::Configure;
 use clap::ArgMatches;
-use file_commands::{CommandWatches, open_sources};
-use std::io;
+use file_commands::{Paths, run_files};
 use std::process::ExitCode;
 use std::rt::Runtime;
 
@@ -14,11 +13,7 @@ use std::rt::Runtime;
 fn run_config<R: Runtime + AllocGlobal>(rt: &R, path: &str) -> ExitCode
     ensures { exit_status result ≤ 1 }
 {
-    let Some(sources) = open_sources(rt, path, None, None) else {
-        return ExitCode::FAILURE;
-    };
-    let (mut writer, mut watches) = (io::writer(rt), CommandWatches::new());
-    file_commands::run_command(rt, sources, Configure, &mut writer, &mut watches)
+    run_files(rt, Paths::of(path), Configure)
 }
 
 /// Runs the command that is chosen, if it is `config`. The status is 0, or 1 for any fault.

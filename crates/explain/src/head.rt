@@ -1,5 +1,6 @@
 //! The labels above the sections of a project's file, and their values.
-use crate::lines::{Piece, first_word, number, spells};
+use crate::lines::{Piece, first_word, number};
+use psplib_mm::spells;
 
 #[derive(Clone, Copy, Debug)]
 pub(crate) struct Label {

@@ -1,4 +1,5 @@
 //! The lines of a text, their words, and how a word is shown.
+use psplib_mm::is_blank_byte;
 use std::alloc::{AllocError, Global};
 use std::{fmt, str};
 
@@ -34,38 +35,11 @@ pub(crate) fn lines_of(alloc: Global, text: &[u8]) -> Result<Vec<Piece<'_>>, All
     Ok(lines)
 }
 
-fn is_blank(b: u8) -> bool {
-    b == b' ' || b == b'\t'
-}
-
-/// Whether `line` without its blanks is `text`.
-pub(crate) fn spells(line: &[u8], text: &[u8]) -> bool {
-    let mut rest = text;
-    for b in line {
-        if !is_blank(*b) {
-            match rest {
-                [first, others @ ..] if first == b => rest = others,
-                _ => return false,
-            }
-        }
-    }
-    rest.is_empty()
-}
-
-/// Whether a line has no word, or beside its blanks only `*` or only `-`.
-pub(crate) fn is_rule(line: &[u8]) -> bool {
-    let mut marks = line.iter().filter(|b| !is_blank(**b));
-    match marks.next() {
-        None => true,
-        Some(first) => (*first == b'*' || *first == b'-') && marks.all(|b| b == first),
-    }
-}
-
 pub(crate) fn push_words<'a>(
     words: &mut Vec<Piece<'a>>,
     line: Piece<'a>,
 ) -> Result<(), AllocError> {
-    for word in line.bytes.split(|b| is_blank(*b)) {
+    for word in line.bytes.split(|b| is_blank_byte(*b)) {
         if !word.is_empty() {
             words.push(Piece {
                 line: line.line,
@@ -77,7 +51,9 @@ pub(crate) fn push_words<'a>(
 }
 
 pub(crate) fn first_word(bytes: &[u8]) -> Option<&[u8]> {
-    bytes.split(|b| is_blank(*b)).find(|word| !word.is_empty())
+    bytes
+        .split(|b| is_blank_byte(*b))
+        .find(|word| !word.is_empty())
 }
 
 /// A greater number counts as `u64::MAX`.

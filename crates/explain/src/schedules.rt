@@ -1,6 +1,6 @@
 //! Why a text has no schedule.
 use crate::lines::{Piece, number, shown_word};
-use crate::tables::{Table, is_table, table_of};
+use crate::tables::{TableReading, is_table, table_of};
 use schedule_files::MOST_BYTES;
 use serde_json::Value;
 use std::alloc::{AllocError, Global};
@@ -139,8 +139,8 @@ fn tell_numbers(alloc: Global, numbers: &[u64]) -> Result<String, AllocError> {
 
 fn tell_table(alloc: Global, text: &[u8]) -> Result<String, AllocError> {
     match table_of(alloc, text)? {
-        Table::Told(told) => format!(in alloc; "{told}; {FORM}"),
-        Table::Numbers(mut numbers) => {
+        TableReading::Told(told) => format!(in alloc; "{told}; {FORM}"),
+        TableReading::Numbers(mut numbers) => {
             numbers.sort()?;
             tell_numbers(alloc, numbers.as_slice())
         }

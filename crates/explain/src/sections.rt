@@ -1,6 +1,6 @@
 //! Where the sections of a project's file begin, and their words.
-use crate::lines::{Piece, is_rule, push_words, spells};
-use psplib_mm::SectionName;
+use crate::lines::{Piece, push_words};
+use psplib_mm::{SectionName, is_rule, spells};
 use std::alloc::{AllocError, Global};
 use strsim::levenshtein;
 

@@ -7,9 +7,9 @@ use std::str;
 /// The columns that are read, in the order of a heading's names.
 const NAMES: [&str; 3] = ["activity", "mode", "start"];
 
-/// A `Heading` is what the first row of a table names.
+/// A `TableHeading` is what the first row of a table names.
 #[derive(Clone, Copy, Debug)]
-enum Heading {
+enum TableHeading {
     /// No column: the first three are read.
     Absent,
     /// All three columns, which have these places.
@@ -57,9 +57,9 @@ fn column_of(row: &ByteRecord, name: &str) -> Option<usize> {
     None
 }
 
-fn heading_of(rows: &[ByteRecord]) -> Heading {
+fn heading_of(rows: &[ByteRecord]) -> TableHeading {
     let Some(row) = rows.first() else {
-        return Heading::Absent;
+        return TableHeading::Absent;
     };
     let mut places = [0usize; 3];
     let mut named = 0usize;
@@ -74,9 +74,9 @@ fn heading_of(rows: &[ByteRecord]) -> Heading {
         }
     }
     match missing {
-        None => Heading::Whole(places),
-        Some(name) if named > 0 => Heading::Without(name),
-        Some(_) => Heading::Absent,
+        None => TableHeading::Whole(places),
+        Some(name) if named > 0 => TableHeading::Without(name),
+        Some(_) => TableHeading::Absent,
     }
 }
 
@@ -90,9 +90,9 @@ fn has_digit(row: &ByteRecord) -> bool {
 }
 
 /// Whether a row is of an activity. With a heading, one without a number there is left out.
-fn is_read(row: &ByteRecord, heading: Heading) -> bool {
+fn is_read(row: &ByteRecord, heading: TableHeading) -> bool {
     match heading {
-        Heading::Whole(places) => number(cell_at(row, places[0])).is_some(),
+        TableHeading::Whole(places) => number(cell_at(row, places[0])).is_some(),
         _ => has_digit(row),
     }
 }
@@ -131,9 +131,9 @@ fn line_of(row: &ByteRecord) -> u64 {
     row.position().map_or(0, |position| position.line())
 }
 
-/// A `Table` is what is found of a text that is read as a table.
+/// A `TableReading` is what is found of a text that is read as a table.
 #[derive(Debug, Drop)]
-pub(crate) enum Table {
+pub(crate) enum TableReading {
     /// Each row has its three numbers. The activities stand in the order of the rows.
     Numbers(Vec<u64>),
     /// Why a row has none.
@@ -148,15 +148,15 @@ fn push_number(numbers: &mut Vec<u64>, row: &ByteRecord, place: usize) -> Result
 }
 
 /// The activities of a table's rows, or why a row is none.
-pub(crate) fn table_of(alloc: Global, text: &[u8]) -> Result<Table, AllocError> {
+pub(crate) fn table_of(alloc: Global, text: &[u8]) -> Result<TableReading, AllocError> {
     let rows = rows_of(alloc, text)?;
     let heading = heading_of(&rows);
     let places = match heading {
-        Heading::Whole(places) => places,
-        Heading::Absent => [0, 1, 2],
-        Heading::Without(name) => {
+        TableHeading::Whole(places) => places,
+        TableHeading::Absent => [0, 1, 2],
+        TableHeading::Without(name) => {
             let told = format!(in alloc; "the first row names no column {name}")?;
-            return Ok(Table::Told(told));
+            return Ok(TableReading::Told(told));
         }
     };
     let mut numbers = Vec::new(alloc);
@@ -166,11 +166,11 @@ pub(crate) fn table_of(alloc: Global, text: &[u8]) -> Result<Table, AllocError> 
         }
         if let Some((place, name)) = column_without(row, places) {
             let told = tell_cell(alloc, line_of(row), name, cell_at(row, place))?;
-            return Ok(Table::Told(told));
+            return Ok(TableReading::Told(told));
         }
         push_number(&mut numbers, row, places[0])?;
     }
-    Ok(Table::Numbers(numbers))
+    Ok(TableReading::Numbers(numbers))
 }
 
 fn has_cells(line: &[u8]) -> bool {

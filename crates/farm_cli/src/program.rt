@@ -14,7 +14,7 @@ use farm_core::Config;
 use farm_pool::Settled;
 use farm_replay::{Notes, ReplayWatches};
 use farm_service::{ServeFault, serve};
-use file_commands::{CommandWatches, open_path, told};
+use file_commands::{CommandWatches, open_path, or_report};
 use psplib_mm::MOST_BYTES;
 use std::env::Env;
 use std::io::{BufWriter, Eprint, Print, Read};
@@ -104,7 +104,7 @@ fn bytes_at<R: Files + AllocGlobal + Env + Eprint>(rt: &R, path: &str) -> Option
         Ok(file) => read_whole(rt.alloc(), file),
         Err(error) => Err(error),
     };
-    let bytes = told(rt, path, read)?;
+    let bytes = or_report(rt, path, read)?;
     if bytes.is_none() {
         tell_too_long(rt, path);
     }

@@ -3,28 +3,29 @@ use Rattle.std.specs.Prelude.{◌≡◌, ℕ, Bool, true, false, IsTrue, List, �
 use Rattle.watched_io.specs.Failure.{HasFailed}
 use Rattle.file_commands.specs.Counts.{CommandCounts, AreReadWell, AreKept}
 use Rattle.file_commands.specs.declared.ending.CommandFault.{CommandFault}
-use Rattle.file_commands.specs.declared.ending.CommandFault.TheVariants.{File, Text, Proof, Refused, Write}
+use Rattle.file_commands.specs.declared.ending.CommandFault.TheVariants.{File, Text, Other, Refused, Write}
 
--- the inputs that a command reads beside a project's file
+-- the inputs that a command reads beside a project's file: a schedule's text, and another, which is
+-- a proof or a second schedule
 pub record Inputs : Type 0 where
   pub text : Bool
-  pub proof : Bool
+  pub other : Bool
 
 -- a project's file alone
 abbrev pub file_alone : Inputs
-file_alone = record { text = false; proof = false }
+file_alone = record { text = false; other = false }
 
 -- a schedule's text too
 abbrev pub file_and_text : Inputs
-file_and_text = record { text = true; proof = false }
+file_and_text = record { text = true; other = false }
 
 -- or a proof
 abbrev pub file_and_proof : Inputs
-file_and_proof = record { text = false; proof = true }
+file_and_proof = record { text = false; other = true }
 
 -- or both
 abbrev pub all_inputs : Inputs
-all_inputs = record { text = true; proof = true }
+all_inputs = record { text = true; other = true }
 
 -- nothing was written, and no failed write was counted
 abbrev pub IsUnwritten : CommandCounts → CommandCounts → Option (List ℕ) → Option (List ℕ) → Type 0
@@ -33,11 +34,11 @@ IsUnwritten from seen before after = (after ≡ before) × (seen.output ≡ from
 -- why a command stops: an input could not be read, and nothing was written; its inputs are refused;
 -- or a write failed. `from` and `seen` are the counts of its watches before and after
 abbrev pub IsStopOf : {F : Type 0} → Inputs → (F → Type 0) → CommandFault F → CommandCounts → CommandCounts → Option (List ℕ) → Option (List ℕ) → Type 0
-IsStopOf inputs refused (File kind) from seen before after = IsUnwritten from seen before after × HasFailed from.file seen.file × (seen.text ≡ from.text) × (seen.proof ≡ from.proof)
+IsStopOf inputs refused (File kind) from seen before after = IsUnwritten from seen before after × HasFailed from.file seen.file × (seen.text ≡ from.text) × (seen.other ≡ from.other)
 IsStopOf inputs refused (Text kind) from seen before after =
-    IsTrue inputs.text × IsUnwritten from seen before after × (seen.file ≡ from.file) × HasFailed from.text seen.text × (seen.proof ≡ from.proof)
-IsStopOf inputs refused (Proof kind) from seen before after =
-    IsTrue inputs.proof × IsUnwritten from seen before after × (seen.file ≡ from.file) × (seen.text ≡ from.text) × HasFailed from.proof seen.proof
+    IsTrue inputs.text × IsUnwritten from seen before after × (seen.file ≡ from.file) × HasFailed from.text seen.text × (seen.other ≡ from.other)
+IsStopOf inputs refused (Other kind) from seen before after =
+    IsTrue inputs.other × IsUnwritten from seen before after × (seen.file ≡ from.file) × (seen.text ≡ from.text) × HasFailed from.other seen.other
 IsStopOf inputs refused (Refused fault) from seen before after = AreReadWell from seen × refused fault
 IsStopOf inputs refused Write from seen before after = AreReadWell from seen × HasFailed from.output seen.output
 

@@ -8,21 +8,21 @@ use Rattle.file_commands.specs.declared.inputs.TheConstants.{MOST_TEXT}
 use Rattle.file_commands.specs.declared.answer.Texts.{Texts}
 use Rattle.file_commands.specs.declared.sources.Sources.{Sources}
 
--- the bytes of a project's file, of a schedule's text and of a proof
+-- the bytes of a project's file, of a schedule's text, and of a proof or a second schedule
 pub record TextsData : Type 0 where
   pub file : List ℕ
   pub text : List ℕ
-  pub proof : List ℕ
+  pub other : List ℕ
 
 abbrev pub texts_of : Texts → TextsData
-texts_of t = record { file = t.file.now; text = t.text.now; proof = t.proof.now }
+texts_of t = record { file = t.file.now; text = t.text.now; other = t.other.now }
 
 -- what a command is given: the bytes that its inputs have, where they are known, which inputs it
--- reads, and how many bytes it reads of a proof
+-- reads, and how many bytes it reads of the other input
 pub record Given : Type 0 where
   pub file : Option (List ℕ)
   pub text : Option (List ℕ)
-  pub proof : Option (List ℕ)
+  pub other : Option (List ℕ)
   pub inputs : Inputs
   pub most : ℕ
 
@@ -34,13 +34,13 @@ rest_of rest (Some source) = rest source
 -- what sources give, by what each of them has left
 abbrev pub given_by : {S : Type 0} → (S → Option (List ℕ)) → Sources S → Given
 given_by rest s =
-    record { file = rest s.file; text = rest_of rest s.text; proof = rest_of rest s.proof; inputs = record { text = is_some s.text; proof = is_some s.proof }; most = s.most_proof }
+    record { file = rest s.file; text = rest_of rest s.text; other = rest_of rest s.other; inputs = record { text = is_some s.text; other = is_some s.other }; most = s.most_other }
 
 -- the texts are what the inputs begin with
 pub record AreTexts (given : Given) (texts : TextsData) : Type 0 where
   pub file : IfSome given.file (λ all. texts.file ≡ take MOST_TEXT all)
   pub text : IfSome given.text (λ all. texts.text ≡ take MOST_TEXT all)
-  pub proof : IfSome given.proof (λ all. texts.proof ≡ take given.most all)
+  pub other : IfSome given.other (λ all. texts.other ≡ take given.most all)
 
 -- a text that the command gives for the texts was written
 pub record IsWritten (Gives : TextsData → List ℕ → Type 0) (given : Given) (before after : Option (List ℕ)) : Type 0 where

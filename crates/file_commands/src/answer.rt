@@ -9,13 +9,14 @@ use std::fmt::Display;
 pub struct Texts<'a> {
     pub file: &'a [u8],
     pub text: &'a [u8],
-    pub proof: &'a [u8],
+    /// A proof, or a second schedule.
+    pub other: &'a [u8],
 }
 
-/// An `Answer` is the text that a command gives, or why it gives none, and what standard error has
-/// beside that.
+/// A `CommandAnswer` is the text that a command gives, or why it gives none, and what standard
+/// error has beside that.
 #[derive(Drop)]
-pub struct Answer<F> {
+pub struct CommandAnswer<F> {
     pub text: Result<String, F>,
     /// The second line on standard error.
     pub why: Option<String>,
@@ -23,12 +24,12 @@ pub struct Answer<F> {
     pub list: Result<Option<String>, AllocError>,
 }
 
-impl<F> Answer<F> {
+impl<F> CommandAnswer<F> {
     /// Returns the answer `text`, with this second line on standard error.
-    pub fn new(text: Result<String, F>, why: Option<String>) -> Answer<F>
+    pub fn new(text: Result<String, F>, why: Option<String>) -> CommandAnswer<F>
         ensures { result.text ≡ text }
     {
-        Answer {
+        CommandAnswer {
             text,
             why,
             list: Ok(None),
@@ -40,12 +41,13 @@ impl<F> Answer<F> {
 pub trait FileCommand: Drop {
     type Fault: Display + Copy;
 
-    // The texts that it may give for the texts of its inputs, and the faults for which it refuses them.
+    // The texts that it may give for the texts of its inputs, and the faults for which it refuses
+    // them.
     ghost gives: { Self → TextsData → List ℕ → Type 0 };
 
     ghost refuses: { Self → TextsData → Self.Fault → Type 0 };
 
-    fn answer(&mut self, alloc: Global, texts: &Texts<'_>) -> Answer<Self::Fault>
+    fn answer(&mut self, alloc: Global, texts: &Texts<'_>) -> CommandAnswer<Self::Fault>
         ensures gives { IfOk result.text (λ text. gives self.old (texts_of texts.now) (string_bytes text)) }
         ensures refuses { IfErr result.text (λ fault. refuses self.old (texts_of texts.now) fault) };
 }

@@ -19,7 +19,8 @@ pub enum CommandFault<F> {
     File(ErrorKind),
     /// The schedule's text.
     Text(ErrorKind),
-    Proof(ErrorKind),
+    /// The proof, or the second schedule.
+    Other(ErrorKind),
     Refused(F),
     Write,
 }
@@ -32,7 +33,14 @@ pub fn end_no_memory<R: Eprint>(rt: &R) -> ExitCode
     ExitCode::FAILURE
 }
 
-fn tell_more<R: Env + Eprint, S, T, P, W>(rt: &R, watches: &CommandWatches<S, T, P, W>) {
+/// Without a path nothing was read of such an input.
+fn tell_unread_some<R: Env + Eprint>(rt: &R, path: Option<&str>, kind: ErrorKind) {
+    if let Some(path) = path {
+        tell_unread(rt, path, reason(kind));
+    }
+}
+
+fn tell_more<R: Env + Eprint, S, T, O, W>(rt: &R, watches: &CommandWatches<S, T, O, W>) {
     match &watches.list {
         Ok(Some(list)) => {
             let _ = eprint!(rt; "{list}");
@@ -45,11 +53,11 @@ fn tell_more<R: Env + Eprint, S, T, P, W>(rt: &R, watches: &CommandWatches<S, T,
 }
 
 /// Returns the status of a command that `ended` so: 0, or 1 with the fault on standard error.
-pub fn end_command<R: Env + Eprint, F: Display + Copy, S, T, P, W>(
+pub fn end_command<R: Env + Eprint, F: Display + Copy, S, T, O, W>(
     rt: &R,
     paths: Paths<'_>,
     ended: Result<(), CommandFault<F>>,
-    watches: &CommandWatches<S, T, P, W>,
+    watches: &CommandWatches<S, T, O, W>,
 ) -> ExitCode
     ensures { exit_status result ≡ command_status ended }
 {
@@ -59,8 +67,8 @@ pub fn end_command<R: Env + Eprint, F: Display + Copy, S, T, P, W>(
             return ExitCode::SUCCESS;
         }
         Err(CommandFault::File(kind)) => tell_unread(rt, paths.file, reason(kind)),
-        Err(CommandFault::Text(kind)) => tell_unread(rt, paths.text, reason(kind)),
-        Err(CommandFault::Proof(kind)) => tell_unread(rt, paths.proof, reason(kind)),
+        Err(CommandFault::Text(kind)) => tell_unread_some(rt, paths.text, kind),
+        Err(CommandFault::Other(kind)) => tell_unread_some(rt, paths.other, kind),
         Err(CommandFault::Refused(fault)) => {
             let _ = eprintln!(rt; "farm: {fault}");
             tell_more(rt, watches);

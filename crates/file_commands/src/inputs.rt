@@ -17,13 +17,13 @@ pub const MOST_TEXT: u64 = MOST_BYTES as u64 + 1;
 
 const _: () = prove!((psplib_mm::MOST_BYTES as u64) < MOST_TEXT);
 
-/// A `Paths` is the paths of a project's file, a schedule's text and a proof, for messages. A
-/// command without a text or a proof has the file's path there.
+/// A `Paths` is the paths of a command's inputs: a project's file, and with some commands a
+/// schedule's text, and a proof or a second schedule. The path `-` is standard input.
 #[derive(Clone, Copy, Debug, PartialEq, Eq)]
 pub struct Paths<'a> {
     pub file: &'a str,
-    pub text: &'a str,
-    pub proof: &'a str,
+    pub text: Option<&'a str>,
+    pub other: Option<&'a str>,
 }
 
 impl<'a> Paths<'a> {
@@ -31,15 +31,15 @@ impl<'a> Paths<'a> {
     pub fn of(file: &'a str) -> Paths<'a> {
         Paths {
             file,
-            text: file,
-            proof: file,
+            text: None,
+            other: None,
         }
     }
 }
 
-/// On `None` it is on standard error that `path` cannot be read, and why.
+/// Returns what was got, or reports on standard error why `path` cannot be read.
 #[inline(always)]
-pub fn told<R: Env + Eprint, T: Drop>(rt: &R, path: &str, got: io::Result<T>) -> Option<T> {
+pub fn or_report<R: Env + Eprint, T: Drop>(rt: &R, path: &str, got: io::Result<T>) -> Option<T> {
     match got {
         Ok(value) => Some(value),
         Err(error) => {
@@ -56,7 +56,7 @@ pub fn open_path<R: Input + Files + Env + Eprint>(
     rt: &R,
     path: &str,
 ) -> Option<Source<R::Reader, R::File>> {
-    told(rt, path, open(rt, path))
+    or_report(rt, path, open(rt, path))
 }
 
 fn read_words<R: Runtime + AllocGlobal>(rt: &R) -> io::Result<Vec<String>> {

@@ -3,9 +3,9 @@ ghost use Rattle.std.specs.Prelude.{◌≡◌, IfErr};
 ghost use Rattle.std.specs.Process.{exit_status};
 
 use crate::ending::end_no_memory;
-use crate::inputs::{MOST_TEXT, open_path, told};
+use crate::inputs::{MOST_TEXT, open_path, or_report};
 use jiff::civil::DateTime;
-use schedule_labels::{Calendar, Name, Unit, names_of};
+use schedule_labels::{ActivityName, Calendar, Unit, names_of};
 use std::alloc::Global;
 use std::env::Env;
 use std::io::Eprint;
@@ -13,7 +13,12 @@ use std::process::ExitCode;
 use std::rt::Runtime;
 use watched_io::{Watch, tell_why};
 
-/// Standard input gives its bytes only once. Writes so on standard error.
+/// Whether two of `paths` are standard input, which gives its bytes only once.
+pub fn is_input_twice(paths: &[&str]) -> bool {
+    paths.iter().filter(|path| **path == "-").count() > 1
+}
+
+/// Writes on standard error that two inputs are standard input.
 pub fn refuse_same<R: Eprint>(rt: &R) -> ExitCode
     ensures { exit_status result ≡ 2 }
 {
@@ -62,14 +67,14 @@ pub fn calendar_of<R: Env + Eprint + AllocGlobal>(
 pub fn read_path<R: Runtime + AllocGlobal>(rt: &R, path: &str) -> Option<Vec<u8>> {
     let file = open_path(rt, path)?;
     let got = Watch::new().read_front(rt.alloc(), file, MOST_TEXT);
-    told(rt, path, got)
+    or_report(rt, path, got)
 }
 
 /// The names in the file at `path`. On an error, the status, the reason is on standard error.
 pub fn read_names<R: Runtime + AllocGlobal>(
     rt: &R,
     path: Option<&str>,
-) -> Result<Option<Vec<Name>>, ExitCode>
+) -> Result<Option<Vec<ActivityName>>, ExitCode>
     ensures { IfErr result (λ status. exit_status status ≡ 1) }
 {
     let Some(path) = path else {

@@ -8,8 +8,8 @@ ghost use Rattle.file_commands.specs.Run.{AreTexts, IsRunOf, given_by, rest_of, 
 
 use crate::answer::{FileCommand, Texts};
 use crate::ending::{CommandFault, end_command};
-use crate::inputs::MOST_TEXT;
-use crate::sources::Sources;
+use crate::inputs::{MOST_TEXT, Paths};
+use crate::sources::{Sources, open_sources};
 use crate::watches::CommandWatches;
 use std::alloc::Global;
 use std::env::Env;
@@ -17,6 +17,7 @@ use std::io;
 use std::io::{Eprint, Read, Write};
 use std::marker::Model;
 use std::process::ExitCode;
+use std::rt::Runtime;
 use watched_io::Watch;
 
 /// A `Bytes` is what was read of a command's inputs.
@@ -24,7 +25,7 @@ use watched_io::Watch;
 struct Bytes {
     file: Vec<u8>,
     text: Vec<u8>,
-    proof: Vec<u8>,
+    other: Vec<u8>,
 }
 
 impl Model for Bytes {
@@ -32,7 +33,7 @@ impl Model for Bytes {
 
     ghost Value = { TextsData };
 
-    ghost view = { λ b. record { file = b.file.items; text = b.text.items; proof = b.proof.items } };
+    ghost view = { λ b. record { file = b.file.items; text = b.text.items; other = b.other.items } };
 }
 
 impl Bytes {
@@ -42,7 +43,7 @@ impl Bytes {
         Texts {
             file: &self.file,
             text: &self.text,
-            proof: &self.proof,
+            other: &self.other,
         }
     }
 }
@@ -82,12 +83,12 @@ fn read_texts<S: Read + Drop, W, F>(
         Ok(text) => text,
         Err(error) => return Err(CommandFault::Text(error.kind())),
     };
-    let most = sources.most_proof;
-    let proof = match read_some(alloc, sources.proof, most, &mut watches.proof) {
-        Ok(proof) => proof,
-        Err(error) => return Err(CommandFault::Proof(error.kind())),
+    let most = sources.most_other;
+    let other = match read_some(alloc, sources.other, most, &mut watches.other) {
+        Ok(other) => other,
+        Err(error) => return Err(CommandFault::Other(error.kind())),
     };
-    Ok(Bytes { file, text, proof })
+    Ok(Bytes { file, text, other })
 }
 
 fn write_answer<S: Read + Drop, W: Write, C: FileCommand>(
@@ -136,4 +137,32 @@ pub fn run_command<R: AllocGlobal + Env + Eprint, S: Read + Drop, W: Write, C: F
     let paths = sources.paths;
     let ended = write_answer(rt.alloc(), sources, command, writer, watches);
     end_command(rt, paths, ended, watches)
+}
+
+/// Runs `command` on `sources`, and writes its text on standard output. The status is 0, or 1 with
+/// the fault on standard error. Inlined, as `open_path` is.
+#[inline(always)]
+pub fn run_sources<R: Runtime + AllocGlobal, S: Read + Drop, C: FileCommand>(
+    rt: &R,
+    sources: Sources<'_, S>,
+    command: C,
+) -> ExitCode
+    ensures { exit_status result ≤ 1 }
+{
+    let (mut writer, mut watches) = (io::writer(rt), CommandWatches::new());
+    run_command(rt, sources, command, &mut writer, &mut watches)
+}
+
+/// Opens the inputs at `paths`, and runs `command` on them as `run_sources` does.
+pub fn run_files<R: Runtime + AllocGlobal, C: FileCommand>(
+    rt: &R,
+    paths: Paths<'_>,
+    command: C,
+) -> ExitCode
+    ensures { exit_status result ≤ 1 }
+{
+    match open_sources(rt, paths) {
+        Some(sources) => run_sources(rt, sources, command),
+        None => ExitCode::FAILURE,
+    }
 }

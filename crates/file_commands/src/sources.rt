@@ -11,9 +11,9 @@ pub struct Sources<'a, S> {
     pub paths: Paths<'a>,
     pub file: S,
     pub text: Option<S>,
-    pub proof: Option<S>,
-    /// The most bytes that are read of the proof. Of the others, it is `MOST_TEXT`.
-    pub most_proof: u64,
+    pub other: Option<S>,
+    /// The most bytes that are read of `other`. Of `file` and `text`, it is `MOST_TEXT`.
+    pub most_other: u64,
 }
 
 /// On an inner `None` it is on standard error why the file at `path` cannot be read.
@@ -28,25 +28,18 @@ fn open_some<R: Input + Files + Env + Eprint>(
     }
 }
 
-/// Opens the files at these paths, or standard input where a path is `-`. On `None` it is on
-/// standard error which cannot be read, and why. Inlined, as `open_path` is.
+/// Opens the files at `paths`, or standard input for the path `-`. On `None` standard error has
+/// which cannot be read, and why. Inlined, as `open_path` is.
 #[inline(always)]
 pub fn open_sources<'a, R: Input + Files + Env + Eprint>(
     rt: &R,
-    file: &'a str,
-    text: Option<&'a str>,
-    proof: Option<&'a str>,
+    paths: Paths<'a>,
 ) -> Option<Sources<'a, Source<R::Reader, R::File>>> {
-    let paths = Paths {
-        file,
-        text: text.unwrap_or(file),
-        proof: proof.unwrap_or(file),
-    };
     Some(Sources {
         paths,
-        file: open_path(rt, file)?,
-        text: open_some(rt, text)?,
-        proof: open_some(rt, proof)?,
-        most_proof: MOST_TEXT,
+        file: open_path(rt, paths.file)?,
+        text: open_some(rt, paths.text)?,
+        other: open_some(rt, paths.other)?,
+        most_other: MOST_TEXT,
     })
 }

@@ -2,7 +2,7 @@
 use Rattle.std.proofs.Common.{◌≤◌, arith, Option, Some, None}
 use Rattle.mrcpsp.specs.Project.{ProjectData}
 use Rattle.mrcpsp.specs.Schedule.{ScheduleData, makespan}
-use Rattle.improve_search.specs.Improving.{IsNoLonger}
+use Rattle.improve_search.specs.LocalSearch.{IsNoLonger}
 
 pub longer_self : (p : ProjectData) (one : Option ScheduleData) → IsNoLonger p one one
 longer_self p None = tt

@@ -3,10 +3,10 @@ ghost use Rattle.std.specs.Prelude.{◌≡◌, ◌+◌, ◌<◌, ◌≤◌};
 
 use crate::budget::Budget;
 use crate::chance::ONE;
-use crate::change::{Change, chooser, other_mode, vary};
+use crate::change::{ChangedPlaces, chooser, other_mode, vary};
 use crate::cooling::Cooling;
 use crate::generation::{Generated, Generator, Trial};
-use crate::point::Point;
+use crate::point::ListSchedule;
 use crate::rows::{at, put};
 use mrcpsp::Project;
 use std::alloc::{AllocError, Global};
@@ -37,8 +37,8 @@ pub(crate) enum Stocks {
 #[derive(Drop)]
 pub(crate) struct Annealing {
     generator: Generator,
-    current: Point,
-    candidate: Point,
+    current: ListSchedule,
+    candidate: ListSchedule,
     first_order: Vec<u32>,
     stocks: Stocks,
     cooling: Cooling,
@@ -71,8 +71,8 @@ impl Annealing {
         let Some(generator) = Generator::new(alloc, project, seed)? else {
             return Ok(None);
         };
-        let current = Point::blank(alloc, &generator.tables)?;
-        let candidate = Point::blank(alloc, &generator.tables)?;
+        let current = ListSchedule::blank(alloc, &generator.tables)?;
+        let candidate = ListSchedule::blank(alloc, &generator.tables)?;
         let first_order = first_order(alloc, &generator.tables.tails)?;
         Ok(Some(Annealing {
             generator,
@@ -86,7 +86,7 @@ impl Annealing {
         }))
     }
 
-    pub(crate) fn current(&self) -> &Point {
+    pub(crate) fn current(&self) -> &ListSchedule {
         &self.current
     }
 
@@ -171,12 +171,12 @@ impl Annealing {
     }
 
     /// In periods, with 16 binary places.
-    fn cost_of(&self, point: &Point) -> u64 {
+    fn cost_of(&self, point: &ListSchedule) -> u64 {
         let periods = u64::from(point.makespan).wrapping_mul(ONE);
         periods.wrapping_add(self.price(point))
     }
 
-    fn price(&self, point: &Point) -> u64 {
+    fn price(&self, point: &ListSchedule) -> u64 {
         match self.stocks {
             Stocks::Kept => 0,
             Stocks::Priced => point.excess(&self.generator.tables).wrapping_mul(PRICE),
@@ -195,7 +195,7 @@ impl Annealing {
         self.repair();
         let trial = Trial {
             current: &self.current,
-            change: Change::whole(),
+            change: ChangedPlaces::whole(),
             limit: NO_LIMIT,
         };
         let _ = self.generator.generate(&mut self.candidate, trial, budget);

@@ -2,7 +2,7 @@
 ghost use Rattle.std.specs.Prelude.{◌≡◌, IfOk, None};
 ghost use Rattle.std.specs.Option.{option_copied};
 ghost use Rattle.improve_search.specs.Best.{best_in, length_in, IsKept};
-ghost use Rattle.improve_search.specs.Improving.{IsNoLonger};
+ghost use Rattle.improve_search.specs.LocalSearch.{IsNoLonger};
 
 use crate::annealing::Annealing;
 use crate::rows::copy;
@@ -16,15 +16,6 @@ pub(crate) enum BestChecked {
     Unknown(Schedule, Schedule),
     /// The schedule, its makespan, and what is only memory.
     Known(Schedule, u32, Schedule),
-}
-
-fn blank(alloc: Global, size: usize) -> Result<Schedule, AllocError> {
-    let modes = vec![in alloc; 0u32; size]?;
-    let starts = vec![in alloc; 0u32; size]?;
-    Ok(Schedule {
-        modes: Sequence::from(modes),
-        starts: Sequence::from(starts),
-    })
 }
 
 fn written(room: Schedule, annealing: &Annealing) -> Schedule {
@@ -47,7 +38,8 @@ impl BestChecked {
     pub(crate) fn none(alloc: Global, size: usize) -> Result<BestChecked, AllocError>
         ensures { IfOk result (λ best. best_in best ≡ None × length_in best ≡ None) }
     {
-        Ok(BestChecked::Unknown(blank(alloc, size)?, blank(alloc, size)?))
+        let room = Schedule::blank(alloc, size)?;
+        Ok(BestChecked::Unknown(room, Schedule::blank(alloc, size)?))
     }
 
     pub(crate) fn empty(alloc: Global) -> BestChecked

@@ -1,8 +1,8 @@
 //! Random changes of a point.
 use crate::chance::Chance;
-use crate::point::Point;
+use crate::point::ListSchedule;
 use crate::rows::at;
-use crate::tables::Tables;
+use crate::tables::ModeTables;
 
 const MOST_CHANGES: u32 = 64;
 
@@ -18,7 +18,7 @@ const TENTH: u32 = 429_496_730;
 
 /// The places of a list that a change has touched.
 #[derive(Clone, Copy)]
-pub(crate) struct Change {
+pub(crate) struct ChangedPlaces {
     /// The first place at which the list or a mode differs.
     pub(crate) first: u32,
     /// The last place at which the list differs.
@@ -26,17 +26,17 @@ pub(crate) struct Change {
     pub(crate) keeps_modes: bool,
 }
 
-impl Change {
-    fn none(size: u32) -> Change {
-        Change {
+impl ChangedPlaces {
+    fn none(size: u32) -> ChangedPlaces {
+        ChangedPlaces {
             first: size,
             last: 0,
             keeps_modes: true,
         }
     }
 
-    pub(crate) fn whole() -> Change {
-        Change {
+    pub(crate) fn whole() -> ChangedPlaces {
+        ChangedPlaces {
             first: 0,
             last: u32::MAX,
             keeps_modes: false,
@@ -50,7 +50,7 @@ impl Change {
 }
 
 /// The first place behind the activity's predecessors.
-fn first_place(tables: &Tables, point: &Point, activity: u32) -> u32 {
+fn first_place(tables: &ModeTables, point: &ListSchedule, activity: u32) -> u32 {
     let mut first = 0;
     for before in tables.before.of(activity) {
         first = first.max(at(&point.places, *before).wrapping_add(1));
@@ -59,7 +59,7 @@ fn first_place(tables: &Tables, point: &Point, activity: u32) -> u32 {
 }
 
 /// The last place before the activity's successors.
-fn last_place(tables: &Tables, point: &Point, activity: u32) -> u32 {
+fn last_place(tables: &ModeTables, point: &ListSchedule, activity: u32) -> u32 {
     let mut last = tables.size.saturating_sub(1);
     for after in tables.after.of(activity) {
         last = last.min(at(&point.places, *after).saturating_sub(1));
@@ -67,7 +67,7 @@ fn last_place(tables: &Tables, point: &Point, activity: u32) -> u32 {
     last
 }
 
-fn move_back(point: &mut Point, from: u32, to: u32) {
+fn move_back(point: &mut ListSchedule, from: u32, to: u32) {
     let activity = at(&point.order, from);
     for place in from..to {
         let next = at(&point.order, place.wrapping_add(1));
@@ -76,7 +76,7 @@ fn move_back(point: &mut Point, from: u32, to: u32) {
     point.place(to, activity);
 }
 
-fn move_forward(point: &mut Point, from: u32, to: u32) {
+fn move_forward(point: &mut ListSchedule, from: u32, to: u32) {
     let activity = at(&point.order, from);
     for place in (to..from).rev() {
         let last = at(&point.order, place);
@@ -86,7 +86,12 @@ fn move_forward(point: &mut Point, from: u32, to: u32) {
 }
 
 /// Moves a random activity to another place between its predecessors and its successors.
-fn shift(tables: &Tables, chance: &mut Chance, point: &mut Point, change: &mut Change) {
+fn shift(
+    tables: &ModeTables,
+    chance: &mut Chance,
+    point: &mut ListSchedule,
+    change: &mut ChangedPlaces,
+) {
     let activity = chance.below(tables.size);
     let from = at(&point.places, activity);
     let first = first_place(tables, point, activity);
@@ -106,15 +111,15 @@ fn shift(tables: &Tables, chance: &mut Chance, point: &mut Point, change: &mut C
     change.last = change.last.max(from).max(to);
 }
 
-pub(crate) fn chooser(tables: &Tables, chance: &mut Chance) -> u32 {
+pub(crate) fn chooser(tables: &ModeTables, chance: &mut Chance) -> u32 {
     let count = tables.choosers.len().min(u32::MAX as usize) as u32;
     at(&tables.choosers, chance.below(count))
 }
 
 pub(crate) fn other_mode(
-    tables: &Tables,
+    tables: &ModeTables,
     chance: &mut Chance,
-    point: &Point,
+    point: &ListSchedule,
     activity: u32,
 ) -> u32 {
     let (first, end) = tables.modes_of(activity);
@@ -129,10 +134,10 @@ pub(crate) fn other_mode(
 
 /// Changes the mode of a second activity for an excess of at most `most`, if a few draws find one.
 fn pay(
-    tables: &Tables,
+    tables: &ModeTables,
     chance: &mut Chance,
-    point: &mut Point,
-    change: &mut Change,
+    point: &mut ListSchedule,
+    change: &mut ChangedPlaces,
     (first, most): (u32, u64),
 ) {
     for _ in 0..MOST_DRAWS {
@@ -151,7 +156,12 @@ fn pay(
 }
 
 /// Changes the mode of a random activity; sometimes a second one pays for the first.
-fn switch(tables: &Tables, chance: &mut Chance, point: &mut Point, change: &mut Change) {
+fn switch(
+    tables: &ModeTables,
+    chance: &mut Chance,
+    point: &mut ListSchedule,
+    change: &mut ChangedPlaces,
+) {
     let is_pair = chance.happens(THREE_TENTHS);
     let activity = chooser(tables, chance);
     let excess = point.excess(tables);
@@ -164,8 +174,12 @@ fn switch(tables: &Tables, chance: &mut Chance, point: &mut Point, change: &mut 
 }
 
 /// Changes a point a little, and returns where it differs.
-pub(crate) fn vary(tables: &Tables, chance: &mut Chance, point: &mut Point) -> Change {
-    let mut change = Change::none(tables.size);
+pub(crate) fn vary(
+    tables: &ModeTables,
+    chance: &mut Chance,
+    point: &mut ListSchedule,
+) -> ChangedPlaces {
+    let mut change = ChangedPlaces::none(tables.size);
     for _ in 0..MOST_CHANGES {
         if tables.choosers.is_empty() || chance.happens(HALF) {
             shift(tables, chance, point, &mut change);

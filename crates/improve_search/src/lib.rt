@@ -1,9 +1,9 @@
 //! Better schedules by local search: simulated annealing with double justification.
 //!
-//! `Improving::new` takes all memory of a search, and `Improving::run` generates more schedules.
-//! Each schedule that it shows was checked: it is feasible, with the makespan that is named. That
-//! it is short is not proved, nor that there is one. All numbers are whole: a seed gives equal
-//! schedules anywhere.
+//! `LocalSearch::new` takes all memory of a search, and `LocalSearch::run` generates more
+//! schedules. Each schedule that it shows was checked: it is feasible, with the makespan that is
+//! named. That it is short is not proved, nor that there is one. All numbers are whole: a seed
+//! gives equal schedules anywhere.
 //!
 //! The walk is proved to be safe and to end. What it finds rests on the check alone.
 //!
@@ -14,7 +14,7 @@
 //! - `point`, `change`: a list with its modes and its schedule, and random changes of it.
 //! - `budget`, `generation`: serial schedule generation and justification, each schedule counted.
 //! - `annealing`: the walk.
-//! - `best`, `improving`: the best schedule that was checked, and the search.
+//! - `best`, `local_search`: the best schedule that was checked, and the search.
 #![tactic(auto)]
 
 mod annealing;
@@ -25,11 +25,11 @@ mod chance;
 mod change;
 mod cooling;
 mod generation;
-mod improving;
+mod local_search;
 mod modes;
 mod point;
 mod profile;
 mod rows;
 mod tables;
 
-pub use improving::Improving;
+pub use local_search::LocalSearch;

@@ -1,10 +1,10 @@
 //! A point of the search: a list of the activities, a mode for each, and the schedule of both.
 use crate::rows::{at, copy, put};
-use crate::tables::Tables;
+use crate::tables::ModeTables;
 use std::alloc::{AllocError, Global};
 
 #[derive(Drop)]
-pub(crate) struct Point {
+pub(crate) struct ListSchedule {
     pub(crate) order: Vec<u32>,
     /// The place of each activity in the list.
     pub(crate) places: Vec<u32>,
@@ -15,10 +15,10 @@ pub(crate) struct Point {
     pub(crate) makespan: u32,
 }
 
-impl Point {
-    pub(crate) fn blank(alloc: Global, tables: &Tables) -> Result<Point, AllocError> {
+impl ListSchedule {
+    pub(crate) fn blank(alloc: Global, tables: &ModeTables) -> Result<ListSchedule, AllocError> {
         let size = tables.size as usize;
-        Ok(Point {
+        Ok(ListSchedule {
             order: vec![in alloc; 0u32; size]?,
             places: vec![in alloc; 0u32; size]?,
             modes: vec![in alloc; 0u32; size]?,
@@ -29,7 +29,7 @@ impl Point {
         })
     }
 
-    pub(crate) fn copy(&mut self, other: &Point) {
+    pub(crate) fn copy(&mut self, other: &ListSchedule) {
         copy(&mut self.order, &other.order);
         copy(&mut self.places, &other.places);
         copy(&mut self.modes, &other.modes);
@@ -39,7 +39,7 @@ impl Point {
         self.makespan = other.makespan;
     }
 
-    pub(crate) fn copy_list(&mut self, other: &Point) {
+    pub(crate) fn copy_list(&mut self, other: &ListSchedule) {
         copy(&mut self.order, &other.order);
         copy(&mut self.places, &other.places);
     }
@@ -50,19 +50,19 @@ impl Point {
         put(&mut self.places, activity, place);
     }
 
-    pub(crate) fn consume(&mut self, tables: &Tables, mode: u32) {
+    pub(crate) fn consume(&mut self, tables: &ModeTables, mode: u32) {
         for (consumed, amount) in self.consumed.iter_mut().zip(tables.consumption(mode)) {
             *consumed = consumed.wrapping_add(*amount);
         }
     }
 
-    fn give_back(&mut self, tables: &Tables, mode: u32) {
+    fn give_back(&mut self, tables: &ModeTables, mode: u32) {
         for (consumed, amount) in self.consumed.iter_mut().zip(tables.consumption(mode)) {
             *consumed = consumed.wrapping_sub(*amount);
         }
     }
 
-    pub(crate) fn set_mode(&mut self, tables: &Tables, activity: u32, mode: u32) {
+    pub(crate) fn set_mode(&mut self, tables: &ModeTables, activity: u32, mode: u32) {
         let old = at(&self.modes, activity);
         self.consume(tables, mode);
         self.give_back(tables, old);
@@ -70,7 +70,7 @@ impl Point {
     }
 
     /// By how much the modes exceed all nonrenewable capacities together.
-    pub(crate) fn excess(&self, tables: &Tables) -> u64 {
+    pub(crate) fn excess(&self, tables: &ModeTables) -> u64 {
         let mut excess = 0u64;
         for (consumed, stock) in self.consumed.iter().zip(&tables.stocks) {
             excess = excess.wrapping_add(u64::from(consumed.saturating_sub(*stock)));
@@ -79,7 +79,7 @@ impl Point {
     }
 
     /// Whether no nonrenewable resource is then exceeded more than it is.
-    pub(crate) fn affords(&self, tables: &Tables, activity: u32, mode: u32) -> bool {
+    pub(crate) fn affords(&self, tables: &ModeTables, activity: u32, mode: u32) -> bool {
         let old = tables.consumption(at(&self.modes, activity));
         let new = tables.consumption(mode);
         for kind in 0..tables.kinds {
@@ -95,12 +95,12 @@ impl Point {
     }
 
     #[inline]
-    pub(crate) fn starts_as(&self, other: &Point, activity: u32) -> bool {
+    pub(crate) fn starts_as(&self, other: &ListSchedule, activity: u32) -> bool {
         at(&self.starts, activity) == at(&other.starts, activity)
     }
 
     #[inline]
-    pub(crate) fn run(&mut self, tables: &Tables, activity: u32, start: u32) {
+    pub(crate) fn run(&mut self, tables: &ModeTables, activity: u32, start: u32) {
         let duration = at(&tables.durations, at(&self.modes, activity));
         put(&mut self.starts, activity, start);
         put(&mut self.finishes, activity, start.wrapping_add(duration));

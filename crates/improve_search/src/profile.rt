@@ -1,6 +1,6 @@
 //! What is left of the renewable resources in each period.
 use crate::rows::{at, word_at};
-use crate::tables::Tables;
+use crate::tables::ModeTables;
 use std::alloc::{AllocError, Global};
 
 /// The places of a list between two saved profiles.
@@ -9,26 +9,26 @@ pub(crate) const STRIDE: u32 = 8;
 /// How capacities are packed into a word: in fields of equal width, the highest bit of each its
 /// guard.
 #[derive(Clone, Copy)]
-struct Layout {
+struct WordLayout {
     fields: u32,
     /// Two to the power of a field's width.
     base: u64,
 }
 
 /// Four fields of 16 bits, for capacities below 2^15.
-const NARROW: Layout = Layout {
+const NARROW: WordLayout = WordLayout {
     fields: 4,
     base: 1 << 16,
 };
 
 /// Three fields of 21 bits, for capacities below 2^20.
-const WIDE: Layout = Layout {
+const WIDE: WordLayout = WordLayout {
     fields: 3,
     base: 1 << 21,
 };
 
-impl Layout {
-    fn of(capacities: &[u32]) -> Layout {
+impl WordLayout {
+    fn of(capacities: &[u32]) -> WordLayout {
         if capacities.iter().all(|capacity| *capacity < 1 << 15) {
             NARROW
         } else {
@@ -36,7 +36,7 @@ impl Layout {
         }
     }
 
-    /// As many amounts from `from` on as there are fields. An amount that is too large is cut.
+    /// One amount for each field, from `from` on. An amount that is too large is cut.
     fn packed(self, amounts: &[u32], from: u32) -> u64 {
         let most = self.base / 2;
         let mut word = 0u64;
@@ -59,7 +59,7 @@ impl Layout {
 
 /// What is left of the resources of one word in each period, now and at saved places of the list.
 #[derive(Drop)]
-struct Lane {
+struct WordUse {
     free: Vec<u64>,
     saved: Vec<u64>,
     requests: Vec<u64>,
@@ -69,8 +69,8 @@ struct Lane {
 
 fn packed_requests(
     alloc: Global,
-    tables: &Tables,
-    layout: Layout,
+    tables: &ModeTables,
+    layout: WordLayout,
     from: u32,
 ) -> Result<Vec<u64>, AllocError> {
     let mut requests = Vec::new(alloc);
@@ -82,19 +82,19 @@ fn packed_requests(
     Ok(requests)
 }
 
-impl Lane {
+impl WordUse {
     fn new(
         alloc: Global,
-        tables: &Tables,
+        tables: &ModeTables,
         capacities: &[u32],
-        layout: Layout,
+        layout: WordLayout,
         from: u32,
-    ) -> Result<Lane, AllocError> {
+    ) -> Result<WordUse, AllocError> {
         let guards = layout.guards();
         let empty = layout.packed(capacities, from) | guards;
         let periods = (tables.horizon as usize).wrapping_add(1);
         let rows = ((tables.size / STRIDE) as usize).wrapping_add(1);
-        Ok(Lane {
+        Ok(WordUse {
             free: vec![in alloc; empty; periods]?,
             saved: vec![in alloc; empty; periods.wrapping_mul(rows)]?,
             requests: packed_requests(alloc, tables, layout, from)?,
@@ -173,22 +173,22 @@ fn copy_words(row: &mut [u64], from: &[u64]) {
 
 #[derive(Drop)]
 pub(crate) struct Profile {
-    lanes: Vec<Lane>,
+    lanes: Vec<WordUse>,
     periods: u32,
 }
 
 impl Profile {
     pub(crate) fn new(
         alloc: Global,
-        tables: &Tables,
+        tables: &ModeTables,
         capacities: &[u32],
     ) -> Result<Profile, AllocError> {
-        let layout = Layout::of(capacities);
+        let layout = WordLayout::of(capacities);
         let mut lanes = Vec::new(alloc);
         for lane in 0..3u32 {
             let from = lane.wrapping_mul(layout.fields);
             if from < tables.renewables {
-                lanes.push(Lane::new(alloc, tables, capacities, layout, from)?)?;
+                lanes.push(WordUse::new(alloc, tables, capacities, layout, from)?)?;
             }
         }
         Ok(Profile {

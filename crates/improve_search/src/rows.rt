@@ -39,7 +39,7 @@ pub(crate) fn clear(row: &mut [u32], last: u32) {
     }
 }
 
-/// Empty if there are no such places.
+/// Returns no rows if there are no such places.
 #[inline(always)]
 pub(crate) fn part(row: &[u32], from: u32, to: u32) -> &[u32] {
     let from = from as usize;

@@ -7,7 +7,7 @@ use std::alloc::{AllocError, Global};
 
 /// Useful modes are numbered through all activities, from 0.
 #[derive(Drop)]
-pub(crate) struct Tables {
+pub(crate) struct ModeTables {
     pub(crate) size: u32,
     /// How many nonrenewable resources there are.
     pub(crate) kinds: u32,
@@ -31,9 +31,9 @@ pub(crate) struct Tables {
     pub(crate) horizon: u32,
 }
 
-fn blank(alloc: Global, project: &Project) -> Result<Tables, AllocError> {
+fn blank(alloc: Global, project: &Project) -> Result<ModeTables, AllocError> {
     let activities = project.activities();
-    Ok(Tables {
+    Ok(ModeTables {
         size: 0,
         kinds: project.nonrenewables() as u32,
         renewables: project.renewables() as u32,
@@ -59,7 +59,7 @@ fn push_all(row: &mut Vec<u32>, numbers: &[u32]) -> Result<(), AllocError> {
     Ok(())
 }
 
-impl Tables {
+impl ModeTables {
     fn push_mode(&mut self, number: u32, mode: &Mode) -> Result<(), AllocError> {
         self.numbers.push(number)?;
         self.durations.push(mode.duration)?;
@@ -173,7 +173,10 @@ impl Tables {
 }
 
 /// `None` if an activity has no mode that may run.
-pub(crate) fn tables_of(alloc: Global, project: &Project) -> Result<Option<Tables>, AllocError> {
+pub(crate) fn tables_of(
+    alloc: Global,
+    project: &Project,
+) -> Result<Option<ModeTables>, AllocError> {
     let mut tables = blank(alloc, project)?;
     for activity in project.activities() {
         if !tables.push_activity(activity, project.renewable())? {

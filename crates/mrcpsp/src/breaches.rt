@@ -6,8 +6,8 @@ ghost use Rattle.mrcpsp.specs.Breach.{HasShape, HasModes};
 ghost use Rattle.mrcpsp.specs.Breaches.{breaches_in, missing_modes, early_after, overuse_of, short_stocks, start_periods, is_modeless as has_no_mode, is_early as starts_early, is_overused as is_over, is_short as falls_short};
 ghost use Rattle.mrcpsp.specs.declared.breach.Breach.TheVariants.{Renewable};
 
-use crate::feasibility::{consumption_of, finish_of, has_shape, start_at, use_at};
-use crate::{Breach, MOST_RESOURCES, Project, Schedule};
+use crate::feasibility::has_shape;
+use crate::{Breach, Fitting, MOST_RESOURCES, Project, Schedule};
 use std::alloc::{AllocError, Global};
 
 fn is_modeless(project: &Project, schedule: &Schedule, activity: usize) -> bool
@@ -19,33 +19,26 @@ fn is_modeless(project: &Project, schedule: &Schedule, activity: usize) -> bool
     number == 0 || project.mode_count(activity) < number
 }
 
-fn is_early(project: &Project, schedule: &Schedule, before: usize, after: usize) -> bool
-    requires shape { HasShape project.now schedule.now }
-    requires modes { HasModes project.now schedule.now }
-    requires before { before < size project.now }
-    requires after { after < size project.now }
-    ensures { result ≡ starts_early project.now schedule.now before after }
+fn is_early(fitting: &Fitting<'_>, before: usize, after: usize) -> bool
+    requires before { before < size fitting.now.project.now }
+    requires after { after < size fitting.now.project.now }
+    ensures { result ≡ starts_early fitting.now.project.now fitting.now.schedule.now before after }
 {
-    project.precedes(before, after)
-        && start_at(project, schedule, after) < finish_of(project, schedule, before)
+    fitting.project.precedes(before, after) && fitting.start(after) < fitting.finish(before)
 }
 
-fn is_overused(project: &Project, schedule: &Schedule, resource: usize, period: u32) -> bool
-    requires shape { HasShape project.now schedule.now }
-    requires modes { HasModes project.now schedule.now }
-    requires resource { resource < renewables project.now }
-    ensures { result ≡ is_over project.now schedule.now resource period }
+fn is_overused(fitting: &Fitting<'_>, resource: usize, period: u32) -> bool
+    requires resource { resource < renewables fitting.now.project.now }
+    ensures { result ≡ is_over fitting.now.project.now fitting.now.schedule.now resource period }
 {
-    u64::from(project.capacity(resource)) < use_at(project, schedule, resource, period)
+    u64::from(fitting.project.capacity(resource)) < fitting.use_at(resource, period)
 }
 
-fn is_short(project: &Project, schedule: &Schedule, resource: usize) -> bool
-    requires shape { HasShape project.now schedule.now }
-    requires modes { HasModes project.now schedule.now }
-    requires resource { resource < nonrenewables project.now }
-    ensures { result ≡ falls_short project.now schedule.now resource }
+fn is_short(fitting: &Fitting<'_>, resource: usize) -> bool
+    requires resource { resource < nonrenewables fitting.now.project.now }
+    ensures { result ≡ falls_short fitting.now.project.now fitting.now.schedule.now resource }
 {
-    u64::from(project.stock(resource)) < consumption_of(project, schedule, resource)
+    u64::from(fitting.project.stock(resource)) < fitting.consumption(resource)
 }
 
 fn push_modes(
@@ -67,18 +60,15 @@ fn push_modes(
 
 fn push_early(
     told: &mut Vec<Breach>,
-    project: &Project,
-    schedule: &Schedule,
+    fitting: &Fitting<'_>,
     before: usize,
 ) -> Result<(), AllocError>
-    requires shape { HasShape project.now schedule.now }
-    requires modes { HasModes project.now schedule.now }
-    requires before { before < size project.now }
+    requires before { before < size fitting.now.project.now }
     ensures { IfOk result (λ _.
-        told.new.items ≡ told.old.items ++ early_after project.now schedule.now before) }
+        told.new.items ≡ told.old.items ++ early_after fitting.now.project.now fitting.now.schedule.now before) }
 {
-    for after in 0..project.size() {
-        if is_early(project, schedule, before, after) {
+    for after in 0..fitting.project.size() {
+        if is_early(fitting, before, after) {
             told.push(Breach::Precedence(before as u32 + 1, after as u32 + 1))?;
         }
     }
@@ -87,38 +77,29 @@ fn push_early(
 
 fn push_overused(
     told: &mut Vec<Breach>,
-    project: &Project,
-    schedule: &Schedule,
+    fitting: &Fitting<'_>,
     resource: usize,
     periods: &[u32],
 ) -> Result<(), AllocError>
-    requires shape { HasShape project.now schedule.now }
-    requires modes { HasModes project.now schedule.now }
-    requires resource { resource < renewables project.now }
+    requires resource { resource < renewables fitting.now.project.now }
     requires few { resource < MOST_RESOURCES }
     ensures { IfOk result (λ _. told.new.items ≡ told.old.items
-        ++ map (Renewable (resource + 1)) (filter (is_over project.now schedule.now resource) periods.now)) }
+        ++ map (Renewable (resource + 1)) (filter (is_over fitting.now.project.now fitting.now.schedule.now resource) periods.now)) }
 {
     for period in periods {
-        if is_overused(project, schedule, resource, *period) {
+        if is_overused(fitting, resource, *period) {
             told.push(Breach::Renewable(resource as u32 + 1, *period))?;
         }
     }
     Ok(())
 }
 
-fn push_short(
-    told: &mut Vec<Breach>,
-    project: &Project,
-    schedule: &Schedule,
-) -> Result<(), AllocError>
-    requires shape { HasShape project.now schedule.now }
-    requires modes { HasModes project.now schedule.now }
+fn push_short(told: &mut Vec<Breach>, fitting: &Fitting<'_>) -> Result<(), AllocError>
     ensures { IfOk result (λ _.
-        told.new.items ≡ told.old.items ++ short_stocks project.now schedule.now) }
+        told.new.items ≡ told.old.items ++ short_stocks fitting.now.project.now fitting.now.schedule.now) }
 {
-    for resource in 0..project.nonrenewables() {
-        if is_short(project, schedule, resource) {
+    for resource in 0..fitting.project.nonrenewables() {
+        if is_short(fitting, resource) {
             told.push(Breach::Nonrenewable(resource as u32 + 1))?;
         }
     }
@@ -148,36 +129,27 @@ fn periods_of(alloc: Global, schedule: &Schedule) -> Result<Vec<u32>, AllocError
     Ok(periods)
 }
 
-fn push_all_early(
-    told: &mut Vec<Breach>,
-    project: &Project,
-    schedule: &Schedule,
-) -> Result<(), AllocError>
-    requires shape { HasShape project.now schedule.now }
-    requires modes { HasModes project.now schedule.now }
+fn push_all_early(told: &mut Vec<Breach>, fitting: &Fitting<'_>) -> Result<(), AllocError>
     ensures { IfOk result (λ _. told.new.items ≡ told.old.items
-        ++ flat_map (early_after project.now schedule.now) (range_with_len 0 (size project.now))) }
+        ++ flat_map (early_after fitting.now.project.now fitting.now.schedule.now) (range_with_len 0 (size fitting.now.project.now))) }
 {
-    for before in 0..project.size() {
-        push_early(told, project, schedule, before)?;
+    for before in 0..fitting.project.size() {
+        push_early(told, fitting, before)?;
     }
     Ok(())
 }
 
 fn push_all_overused(
     told: &mut Vec<Breach>,
-    project: &Project,
-    schedule: &Schedule,
+    fitting: &Fitting<'_>,
     periods: &[u32],
 ) -> Result<(), AllocError>
-    requires shape { HasShape project.now schedule.now }
-    requires modes { HasModes project.now schedule.now }
-    requires periods { periods.now ≡ start_periods schedule.now }
+    requires periods { periods.now ≡ start_periods fitting.now.schedule.now }
     ensures { IfOk result (λ _. told.new.items ≡ told.old.items
-        ++ flat_map (overuse_of project.now schedule.now) (range_with_len 0 (renewables project.now))) }
+        ++ flat_map (overuse_of fitting.now.project.now fitting.now.schedule.now) (range_with_len 0 (renewables fitting.now.project.now))) }
 {
-    for resource in 0..project.renewables() {
-        push_overused(told, project, schedule, resource, periods)?;
+    for resource in 0..fitting.project.renewables() {
+        push_overused(told, fitting, resource, periods)?;
     }
     Ok(())
 }
@@ -202,9 +174,10 @@ pub fn breaches_of(
     if !told.as_slice().is_empty() {
         return Ok(told);
     }
+    let fitting = Fitting { project, schedule };
     let periods = periods_of(alloc, schedule)?;
-    push_all_early(&mut told, project, schedule)?;
-    push_all_overused(&mut told, project, schedule, &periods)?;
-    push_short(&mut told, project, schedule)?;
+    push_all_early(&mut told, &fitting)?;
+    push_all_overused(&mut told, &fitting, &periods)?;
+    push_short(&mut told, &fitting)?;
     Ok(told)
 }

@@ -8,6 +8,7 @@
 //! - `sequence`: `Sequence`, a vector that contracts see as a list.
 //! - `mode`, `activity`, `schedule`: types with public fields, their copies and their equality.
 //! - `limits`, `parts`, `project`: the limits, a project's lists, `Project` and its readers.
+//! - `fitting`: `Fitting`, a schedule with a start and a mode for each activity.
 //! - `breach`, `feasibility`, `breaches`: `Breach`, `check`, `makespan`, `breaches_of`.
 //! - `laws`: the earliest start is the least one; no schedule is below the bound.
 #![tactic(auto)]
@@ -16,6 +17,7 @@ mod activity;
 mod breach;
 mod breaches;
 mod feasibility;
+mod fitting;
 pub mod laws;
 mod limits;
 mod mode;
@@ -28,6 +30,7 @@ pub use activity::Activity;
 pub use breach::Breach;
 pub use breaches::breaches_of;
 pub use feasibility::{MOST_START, check, makespan};
+pub use fitting::Fitting;
 pub use limits::{
     MOST_ACTIVITIES, MOST_AMOUNT, MOST_DURATION, MOST_HORIZON, MOST_MODES, MOST_RESOURCES,
     horizon_of,

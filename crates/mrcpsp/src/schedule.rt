@@ -1,7 +1,8 @@
-ghost use Rattle.std.specs.Prelude.{◌≡◌, ◌<◌, length, get_or};
+ghost use Rattle.std.specs.Prelude.{◌≡◌, ◌<◌, length, get_or, replicate, IfOk};
 ghost use Rattle.mrcpsp.specs.Schedule.{start_of};
 
 use crate::Sequence;
+use std::alloc::{AllocError, Global};
 use std::marker::Model;
 
 /// A `Schedule` is a mode and a start for each activity of a project, in the order of their
@@ -23,6 +24,20 @@ impl Model for Schedule {
 }
 
 impl Schedule {
+    /// A schedule of `size` activities without modes, which start at 0. It is memory that a search
+    /// writes over.
+    pub fn blank(alloc: Global, size: usize) -> Result<Schedule, AllocError>
+        ensures modes { IfOk result (λ schedule. schedule.modes ≡ replicate size 0) }
+        ensures starts { IfOk result (λ schedule. schedule.starts ≡ replicate size 0) }
+    {
+        let modes = vec![in alloc; 0u32; size]?;
+        let starts = vec![in alloc; 0u32; size]?;
+        Ok(Schedule {
+            modes: Sequence::from(modes),
+            starts: Sequence::from(starts),
+        })
+    }
+
     /// The number of the mode, counted from 1. `activity` is a place from 0.
     pub fn mode(&self, activity: usize) -> u32
         requires { activity < length self.now.modes }

@@ -8,7 +8,7 @@ use Rattle.mrcpsp.specs.BreachText.{breach_text}
 use Rattle.mrcpsp.specs.declared.breach.Breach.{Breach}
 use Rattle.plan_cli.specs.Table.{concat_below}
 
--- what is said of a schedule: that it is feasible, or what it breaks first
+-- the verdict of a schedule: it is feasible, or what it breaks first
 abbrev pub IsVerdict : ProjectData → ScheduleData → Option Breach → Type 0
 IsVerdict p s None = IsFeasible p s
 IsVerdict p s (Some b) = IsFirstBreach p s b
@@ -47,7 +47,7 @@ count_line p s t = codes "moved " ++ decimal (count_below (is_moved s t) (size p
 abbrev pub plan_lines : ProjectData → ScheduleData → ScheduleData → Option Breach → Option Breach → List ℕ
 plan_lines p s t v w = plan_line (codes "before") p s v ++ plan_line (codes "after") p t w
 
--- all that is said of two schedules of a project, with their verdicts v and w
+-- the whole text of two schedules of a project, with their verdicts v and w
 abbrev pub moves_text : ProjectData → ScheduleData → ScheduleData → Option Breach → Option Breach → List ℕ
 moves_text p s t v w =
     plan_lines p s t v w ++ concat_below (move_line s t) (size p) ++ count_line p s t ++ concat_below (cost_line p s t) (nonrenewables p)

@@ -8,8 +8,8 @@ use Rattle.plan_cli.specs.Plan.{IsPlan, IsUnplanned, OfProject, IsNoPlan}
 use Rattle.plan_cli.specs.Table.{IsTable}
 use Rattle.plan_cli.specs.declared.layout.Layout.{Layout}
 use Rattle.plan_cli.specs.declared.plan.Plan.{Plan}
-use Rattle.plan_cli.specs.declared.showing.CompareFault.{CompareFault}
-use Rattle.plan_cli.specs.declared.showing.CompareFault.TheVariants.{First, Second}
+use Rattle.plan_cli.specs.declared.output.CompareFault.{CompareFault}
+use Rattle.plan_cli.specs.declared.output.CompareFault.TheVariants.{First, Second}
 
 -- a table of the feasible schedule that the text has of the file's project
 pub record IsShown (layout : Layout) (plain : Bool) (file text shown : List ℕ) : Type 0 where

@@ -36,7 +36,7 @@ is_empty (n ∷ more) = false
 abbrev pub next_number : Bool → ℕ → List ℕ
 next_number is_first n = cond is_first [] (codes ";") ++ decimal n
 
--- what stands before the last column
+-- the text before the last column
 abbrev pub gap : Layout → List ℕ
 gap Columns = codes "  "
 gap Csv = codes ","
@@ -49,7 +49,7 @@ numbers layout p s j slack =
     ++ concat_below (λ r. cell layout (request p j (mode_of s j) r)) (renewables p)
     ++ concat_below (λ r. cell layout (consumption p j (mode_of s j) r)) (nonrenewables p)
 
--- what stands for no predecessors: a dash in a column
+-- the text for no predecessors: a dash in a column
 abbrev pub dash : Layout → Bool → List ℕ
 dash Columns true = codes "-"
 dash Columns false = []
@@ -59,7 +59,7 @@ dash Csv none = []
 abbrev pub last_cell : Layout → ProjectData → ℕ → List ℕ
 last_cell layout p j = joined (predecessors p j (size p)) ++ dash layout (is_empty (predecessors p j (size p)))
 
--- what stands behind the numbers of activity j: what else was asked for, and its predecessors
+-- the text behind the numbers of activity j: what else was asked for, and its predecessors
 abbrev pub rest : Layout → ProjectData → ℕ → List ℕ → List ℕ
 rest layout p j more = more ++ gap layout ++ last_cell layout p j ++ codes "\n"
 

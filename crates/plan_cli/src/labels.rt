@@ -1,7 +1,7 @@
 //! Dates and names as columns of a table.
 use crate::layout::Layout;
 use csv::WriterBuilder;
-use schedule_labels::{Calendar, Name};
+use schedule_labels::{ActivityName, Calendar};
 use std::alloc::{AllocError, Global};
 
 fn put_gap(text: &mut String, layout: Layout) -> Result<(), AllocError> {
@@ -54,7 +54,7 @@ pub(crate) fn put_date_titles(
 }
 
 /// The width of a column of names, at least that of its title.
-pub(crate) fn longest(names: &[Name]) -> usize {
+pub(crate) fn longest(names: &[ActivityName]) -> usize {
     let mut most = 4;
     for name in names {
         most = most.max(name.text.as_str().chars().count());

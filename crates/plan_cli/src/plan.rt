@@ -1,9 +1,8 @@
 //! The project of a file, and the schedule that a text has.
-ghost use Rattle.std.specs.Prelude.{◌≡◌, ◌↔◌, IsTrue, IfOk, IfErr};
-ghost use Rattle.mrcpsp.specs.Breach.{HasShape, HasModes};
-ghost use Rattle.plan_cli.specs.Plan.{IsWhole, IsPlanned, IsBroken, IsPlan, IsUnplanned};
+ghost use Rattle.std.specs.Prelude.{IfOk, IfErr};
+ghost use Rattle.plan_cli.specs.Plan.{IsPlanned, IsBroken, IsPlan, IsUnplanned};
 
-use mrcpsp::{Breach, MOST_START, Project, Schedule, check};
+use mrcpsp::{Breach, Fitting, Project, Schedule, check};
 use psplib_mm::MmFault;
 use schedule_files::{MOST_BYTES, read_schedule};
 use std::alloc::Global;
@@ -35,38 +34,6 @@ pub enum PlanFault {
     NoMemory,
 }
 
-fn has_shape(project: &Project, schedule: &Schedule) -> bool
-    ensures { IsTrue result ↔ HasShape project.now schedule.now }
-{
-    schedule.modes.as_slice().len() == project.size()
-        && schedule.starts.as_slice().len() == project.size()
-        && schedule
-            .starts
-            .as_slice()
-            .iter()
-            .all(|start| *start <= MOST_START)
-}
-
-#[tactic(auto, unfolding(mrcpsp::specs::Schedule::mode_of))]
-fn has_modes(project: &Project, schedule: &Schedule) -> bool
-    requires { HasShape project.now schedule.now }
-    ensures { IsTrue result ↔ HasModes project.now schedule.now }
-{
-    for activity in 0..project.size() {
-        let number = schedule.mode(activity) as usize;
-        if number == 0 || project.mode_count(activity) < number {
-            return false;
-        }
-    }
-    true
-}
-
-fn is_whole(project: &Project, schedule: &Schedule) -> bool
-    ensures { IsTrue result ↔ IsWhole project.now schedule.now }
-{
-    has_shape(project, schedule) && has_modes(project, schedule)
-}
-
 fn planned(project: &Project, schedule: Schedule) -> Result<Plan, PlanFault>
     ensures plan { IfOk result (λ plan. IsPlanned project.now schedule plan) }
     ensures fault { IfErr result (λ fault. IsBroken project.now schedule fault) }
@@ -77,7 +44,7 @@ fn planned(project: &Project, schedule: Schedule) -> Result<Plan, PlanFault>
             breach: None,
         }),
         Err(breach) => {
-            if is_whole(project, &schedule) {
+            if Fitting::of(project, &schedule).is_some() {
                 Ok(Plan {
                     schedule,
                     breach: Some(breach),

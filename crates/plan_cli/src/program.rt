@@ -4,10 +4,9 @@ ghost use Rattle.std.specs.Process.{exit_status};
 
 use crate::arguments::{Comparing, PlanTask, Showing, task_of};
 use crate::commands::{Compare, Show};
-use crate::showing::ShowOptions;
+use crate::output::ShowOptions;
 use clap::ArgMatches;
-use file_commands::{CommandWatches, calendar_of, open_sources, read_names, refuse_same};
-use std::io;
+use file_commands::{Paths, calendar_of, is_input_twice, read_names, refuse_same, run_files};
 use std::process::ExitCode;
 use std::rt::Runtime;
 
@@ -23,15 +22,10 @@ pub fn run_command<R: Runtime + AllocGlobal>(rt: &R, matches: &ArgMatches<'_>) -
     }
 }
 
-fn is_input_twice(showing: &Showing<'_>) -> bool {
-    let given = [showing.file, showing.text, showing.names.unwrap_or("")];
-    given.iter().filter(|path| **path == "-").count() > 1
-}
-
 fn run_show<R: Runtime + AllocGlobal>(rt: &R, showing: Showing<'_>) -> ExitCode
     ensures { exit_status result ≤ 2 }
 {
-    if is_input_twice(&showing) {
+    if is_input_twice(&[showing.file, showing.text, showing.names.unwrap_or("")]) {
         return refuse_same(rt);
     }
     let calendar = match calendar_of(rt, showing.start, showing.unit) {
@@ -50,35 +44,24 @@ fn run_show<R: Runtime + AllocGlobal>(rt: &R, showing: Showing<'_>) -> ExitCode
             None => None,
         },
     };
-    show_files(rt, showing.file, showing.text, &asked)
-}
-
-fn show_files<'a, R: Runtime + AllocGlobal>(
-    rt: &R,
-    file: &'a str,
-    text: &'a str,
-    asked: &ShowOptions<'_>,
-) -> ExitCode
-    ensures { exit_status result ≤ 1 }
-{
-    let Some(sources) = open_sources(rt, file, Some(text), None) else {
-        return ExitCode::FAILURE;
+    let paths = Paths {
+        file: showing.file,
+        text: Some(showing.text),
+        other: None,
     };
-    let (mut writer, mut watches) = (io::writer(rt), CommandWatches::new());
-    file_commands::run_command(rt, sources, Show { asked }, &mut writer, &mut watches)
+    run_files(rt, paths, Show { asked: &asked })
 }
 
 fn run_compare<R: Runtime + AllocGlobal>(rt: &R, comparing: Comparing<'_>) -> ExitCode
     ensures { exit_status result ≤ 2 }
 {
-    let given = [comparing.file, comparing.before, comparing.after];
-    if given.iter().filter(|path| **path == "-").count() > 1 {
+    if is_input_twice(&[comparing.file, comparing.before, comparing.after]) {
         return refuse_same(rt);
     }
-    let (before, after) = (Some(comparing.before), Some(comparing.after));
-    let Some(sources) = open_sources(rt, comparing.file, before, after) else {
-        return ExitCode::FAILURE;
+    let paths = Paths {
+        file: comparing.file,
+        text: Some(comparing.before),
+        other: Some(comparing.after),
     };
-    let (mut writer, mut watches) = (io::writer(rt), CommandWatches::new());
-    file_commands::run_command(rt, sources, Compare, &mut writer, &mut watches)
+    run_files(rt, paths, Compare)
 }

@@ -8,7 +8,7 @@ ghost use Rattle.price_search.specs.Barring.{IsBarring};
 ghost use Rattle.price_search.specs.LowerBound.{TakesAtLeast};
 
 use crate::cases::{MOST_PIECE_STEPS, refute_by_cases};
-use crate::climb::{Answer, Climb};
+use crate::climb::{BoundAnswer, Climb};
 use crate::count::items_of;
 use crate::effort::Effort;
 use crate::laws::fitting_modes_decide;
@@ -49,11 +49,11 @@ fn table<'a>(
 }
 
 /// Looks for prices that refute the bound, and checks them.
-fn ask(alloc: Global, project: &Project, bound: u32, steps: u32) -> Result<Answer, AllocError>
+fn ask(alloc: Global, project: &Project, bound: u32, steps: u32) -> Result<BoundAnswer, AllocError>
     ensures { IfOk result (λ answer. IsTrue answer.refuted → EachExceeds project.now bound) }
 {
     let Some(barred) = table(alloc, project, bound, MOST_ITEMS)? else {
-        return Ok(Answer {
+        return Ok(BoundAnswer {
             refuted: false,
             stretch: 0,
         });
@@ -65,7 +65,7 @@ fn ask(alloc: Global, project: &Project, bound: u32, steps: u32) -> Result<Answe
     } else {
         false
     };
-    Ok(Answer { refuted, stretch })
+    Ok(BoundAnswer { refuted, stretch })
 }
 
 /// Goes up from a known lower bound while prices refute.
@@ -101,7 +101,8 @@ pub enum Barring<'a> {
     TooLarge,
 }
 
-/// Is `bar_choices` with an effort, and with `left` steps for pieces. Subtracts those that it takes.
+/// Bars choices as `bar_choices` does, with an effort and at most `left` steps for ranges of
+/// choices. Subtracts the steps that it takes.
 fn bar_by_cases<'a>(
     alloc: Global,
     project: &'a Project,

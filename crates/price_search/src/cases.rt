@@ -3,14 +3,14 @@ ghost use Rattle.std.specs.Prelude.{◌≡◌, IsTrue, IfOk};
 ghost use Rattle.schedule_prices.specs.Choices.{EachExceeds};
 
 use crate::effort::{Effort, LEAST_STRETCH};
-use crate::model::{Model, Question};
+use crate::model::{BoundQuestion, Model};
 use crate::pace::FIRST_THETA;
 use crate::pieces::{count_left, keep, leave_out, leave_out_all, marks_of, pieces_of};
 use crate::rounding::listed;
-use crate::slope::Row;
-use crate::steps::{Ended, Steps};
+use crate::slope::RowState;
+use crate::steps::{Steps, StepsEnd};
 use mrcpsp::Project;
-use schedule_prices::{Barred, Piece};
+use schedule_prices::{Barred, ChoiceRange};
 use std::alloc::{AllocError, Global};
 
 /// The most steps for all pieces of all bounds of a project.
@@ -30,7 +30,7 @@ struct Cases {
     search: Steps,
     best: Vec<i64>,
     /// What steps had seen of the rows by then.
-    rows: Vec<Row>,
+    rows: Vec<RowState>,
     /// The stretch of all choices left at the best prices.
     stretch: i64,
     marks: Vec<bool>,
@@ -53,7 +53,7 @@ fn bar_piece(
     alloc: Global,
     barred: &mut Barred,
     cases: &Cases,
-    piece: Piece,
+    piece: ChoiceRange,
 ) -> Result<(), AllocError>
     ensures project { barred.new.project ≡ barred.old.project }
     ensures bound { barred.new.bound ≡ barred.old.bound }
@@ -65,18 +65,18 @@ fn bar_piece(
 
 /// Steps for a piece, from the best prices. `None` if the piece is not dearer than all choices there,
 /// or does not get dearer soon.
-fn run_piece(cases: &mut Cases) -> Option<Ended> {
+fn run_piece(cases: &mut Cases) -> Option<StepsEnd> {
     let search = &mut cases.search;
     search.resume(&cases.best, &cases.rows, PIECE_THETA);
     let mut ended = search.run(1);
     let first = search.most;
-    if ended == Ended::Open {
+    if ended == StepsEnd::Open {
         if first <= cases.stretch {
             return None;
         }
         ended = search.run(FIRST_STEPS);
     }
-    if ended == Ended::Open {
+    if ended == StepsEnd::Open {
         if search.most <= first {
             return None;
         }
@@ -97,7 +97,7 @@ fn try_piece(
     alloc: Global,
     barred: &mut Barred,
     cases: &mut Cases,
-    piece: Piece,
+    piece: ChoiceRange,
 ) -> Result<(), AllocError>
     ensures project { barred.new.project ≡ barred.old.project }
     ensures bound { barred.new.bound ≡ barred.old.bound }
@@ -113,7 +113,7 @@ fn try_piece(
             leave_out(&mut cases.search.model, barred, piece.activity);
             return Ok(());
         }
-        Some(Ended::Refuted) => bar_piece(alloc, barred, cases, piece)?,
+        Some(StepsEnd::Refuted) => bar_piece(alloc, barred, cases, piece)?,
         Some(_) => bar_dear(alloc, barred, cases)?,
     }
     leave_out_all(&mut cases.search.model, barred);
@@ -179,7 +179,7 @@ fn try_round(
 {
     try_all(alloc, barred, cases)?;
     cases.search.restart(&cases.best, FIRST_THETA);
-    if cases.search.run(steps) == Ended::Refuted {
+    if cases.search.run(steps) == StepsEnd::Refuted {
         return Ok(true);
     }
     reduce(alloc, barred, cases)?;
@@ -222,7 +222,7 @@ fn try_cases(
     let items = cases.search.model.items();
     let ended = cases.search.run(effort.steps_for(items));
     let stretch = cases.search.most;
-    if ended == Ended::Refuted || stretch < LEAST_STRETCH {
+    if ended == StepsEnd::Refuted || stretch < LEAST_STRETCH {
         return Ok(());
     }
     reduce(alloc, barred, cases)?;
@@ -245,7 +245,7 @@ pub(crate) fn refute_by_cases(
     ensures project { barred.new.project ≡ barred.old.project }
     ensures bound { barred.new.bound ≡ barred.old.bound }
 {
-    let Question::Open(model) = Model::new(alloc, project, barred.bound(), barred)? else {
+    let BoundQuestion::Open(model) = Model::new(alloc, project, barred.bound(), barred)? else {
         return barred.refute(alloc, &[]);
     };
     let marks = marks_of(alloc, &model)?;

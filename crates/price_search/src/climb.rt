@@ -3,13 +3,13 @@ use crate::slope::ONE;
 
 /// What a question about a bound was answered.
 #[derive(Clone, Copy)]
-pub(crate) struct Answer {
+pub(crate) struct BoundAnswer {
     pub(crate) refuted: bool,
     /// In parts of 2^24.
     pub(crate) stretch: u64,
 }
 
-/// A `Climb` is the way up from a lower bound: a stretch above 1 says how far to go, and questions
+/// A `Climb` is the way up from a lower bound: a stretch above 1 gives the distance, and questions
 /// that stay open are halved back.
 #[derive(Clone, Copy)]
 pub(crate) struct Climb {
@@ -49,7 +49,7 @@ impl Climb {
         self.known < self.open.unwrap_or(u32::MAX) && self.known <= self.horizon
     }
 
-    pub(crate) fn learn(&mut self, answer: Answer) {
+    pub(crate) fn learn(&mut self, answer: BoundAnswer) {
         if answer.refuted {
             self.known = self.at.saturating_add(1);
             let further = self.at.saturating_add(leap(answer.stretch, self.at));

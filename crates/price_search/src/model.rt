@@ -1,5 +1,5 @@
 //! Choices and rows within a bound.
-use crate::windows::{Span, Window, window_of};
+use crate::windows::{ActivitySpan, StartWindow, window_of};
 use mrcpsp::{Activity, Mode, Project};
 use schedule_prices::Barred;
 use std::alloc::{AllocError, Global};
@@ -21,7 +21,7 @@ pub(crate) struct Supply {
 
 /// The starts of an activity in one mode: `count` from `first` on.
 #[derive(Clone, Copy)]
-pub(crate) struct Starts {
+pub(crate) struct ModeStarts {
     pub(crate) mode: usize,
     pub(crate) duration: usize,
     pub(crate) first: usize,
@@ -53,7 +53,7 @@ pub(crate) struct Model {
     pub(crate) bound: usize,
     /// The places in `starts` of each activity's modes.
     pub(crate) modes: Vec<(usize, usize)>,
-    pub(crate) starts: Vec<Starts>,
+    pub(crate) starts: Vec<ModeStarts>,
     /// 0 or `BAR`, of each choice.
     pub(crate) bars: Vec<i64>,
     pub(crate) capacities: Vec<Supply>,
@@ -64,7 +64,7 @@ pub(crate) struct Model {
 
 /// A bound's question.
 #[derive(Drop)]
-pub(crate) enum Question {
+pub(crate) enum BoundQuestion {
     Open(Model),
     /// An activity has no choice left.
     Closed,
@@ -101,7 +101,7 @@ impl Model {
         project: &Project,
         bound: u32,
         barred: &Barred,
-    ) -> Result<Question, AllocError> {
+    ) -> Result<BoundQuestion, AllocError> {
         let mut model = Model {
             bound: bound as usize,
             modes: Vec::new(alloc),
@@ -116,10 +116,10 @@ impl Model {
         for (number, activity) in project.activities().iter().enumerate() {
             let span = model.add_activity(number, activity, barred)?;
             if span.earliest == usize::MAX {
-                return Ok(Question::Closed);
+                return Ok(BoundQuestion::Closed);
             }
             if model.bars.len() > MOST_ITEMS {
-                return Ok(Question::TooLarge);
+                return Ok(BoundQuestion::TooLarge);
             }
             spans.push(span)?;
         }
@@ -128,9 +128,9 @@ impl Model {
             model.add_arcs(before, activity, &spans)?;
         }
         if bound == 0 || model.items() > MOST_ITEMS {
-            return Ok(Question::TooLarge);
+            return Ok(BoundQuestion::TooLarge);
         }
-        Ok(Question::Open(model))
+        Ok(BoundQuestion::Open(model))
     }
 
     fn add_activity(
@@ -138,8 +138,8 @@ impl Model {
         number: usize,
         activity: &Activity,
         barred: &Barred,
-    ) -> Result<Span, AllocError> {
-        let mut span = Span::NONE;
+    ) -> Result<ActivitySpan, AllocError> {
+        let mut span = ActivitySpan::NONE;
         let from = self.starts.len();
         let bound = u32::try_from(self.bound).unwrap_or(0);
         for (mode, way) in activity.modes.as_slice().iter().enumerate() {
@@ -157,9 +157,9 @@ impl Model {
         Ok(span)
     }
 
-    fn add_mode(&mut self, mode: usize, way: &Mode, window: Window) -> Result<(), AllocError> {
+    fn add_mode(&mut self, mode: usize, way: &Mode, window: StartWindow) -> Result<(), AllocError> {
         let count = window.last.saturating_sub(window.first) as usize;
-        let starts = Starts {
+        let starts = ModeStarts {
             mode,
             duration: way.duration as usize,
             first: window.first as usize,
@@ -176,7 +176,7 @@ impl Model {
         &mut self,
         number: usize,
         mode: usize,
-        window: Window,
+        window: StartWindow,
         barred: &Barred,
     ) -> Result<(), AllocError> {
         for start in window.first..window.last.saturating_add(1) {
@@ -211,12 +211,20 @@ impl Model {
         &mut self,
         before: usize,
         activity: &Activity,
-        spans: &[Span],
+        spans: &[ActivitySpan],
     ) -> Result<(), AllocError> {
-        let latest_end = spans.get(before).copied().unwrap_or(Span::NONE).latest_end;
+        let latest_end = spans
+            .get(before)
+            .copied()
+            .unwrap_or(ActivitySpan::NONE)
+            .latest_end;
         for next in activity.successors.as_slice() {
             let after = (*next as usize).saturating_sub(1);
-            let earliest = spans.get(after).copied().unwrap_or(Span::NONE).earliest;
+            let earliest = spans
+                .get(after)
+                .copied()
+                .unwrap_or(ActivitySpan::NONE)
+                .earliest;
             if earliest < latest_end {
                 let place = self.limits.len();
                 self.arcs.push(Arc {

@@ -2,7 +2,7 @@
 ghost use Rattle.std.specs.Prelude.{◌≡◌};
 
 use mrcpsp::{Activity, Mode, Project};
-use schedule_prices::{Barred, Piece, Price, PricedRow};
+use schedule_prices::{Barred, ChoiceRange, Price, PricedRow};
 use std::alloc::{AllocError, Global};
 
 /// The first renewable resource of which the mode takes more than there is.
@@ -37,7 +37,7 @@ fn bar_overuse(
         let from = at.saturating_mul(duration);
         let time = from.saturating_add(duration).saturating_sub(1);
         let row = PricedRow::Use { resource, time };
-        let piece = Piece {
+        let piece = ChoiceRange {
             activity: number,
             mode: Some(mode),
             from,

@@ -6,9 +6,9 @@ const PATIENCE: u32 = 7;
 /// The length of the first step, 1.5, in parts of 2^16.
 pub(crate) const FIRST_THETA: i64 = 98_304;
 
-/// A `Pace` is the length of the next step, and how lengths shrink.
+/// A `StepPace` is the length of the next step, and how lengths shrink.
 #[derive(Clone, Copy)]
-pub(crate) struct Pace {
+pub(crate) struct StepPace {
     /// The length in parts of 2^16.
     pub(crate) theta: i64,
     /// The first length of this cycle.
@@ -20,9 +20,9 @@ pub(crate) struct Pace {
     waited: u32,
 }
 
-impl Pace {
-    pub(crate) fn new(theta: i64) -> Pace {
-        Pace {
+impl StepPace {
+    pub(crate) fn new(theta: i64) -> StepPace {
+        StepPace {
             theta,
             first: theta,
             shrink: 180,

@@ -1,15 +1,15 @@
 //! Pieces of the choices: which are tried, and which cost too much.
-use crate::model::{BAR, Model, Starts};
-use schedule_prices::{Barred, Piece};
+use crate::model::{BAR, ModeStarts, Model};
+use schedule_prices::{Barred, ChoiceRange};
 use std::alloc::{AllocError, Global};
 
 /// Whether the piece, of this activity, has the choice.
-fn has(piece: &Piece, mode: usize, start: usize) -> bool {
+fn has(piece: &ChoiceRange, mode: usize, start: usize) -> bool {
     let inside = piece.from as usize <= start && start <= piece.to as usize;
     inside && piece.mode.is_none_or(|only| only == mode)
 }
 
-fn is_left(model: &Model, starts: &Starts, at: usize) -> bool {
+fn is_left(model: &Model, starts: &ModeStarts, at: usize) -> bool {
     model.bars.get(starts.place.saturating_add(at)).copied() == Some(0)
 }
 
@@ -23,12 +23,12 @@ fn modes_of(model: &Model, activity: usize) -> (usize, usize) {
     model.modes.get(activity).copied().unwrap_or((0, 0))
 }
 
-fn starts_at(model: &Model, place: usize) -> Option<Starts> {
+fn starts_at(model: &Model, place: usize) -> Option<ModeStarts> {
     model.starts.get(place).copied()
 }
 
 /// Bars the starts that lie outside the piece. Returns how many are left.
-fn keep_starts(model: &mut Model, piece: &Piece, starts: &Starts) -> usize {
+fn keep_starts(model: &mut Model, piece: &ChoiceRange, starts: &ModeStarts) -> usize {
     let mut left = 0usize;
     for at in 0..starts.count {
         let start = starts.first.saturating_add(at);
@@ -42,7 +42,7 @@ fn keep_starts(model: &mut Model, piece: &Piece, starts: &Starts) -> usize {
 }
 
 /// Bars the choices of the piece's activity outside the piece. Returns how many are left.
-pub(crate) fn keep(model: &mut Model, piece: &Piece) -> usize {
+pub(crate) fn keep(model: &mut Model, piece: &ChoiceRange) -> usize {
     let mut left = 0usize;
     let (from, to) = modes_of(model, piece.activity);
     for place in from..to {
@@ -53,7 +53,7 @@ pub(crate) fn keep(model: &mut Model, piece: &Piece) -> usize {
     left
 }
 
-fn leave_starts(model: &mut Model, barred: &Barred, activity: usize, starts: &Starts) {
+fn leave_starts(model: &mut Model, barred: &Barred, activity: usize, starts: &ModeStarts) {
     for at in 0..starts.count {
         let start = u32::try_from(starts.first.saturating_add(at)).unwrap_or(u32::MAX);
         let bar = if barred.is_barred(activity, starts.mode, start) {
@@ -98,7 +98,7 @@ fn mark(model: &Model, activity: usize, marks: &mut [bool]) {
     }
 }
 
-fn mark_starts(model: &Model, starts: &Starts, marks: &mut [bool]) {
+fn mark_starts(model: &Model, starts: &ModeStarts, marks: &mut [bool]) {
     for at in 0..starts.count {
         let start = starts.first.saturating_add(at);
         if start < marks.len() && is_left(model, starts, at) {
@@ -127,11 +127,11 @@ pub(crate) fn pieces_of(
     model: &Model,
     activity: usize,
     marks: &mut [bool],
-    pieces: &mut Vec<Piece>,
+    pieces: &mut Vec<ChoiceRange>,
 ) -> Result<(), AllocError> {
     pieces.clear();
     let (from, to) = modes_of(model, activity);
-    let whole = Piece {
+    let whole = ChoiceRange {
         activity,
         mode: None,
         from: 0,
@@ -141,7 +141,7 @@ pub(crate) fn pieces_of(
         for place in from..to {
             if let Some(starts) = model.starts.get(place) {
                 let mode = Some(starts.mode);
-                pieces.push(Piece { mode, ..whole })?;
+                pieces.push(ChoiceRange { mode, ..whole })?;
             }
         }
     }
@@ -151,8 +151,8 @@ pub(crate) fn pieces_of(
     if third > 0 {
         let to = start_after(marks, third.saturating_sub(1));
         let from = start_after(marks, left.saturating_sub(third));
-        pieces.push(Piece { to, ..whole })?;
-        pieces.push(Piece { from, ..whole })?;
+        pieces.push(ChoiceRange { to, ..whole })?;
+        pieces.push(ChoiceRange { from, ..whole })?;
     }
     Ok(())
 }

@@ -1,7 +1,7 @@
 //! Prices that may refute a bound.
-use crate::model::{Model, Question};
+use crate::model::{BoundQuestion, Model};
 use crate::rounding::listed;
-use crate::steps::{Ended, Steps};
+use crate::steps::{Steps, StepsEnd};
 use mrcpsp::Project;
 use schedule_prices::{Barred, Price};
 use std::alloc::{AllocError, Global};
@@ -29,8 +29,8 @@ pub fn find_prices(
     barred: &Barred,
 ) -> Result<Found, AllocError> {
     let model = match Model::new(alloc, project, bound, barred)? {
-        Question::Open(model) => model,
-        Question::Closed => {
+        BoundQuestion::Open(model) => model,
+        BoundQuestion::Closed => {
             return Ok(Found {
                 prices: Vec::new(alloc),
                 refuted: true,
@@ -39,7 +39,7 @@ pub fn find_prices(
                 stretch: 0,
             });
         }
-        Question::TooLarge => {
+        BoundQuestion::TooLarge => {
             return Ok(Found {
                 prices: Vec::new(alloc),
                 refuted: false,
@@ -53,8 +53,8 @@ pub fn find_prices(
     let ended = search.run(steps);
     Ok(Found {
         prices: listed(alloc, &search.model, &search.rounded)?,
-        refuted: ended == Ended::Refuted,
-        hopeless: ended == Ended::Hopeless,
+        refuted: ended == StepsEnd::Refuted,
+        hopeless: ended == StepsEnd::Hopeless,
         steps: search.taken_steps,
         stretch: u64::try_from(search.most).unwrap_or(0),
     })

@@ -14,7 +14,7 @@ const SHARE_SCALE: i64 = 80;
 
 /// A row with what steps have seen of it.
 #[derive(Clone, Copy)]
-pub(crate) struct Row {
+pub(crate) struct RowState {
     pub(crate) limit: i64,
     inverse: i64,
     base: i64,
@@ -45,12 +45,12 @@ pub(crate) struct Slope {
     pub(crate) fullest_total: i64,
 }
 
-pub(crate) fn rows_of(alloc: Global, model: &Model) -> Result<Vec<Row>, AllocError> {
+pub(crate) fn rows_of(alloc: Global, model: &Model) -> Result<Vec<RowState>, AllocError> {
     let arcs = model.arc_place();
     let mut rows = Vec::with_capacity(alloc, model.limits.len())?;
     for (at, limit) in model.limits.iter().enumerate() {
         let base = if at < arcs { SCALE } else { ARC_SCALE };
-        rows.push(Row {
+        rows.push(RowState {
             limit: *limit,
             inverse: ONE.checked_div(*limit).unwrap_or(0),
             base,
@@ -63,12 +63,12 @@ pub(crate) fn rows_of(alloc: Global, model: &Model) -> Result<Vec<Row>, AllocErr
 }
 
 /// The excess of a row's mean over the stretch. A price of 0 cannot fall.
-fn excess(row: &Row, price: i64, stretch: i64) -> i64 {
+fn excess(row: &RowState, price: i64, stretch: i64) -> i64 {
     let excess = row.mean.wrapping_sub(stretch);
     if price == 0 { excess.max(0) } else { excess }
 }
 
-impl Row {
+impl RowState {
     /// `growth` is `growth_of`.
     fn learn(&mut self, used: i64, price: i64, origin: Origin, growth: i64) {
         let share = used.wrapping_mul(self.inverse);
@@ -88,7 +88,7 @@ fn growth_of(rows: usize, supply: i64) -> i64 {
 }
 
 /// Takes the newest usage into the means.
-pub(crate) fn learn(rows: &mut [Row], used: &[i64], prices: &[i64], origin: Origin) -> Slope {
+pub(crate) fn learn(rows: &mut [RowState], used: &[i64], prices: &[i64], origin: Origin) -> Slope {
     let growth = growth_of(rows.len(), origin.supply);
     let mut slope = Slope {
         norm: 0,
@@ -109,7 +109,7 @@ pub(crate) fn learn(rows: &mut [Row], used: &[i64], prices: &[i64], origin: Orig
 }
 
 /// Moves prices along the slope, `factor` parts of 2^28 far.
-pub(crate) fn go(prices: &mut [i64], rows: &[Row], factor: i64, origin: Origin) {
+pub(crate) fn go(prices: &mut [i64], rows: &[RowState], factor: i64, origin: Origin) {
     let unit = origin.supply >> 28;
     let count = prices.len().min(rows.len());
     for at in 0..count {
@@ -126,7 +126,7 @@ pub(crate) fn go(prices: &mut [i64], rows: &[Row], factor: i64, origin: Origin) 
 }
 
 /// Forgets the totals of a cycle.
-pub(crate) fn forget(rows: &mut [Row]) {
+pub(crate) fn forget(rows: &mut [RowState]) {
     for row in rows {
         row.total = 0;
     }

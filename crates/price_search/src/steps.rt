@@ -1,10 +1,10 @@
 //! Steps along subgradients: from prices to prices that refute the bound, if there are any.
 use crate::model::{BAR, Model};
-use crate::pace::{FIRST_THETA, Pace};
+use crate::pace::{FIRST_THETA, StepPace};
 use crate::rounding::round;
-use crate::slope::{ONE, Origin, Row, Slope, forget, go, learn, rows_of};
+use crate::slope::{ONE, Origin, RowState, Slope, forget, go, learn, rows_of};
 use crate::sums::{PriceSums, copy};
-use crate::usage::Taken;
+use crate::usage::Selection;
 use std::alloc::{AllocError, Global};
 
 /// What the rows supply in all, by prices as steps keep them.
@@ -13,9 +13,9 @@ const WHOLE: i64 = 1 << 36;
 /// How much above the best stretch steps aim, in parts of 2^16.
 const TARGET: i64 = 400;
 
-/// Where steps have come to.
+/// A `StepsEnd` is how a run of steps ends.
 #[derive(Clone, Copy, PartialEq, Eq)]
-pub(crate) enum Ended {
+pub(crate) enum StepsEnd {
     Open,
     /// The prices refute the bound.
     Refuted,
@@ -28,15 +28,15 @@ pub(crate) enum Ended {
 pub(crate) struct Steps {
     pub(crate) model: Model,
     sums: PriceSums,
-    taken: Taken,
-    other: Taken,
-    rows: Vec<Row>,
+    taken: Selection,
+    other: Selection,
+    rows: Vec<RowState>,
     used: Vec<i64>,
     prices: Vec<i64>,
     pub(crate) best: Vec<i64>,
     /// The best prices, of 24 bits.
     pub(crate) rounded: Vec<i64>,
-    pace: Pace,
+    pace: StepPace,
     supply: i64,
     /// The best stretch, in parts of 2^24, and the supply there.
     pub(crate) most: i64,
@@ -120,14 +120,14 @@ impl Steps {
         let supply = model.supply(&prices);
         Ok(Steps {
             sums: PriceSums::new(alloc, &model)?,
-            taken: Taken::new(alloc, &model)?,
-            other: Taken::new(alloc, &model)?,
+            taken: Selection::new(alloc, &model)?,
+            other: Selection::new(alloc, &model)?,
             rows: rows_of(alloc, &model)?,
             used: vec![in alloc; 0i64; rows]?,
             prices,
             best: vec![in alloc; 0i64; rows]?,
             rounded: vec![in alloc; 0i64; rows]?,
-            pace: Pace::new(FIRST_THETA),
+            pace: StepPace::new(FIRST_THETA),
             supply,
             most: 0,
             most_supply: 1,
@@ -139,7 +139,7 @@ impl Steps {
     }
 
     /// Begins from given prices, and from what steps have seen of the rows there.
-    pub(crate) fn resume(&mut self, prices: &[i64], rows: &[Row], theta: i64) {
+    pub(crate) fn resume(&mut self, prices: &[i64], rows: &[RowState], theta: i64) {
         self.restart(prices, theta);
         if self.rows.len() == rows.len() {
             self.rows.copy_from_slice(rows);
@@ -149,7 +149,7 @@ impl Steps {
     }
 
     /// Writes what steps have seen of the rows to `rows`.
-    pub(crate) fn save_rows(&self, rows: &mut Vec<Row>) -> Result<(), AllocError> {
+    pub(crate) fn save_rows(&self, rows: &mut Vec<RowState>) -> Result<(), AllocError> {
         rows.clear();
         rows.extend_from_slice(&self.rows)?;
         Ok(())
@@ -160,7 +160,7 @@ impl Steps {
         copy(&mut self.prices, prices);
         copy(&mut self.best, prices);
         self.supply = self.model.supply(&self.prices);
-        self.pace = Pace::new(theta);
+        self.pace = StepPace::new(theta);
         self.most = 0;
         self.most_supply = 1;
         self.since = 0;
@@ -170,19 +170,19 @@ impl Steps {
     }
 
     /// At most `steps` steps. Afterwards the rounded prices are those that refute, or the best.
-    pub(crate) fn run(&mut self, steps: u32) -> Ended {
+    pub(crate) fn run(&mut self, steps: u32) -> StepsEnd {
         for _ in 0..steps {
             self.taken_steps = self.taken_steps.saturating_add(1);
             let ended = self.step();
-            if ended != Ended::Open {
-                if ended == Ended::Hopeless {
+            if ended != StepsEnd::Open {
+                if ended == StepsEnd::Hopeless {
                     round(&self.best, &mut self.rounded);
                 }
                 return ended;
             }
         }
         round(&self.best, &mut self.rounded);
-        Ended::Open
+        StepsEnd::Open
     }
 
     /// Whether the rounded prices refute the bound.
@@ -193,13 +193,13 @@ impl Steps {
         cost >= BAR || cost > self.model.supply(&self.rounded)
     }
 
-    fn step(&mut self) -> Ended {
+    fn step(&mut self) -> StepsEnd {
         self.sums.set(&self.model, &self.prices);
         let cost = self.taken.take(&self.model, &self.sums);
         let stretch = stretch_of(cost, self.supply);
         if (cost >= BAR || cost > self.supply) && self.refutes() {
             self.most = stretch;
-            return Ended::Refuted;
+            return StepsEnd::Refuted;
         }
         let jumps = self.look(stretch);
         self.taken.use_rows(&self.model, &mut self.used);
@@ -219,12 +219,12 @@ impl Steps {
         self.since = self.since.saturating_add(1);
         let slope = learn(&mut self.rows, &self.used, &self.prices, origin);
         if self.taken_steps > 1 && self.is_hopeless(slope) {
-            return Ended::Hopeless;
+            return StepsEnd::Hopeless;
         }
         let factor = self.factor(slope, stretch);
         go(&mut self.prices, &self.rows, factor, origin);
         self.supply = rescale(&self.model, &mut self.prices);
-        Ended::Open
+        StepsEnd::Open
     }
 
     /// Keeps the prices if they are the best. Returns whether the next step begins a cycle.

@@ -1,5 +1,5 @@
 //! What choices cost by prices of rows.
-use crate::model::{Model, Starts};
+use crate::model::{ModeStarts, Model};
 use std::alloc::{AllocError, Global};
 
 /// A `PriceSums` is what each start and each end of an activity costs by precedence rows, and what
@@ -152,7 +152,7 @@ impl PriceSums {
         copy(&mut self.stocks, stocks);
     }
 
-    fn fixed(&self, starts: &Starts) -> i64 {
+    fn fixed(&self, starts: &ModeStarts) -> i64 {
         let mut fixed = 0i64;
         for (amount, price) in starts.consumptions.iter().zip(&self.stocks) {
             fixed = fixed.wrapping_add(amount.wrapping_mul(*price));
@@ -161,8 +161,14 @@ impl PriceSums {
     }
 
     /// Writes what the activity costs in the mode at each start.
-    pub(crate) fn price(&self, model: &Model, activity: usize, starts: &Starts, costs: &mut [i64]) {
-        let Starts { first, count, .. } = *starts;
+    pub(crate) fn price(
+        &self,
+        model: &Model,
+        activity: usize,
+        starts: &ModeStarts,
+        costs: &mut [i64],
+    ) {
+        let ModeStarts { first, count, .. } = *starts;
         let place = activity.saturating_mul(self.width).saturating_add(first);
         let end = place.saturating_add(starts.duration);
         let bars = part(&model.bars, starts.place, count);

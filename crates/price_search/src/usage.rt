@@ -1,5 +1,5 @@
 //! The cheapest choices, and what they take of the rows.
-use crate::model::{Arc, Model, Starts};
+use crate::model::{Arc, ModeStarts, Model};
 use crate::sums::PriceSums;
 use std::alloc::{AllocError, Global};
 
@@ -18,9 +18,9 @@ const NONE: Choice = Choice {
     cost: i64::MAX,
 };
 
-/// A `Taken` is one choice of each activity.
+/// A `Selection` is one choice of each activity.
 #[derive(Drop)]
-pub(crate) struct Taken {
+pub(crate) struct Selection {
     choices: Vec<Choice>,
     costs: Vec<i64>,
 }
@@ -46,9 +46,9 @@ fn add(used: &mut [i64], from: usize, to: usize, amount: i64) {
     }
 }
 
-impl Taken {
-    pub(crate) fn new(alloc: Global, model: &Model) -> Result<Taken, AllocError> {
-        Ok(Taken {
+impl Selection {
+    pub(crate) fn new(alloc: Global, model: &Model) -> Result<Selection, AllocError> {
+        Ok(Selection {
             choices: vec![in alloc; NONE; model.modes.len()]?,
             costs: vec![in alloc; 0i64; model.width()]?,
         })
@@ -85,13 +85,13 @@ impl Taken {
         total
     }
 
-    fn choice(&self, model: &Model, activity: usize) -> Option<(Choice, Starts)> {
+    fn choice(&self, model: &Model, activity: usize) -> Option<(Choice, ModeStarts)> {
         let choice = *self.choices.get(activity)?;
         let starts = *model.starts.get(choice.place)?;
         Some((choice, starts))
     }
 
-    fn add_amounts(&self, model: &Model, used: &mut [i64], choice: Choice, starts: &Starts) {
+    fn add_amounts(&self, model: &Model, used: &mut [i64], choice: Choice, starts: &ModeStarts) {
         for kind in 0..model.capacities.len().min(starts.requests.len()) {
             let amount = starts.requests[kind];
             if amount != 0 {

@@ -3,7 +3,7 @@ use schedule_prices::Barred;
 
 /// The first and the last start left.
 #[derive(Clone, Copy)]
-pub(crate) struct Window {
+pub(crate) struct StartWindow {
     pub(crate) first: u32,
     pub(crate) last: u32,
 }
@@ -14,16 +14,16 @@ pub(crate) fn window_of(
     activity: usize,
     mode: usize,
     latest: u32,
-) -> Option<Window> {
-    let mut window: Option<Window> = None;
+) -> Option<StartWindow> {
+    let mut window: Option<StartWindow> = None;
     for start in 0..latest.saturating_add(1) {
         if !barred.is_barred(activity, mode, start) {
             window = match window {
-                None => Some(Window {
+                None => Some(StartWindow {
                     first: start,
                     last: start,
                 }),
-                Some(window) => Some(Window {
+                Some(window) => Some(StartWindow {
                     first: window.first,
                     last: start,
                 }),
@@ -35,13 +35,13 @@ pub(crate) fn window_of(
 
 /// Where an activity can start first, and end last.
 #[derive(Clone, Copy)]
-pub(crate) struct Span {
+pub(crate) struct ActivitySpan {
     pub(crate) earliest: usize,
     pub(crate) latest_end: usize,
 }
 
-impl Span {
-    pub(crate) const NONE: Span = Span {
+impl ActivitySpan {
+    pub(crate) const NONE: ActivitySpan = ActivitySpan {
         earliest: usize::MAX,
         latest_end: 0,
     };

@@ -1,7 +1,7 @@
 //! Barred choices worked by hand.
 use crate::fixtures::{arc_at, pair, use_at};
 use mrcpsp::Project;
-use schedule_prices::{Barred, Piece};
+use schedule_prices::{Barred, ChoiceRange};
 use std::alloc::Global;
 use std::process::Abort;
 
@@ -51,7 +51,7 @@ fn prices_bar_pieces(rt: HostRuntime) {
         use_at(4, 1),
     ];
     let mut five = barred(&rt, alloc, &two, 5);
-    let middle = Piece {
+    let middle = ChoiceRange {
         activity: 1,
         mode: Some(0),
         from: 1,
@@ -66,7 +66,7 @@ fn prices_bar_pieces(rt: HostRuntime) {
     assert!(rt; left(&five, 1) == 0b101 && left(&five, 0) == 0b1111);
     // it has 3 of what there is 3 of, and the first at least 1: it starts where it has 2
     assert!(rt; five.refute(alloc, &three) == Ok(false));
-    let every = Piece {
+    let every = ChoiceRange {
         activity: 0,
         mode: None,
         from: 1,

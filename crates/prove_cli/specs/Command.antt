@@ -9,7 +9,7 @@ use Rattle.file_commands.specs.declared.inputs.TheConstants.{MOST_TEXT}
 use Rattle.prove_cli.specs.Proved.{IsProved}
 use Rattle.prove_cli.specs.declared.fault.ProveFault.{ProveFault}
 use Rattle.prove_cli.specs.declared.fault.ProveFault.TheVariants as why
-use Rattle.prove_cli.specs.declared.proving.Ended.{Ended}
+use Rattle.prove_cli.specs.declared.proof_run.ProofEnd.{ProofEnd}
 
 -- the file is at fault, or there was no memory
 abbrev pub IsOfFile : ProveFault → Option (List ℕ) → Type 0
@@ -21,6 +21,6 @@ abbrev pub IsUnproved : CommandFault ProveFault → CommandCounts → CommandCou
 IsUnproved fault from seen file before after = IsStopOf file_alone (λ why. IsUnwritten from seen before after × IsOfFile why file) fault from seen before after
 
 -- the end of the command
-abbrev pub IsProveOf : Bool → Result Ended (CommandFault ProveFault) → CommandCounts → CommandCounts → Option (List ℕ) → Option (List ℕ) → Option (List ℕ) → Type 0
+abbrev pub IsProveOf : Bool → Result ProofEnd (CommandFault ProveFault) → CommandCounts → CommandCounts → Option (List ℕ) → Option (List ℕ) → Option (List ℕ) → Type 0
 IsProveOf is_json (Ok ended) from seen file before after = AreKept from seen × IfSome file (λ bytes. IsProved is_json ended (take MOST_TEXT bytes) before after)
 IsProveOf is_json (Err fault) from seen file before after = IsUnproved fault from seen file before after

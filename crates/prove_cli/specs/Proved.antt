@@ -10,8 +10,8 @@ use Rattle.prover.specs.Answers.{IsAnswer}
 use Rattle.prover.specs.declared.known.Answer.{Answer}
 use Rattle.prover.specs.declared.known.Answer.TheVariants.{Optimal, Gap, AtLeast, Infeasible}
 use Rattle.prove_cli.specs.declared.cost.Cost.{Cost}
-use Rattle.prove_cli.specs.declared.proving.Ended.{Ended}
-use Rattle.prove_cli.specs.declared.proving.Ended.TheVariants as end
+use Rattle.prove_cli.specs.declared.proof_run.ProofEnd.{ProofEnd}
+use Rattle.prove_cli.specs.declared.proof_run.ProofEnd.TheVariants as end
 
 -- ---- as lines
 
@@ -69,7 +69,7 @@ told_text true answer cost = answer_json answer cost
 told_text false answer cost = answer_text answer
 
 -- a run is decided exactly by an optimal schedule, and by the lack of any
-abbrev pub ended_by : Answer → Ended
+abbrev pub ended_by : Answer → ProofEnd
 ended_by (Optimal best) = end.Decided
 ended_by (Gap best bound) = end.Gap
 ended_by (AtLeast bound) = end.Gap
@@ -77,7 +77,7 @@ ended_by Infeasible = end.Decided
 
 -- the file is a project, an answer is true of it, the run ended by that answer, and the answer's text
 -- was written. Nothing is promised of the cost
-pub record IsProved (is_json : Bool) (ended : Ended) (file : List ℕ) (before after : Option (List ℕ)) : Type 0 where
+pub record IsProved (is_json : Bool) (ended : ProofEnd) (file : List ℕ) (before after : Option (List ℕ)) : Type 0 where
   pub project : ProjectData
   pub read : reading file ≡ Ok project
   pub answer : Answer

@@ -3,13 +3,13 @@ ghost use Rattle.std.specs.Prelude.{◌≤◌, IfErr, IfSome};
 ghost use Rattle.std.specs.Process.{exit_status};
 
 use crate::arguments::{Proving, proving_of};
-use crate::proving::{Ended, ProveOptions, prove_read};
-use crate::reporting::{Reporter, Style};
-use crate::stopping::stop_at_end_of_input;
+use crate::proof_run::{ProofEnd, ProveOptions, prove_read};
+use crate::reporter::{Reporter, Style};
+use crate::stop_flag::stop_at_end_of_input;
 use clap::ArgMatches;
 use explain::why_no_schedule;
 use file_commands::{
-    CommandWatches, MOST_TEXT, Paths, end_command, end_no_memory, open_path, told,
+    CommandWatches, MOST_TEXT, Paths, end_command, end_no_memory, open_path, or_report,
 };
 use mrcpsp::Schedule;
 use prover::Limits;
@@ -125,7 +125,7 @@ fn from_of<R: Runtime + AllocGlobal>(
         return Err(ExitCode::FAILURE);
     };
     let got = Watch::new().read_front(rt.alloc(), source, MOST_TEXT);
-    let Some(bytes) = told(rt, path, got) else {
+    let Some(bytes) = or_report(rt, path, got) else {
         return Err(ExitCode::FAILURE);
     };
     match schedule_in(rt, &bytes) {
@@ -173,8 +173,8 @@ fn run<
     };
     let mut watches = CommandWatches::new();
     match prove_read(rt, alloc, file, &asked, &mut io::writer(rt), &mut watches) {
-        Ok(Ended::Decided) => ExitCode::SUCCESS,
-        Ok(Ended::Gap) => ExitCode::from(GAP),
+        Ok(ProofEnd::Decided) => ExitCode::SUCCESS,
+        Ok(ProofEnd::Gap) => ExitCode::from(GAP),
         Err(fault) => end_command(rt, Paths::of(proving.file), Err(fault), &mut watches),
     }
 }

@@ -1,3 +1,3 @@
 pub mod KnownLemmas
 pub mod DecideLemmas
-pub mod DeskLemmas
+pub mod SharedWorkLemmas

@@ -3,17 +3,17 @@ use Rattle.std.specs.Prelude.{◌≡◌, ◌≤◌, ◌<◌, ℕ, Bool, true, Op
 use Rattle.mrcpsp.specs.Project.{ProjectData}
 use Rattle.mrcpsp.specs.Schedule.{IsFeasible, IsInfeasible, makespan}
 use Rattle.price_search.specs.LowerBound.{TakesAtLeast}
-use Rattle.prover.specs.declared.known.Best.{Best}
+use Rattle.prover.specs.declared.known.BestKnown.{BestKnown}
 use Rattle.prover.specs.declared.known.Question.{Question}
 
 -- the schedule is feasible, and the makespan is its own
-pub record IsBest (p : ProjectData) (best : Best) : Type 0 where
+pub record IsBest (p : ProjectData) (best : BestKnown) : Type 0 where
   pub feasible : IsFeasible p best.schedule
   pub makespan_is : best.makespan ≡ makespan p best.schedule
 
 -- the best schedule, a lower bound, and whether no schedule is feasible
 pub record Facts : Type 0 where
-  pub best : Option Best
+  pub best : Option BestKnown
   pub bound : ℕ
   pub infeasible : Bool
 
@@ -23,7 +23,7 @@ pub record IsTrue (p : ProjectData) (known : Facts) : Type 0 where
   pub bound_is : TakesAtLeast p known.bound
   pub infeasible_is : known.infeasible ≡ true → IsInfeasible p
 
--- an answer to the question tells something new: it is not below the bound, and the best schedule is
+-- an answer to the question is something new: it is not below the bound, and the best schedule is
 -- longer
 pub record IsOpen (known : Facts) (question : Question) : Type 0 where
   pub from_bound : known.bound ≤ question.within

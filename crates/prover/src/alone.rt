@@ -8,11 +8,11 @@ ghost use Rattle.prover.specs.Answers.{IsAnswer};
 ghost use Rattle.prover.specs.Decided.{IsDecided};
 ghost use Rattle.prover.specs.Known.{IsBest};
 
-use crate::decide::{Decision, Watch, decide_within, exceeds_stocks};
-use crate::desk::Taken;
+use crate::decide::{Decision, SearchObserver, decide_within, exceeds_stocks};
 use crate::improver::Improver;
-use crate::known::{Best, Known, Question, Subject};
+use crate::known::{BestKnown, Known, Question, Subject};
 use crate::lanes::{CHUNK, LEAP, Lane, PRICE_STEPS, SLICE, question_of, stride_after};
+use crate::shared_work::Gain;
 use crate::task::{Pace, Proved};
 use mrcpsp::{Project, Schedule, check};
 use price_search::lower_bound;
@@ -30,7 +30,13 @@ const SEED: u64 = 1;
 pub trait Overseer {
     /// Returns whether the worker goes on. It has had `conflicts` conflicts, and no schedule takes
     /// fewer periods than `bound`.
-    fn look(&mut self, project: &Project, conflicts: u64, best: Option<&Best>, bound: u32) -> bool
+    fn look(
+        &mut self,
+        project: &Project,
+        conflicts: u64,
+        best: Option<&BestKnown>,
+        bound: u32,
+    ) -> bool
         requires best { IfSome (option_copied best) (IsBest project.now) }
         requires bound { TakesAtLeast project.now bound };
 
@@ -66,7 +72,7 @@ impl<F: Subject> Notebook<'_, F> {
             starts: schedule.starts.clone_in(self.alloc)?,
         };
         if let Ok(makespan) = check(self.project, &copy) {
-            self.known.offer(Best {
+            self.known.offer(BestKnown {
                 schedule: copy,
                 makespan,
             });
@@ -87,23 +93,23 @@ impl<F: Subject> Notebook<'_, F> {
     }
 
     /// Takes the answer to a question in.
-    #[tactic(auto, using(crate::proofs::DeskLemmas::bound_rules))]
-    fn take_in(&mut self, question: Question, decision: Decision) -> Taken
+    #[tactic(auto, using(crate::proofs::SharedWorkLemmas::bound_rules))]
+    fn take_in(&mut self, question: Question, decision: Decision) -> Gain
         requires { IsDecided F.project question.within decision }
     {
         match decision {
             Decision::Found(best) => {
                 self.known.offer(best);
-                Taken::Shorter
+                Gain::Shorter
             }
             Decision::None => {
                 if question.within < u32::MAX {
                     self.raise(question.within + 1);
                 }
-                Taken::Higher
+                Gain::Higher
             }
-            Decision::Open => Taken::Nothing,
-            Decision::Full => Taken::Nothing,
+            Decision::Open => Gain::Nothing,
+            Decision::Full => Gain::Nothing,
         }
     }
 }
@@ -124,7 +130,7 @@ struct Solo<'a, F: Subject, O> {
     is_over: bool,
 }
 
-impl<F: Subject, O: Overseer> Watch for Solo<'_, F, O> {
+impl<F: Subject, O: Overseer> SearchObserver for Solo<'_, F, O> {
     fn look(&mut self, conflicts: u64) -> u64 {
         self.conflicts = conflicts;
         let _ = self.improve_once();
@@ -174,14 +180,15 @@ impl<F: Subject, O: Overseer> Solo<'_, F, O> {
     }
 }
 
-/// Asks the question. Only want of memory is an error; a question of too many clauses tells nothing.
-fn ask<F: Subject, O: Overseer>(solo: &mut Solo<'_, F, O>) -> Result<Taken, AllocError> {
+/// Asks the question. Only want of memory is an error; a question of too many clauses decides
+/// nothing.
+fn ask<F: Subject, O: Overseer>(solo: &mut Solo<'_, F, O>) -> Result<Gain, AllocError> {
     let (alloc, project, question) = (solo.notebook.alloc, solo.notebook.project, solo.question);
     let words = solo.allowance.words;
     match decide_within(alloc, project, question.within, words, solo) {
         Ok(decision) => Ok(solo.notebook.take_in(question, decision)),
         Err(CertificateFault::NoMemory) => Err(AllocError),
-        Err(_) => Ok(Taken::Nothing),
+        Err(_) => Ok(Gain::Nothing),
     }
 }
 
@@ -225,7 +232,7 @@ fn step<F: Subject, O: Overseer>(
     solo.most = if stride > 1 { LEAP.min(left) } else { left };
     let taken = ask(solo)?;
     solo.show();
-    if taken == Taken::Nothing && stride <= 1 && !solo.notebook.known.is_moot(question) {
+    if taken == Gain::Nothing && stride <= 1 && !solo.notebook.known.is_moot(question) {
         return Ok(None);
     }
     let conflicts = solo.spent.saturating_sub(spent);

@@ -1,4 +1,4 @@
-//! What the searches of a team have told each other.
+//! What the searches of a team have sent each other.
 use clause_kernel::Formula;
 use clause_search::Message;
 use std::alloc::{AllocError, Global};
@@ -13,17 +13,17 @@ pub(crate) struct Sent<L: Formula> {
     pub(crate) message: Message<L>,
 }
 
-/// A `Board` is the newest messages of a team. When they are too many all are dropped: whoever comes
-/// later has to do without.
+/// A `MessageBoard` is the newest messages of a team. When they are too many all are dropped:
+/// whoever comes later has to do without.
 #[derive(Drop)]
-pub(crate) struct Board<L: Formula> {
+pub(crate) struct MessageBoard<L: Formula> {
     messages: Vec<Sent<L>>,
     dropped: u64,
 }
 
-impl<L: Formula> Board<L> {
-    pub(crate) fn new(alloc: Global) -> Board<L> {
-        Board {
+impl<L: Formula> MessageBoard<L> {
+    pub(crate) fn new(alloc: Global) -> MessageBoard<L> {
+        MessageBoard {
             messages: Vec::new(alloc),
             dropped: 0,
         }

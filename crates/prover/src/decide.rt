@@ -1,4 +1,4 @@
-//! Whether a feasible schedule takes at most so many periods, by a search of clauses.
+//! Whether a feasible schedule is within a number of periods, by a search of clauses.
 ghost use Rattle.std.specs.Prelude.{◌≡◌, ◌+◌, ◌≤◌, ◌<◌, length, IfOk, IfSome, true};
 ghost use Rattle.mrcpsp.specs.Schedule.{IsInfeasible};
 ghost use Rattle.clause_kernel.specs.Clauses.{IsUnsatisfiable};
@@ -7,11 +7,11 @@ ghost use Rattle.schedule_clauses.specs.Satisfied.{SatisfiedByShort, SatisfiedBy
 ghost use Rattle.prover.specs.Decided.{IsDecided};
 ghost use Rattle.prover.specs.Known.{IsBest};
 
-use crate::known::Best;
+use crate::known::BestKnown;
 use clause_kernel::{ClauseList, Kernel};
-use clause_search::{Answer, Limits, Search};
+use clause_search::{Search, SearchAnswer, SearchLimits};
 use mrcpsp::{Project, Schedule, Sequence, check};
-use schedule_clauses::{CertificateFault, Fact, Formula, open_clauses, stock_clauses};
+use schedule_clauses::{CertificateFault, Fact, ScheduleFormula, open_clauses, stock_clauses};
 use std::alloc::{AllocError, Global};
 use std::marker::Brand;
 
@@ -19,7 +19,7 @@ use std::marker::Brand;
 #[derive(Debug, Drop)]
 pub enum Decision {
     /// A feasible schedule within the bound.
-    Found(Best),
+    Found(BestKnown),
     /// No feasible schedule is within the bound.
     None,
     /// The watch ended the search.
@@ -28,8 +28,8 @@ pub enum Decision {
     Full,
 }
 
-/// A `Watch` is what looks at a search of clauses now and then.
-pub trait Watch {
+/// A `SearchObserver` is what looks at a search of clauses now and then.
+pub trait SearchObserver {
     /// Returns how many conflicts may follow until the next look, after `conflicts` conflicts; 0
     /// ends the search.
     fn look(&mut self, conflicts: u64) -> u64;
@@ -95,7 +95,7 @@ pub(crate) fn found_by(project: &Project, bound: u32, schedule: Schedule) -> Dec
     match check(project, &schedule) {
         Ok(makespan) => {
             if makespan <= bound {
-                Decision::Found(Best { schedule, makespan })
+                Decision::Found(BestKnown { schedule, makespan })
             } else {
                 Decision::Open
             }
@@ -104,7 +104,7 @@ pub(crate) fn found_by(project: &Project, bound: u32, schedule: Schedule) -> Dec
     }
 }
 
-/// What a search of clauses comes to, whatever they mean.
+/// The end of a search of clauses, whatever they mean.
 #[derive(Clone, Copy, PartialEq, Eq)]
 enum Outcome {
     Values,
@@ -113,7 +113,7 @@ enum Outcome {
     Full,
 }
 
-fn outcome_of<F: clause_kernel::Formula, W: Watch>(
+fn outcome_of<F: clause_kernel::Formula, W: SearchObserver>(
     kernel: &mut Kernel<F>,
     search: &mut Search,
     watch: &mut W,
@@ -127,8 +127,8 @@ fn outcome_of<F: clause_kernel::Formula, W: Watch>(
             return Ok(Outcome::Refuted);
         }
         match answer {
-            Answer::Satisfied => return Ok(Outcome::Values),
-            Answer::Full => return Ok(Outcome::Full),
+            SearchAnswer::Satisfied => return Ok(Outcome::Values),
+            SearchAnswer::Full => return Ok(Outcome::Full),
             _ => {}
         }
         if search.refused() > 0 || slice == 0 {
@@ -139,11 +139,11 @@ fn outcome_of<F: clause_kernel::Formula, W: Watch>(
 }
 
 #[tactic(auto, using(crate::proofs::DecideLemmas::decide_rules))]
-fn decide_as<F: clause_kernel::Formula, W: Watch>(
+fn decide_as<F: clause_kernel::Formula, W: SearchObserver>(
     alloc: Global,
     project: &Project,
     bound: u32,
-    formula: &Formula,
+    formula: &ScheduleFormula,
     words: usize,
     watch: &mut W,
 ) -> Result<Decision, AllocError>
@@ -152,7 +152,7 @@ fn decide_as<F: clause_kernel::Formula, W: Watch>(
     ensures { IfOk result (IsDecided project.now bound) }
 {
     let mut kernel = Kernel::<F>::new(alloc, &formula.clauses)?;
-    let mut search = Search::new(alloc, &formula.clauses, Limits { words })?;
+    let mut search = Search::new(alloc, &formula.clauses, SearchLimits { words })?;
     let outcome = outcome_of(&mut kernel, &mut search, watch)?;
     watch.end(search.conflicts());
     match outcome {
@@ -169,7 +169,7 @@ fn decide_as<F: clause_kernel::Formula, W: Watch>(
 
 /// Decides whether a feasible schedule takes at most `bound` periods: by prices, or else by a search
 /// of clauses, which holds at most `words` words of four bytes in clauses.
-pub fn decide_within<W: Watch>(
+pub fn decide_within<W: SearchObserver>(
     alloc: Global,
     project: &Project,
     bound: u32,
@@ -188,7 +188,7 @@ pub fn decide_within<W: Watch>(
 }
 
 #[tactic(auto, using(crate::proofs::DecideLemmas::stock_rules))]
-fn exceeds_stocks_as<F: clause_kernel::Formula, W: Watch>(
+fn exceeds_stocks_as<F: clause_kernel::Formula, W: SearchObserver>(
     alloc: Global,
     project: &Project,
     formula: &ClauseList,
@@ -200,7 +200,7 @@ fn exceeds_stocks_as<F: clause_kernel::Formula, W: Watch>(
     ensures { IfOk result (λ exceeds. exceeds ≡ true → IsInfeasible project.now) }
 {
     let mut kernel = Kernel::<F>::new(alloc, formula)?;
-    let mut search = Search::new(alloc, formula, Limits { words })?;
+    let mut search = Search::new(alloc, formula, SearchLimits { words })?;
     let outcome = outcome_of(&mut kernel, &mut search, watch)?;
     watch.end(search.conflicts());
     match outcome {
@@ -211,7 +211,7 @@ fn exceeds_stocks_as<F: clause_kernel::Formula, W: Watch>(
 
 /// Whether each choice of modes was shown to exceed a nonrenewable capacity, so that no schedule is
 /// feasible.
-pub fn exceeds_stocks<W: Watch>(
+pub fn exceeds_stocks<W: SearchObserver>(
     alloc: Global,
     project: &Project,
     words: usize,

@@ -2,14 +2,14 @@
 ghost use Rattle.price_search.specs.LowerBound.{TakesAtLeast};
 ghost use Rattle.prover.specs.Known.{IsBest};
 
-use crate::known::Best;
+use crate::known::BestKnown;
 use mrcpsp::Project;
 
 /// A `Herald` is what hears of each better schedule and each higher bound. Several workers call it
 /// under their lock: makespans fall and bounds rise.
 pub trait Herald {
     /// The schedule is shorter than all before. No schedule takes fewer periods than `bound`.
-    fn better(&self, project: &Project, best: &Best, bound: u32)
+    fn better(&self, project: &Project, best: &BestKnown, bound: u32)
         requires best { IsBest project.now best.now }
         requires bound { TakesAtLeast project.now bound };
 

@@ -2,7 +2,7 @@
 //! as long as the limit allows: a schedule gets shorter if it cools more slowly.
 
 use crate::task::Pace;
-use improve_search::Improving;
+use improve_search::LocalSearch;
 use mrcpsp::{Project, Schedule};
 use std::alloc::{AllocError, Global};
 use std::time::Duration;
@@ -26,7 +26,7 @@ const DOUBLING_PART: u64 = 16;
 pub(crate) struct Improver {
     seed: u64,
     length: u64,
-    run: Option<Improving>,
+    run: Option<LocalSearch>,
     is_ended: bool,
     /// The schedules of all runs that have ended.
     made: u64,
@@ -78,7 +78,7 @@ impl Improver {
         pace: Option<Pace>,
     ) -> Result<(), AllocError> {
         let length = self.next_length(pace);
-        self.run = Improving::new(alloc, project, self.seed, length)?;
+        self.run = LocalSearch::new(alloc, project, self.seed, length)?;
         self.seed = self.seed.wrapping_add(1);
         self.length = self.length.saturating_mul(2).min(LONGEST_RUN);
         self.shortest = u32::MAX;

@@ -21,9 +21,9 @@ impl Subject for Brand {
     ghost project = { record { activities = []; renewable = []; nonrenewable = [] } };
 }
 
-/// A `Best` is a feasible schedule with its makespan in periods.
+/// A `BestKnown` is a feasible schedule with its makespan in periods.
 #[derive(Debug, Drop)]
-pub struct Best {
+pub struct BestKnown {
     pub schedule: Schedule,
     pub makespan: u32,
 }
@@ -32,9 +32,9 @@ pub struct Best {
 #[derive(Debug, Drop)]
 pub enum Answer {
     /// No feasible schedule is shorter.
-    Optimal(Best),
+    Optimal(BestKnown),
     /// No feasible schedule takes fewer periods than the bound.
-    Gap(Best, u32),
+    Gap(BestKnown, u32),
     /// No schedule was found, and none takes fewer periods.
     AtLeast(u32),
     /// No schedule is feasible.
@@ -50,7 +50,7 @@ pub struct Question {
 /// `Known` is the best schedule of the project `F` so far, and a lower bound of all makespans.
 #[derive(Drop)]
 pub struct Known<F: Subject> {
-    best: Option<Best>,
+    best: Option<BestKnown>,
     bound: u32,
     is_infeasible: bool,
     of: PhantomData<F>,
@@ -81,7 +81,7 @@ impl<F: Subject> Known<F> {
 
     /// Keeps a schedule if it is shorter than the best one. Returns whether it is.
     #[tactic(auto, using(crate::proofs::KnownLemmas::known_rules))]
-    pub fn offer(&mut self, found: Best) -> bool
+    pub fn offer(&mut self, found: BestKnown) -> bool
         requires { IsBest F.project found }
         ensures bound { self.new.bound ≡ self.old.bound }
         ensures infeasible { self.new.infeasible ≡ self.old.infeasible }
@@ -135,7 +135,7 @@ impl<F: Subject> Known<F> {
     }
 
     /// The best schedule so far.
-    pub fn best(&self) -> Option<&Best>
+    pub fn best(&self) -> Option<&BestKnown>
         ensures exact { option_copied result ≡ self.now.best }
         ensures feasible { IfSome (option_copied result) (IsBest F.project) }
     {

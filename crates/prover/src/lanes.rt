@@ -1,11 +1,11 @@
 //! What each worker does.
 ghost use Rattle.std.specs.Prelude.{◌≡◌, ◌<◌, IfOk};
 
-use crate::decide::{Watch, decide_within, exceeds_stocks};
-use crate::desk::{Desk, Taken};
+use crate::decide::{SearchObserver, decide_within, exceeds_stocks};
 use crate::herald::Herald;
 use crate::improver::Improver;
 use crate::known::{Question, Subject};
+use crate::shared_work::{Gain, SharedWork};
 use crate::team::ask_together;
 use price_search::lower_bound;
 use schedule_clauses::CertificateFault;
@@ -59,10 +59,10 @@ pub(crate) const SLICE: u64 = 200;
 /// The conflicts of a question that is more than a period above the bound.
 pub(crate) const LEAP: u64 = 2_000;
 
-/// A `Shift` is a worker at a desk, with the question that it asks.
+/// A `Shift` is a worker with the question that it asks.
 #[derive(Drop)]
 struct Shift<'a, 'b, F: Subject, R, H> {
-    desk: &'a Desk<'b, F, R, H>,
+    shared: &'a SharedWork<'b, F, R, H>,
     lane: Lane,
     improver: Improver,
     question: Question,
@@ -71,12 +71,12 @@ struct Shift<'a, 'b, F: Subject, R, H> {
     conflicts: u64,
 }
 
-impl<F: Subject, R: Wait + Clock, H: Herald> Watch for Shift<'_, '_, F, R, H> {
+impl<F: Subject, R: Wait + Clock, H: Herald> SearchObserver for Shift<'_, '_, F, R, H> {
     fn look(&mut self, conflicts: u64) -> u64 {
-        let desk = self.desk;
-        if desk.deadline.is_over()
-            || desk.is_moot(self.question)
-            || desk.is_left_to_the_team(self.lane.last_gap())
+        let shared = self.shared;
+        if shared.deadline.is_over()
+            || shared.is_moot(self.question)
+            || shared.is_left_to_the_team(self.lane.last_gap())
         {
             return 0;
         }
@@ -85,7 +85,7 @@ impl<F: Subject, R: Wait + Clock, H: Herald> Watch for Shift<'_, '_, F, R, H> {
 
     fn end(&mut self, conflicts: u64) {
         self.conflicts = conflicts;
-        self.desk.count(conflicts);
+        self.shared.count(conflicts);
     }
 }
 
@@ -113,22 +113,23 @@ pub(crate) fn question_of(
     Some(Question { within })
 }
 
-/// Asks the question. Only want of memory is an error; a question of too many clauses tells nothing.
+/// Asks the question. Only want of memory is an error; a question of too many clauses decides
+/// nothing.
 fn ask<F: Subject, R: Wait + Clock, H: Herald>(
     shift: &mut Shift<'_, '_, F, R, H>,
-) -> Result<Taken, AllocError> {
-    let (desk, question) = (shift.desk, shift.question);
+) -> Result<Gain, AllocError> {
+    let (shared, question) = (shift.shared, shift.question);
     shift.conflicts = 0;
     match decide_within(
-        desk.alloc,
-        desk.project,
+        shared.alloc,
+        shared.project,
         question.within,
-        desk.limits.words,
+        shared.limits.words,
         shift,
     ) {
-        Ok(decision) => Ok(desk.take_in(question, decision)),
+        Ok(decision) => Ok(shared.take_in(question, decision)),
         Err(CertificateFault::NoMemory) => Err(AllocError),
-        Err(_) => Ok(Taken::Nothing),
+        Err(_) => Ok(Gain::Nothing),
     }
 }
 
@@ -136,35 +137,35 @@ fn ask<F: Subject, R: Wait + Clock, H: Herald>(
 fn begin<F: Subject, R: Wait + Clock, H: Herald>(
     shift: &mut Shift<'_, '_, F, R, H>,
 ) -> Result<(), AllocError> {
-    let desk = shift.desk;
-    desk.offer_first()?;
-    desk.raise(lower_bound(desk.alloc, desk.project, PRICE_STEPS)?);
-    let (_, makespan) = desk.gap();
+    let shared = shift.shared;
+    shared.offer_first()?;
+    shared.raise(lower_bound(shared.alloc, shared.project, PRICE_STEPS)?);
+    let (_, makespan) = shared.gap();
     if makespan.is_some() {
         return Ok(());
     }
     shift.question = Question { within: u32::MAX };
-    shift.most = desk.limits.conflicts;
-    if exceeds_stocks(desk.alloc, desk.project, desk.limits.words, shift)? {
-        desk.rule_out();
+    shift.most = shared.limits.conflicts;
+    if exceeds_stocks(shared.alloc, shared.project, shared.limits.words, shift)? {
+        shared.rule_out();
     }
     Ok(())
 }
 
 /// How far above the bound the next question is.
-pub(crate) fn stride_after(stride: u32, taken: Taken, conflicts: u64) -> u32
+pub(crate) fn stride_after(stride: u32, taken: Gain, conflicts: u64) -> u32
     ensures { 0 < result }
 {
     match taken {
-        Taken::Higher => {
+        Gain::Higher => {
             if conflicts < LEAP {
                 stride.max(1).saturating_mul(2)
             } else {
                 1
             }
         }
-        Taken::Shorter => 1,
-        Taken::Nothing => (stride / 2).max(1),
+        Gain::Shorter => 1,
+        Gain::Nothing => (stride / 2).max(1),
     }
 }
 
@@ -174,20 +175,20 @@ fn step<F: Subject, R: Wait + Clock, H: Herald>(
     stride: u32,
     left: u64,
 ) -> Result<Option<u32>, AllocError> {
-    let desk = shift.desk;
-    desk.rest(Lane::Low.last_gap());
-    let (bound, makespan) = desk.gap();
+    let shared = shift.shared;
+    shared.rest(Lane::Low.last_gap());
+    let (bound, makespan) = shared.gap();
     let Some(question) = question_of(Lane::Low, bound, makespan, stride) else {
         return Ok(None);
     };
-    if desk.deadline.is_over() || desk.is_decided() || left == 0 {
+    if shared.deadline.is_over() || shared.is_decided() || left == 0 {
         return Ok(None);
     }
     shift.question = question;
     shift.most = if stride > 1 { LEAP.min(left) } else { left };
     let taken = ask(shift)?;
-    let is_left = desk.is_left_to_the_team(Lane::Low.last_gap());
-    if taken == Taken::Nothing && stride <= 1 && !desk.is_moot(question) && !is_left {
+    let is_left = shared.is_left_to_the_team(Lane::Low.last_gap());
+    if taken == Gain::Nothing && stride <= 1 && !shared.is_moot(question) && !is_left {
         return Ok(None);
     }
     Ok(Some(stride_after(stride, taken, shift.conflicts)))
@@ -198,9 +199,9 @@ fn climb<F: Subject, R: Wait + Clock, H: Herald>(
     shift: &mut Shift<'_, '_, F, R, H>,
 ) -> Result<(), AllocError> {
     begin(shift)?;
-    let desk = shift.desk;
-    let (mut stride, mut left) = (1u32, desk.limits.conflicts);
-    for _ in desk.deadline.rt.forever() {
+    let shared = shift.shared;
+    let (mut stride, mut left) = (1u32, shared.limits.conflicts);
+    for _ in shared.deadline.rt.forever() {
         match step(shift, stride, left)? {
             Some(next) => stride = next,
             None => return Ok(()),
@@ -214,15 +215,15 @@ fn climb<F: Subject, R: Wait + Clock, H: Herald>(
 fn improve_once<F: Subject, R: Wait + Clock, H: Herald>(
     shift: &mut Shift<'_, '_, F, R, H>,
 ) -> Result<bool, AllocError> {
-    let desk = shift.desk;
+    let shared = shift.shared;
     let pace = if shift.improver.is_ended() {
-        desk.deadline.pace()
+        shared.deadline.pace()
     } else {
         None
     };
-    let goes_on = (shift.improver).work(desk.alloc, desk.project, CHUNK, pace)?;
+    let goes_on = (shift.improver).work(shared.alloc, shared.project, CHUNK, pace)?;
     if let Some(schedule) = shift.improver.news() {
-        desk.offer_copy(schedule)?;
+        shared.offer_copy(schedule)?;
     }
     Ok(goes_on)
 }
@@ -232,29 +233,29 @@ fn ask_of_lane<F: Subject + Send + Sync, R: Threads + Wait + Clock + Sync, H: He
     shift: &mut Shift<'_, '_, F, R, H>,
     question: Question,
 ) -> Result<bool, AllocError> {
-    let desk = shift.desk;
+    let shared = shift.shared;
     shift.question = question;
-    shift.most = desk.limits.conflicts;
+    shift.most = shared.limits.conflicts;
     if shift.lane == Lane::High {
-        ask_together(desk, question)?;
-        return Ok(desk.is_moot(question));
+        ask_together(shared, question)?;
+        return Ok(shared.is_moot(question));
     }
-    let is_answered = ask(shift)? != Taken::Nothing;
-    Ok(is_answered || desk.is_moot(question) || desk.is_left_to_the_team(shift.lane.last_gap()))
+    let is_answered = ask(shift)? != Gain::Nothing;
+    Ok(is_answered || shared.is_moot(question) || shared.is_left_to_the_team(shift.lane.last_gap()))
 }
 
 /// Asks for shorter schedules until nothing is open, or a question ends without an answer.
 fn descend<F: Subject + Send + Sync, R: Threads + Wait + Clock + Sync, H: Herald + Sync>(
     shift: &mut Shift<'_, '_, F, R, H>,
 ) -> Result<(), AllocError> {
-    let desk = shift.desk;
-    for _ in desk.deadline.rt.forever() {
-        desk.rest(shift.lane.last_gap());
-        let (bound, makespan) = desk.gap();
+    let shared = shift.shared;
+    for _ in shared.deadline.rt.forever() {
+        shared.rest(shift.lane.last_gap());
+        let (bound, makespan) = shared.gap();
         let Some(question) = question_of(shift.lane, bound, makespan, 1) else {
             return Ok(());
         };
-        if desk.deadline.is_over() || desk.is_decided() {
+        if shared.deadline.is_over() || shared.is_decided() {
             return Ok(());
         }
         let goes_on = if makespan.is_none() {
@@ -273,7 +274,7 @@ fn descend<F: Subject + Send + Sync, R: Threads + Wait + Clock + Sync, H: Herald
 fn lead<F: Subject + Send + Sync, R: Threads + Wait + Clock + Sync, H: Herald + Sync>(
     shift: &mut Shift<'_, '_, F, R, H>,
 ) -> Result<(), AllocError> {
-    let is_teamed = shift.desk.is_teamed;
+    let is_teamed = shift.shared.is_teamed;
     is_teamed.store(true, Ordering::SeqCst);
     let descended = descend(shift);
     is_teamed.store(false, Ordering::SeqCst);
@@ -284,16 +285,16 @@ fn lead<F: Subject + Send + Sync, R: Threads + Wait + Clock + Sync, H: Herald + 
 fn improve<F: Subject, R: Wait + Clock, H: Herald>(
     shift: &mut Shift<'_, '_, F, R, H>,
 ) -> Result<(), AllocError> {
-    let desk = shift.desk;
-    for _ in desk.deadline.rt.forever() {
-        if desk.deadline.is_over() || desk.is_decided() || !improve_once(shift)? {
+    let shared = shift.shared;
+    for _ in shared.deadline.rt.forever() {
+        if shared.deadline.is_over() || shared.is_decided() || !improve_once(shift)? {
             return Ok(());
         }
     }
     Ok(())
 }
 
-/// Does what the lane says, and then, if there is a time limit, improves. Without one, all workers
+/// Works as the lane asks, and then, if there is a time limit, improves. Without one, all workers
 /// end with the one that raises the bound: its conflicts or its memory are used up.
 fn run_lane<F: Subject + Send + Sync, R: Threads + Wait + Clock + Sync, H: Herald + Sync>(
     shift: &mut Shift<'_, '_, F, R, H>,
@@ -301,38 +302,38 @@ fn run_lane<F: Subject + Send + Sync, R: Threads + Wait + Clock + Sync, H: Heral
     match shift.lane {
         Lane::Low => {
             let climbed = climb(shift);
-            shift.desk.deadline.end();
+            shift.shared.deadline.end();
             climbed?;
         }
         Lane::High => lead(shift)?,
         Lane::Middle => descend(shift)?,
         Lane::Improve => improve(shift)?,
     }
-    if shift.desk.limits.time.is_some() {
+    if shift.shared.limits.time.is_some() {
         improve(shift)?;
     }
     Ok(())
 }
 
 fn shift_at<'a, 'b, F: Subject, R, H>(
-    desk: &'a Desk<'b, F, R, H>,
+    shared: &'a SharedWork<'b, F, R, H>,
     worker: Worker,
 ) -> Shift<'a, 'b, F, R, H> {
     Shift {
-        desk,
+        shared,
         lane: worker.lane,
         improver: Improver::new(worker.seed),
         question: Question { within: u32::MAX },
-        most: desk.limits.conflicts,
+        most: shared.limits.conflicts,
         conflicts: 0,
     }
 }
 
 /// Works until nothing is open, the limits are met, or memory is wanting.
 pub(crate) fn work<F: Subject + Send + Sync, R: Threads + Wait + Clock + Sync, H: Herald + Sync>(
-    desk: &Desk<'_, F, R, H>,
+    shared: &SharedWork<'_, F, R, H>,
     worker: Worker,
 ) {
-    let mut shift = shift_at(desk, worker);
+    let mut shift = shift_at(shared, worker);
     let _ = run_lane(&mut shift);
 }

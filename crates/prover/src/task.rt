@@ -16,9 +16,9 @@ pub struct Limits {
     pub conflicts: u64,
 }
 
-/// A `Task` is how a project is worked on.
+/// A `ProofTask` is how a project is worked on.
 #[derive(Clone, Copy, Debug)]
-pub struct Task<'a> {
+pub struct ProofTask<'a> {
     /// How many workers there are.
     pub jobs: usize,
     pub limits: Limits,

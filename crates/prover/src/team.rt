@@ -6,15 +6,15 @@ ghost use Rattle.schedule_prices.specs.Choices.{EachExceeds};
 ghost use Rattle.schedule_clauses.specs.Satisfied.{SatisfiedByShort};
 ghost use Rattle.prover.specs.Decided.{IsDecided};
 
-use crate::board::Board;
+use crate::board::MessageBoard;
 use crate::decide::{Decision, found_by, schedule_of};
-use crate::desk::Desk;
 use crate::herald::Herald;
 use crate::known::{Question, Subject};
 use crate::lanes::SLICE;
+use crate::shared_work::SharedWork;
 use clause_kernel::Kernel;
-use clause_search::{Answer, Limits, Search};
-use schedule_clauses::{CertificateFault, Formula, open_clauses};
+use clause_search::{Search, SearchAnswer, SearchLimits};
+use schedule_clauses::{CertificateFault, ScheduleFormula, open_clauses};
 use std::alloc::AllocError;
 use std::marker::Brand;
 use std::sync::{Mutex, Wait};
@@ -27,7 +27,7 @@ const MOST_GLUE: u32 = 8;
 
 /// How a search of a team begins.
 #[derive(Clone, Copy, Debug, PartialEq, Eq)]
-enum Style {
+enum TeamStyle {
     /// Variables are false first.
     Plain,
     /// They are true first.
@@ -40,7 +40,7 @@ enum Style {
 #[derive(Clone, Copy, Debug)]
 struct Member {
     place: usize,
-    style: Style,
+    style: TeamStyle,
     gap: u32,
 }
 
@@ -49,17 +49,17 @@ struct Member {
 const MEMBERS: [Member; 3] = [
     Member {
         place: 0,
-        style: Style::Plain,
+        style: TeamStyle::Plain,
         gap: u32::MAX,
     },
     Member {
         place: 1,
-        style: Style::TrueFirst,
+        style: TeamStyle::TrueFirst,
         gap: 1,
     },
     Member {
         place: 2,
-        style: Style::Values,
+        style: TeamStyle::Values,
         gap: 2,
     },
 ];
@@ -67,45 +67,45 @@ const MEMBERS: [Member; 3] = [
 /// A `Team` is what the searches of a question share.
 #[derive(Drop)]
 struct Team<'a, 'b, F: Subject, L: clause_kernel::Formula, R, H> {
-    desk: &'a Desk<'b, F, R, H>,
+    shared: &'a SharedWork<'b, F, R, H>,
     question: Question,
-    formula: &'a Formula,
-    board: &'a Mutex<Board<L>>,
+    formula: &'a ScheduleFormula,
+    board: &'a Mutex<MessageBoard<L>>,
     ghost clauses: { formula.now.clauses ≡ L.clauses },
     ghost refutes: { IsUnsatisfiable L.clauses → EachExceeds F.project question.within },
 }
 
-fn prepare(search: &mut Search, style: Style) {
+fn prepare(search: &mut Search, style: TeamStyle) {
     search.tell_up_to(MOST_GLUE);
     match style {
-        Style::Plain => {}
-        Style::TrueFirst => search.begin_with_true(),
-        Style::Values => search.prefer_values(),
+        TeamStyle::Plain => {}
+        TeamStyle::TrueFirst => search.begin_with_true(),
+        TeamStyle::Values => search.prefer_values(),
     }
 }
 
 impl<F: Subject, L: clause_kernel::Formula, R: Wait + Clock, H: Herald> Team<'_, '_, F, L, R, H> {
-    /// What a search has come to, or `None` if it goes on.
+    /// The end of a search, or `None` if it goes on.
     fn decision_of(
         &self,
         kernel: &Kernel<L>,
         search: &Search,
-        answer: Answer,
+        answer: SearchAnswer,
     ) -> Result<Option<Decision>, AllocError>
         ensures { IfOk result (λ decision. IfSome decision (IsDecided F.project self.now.question.within)) }
     {
         if kernel.is_refuted() {
             return Ok(Some(Decision::None));
         }
-        if answer == Answer::Satisfied {
-            let (alloc, project) = (self.desk.alloc, self.desk.project);
+        if answer == SearchAnswer::Satisfied {
+            let (alloc, project) = (self.shared.alloc, self.shared.project);
             let meanings = &self.formula.meanings;
             let schedule = schedule_of(alloc, project.size(), meanings, search.values())?;
             return Ok(Some(found_by(project, self.question.within, schedule)));
         }
-        let has_ended = answer == Answer::Full
+        let has_ended = answer == SearchAnswer::Full
             || search.refused() > 0
-            || search.conflicts() >= self.desk.limits.conflicts;
+            || search.conflicts() >= self.shared.limits.conflicts;
         Ok(if has_ended {
             Some(Decision::Open)
         } else {
@@ -113,8 +113,8 @@ impl<F: Subject, L: clause_kernel::Formula, R: Wait + Clock, H: Herald> Team<'_,
         })
     }
 
-    /// Tells the others what a search has learned, and takes what they have told. Returns how many
-    /// messages were ever told.
+    /// Sends what a search has learned to the others, and takes what they have sent. Returns the
+    /// number of all messages.
     fn exchange(
         &self,
         place: usize,
@@ -122,9 +122,9 @@ impl<F: Subject, L: clause_kernel::Formula, R: Wait + Clock, H: Herald> Team<'_,
         kernel: &mut Kernel<L>,
         seen: u64,
     ) -> Result<u64, AllocError> {
-        let desk = self.desk;
+        let shared = self.shared;
         let told = search.tell(kernel)?;
-        let mut board = self.board.lock(desk.deadline.rt);
+        let mut board = self.board.lock(shared.deadline.rt);
         for sent in board.since(seen) {
             if sent.sender != place {
                 search.take(kernel, &sent.message)?;
@@ -136,40 +136,40 @@ impl<F: Subject, L: clause_kernel::Formula, R: Wait + Clock, H: Herald> Team<'_,
 
     /// Searches until the question is decided or moot, or the limits are met.
     fn search(&self, member: Member) -> Result<(), AllocError> {
-        let desk = self.desk;
+        let shared = self.shared;
         let clauses = &self.formula.clauses;
-        let words = desk.limits.words;
-        let mut kernel = Kernel::<L>::new(desk.alloc, clauses)?;
-        let mut search = Search::new(desk.alloc, clauses, Limits { words })?;
+        let words = shared.limits.words;
+        let mut kernel = Kernel::<L>::new(shared.alloc, clauses)?;
+        let mut search = Search::new(shared.alloc, clauses, SearchLimits { words })?;
         prepare(&mut search, member.style);
         let mut seen = 0;
-        for _ in desk.deadline.rt.forever() {
-            if desk.deadline.is_over() || desk.is_moot(self.question) {
+        for _ in shared.deadline.rt.forever() {
+            if shared.deadline.is_over() || shared.is_moot(self.question) {
                 break;
             }
-            let left = desk.limits.conflicts.saturating_sub(search.conflicts());
+            let left = shared.limits.conflicts.saturating_sub(search.conflicts());
             let answer = search.run(&mut kernel, SLICE.min(left))?;
             if let Some(decision) = self.decision_of(&kernel, &search, answer)? {
-                desk.take_in(self.question, decision);
+                shared.take_in(self.question, decision);
                 break;
             }
             seen = self.exchange(member.place, &mut search, &mut kernel, seen)?;
         }
-        desk.count(search.conflicts());
+        shared.count(search.conflicts());
         Ok(())
     }
 
     /// Waits until so few periods are open that a member is wanted. False if that never happens.
     fn is_wanted(&self, member: Member) -> bool {
-        let desk = self.desk;
-        for _ in desk.deadline.rt.forever() {
-            if desk.deadline.is_over() || desk.is_moot(self.question) {
+        let shared = self.shared;
+        for _ in shared.deadline.rt.forever() {
+            if shared.deadline.is_over() || shared.is_moot(self.question) {
                 return false;
             }
-            if desk.is_gap_at_most(member.gap) {
+            if shared.is_gap_at_most(member.gap) {
                 return true;
             }
-            desk.wait();
+            shared.wait();
         }
         false
     }
@@ -188,26 +188,30 @@ fn ask_as<
     L: clause_kernel::Formula + Send + Sync,
     R: Threads + Wait + Clock + Sync,
     H: Herald + Sync,
->(desk: &Desk<'_, F, R, H>, question: Question, formula: &Formula) -> Result<(), AllocError>
+>(
+    shared: &SharedWork<'_, F, R, H>,
+    question: Question,
+    formula: &ScheduleFormula,
+) -> Result<(), AllocError>
     requires clauses { formula.now.clauses ≡ L.clauses }
     requires short { SatisfiedByShort F.project question.within L.clauses }
 {
-    let mut members = Vec::with_capacity(desk.alloc, MEMBERS.len())?;
+    let mut members = Vec::with_capacity(shared.alloc, MEMBERS.len())?;
     for member in MEMBERS {
-        if member.place + 1 < desk.jobs {
+        if member.place + 1 < shared.jobs {
             members.push(member)?;
         }
     }
-    let board = Mutex::new(Board::<L>::new(desk.alloc));
+    let board = Mutex::new(MessageBoard::<L>::new(shared.alloc));
     let team = Team {
-        desk,
+        shared,
         question,
         formula,
         board: &board,
     };
     let team = &team;
     thread::map_vec(
-        desk.deadline.rt,
+        shared.deadline.rt,
         members,
         &|member: Member| -> () { team.join(member) },
     )?;
@@ -215,16 +219,16 @@ fn ask_as<
 }
 
 /// Asks the question by a search, which others join as the gap closes. Only want of memory is an
-/// error; a question of too many clauses tells nothing.
+/// error; a question of too many clauses decides nothing.
 pub(crate) fn ask_together<
     F: Subject + Send + Sync,
     R: Threads + Wait + Clock + Sync,
     H: Herald + Sync,
->(desk: &Desk<'_, F, R, H>, question: Question) -> Result<(), AllocError> {
-    match open_clauses(desk.alloc, desk.project, question.within) {
-        Ok(Some(formula)) => ask_as::<F, Brand, R, H>(desk, question, &formula),
+>(shared: &SharedWork<'_, F, R, H>, question: Question) -> Result<(), AllocError> {
+    match open_clauses(shared.alloc, shared.project, question.within) {
+        Ok(Some(formula)) => ask_as::<F, Brand, R, H>(shared, question, &formula),
         Ok(None) => {
-            desk.take_in(question, Decision::None);
+            shared.take_in(question, Decision::None);
             Ok(())
         }
         Err(CertificateFault::NoMemory) => Err(AllocError),

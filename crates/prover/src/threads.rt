@@ -6,11 +6,11 @@ ghost use Rattle.prover.specs.Answers.{IsAnswer};
 ghost use Rattle.prover.specs.Known.{IsBest};
 
 use crate::alone::{Allowance, Overseer, prove_alone};
-use crate::desk::Desk;
 use crate::herald::Herald;
-use crate::known::{Best, Known, Subject};
+use crate::known::{BestKnown, Known, Subject};
 use crate::lanes::{Lane, Worker, work};
-use crate::task::{Deadline, Pace, Proved, Task};
+use crate::shared_work::SharedWork;
+use crate::task::{Deadline, Pace, ProofTask, Proved};
 use mrcpsp::Project;
 use std::alloc::{AllocError, Global};
 use std::marker::Brand;
@@ -37,7 +37,7 @@ fn lane_at(place: usize, activities: usize) -> Lane {
     }
 }
 
-/// Several workers of a project of so many activities.
+/// Several workers of a project of `activities` activities.
 fn workers(alloc: Global, jobs: usize, activities: usize) -> Result<Vec<Worker>, AllocError> {
     let mut workers = Vec::new(alloc);
     for place in 0..jobs {
@@ -48,7 +48,7 @@ fn workers(alloc: Global, jobs: usize, activities: usize) -> Result<Vec<Worker>,
     Ok(workers)
 }
 
-/// A `Clerk` tells a herald what the only worker has proved, and ends it at a deadline.
+/// A `Clerk` reports to a herald what the only worker has proved, and ends it at a deadline.
 #[derive(Drop)]
 struct Clerk<'a, R, H> {
     deadline: Deadline<'a, R>,
@@ -65,7 +65,13 @@ fn is_shorter(shortest: Option<u32>, makespan: u32) -> bool {
 }
 
 impl<R: Wait + Clock, H: Herald> Overseer for Clerk<'_, R, H> {
-    fn look(&mut self, project: &Project, _conflicts: u64, best: Option<&Best>, bound: u32) -> bool
+    fn look(
+        &mut self,
+        project: &Project,
+        _conflicts: u64,
+        best: Option<&BestKnown>,
+        bound: u32,
+    ) -> bool
         requires best { IfSome (option_copied best) (IsBest project.now) }
         requires bound { TakesAtLeast project.now bound }
     {
@@ -90,7 +96,7 @@ impl<R: Wait + Clock, H: Herald> Overseer for Clerk<'_, R, H> {
 fn prove_together<'a, F: Subject + Send + Sync, R: Threads + Wait + Clock + Sync, H: Herald + Sync>(
     alloc: Global,
     project: &'a Project,
-    task: Task<'a>,
+    task: ProofTask<'a>,
     deadline: Deadline<'a, R>,
     herald: &'a H,
 ) -> Result<Proved, AllocError>
@@ -102,7 +108,7 @@ fn prove_together<'a, F: Subject + Send + Sync, R: Threads + Wait + Clock + Sync
     let known = Mutex::new(Known::<F>::new());
     let conflicts = AtomicU64::new(0);
     let is_teamed = AtomicBool::new(false);
-    let desk = Desk {
+    let shared = SharedWork {
         alloc,
         project,
         known: &known,
@@ -114,8 +120,12 @@ fn prove_together<'a, F: Subject + Send + Sync, R: Threads + Wait + Clock + Sync
         first: task.first,
         herald,
     };
-    let desk = &desk;
-    thread::map_vec(rt, workers, &|worker: Worker| -> () { work(desk, worker) })?;
+    let shared = &shared;
+    thread::map_vec(
+        rt,
+        workers,
+        &|worker: Worker| -> () { work(shared, worker) },
+    )?;
     Ok(Proved {
         answer: known.into_inner().into_answer(),
         conflicts: conflicts.into_inner(),
@@ -129,7 +139,7 @@ pub fn prove<R: Threads + Wait + Clock + Sync, H: Herald + Sync>(
     rt: &R,
     alloc: Global,
     project: &Project,
-    task: Task<'_>,
+    task: ProofTask<'_>,
     herald: &H,
 ) -> Result<Proved, AllocError>
     ensures { IfOk result (λ proved. IsAnswer project.now proved.answer) }

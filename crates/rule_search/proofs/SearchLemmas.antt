@@ -1,4 +1,4 @@
--- Where the pass of a rule stands, and what it shows.
+-- The state of a rule's pass, and what it shows.
 use Rattle.std.proofs.Common.{◌≡◌, ℕ, ◌+◌, ◌*◌, ◌<◌, true, false, nat_le, nat_lt, List, [], length, Option, Some, None, IfSome, option_map, arith, refl, sym, ap, subst, ◌∙◌}
 use Rattle.std.proofs.lemmas.Bool.{leb-true, leb-false, cond-true, cond-false, lt-ltb, le-ltb}
 use Rattle.mrcpsp.specs.Project.{ProjectData, size}
@@ -47,7 +47,7 @@ best_whole plan k rule whole =
     let done : option_map (schedule_of (size p)) (placed_after p kind (size p) 0 []) ≡ pass p kind 0 = ap (λ i. option_map (schedule_of (size p)) (placed_after p kind (size p) i [])) (sym first) in
     ap (λ n. option_map (schedule_of (size p)) (placed_after p kind n 0 [])) whole ∙ done ∙ sym shown
 
--- as many are placed as there are activities
+-- all activities are placed
 placed_whole : (plan : Plan) (k : ℕ) (placed : Option (List Placed)) → placed ≡ placed_after plan.project plan.kind k 0 [] → k ≡ size plan.project → IfSome placed (λ now. length now ≡ size plan.project)
 placed_whole plan k placed at whole =
     let p = plan.project in
@@ -61,7 +61,7 @@ makespan_whole : (p : ProjectData) (placed : Option (List Placed)) (told : Optio
 makespan_whole p None told long exact whole = exact
 makespan_whole p (Some now) told long exact whole = whole long
 
--- ---- where the pass stands
+-- ---- the state of the pass
 
 pub all_shown : (r : RulePass) (plan : Plan) (k : ℕ) → StandsAt r plan k → nat_le r.size r.nodes ≡ all_run plan.project plan.kind k
 all_shown r plan k at = ap (λ n. nat_le n r.nodes) at.all ∙ ap (nat_le (size plan.project)) at.count ∙ sym (all_by_rule plan.project plan.kind k at.rule)

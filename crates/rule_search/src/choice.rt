@@ -7,7 +7,7 @@ ghost use Rattle.rule_search.specs.Rule.{IsRule, is_ahead};
 
 use measures::Measures;
 use mrcpsp::Project;
-use serial_pass::{Candidate, Pass};
+use serial_pass::{Candidate, SerialPass};
 use strategy::Kind;
 
 fn is_ahead(measures: &Measures, kind: Kind, one: usize, other: usize) -> bool
@@ -24,7 +24,7 @@ fn is_ahead(measures: &Measures, kind: Kind, one: usize, other: usize) -> bool
 }
 
 /// Ties go to the smaller number.
-fn first_activity(pass: &Pass, measures: &Measures, kind: Kind) -> Option<usize>
+fn first_activity(pass: &SerialPass, measures: &Measures, kind: Kind) -> Option<usize>
     requires rule { IsRule kind }
     requires measured { measures.now ≡ measures_of pass.now.project }
     ensures exact { (i : ℕ) → result ≡ activity_at pass.now.project kind i
@@ -67,7 +67,7 @@ fn first_mode(project: &Project, activity: usize, modes: &[usize]) -> Option<usi
 }
 
 /// Returns `None` if the activity that the rule puts first has no allowed mode.
-fn choose(pass: &Pass, measures: &Measures, kind: Kind) -> Option<Candidate>
+fn choose(pass: &SerialPass, measures: &Measures, kind: Kind) -> Option<Candidate>
     requires rule { IsRule kind }
     requires measured { measures.now ≡ measures_of pass.now.project }
     ensures { (i : ℕ) → result ≡ chosen_in pass.now.project kind i pass.now.placed }
@@ -78,7 +78,7 @@ fn choose(pass: &Pass, measures: &Measures, kind: Kind) -> Option<Candidate>
     Some(Candidate { activity, mode })
 }
 
-pub(crate) fn run_node(pass: &mut Pass, measures: &Measures, kind: Kind)
+pub(crate) fn run_node(pass: &mut SerialPass, measures: &Measures, kind: Kind)
     requires rule { IsRule kind }
     requires measured { measures.now ≡ measures_of pass.old.project }
     ensures { (i : ℕ) → pass.new ≡ record pass.old { placed = after_node pass.old.project kind i pass.old.placed } }

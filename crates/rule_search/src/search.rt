@@ -9,7 +9,7 @@ use crate::choice::run_node;
 use measures::Measures;
 use mrcpsp::Schedule;
 use paid_search::{Nodes, Paid};
-use serial_pass::Pass;
+use serial_pass::SerialPass;
 use std::alloc::{AllocError, Global};
 use strategy::{Kind, Plan};
 
@@ -22,7 +22,7 @@ pub type RuleSearch = Paid<RulePass>;
 pub struct RulePass {
     kind: Kind,
     measures: Measures,
-    pass: Pass,
+    pass: SerialPass,
     room: Option<Schedule>,
     best: Option<Schedule>,
     size: usize,
@@ -33,7 +33,7 @@ pub struct RulePass {
 #[derive(Drop)]
 struct Workspace {
     measures: Measures,
-    pass: Pass,
+    pass: SerialPass,
     room: Schedule,
 }
 
@@ -48,7 +48,7 @@ impl Workspace {
         ensures room { IfOk result (λ space. HasRoom (size plan.now.project) space.room) }
     {
         let measures = Measures::of(alloc, &plan.project)?;
-        let pass = Pass::new(alloc, &plan.project, &measures)?;
+        let pass = SerialPass::new(alloc, &plan.project, &measures)?;
         let room = pass.blank(alloc)?;
         Ok(Workspace {
             measures,
@@ -65,7 +65,7 @@ fn is_whole(size: usize, nodes: usize) -> bool
 }
 
 /// Writes into `room`; `None` if the pass is void.
-fn write_best(best: &mut Option<Schedule>, pass: &Pass, room: Option<Schedule>)
+fn write_best(best: &mut Option<Schedule>, pass: &SerialPass, room: Option<Schedule>)
     requires { IsSomeAnd room (HasRoom (size pass.now.project)) }
     ensures { best.new ≡ option_map (schedule_of (size pass.now.project)) pass.now.placed }
 {

@@ -32,7 +32,7 @@ half_odd x = omega arith
 
 pub ruleset sign_rules = (even_is, odd_is, half_even, half_odd)
 
--- a true term holds as its sign says
+-- a true term holds by its sign
 term_holds : (p : ProjectData) (s : ScheduleData) (a : Term) → term_true p s a ≡ true → holds p s a.meaning ≡ a.positive
 term_holds p s a h =
     ⊎_elim

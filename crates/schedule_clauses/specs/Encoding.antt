@@ -6,7 +6,7 @@ use Rattle.mrcpsp.specs.Schedule.{ScheduleData}
 use Rattle.schedule_clauses.specs.Meaning.{IsWithin, holds}
 use Rattle.schedule_clauses.specs.declared.encoding.Encoding.{Encoding}
 use Rattle.schedule_clauses.specs.declared.formula.CapacityRow.{CapacityRow}
-use Rattle.schedule_clauses.specs.declared.formula.Kind.{Kind}
+use Rattle.schedule_clauses.specs.declared.formula.SectionKind.{SectionKind}
 use Rattle.schedule_clauses.specs.declared.meaning.Fact.{Fact}
 
 -- whether the fact of a variable holds; without a meaning it does not
@@ -35,7 +35,7 @@ pub record IsGood (p : ProjectData) (s : ScheduleData) (meanings : List Fact) (c
 pub record ScopeData : Type 0 where
   pub project : ProjectData
   pub limit : Option ℕ
-  pub kinds : List Kind
+  pub kinds : List SectionKind
   pub left_out : List CapacityRow
 
 -- each clause is good, for each schedule within the limit

@@ -11,7 +11,7 @@ ghost use Rattle.price_search.specs.Barring.{IsBarring};
 ghost use Rattle.schedule_prices.specs.Choices.{EachExceeds};
 ghost use Rattle.schedule_clauses.specs.Satisfied.{SatisfiedByShort, SatisfiedByFeasible};
 
-use crate::formula::Formula;
+use crate::formula::ScheduleFormula;
 use crate::sections::{encode, encode_stocks};
 use crate::size::{MOST_START_CLAUSES, start_clauses_of};
 use clause_proof::{ProofFault, refute};
@@ -20,7 +20,7 @@ use price_search::{Barring, bar_choices};
 use std::alloc::{AllocError, Global};
 use thiserror::Error;
 
-/// The steps in which prices of a bound are looked for. `Formula` depends on it.
+/// The steps in which prices of a bound are looked for. `ScheduleFormula` depends on it.
 const PRICE_STEPS: u32 = 1_000;
 
 /// A `CertificateFault` is why nothing is certified. Its text is as in `no proof Word(17)`.
@@ -77,7 +77,11 @@ fn barring_of<'a>(
 /// above the horizon, and for one with more than [`MOST_START_CLAUSES`] clauses on starts. More
 /// than 999,999,999 variables count as want of memory.
 #[tactic(auto, using(crate::proofs::EncodingLemmas::short_rules))]
-pub fn clauses(alloc: Global, project: &Project, bound: u32) -> Result<Formula, CertificateFault>
+pub fn clauses(
+    alloc: Global,
+    project: &Project,
+    bound: u32,
+) -> Result<ScheduleFormula, CertificateFault>
     ensures clauses { IfOk result (λ formula. SatisfiedByShort project.now bound formula.clauses) }
     ensures meanings { IfOk result (λ formula.
         AreGood project.now (Some bound) formula.meanings.items formula.clauses) }
@@ -93,13 +97,13 @@ pub fn clauses(alloc: Global, project: &Project, bound: u32) -> Result<Formula, 
     Ok(encode(alloc, project, bound, &barring)?)
 }
 
-/// Is [`clauses`] if prices leave the bound open, and `None` if they refute it.
+/// Returns the formula of [`clauses`] if prices leave the bound open, and `None` if they refute it.
 #[tactic(auto, using(crate::proofs::EncodingLemmas::short_rules))]
 pub fn open_clauses(
     alloc: Global,
     project: &Project,
     bound: u32,
-) -> Result<Option<Formula>, CertificateFault>
+) -> Result<Option<ScheduleFormula>, CertificateFault>
     ensures clauses { IfOk result (λ made. MatchOption made (EachExceeds project.now bound)
         (λ formula. SatisfiedByShort project.now bound formula.clauses)) }
     ensures meanings { IfOk result (λ made. IfSome made (λ formula.
@@ -121,7 +125,7 @@ pub fn open_clauses(
 
 /// Clauses on modes and stocks alone, which each feasible schedule satisfies.
 #[tactic(auto, using(crate::proofs::EncodingLemmas::feasible_rules))]
-pub fn stock_clauses(alloc: Global, project: &Project) -> Result<Formula, CertificateFault>
+pub fn stock_clauses(alloc: Global, project: &Project) -> Result<ScheduleFormula, CertificateFault>
     ensures clauses { IfOk result (λ formula. SatisfiedByFeasible project.now formula.clauses) }
     ensures meanings { IfOk result (λ formula.
         AreGood project.now None formula.meanings.items formula.clauses) }

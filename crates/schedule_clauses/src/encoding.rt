@@ -3,7 +3,7 @@ ghost use Rattle.std.specs.Prelude.{◌≡◌, ◌<◌, ◌≤◌, ◌/◌, ◌%
 ghost use Rattle.schedule_clauses.specs.Meaning.{IsValid};
 ghost use Rattle.schedule_clauses.specs.Encoding.{AllGood, Extends};
 
-use crate::index::Index;
+use crate::index::FactIndex;
 use crate::meaning::{Fact, Term};
 use crate::scope::Scope;
 use clause_kernel::ClauseList;
@@ -17,7 +17,7 @@ pub(crate) struct Encoding {
     pub(crate) clauses: ClauseList,
     /// The meaning of each variable.
     pub(crate) meanings: Vec<Fact>,
-    index: Index,
+    index: FactIndex,
     /// Memory for the literals of a clause.
     literals: Vec<u32>,
 }
@@ -36,7 +36,7 @@ impl Encoding {
             alloc,
             clauses: ClauseList::new(alloc),
             meanings,
-            index: Index::new(alloc)?,
+            index: FactIndex::new(alloc)?,
             literals: Vec::new(alloc),
         })
     }

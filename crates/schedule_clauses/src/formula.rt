@@ -3,9 +3,9 @@
 use crate::meaning::Fact;
 use clause_kernel::ClauseList;
 
-/// A `Kind` is what the clauses of a section state.
+/// A `SectionKind` is what the clauses of a section state.
 #[derive(Clone, Copy, Debug, PartialEq, Eq)]
-pub enum Kind {
+pub enum SectionKind {
     /// Each activity has exactly one mode.
     Modes,
     /// What starts by a time starts by each later one.
@@ -27,7 +27,7 @@ pub enum Kind {
 /// A `Section` is a number of clauses of one kind, behind those of the sections before.
 #[derive(Clone, Copy, Debug, PartialEq, Eq)]
 pub struct Section {
-    pub kind: Kind,
+    pub kind: SectionKind,
     pub count: usize,
 }
 
@@ -38,10 +38,10 @@ pub enum CapacityRow {
     Stock { resource: usize },
 }
 
-/// A `Formula` is clauses over variables. A literal is 2 · x for the variable x, and 2 · x + 1 for
-/// its negation.
+/// A `ScheduleFormula` is clauses over variables. The literals of the variable x are 2 · x, and
+/// 2 · x + 1 for its negation.
 #[derive(Drop)]
-pub struct Formula {
+pub struct ScheduleFormula {
     pub clauses: ClauseList,
     /// The meaning of each variable. There is no variable 0, and the first meaning is none's.
     pub meanings: Vec<Fact>,

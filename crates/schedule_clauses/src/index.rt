@@ -10,12 +10,12 @@ const NONE: u32 = u32::MAX;
 
 const FIRST_CHAINS: usize = 4096;
 
-/// An `Index` is where the variables of facts are. The starts of an activity have consecutive
+/// A `FactIndex` is where the variables of facts are. The starts of an activity have consecutive
 /// variables, if they were made in order; so have its modes, and the periods in which a mode runs.
 /// `starts`, `modes` and `runs` are where these begin: at time 0, mode 0 and period 0. `heads` and
 /// `nexts` chain the variables of each hash value.
 #[derive(Drop)]
-pub(crate) struct Index {
+pub(crate) struct FactIndex {
     starts: Vec<usize>,
     modes: Vec<usize>,
     runs: Vec<usize>,
@@ -118,13 +118,13 @@ fn find_in(meanings: &[Fact], nexts: &[u32], first: u32, meaning: Fact) -> Optio
     None
 }
 
-impl Index {
-    pub(crate) fn new(alloc: Global) -> Result<Index, AllocError> {
+impl FactIndex {
+    pub(crate) fn new(alloc: Global) -> Result<FactIndex, AllocError> {
         let mut heads = Vec::with_capacity(alloc, FIRST_CHAINS)?;
         heads.resize(FIRST_CHAINS, NONE)?;
         let mut nexts = Vec::new(alloc);
         nexts.push(NONE)?;
-        Ok(Index {
+        Ok(FactIndex {
             starts: Vec::new(alloc),
             modes: Vec::new(alloc),
             runs: Vec::new(alloc),

@@ -36,6 +36,6 @@ pub use certificate::{
     CertificateFault, certify, certify_bound, certify_infeasible, clauses, open_clauses,
     stock_clauses,
 };
-pub use formula::{CapacityRow, Formula, Kind, Section};
+pub use formula::{CapacityRow, ScheduleFormula, Section, SectionKind};
 pub use meaning::Fact;
 pub use size::MOST_START_CLAUSES;

@@ -3,7 +3,7 @@ ghost use Rattle.std.specs.Prelude.{◌≡◌, ◌++◌, ◌∷◌, [], IfOk};
 ghost use Rattle.schedule_clauses.specs.Meaning.{IsValid};
 
 use crate::encoding::Encoding;
-use crate::formula::{CapacityRow, Formula, Kind, Section};
+use crate::formula::{CapacityRow, ScheduleFormula, Section, SectionKind};
 use crate::meaning::Term;
 use mrcpsp::Project;
 use std::alloc::{AllocError, Global};
@@ -81,7 +81,7 @@ impl<'a> Clauses<'a> {
 
     /// The clauses behind the last section are one of this kind.
     #[tactic(auto, using(crate::proofs::LeftOutLemmas::scope_rules))]
-    pub(crate) fn end_section(&mut self, kind: Kind) -> Result<(), AllocError>
+    pub(crate) fn end_section(&mut self, kind: SectionKind) -> Result<(), AllocError>
         ensures { IfOk result (λ _. self.new ≡ with_kind kind self.old) }
     {
         let all = self.encoding.clauses.len();
@@ -103,7 +103,7 @@ impl<'a> Clauses<'a> {
 
     /// Ends the last section.
     #[tactic(auto, using(crate::proofs::LeftOutLemmas::scope_rules))]
-    pub(crate) fn into_formula(self, kind: Kind) -> Result<Formula, AllocError>
+    pub(crate) fn into_formula(self, kind: SectionKind) -> Result<ScheduleFormula, AllocError>
         ensures good { IfOk result (λ formula.
             AreGood self.entry.project self.entry.limit formula.meanings.items formula.clauses) }
         ensures sections { IfOk result (λ formula.
@@ -118,7 +118,7 @@ impl<'a> Clauses<'a> {
         let left_out = self.left_out;
         let count = clauses.len() - self.counted;
         sections.push(Section { kind, count })?;
-        Ok(Formula {
+        Ok(ScheduleFormula {
             clauses,
             meanings,
             sections,

@@ -9,7 +9,7 @@ mod barred;
 mod capacities;
 mod starts;
 
-use crate::formula::{Formula, Kind};
+use crate::formula::{ScheduleFormula, SectionKind};
 use crate::scope::{Clauses, Scope};
 use crate::sections::barred::barred_section;
 use crate::sections::capacities::{mode_section, nonrenewable_section, renewable_section};
@@ -25,7 +25,7 @@ pub(crate) fn encode(
     project: &Project,
     bound: u32,
     barring: &Barring<'_>,
-) -> Result<Formula, AllocError>
+) -> Result<ScheduleFormula, AllocError>
     requires { IsBarring project.now bound barring.now }
     ensures good { IfOk result (λ formula.
         AreGood project.now (Some bound) formula.meanings.items formula.clauses) }
@@ -39,24 +39,24 @@ pub(crate) fn encode(
     let limit = Some(bound);
     let mut clauses = Clauses::new(alloc, Scope { project, limit })?;
     mode_section(&mut clauses)?;
-    clauses.end_section(Kind::Modes)?;
+    clauses.end_section(SectionKind::Modes)?;
     start_section(&mut clauses, &windows)?;
-    clauses.end_section(Kind::Starts)?;
+    clauses.end_section(SectionKind::Starts)?;
     end_section(&mut clauses, &measures, &windows)?;
-    clauses.end_section(Kind::Ends)?;
+    clauses.end_section(SectionKind::Ends)?;
     precedence_section(&mut clauses, &measures, &windows)?;
-    clauses.end_section(Kind::Precedence)?;
+    clauses.end_section(SectionKind::Precedence)?;
     run_section(&mut clauses, &windows)?;
-    clauses.end_section(Kind::Runs)?;
+    clauses.end_section(SectionKind::Runs)?;
     renewable_section(&mut clauses, &windows)?;
-    clauses.end_section(Kind::Renewable)?;
+    clauses.end_section(SectionKind::Renewable)?;
     nonrenewable_section(&mut clauses)?;
-    clauses.end_section(Kind::Nonrenewable)?;
+    clauses.end_section(SectionKind::Nonrenewable)?;
     barred_section(&mut clauses, barring, bound, &measures, &windows)?;
-    clauses.into_formula(Kind::Barred)
+    clauses.into_formula(SectionKind::Barred)
 }
 
-pub(crate) fn encode_stocks(alloc: Global, project: &Project) -> Result<Formula, AllocError>
+pub(crate) fn encode_stocks(alloc: Global, project: &Project) -> Result<ScheduleFormula, AllocError>
     ensures good { IfOk result (λ formula.
         AreGood project.now None formula.meanings.items formula.clauses) }
     ensures sections { IfOk result (λ formula.
@@ -67,7 +67,7 @@ pub(crate) fn encode_stocks(alloc: Global, project: &Project) -> Result<Formula,
     let limit = None;
     let mut clauses = Clauses::new(alloc, Scope { project, limit })?;
     mode_section(&mut clauses)?;
-    clauses.end_section(Kind::Modes)?;
+    clauses.end_section(SectionKind::Modes)?;
     nonrenewable_section(&mut clauses)?;
-    clauses.into_formula(Kind::Nonrenewable)
+    clauses.into_formula(SectionKind::Nonrenewable)
 }

@@ -19,7 +19,7 @@ pub(crate) struct Windows {
 }
 
 #[derive(Clone, Copy)]
-pub(crate) struct Window {
+pub(crate) struct StartWindow {
     pub(crate) first: u32,
     pub(crate) last: u32,
 }
@@ -71,8 +71,8 @@ impl Windows {
         Ok(Windows { bound, first, last })
     }
 
-    pub(crate) fn of(&self, activity: usize) -> Window {
-        Window {
+    pub(crate) fn of(&self, activity: usize) -> StartWindow {
+        StartWindow {
             first: number_at(&self.first, activity),
             last: number_at(&self.last, activity),
         }

@@ -1,9 +1,9 @@
 -- The places that the words of a text write, as 3:1:7, and the lines of a text, as 3,1,7.
-use Rattle.std.specs.Prelude.{ℕ, ◌-◌, Bool, not, ◌&&◌, List, [], ◌∷◌, length, take, drop, get_or, Option, Some, None, ◌==◌, if◌then◌else◌}
+use Rattle.std.specs.Prelude.{ℕ, ◌-◌, Bool, not, List, [], ◌∷◌, length, take, drop, get_or, Option, option_map, Some, ◌==◌}
 use Rattle.std.specs.Char.{is_ascii_digit, is_ascii_whitespace}
 use Rattle.std.specs.Option.{option_map_or}
-use Rattle.std.specs.List.{filter, list_all, list_any, prefix_len, suffix_len, before_first, after_first, slice_split}
-use Rattle.std.specs.Str.Parse.{digits_value}
+use Rattle.std.specs.List.{filter, list_any, prefix_len, suffix_len, before_first, after_first, slice_split}
+use Rattle.psplib_mm.specs.Text as mm
 use Rattle.schedule_files.specs.Places.{◌>>=◌, counted}
 use Rattle.schedule_files.specs.declared.places.ScheduleEntry.{ScheduleEntry}
 
@@ -37,7 +37,7 @@ trimmed text = without_back (without_front text)
 
 -- the number that digits write
 abbrev pub number_of : List ℕ → Option ℕ
-number_of word = if not (length word == 0) && list_all is_ascii_digit word then Some (counted (digits_value 10 word)) else None
+number_of word = option_map counted (mm.number_of word)
 
 -- the number that digits write, with or without white space around them
 abbrev pub number_in : List ℕ → Option ℕ

@@ -2,10 +2,11 @@
 ghost use Rattle.std.specs.Prelude.{◌≡◌, ◌==◌, map, option_map, IfOk};
 ghost use Rattle.std.specs.Char.{is_ascii_whitespace};
 ghost use Rattle.std.specs.List.{filter, position, slice_split};
-ghost use Rattle.schedule_files.specs.ScheduleRows.{before, behind, has_digit, is_word, number_in, number_of, place_at, places_at};
+ghost use Rattle.schedule_files.specs.ScheduleRows.{before, behind, has_digit, is_word, number_in, place_at, places_at};
 ghost use Rattle.schedule_files.specs.ScheduleRows.{rows_of, words_of};
 
 use crate::places::ScheduleEntry;
+use psplib_mm::number;
 use std::alloc::{AllocError, Global};
 
 fn spaced(alloc: Global, text: &[u8]) -> Result<Vec<&[u8]>, AllocError>
@@ -68,29 +69,11 @@ pub(crate) fn rows_of(alloc: Global, text: &[u8]) -> Result<Vec<&[u8]>, AllocErr
     numbered(alloc, lines.as_slice())
 }
 
-/// A number above `u32::MAX` counts as that.
-fn number_of(word: &[u8]) -> Option<u32>
-    ensures { result ≡ number_of word.now }
-{
-    if word.is_empty() {
-        return None;
-    }
-    let mut value: u32 = 0;
-    for b in word {
-        if !b.is_ascii_digit() {
-            return None;
-        }
-        value = value
-            .saturating_mul(10)
-            .saturating_add(u32::from(*b - b'0'));
-    }
-    Some(value)
-}
-
+/// A number above `u32::MAX` counts as `u32::MAX`.
 pub(crate) fn number_in(text: &[u8]) -> Option<u32>
     ensures { result ≡ number_in text.now }
 {
-    number_of(text.trim_ascii())
+    number(text.trim_ascii())
 }
 
 fn mark_place(text: &[u8], mark: u8) -> Option<usize>

@@ -9,4 +9,4 @@ mod calendar;
 mod names;
 
 pub use calendar::{Calendar, Moment, Unit};
-pub use names::{Name, name_at, names_of};
+pub use names::{ActivityName, name_at, names_of};

@@ -2,9 +2,9 @@
 use csv::{ByteRecord, ReaderBuilder};
 use std::alloc::{AllocError, Global};
 
-/// A `Name` is the name of the activity with this number, counted from 1.
+/// An `ActivityName` is the name of the activity with this number, counted from 1.
 #[derive(Debug, Drop)]
-pub struct Name {
+pub struct ActivityName {
     pub number: usize,
     pub text: String,
 }
@@ -17,7 +17,7 @@ fn text_of(field: Option<&[u8]>) -> Option<&str> {
     Some(text)
 }
 
-fn name_of(alloc: Global, row: &ByteRecord) -> Result<Option<Name>, AllocError> {
+fn name_of(alloc: Global, row: &ByteRecord) -> Result<Option<ActivityName>, AllocError> {
     let Some(number) = text_of(row.get(0)) else {
         return Ok(None);
     };
@@ -25,7 +25,7 @@ fn name_of(alloc: Global, row: &ByteRecord) -> Result<Option<Name>, AllocError> 
         return Ok(None);
     };
     match text_of(row.get(1)) {
-        Some(text) => Ok(Some(Name {
+        Some(text) => Ok(Some(ActivityName {
             number,
             text: String::from_str(alloc, text)?,
         })),
@@ -35,7 +35,7 @@ fn name_of(alloc: Global, row: &ByteRecord) -> Result<Option<Name>, AllocError> 
 
 /// The names in the lines `J,NAME` of a CSV text. A line without a number or with a control
 /// character in its name is passed over. An error is want of memory.
-pub fn names_of(alloc: Global, bytes: &[u8]) -> Result<Vec<Name>, AllocError> {
+pub fn names_of(alloc: Global, bytes: &[u8]) -> Result<Vec<ActivityName>, AllocError> {
     let mut reader = ReaderBuilder::new()
         .has_headers(false)
         .flexible(true)
@@ -56,7 +56,7 @@ pub fn names_of(alloc: Global, bytes: &[u8]) -> Result<Vec<Name>, AllocError> {
 }
 
 /// The last name of the activity, or an empty one.
-pub fn name_at(names: &[Name], number: usize) -> &str {
+pub fn name_at(names: &[ActivityName], number: usize) -> &str {
     let mut found = "";
     for name in names {
         if name.number == number {

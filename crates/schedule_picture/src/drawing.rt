@@ -5,7 +5,7 @@ use crate::bars::{Bar, bars_of, end_of, times_of};
 use crate::chain::mark_chain;
 use crate::svg::{Picture, size_of};
 use mrcpsp::{Project, Schedule};
-use schedule_labels::{Calendar, Name};
+use schedule_labels::{ActivityName, Calendar};
 use std::alloc::{AllocError, Global};
 use std::fmt;
 
@@ -58,7 +58,7 @@ pub struct Drawing<'a> {
     /// Dates above the rows.
     pub calendar: Option<Calendar>,
     /// Names beside the rows.
-    pub names: Option<&'a [Name]>,
+    pub names: Option<&'a [ActivityName]>,
     /// An earlier schedule of the project, as a thin bar in each row.
     pub before: Option<&'a Schedule>,
 }

@@ -2,7 +2,7 @@
 use crate::bars::{Bar, bar_at};
 use crate::svg::{Picture, fill_of, row_at};
 use crate::words::{MOST_SHOWN, put_word};
-use schedule_labels::{Name, name_at};
+use schedule_labels::{ActivityName, name_at};
 use std::alloc::AllocError;
 
 impl Picture {
@@ -105,7 +105,7 @@ impl Picture {
         &mut self,
         bars: &[Bar<'_>],
         earlier: &[Bar<'_>],
-        names: Option<&[Name]>,
+        names: Option<&[ActivityName]>,
     ) -> Result<(), AllocError> {
         for row in 0..bars.len() {
             let bar = &bars[row];

@@ -1,7 +1,7 @@
 //! Words of users as SVG text.
 use std::alloc::AllocError;
 
-/// How many characters of a name have room beside the bars.
+/// How many characters of a name fit beside the bars.
 pub(crate) const MOST_SHOWN: usize = 36;
 
 fn put_char(text: &mut String, char: char) -> Result<(), AllocError> {

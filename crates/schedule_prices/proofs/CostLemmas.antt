@@ -17,8 +17,8 @@ use Rattle.mrcpsp.proofs.LimitLemmas.{kept}
 use Rattle.schedule_prices.specs.declared.row.PricedRow.{PricedRow}
 use Rattle.schedule_prices.specs.declared.row.PricedRow.TheVariants.{Use, Stock, Before}
 use Rattle.schedule_prices.specs.declared.row.Price.{Price}
-use Rattle.schedule_prices.specs.declared.place.Kind.{Kind}
-use Rattle.schedule_prices.specs.declared.place.Kind.TheVariants.{Begun, Ended, Used, Consumed}
+use Rattle.schedule_prices.specs.declared.place.SumKind.{SumKind}
+use Rattle.schedule_prices.specs.declared.place.SumKind.TheVariants.{Begun, Ended, Used, Consumed}
 use Rattle.schedule_prices.specs.declared.place.Place.{Place}
 use Rattle.schedule_prices.specs.Rows.{amount, is_row, are_rows, cost}
 use Rattle.schedule_prices.specs.Sums.{place_of, price_at, price_before, price_in}
@@ -163,7 +163,7 @@ price_at-le : (place : Option Place) (j : ℕ) (test : ℕ → Bool) (price : �
 price_at-le None j test price = omega arith
 price_at-le (Some w) j test price = grind (arith, nat_tests)
 
-price_in-le : (kind : Kind) (j t : ℕ) (x : Price) → price_in kind j t x ≤ x.price
+price_in-le : (kind : SumKind) (j t : ℕ) (x : Price) → price_in kind j t x ≤ x.price
 price_in-le Begun j t x = price_at-le (place_of Begun x.row) j (λ u. nat_le t u) x.price
 price_in-le Ended j t x = price_at-le (place_of Ended x.row) j (λ u. nat_lt u t) x.price
 price_in-le Used j t x = price_at-le (place_of Used x.row) j (λ u. nat_lt u t) x.price
@@ -173,7 +173,7 @@ sum_by-le-each : (f g : Price → ℕ) (xs : List Price) → ((x : Price) → f 
 sum_by-le-each f g [] h = omega arith
 sum_by-le-each f g (x ∷ xs) h = omega (arith, sum_by-cons f x xs, sum_by-cons g x xs, h x, sum_by-le-each f g xs h)
 
-pub price_in-low : (p : ProjectData) (kind : Kind) (j t : ℕ) (prices : List Price) → are_prices p prices ≡ true → sum_by (price_in kind j t) prices ≤ 2 ^ 40
+pub price_in-low : (p : ProjectData) (kind : SumKind) (j t : ℕ) (prices : List Price) → are_prices p prices ≡ true → sum_by (price_in kind j t) prices ≤ 2 ^ 40
 price_in-low p kind j t prices e = omega (arith, sum_by-le-each (price_in kind j t) (λ x. x.price) prices (price_in-le kind j t), prices_sum p prices e)
 
 pub used_in-low : (p : ProjectData) (r t e : ℕ) (prices : List Price) → are_prices p prices ≡ true → sum_by (used_in r t e) prices ≤ 2 ^ 40

@@ -3,7 +3,7 @@ pub mod LeastLemmas
 pub mod ChoiceLemmas
 pub mod StepLemmas
 pub mod PriceLemmas
-pub mod LineLemmas
+pub mod TimeSumLemmas
 pub mod SumLemmas
 pub mod CostLemmas
 pub mod DearLemmas

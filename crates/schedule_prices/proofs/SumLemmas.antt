@@ -7,8 +7,8 @@ use Rattle.std.proofs.lemmas.List.{take_more, length-set, length-replicate, get_
 use Rattle.std.proofs.lemmas.List.Folds.{sum_by-replicate}
 use Rattle.std.proofs.lemmas.List.Sums.{sum_by-cons, sum_by_push, sum_by-take-le, get_or-le-sum_by}
 use Rattle.schedule_prices.specs.declared.row.Price.{Price}
-use Rattle.schedule_prices.specs.declared.place.Kind.{Kind}
-use Rattle.schedule_prices.specs.declared.place.Kind.TheVariants.{Begun, Ended, Used, Consumed}
+use Rattle.schedule_prices.specs.declared.place.SumKind.{SumKind}
+use Rattle.schedule_prices.specs.declared.place.SumKind.TheVariants.{Begun, Ended, Used, Consumed}
 use Rattle.schedule_prices.specs.declared.place.Place.{Place}
 use Rattle.schedule_prices.specs.Sums.{place_of, price_at, price_from, price_before, price_in, with_price, summed, IsRaw}
 
@@ -56,7 +56,7 @@ before-bound : (e u bound : ℕ) → e ≤ bound → nat_lt (min u bound) e ≡ 
 before-bound e u bound l = grind (arith, nat_tests)
 
 -- nothing is summed up at first
-pub raw-none : (kind : Kind) (bound j : ℕ) → IsRaw kind bound [] j (replicate (bound + 1) 0)
+pub raw-none : (kind : SumKind) (bound j : ℕ) → IsRaw kind bound [] j (replicate (bound + 1) 0)
 raw-none kind bound j = record {
   wide = length-replicate (bound + 1) 0;
   behind = λ t l. rw drop-replicate (sum_by-replicate (λ (x : ℕ). x) (bound + 1 - t) 0 ∙ omega arith);
@@ -64,7 +64,7 @@ raw-none kind bound j = record {
 }
 
 -- a price at its place
-raw-here : (kind : Kind) (bound : ℕ) (prices : List Price) (x : Price) (w : Place) (line : List ℕ) → place_of kind x.row ≡ Some w → IsRaw kind bound prices w.line line
+raw-here : (kind : SumKind) (bound : ℕ) (prices : List Price) (x : Price) (w : Place) (line : List ℕ) → place_of kind x.row ≡ Some w → IsRaw kind bound prices w.line line
     → IsRaw kind bound (prices ++ x ∷ []) w.line (set line (min w.time bound) (get_or line (min w.time bound) 0 + x.price))
 raw-here kind bound prices x w line e raw =
     let i = min w.time bound in
@@ -80,7 +80,7 @@ raw-here kind bound prices x w line e raw =
     }
 
 -- a price at another place, or at none
-raw-elsewhere : (kind : Kind) (bound : ℕ) (prices : List Price) (x : Price) (j : ℕ) (line : List ℕ) → ((test : ℕ → Bool) → price_at (place_of kind x.row) j test x.price ≡ 0) → IsRaw kind bound prices j line
+raw-elsewhere : (kind : SumKind) (bound : ℕ) (prices : List Price) (x : Price) (j : ℕ) (line : List ℕ) → ((test : ℕ → Bool) → price_at (place_of kind x.row) j test x.price ≡ 0) → IsRaw kind bound prices j line
     → IsRaw kind bound (prices ++ x ∷ []) j line
 raw-elsewhere kind bound prices x j line none raw = record {
   wide = raw.wide;
@@ -93,7 +93,7 @@ length-with_price None bound price lines = refl
 length-with_price (Some w) bound price lines = length-set lines w.line (set (get_or lines w.line []) (min w.time bound) (get_or (get_or lines w.line []) (min w.time bound) 0 + price))
 
 -- one price more in all lines
-pub raws-more : (kind : Kind) (bound count : ℕ) (prices : List Price) (x : Price) (lines : List (List ℕ)) (place : Option Place) → place_of kind x.row ≡ place → length lines ≡ count
+pub raws-more : (kind : SumKind) (bound count : ℕ) (prices : List Price) (x : Price) (lines : List (List ℕ)) (place : Option Place) → place_of kind x.row ≡ place → length lines ≡ count
     → ((j : ℕ) → j < count → IsRaw kind bound prices j (get_or lines j [])) → (j : ℕ) → j < count → IsRaw kind bound (prices ++ x ∷ []) j (get_or (with_price place bound x.price lines) j [])
 raws-more kind bound count prices x lines None e size raws j l = raw-elsewhere kind bound prices x j (get_or lines j []) (λ test. rw e refl) (raws j l)
 raws-more kind bound count prices x lines (Some w) e size raws j l =
@@ -116,12 +116,12 @@ sum_by-le-each : (f g : Price → ℕ) (xs : List Price) → ((x : Price) → f 
 sum_by-le-each f g [] h = omega arith
 sum_by-le-each f g (x ∷ xs) h = omega (arith, sum_by-cons f x xs, sum_by-cons g x xs, h x, sum_by-le-each f g xs h)
 
-pub raw-low : (kind : Kind) (bound j : ℕ) (prices : List Price) (line : List ℕ) → IsRaw kind bound prices j line → sum line ≤ sum_by (λ x. x.price) prices
+pub raw-low : (kind : SumKind) (bound j : ℕ) (prices : List Price) (line : List ℕ) → IsRaw kind bound prices j line → sum line ≤ sum_by (λ x. x.price) prices
 raw-low kind bound j prices line raw =
     let whole : sum line ≡ sum_by (price_from kind j 0) prices = raw.behind 0 (omega arith) in
     omega (arith, whole, sum_by-le-each (price_from kind j 0) (λ x. x.price) prices (λ x. price_at-le (place_of kind x.row) j (λ u. nat_le 0 u) x.price))
 
-pub raw-at-low : (kind : Kind) (bound j i : ℕ) (prices : List Price) (line : List ℕ) → IsRaw kind bound prices j line → get_or line i 0 ≤ sum_by (λ x. x.price) prices
+pub raw-at-low : (kind : SumKind) (bound j i : ℕ) (prices : List Price) (line : List ℕ) → IsRaw kind bound prices j line → get_or line i 0 ≤ sum_by (λ x. x.price) prices
 raw-at-low kind bound j i prices line raw =
     ⊎_elim
     (λ (l : i < length line). omega (arith, get_or-le-sum_by (λ (x : ℕ). x) line i 0 l, raw-low kind bound j prices line raw))
@@ -129,7 +129,7 @@ raw-at-low kind bound j i prices line raw =
     (cases_lt i (length line))
 
 -- no number is above the sum of all prices
-pub raws-low : (kind : Kind) (bound count j i n : ℕ) (prices : List Price) (lines : List (List ℕ)) → length lines ≡ count → ((j : ℕ) → j < count → IsRaw kind bound (take n prices) j (get_or lines j []))
+pub raws-low : (kind : SumKind) (bound count j i n : ℕ) (prices : List Price) (lines : List (List ℕ)) → length lines ≡ count → ((j : ℕ) → j < count → IsRaw kind bound (take n prices) j (get_or lines j []))
     → get_or (get_or lines j []) i 0 ≤ sum_by (λ x. x.price) prices
 raws-low kind bound count j i n prices lines size raws =
     ⊎_elim
@@ -140,7 +140,7 @@ raws-low kind bound count j i n prices lines size raws =
     (cases_lt j count)
 
 -- one price more of a list of prices
-pub raws-step : (kind : Kind) (bound count n : ℕ) (prices : List Price) (d : Price) (lines more : List (List ℕ)) (place : Option Place) → n < length prices → place_of kind (get_or prices n d).row ≡ place → length lines ≡ count
+pub raws-step : (kind : SumKind) (bound count n : ℕ) (prices : List Price) (d : Price) (lines more : List (List ℕ)) (place : Option Place) → n < length prices → place_of kind (get_or prices n d).row ≡ place → length lines ≡ count
     → ((j : ℕ) → j < count → IsRaw kind bound (take n prices) j (get_or lines j [])) → more ≡ with_price place bound (get_or prices n d).price lines
     → (length more ≡ count) × ((j : ℕ) → j < count → IsRaw kind bound (take (n + 1) prices) j (get_or more j []))
 raws-step kind bound count n prices d lines more place l e size raws is =
@@ -149,23 +149,23 @@ raws-step kind bound count n prices d lines more place l e size raws is =
       λ j k. rw (is, take_more prices n d l) (raws-more kind bound count (take n prices) x lines place e size raws j k),
     )
 
-pub zeros-raw : (kind : Kind) (bound count : ℕ) (lines : List (List ℕ)) → lines ≡ replicate count (replicate (bound + 1) 0) → (j : ℕ) → j < count → IsRaw kind bound [] j (get_or lines j [])
+pub zeros-raw : (kind : SumKind) (bound count : ℕ) (lines : List (List ℕ)) → lines ≡ replicate count (replicate (bound + 1) 0) → (j : ℕ) → j < count → IsRaw kind bound [] j (get_or lines j [])
 zeros-raw kind bound count lines e j l = rw (e, get_or-replicate count j (replicate {A = ℕ} (bound + 1) 0) [] l) (raw-none kind bound j)
 
 -- a line summed up
-summed-raw : (kind : Kind) (bound j t : ℕ) (prices : List Price) (line : List ℕ) → t ≤ bound → IsRaw kind bound prices j line → summed kind line t ≡ sum_by (price_in kind j t) prices
+summed-raw : (kind : SumKind) (bound j t : ℕ) (prices : List Price) (line : List ℕ) → t ≤ bound → IsRaw kind bound prices j line → summed kind line t ≡ sum_by (price_in kind j t) prices
 summed-raw Begun bound j t prices line l raw = raw.behind t l
 summed-raw Ended bound j t prices line l raw = raw.before t l
 summed-raw Used bound j t prices line l raw = raw.before t l
 summed-raw Consumed bound j t prices line l raw = raw.behind t l
 
 -- the lines below i are summed up, the others not yet
-pub record AreSummedTo (kind : Kind) (bound count : ℕ) (prices : List Price) (i : ℕ) (lines : List (List ℕ)) : Type 0 where
+pub record AreSummedTo (kind : SumKind) (bound count : ℕ) (prices : List Price) (i : ℕ) (lines : List (List ℕ)) : Type 0 where
   pub size : length lines ≡ count
   pub done : (j t : ℕ) → j < i → t ≤ bound → get_or (get_or lines j []) t 0 ≡ sum_by (price_in kind j t) prices
   pub raw : (j : ℕ) → i ≤ j → j < count → IsRaw kind bound prices j (get_or lines j [])
 
-pub summed-step : (kind : Kind) (bound count i : ℕ) (prices : List Price) (lines : List (List ℕ)) (old new : List ℕ) → i < count → old ≡ get_or lines i old → AreSummedTo kind bound count prices i lines
+pub summed-step : (kind : SumKind) (bound count i : ℕ) (prices : List Price) (lines : List (List ℕ)) (old new : List ℕ) → i < count → old ≡ get_or lines i old → AreSummedTo kind bound count prices i lines
     → ((t : ℕ) → t < length old → get_or new t 0 ≡ summed kind old t) → AreSummedTo kind bound count prices (i + 1) (set lines i new)
 summed-step kind bound count i prices lines old new l was so step =
     let inside : i < length lines = omega (arith, so.size) in
@@ -180,7 +180,7 @@ summed-step kind bound count i prices lines old new l was so step =
       raw = λ j k m. let ne : j ≢ i = omega arith in rw (get_or-set_other lines i j new [] ne) (so.raw j (omega arith) m);
     }
 
-pub summed-low : (kind : Kind) (bound count i : ℕ) (prices : List Price) (lines : List (List ℕ)) (old : List ℕ) → i < count → old ≡ get_or lines i old → AreSummedTo kind bound count prices i lines → sum old ≤ sum_by (λ x. x.price) prices
+pub summed-low : (kind : SumKind) (bound count i : ℕ) (prices : List Price) (lines : List (List ℕ)) (old : List ℕ) → i < count → old ≡ get_or lines i old → AreSummedTo kind bound count prices i lines → sum old ≤ sum_by (λ x. x.price) prices
 summed-low kind bound count i prices lines old l was so =
     let same : old ≡ get_or lines i [] = get_or_read lines i old (omega (arith, so.size)) was [] in
     raw-low kind bound i prices old (rw same (so.raw i (omega arith) l))

@@ -6,7 +6,7 @@ use Rattle.mrcpsp.specs.Project.{ProjectData, size, mode_count, duration, preced
 use Rattle.mrcpsp.specs.Schedule.{ScheduleData, IsFeasible, mode_of, start_of, finish, makespan}
 use Rattle.schedule_prices.specs.declared.time.Time.{Time}
 use Rattle.schedule_prices.specs.declared.time.Time.TheVariants.{End, Rest}
-use Rattle.schedule_prices.specs.declared.piece.Piece.{Piece}
+use Rattle.schedule_prices.specs.declared.choice_range.ChoiceRange.{ChoiceRange}
 use Rattle.schedule_prices.specs.Choices.{AreBarred, EachExceeds, with_piece, is_mode_of, is_in}
 use Rattle.schedule_prices.specs.Steps.{time_of, time_left, least_in, least_time}
 use Rattle.schedule_prices.specs.Table.{BarredData, Keeps, is_barred}
@@ -57,7 +57,7 @@ ends-before p bound barred i k r barring known there arc is s feasible short =
     omega (arith, most, after, start-le p s bound k short there)
 
 -- so the starts before the earliest end, and the ends behind the latest start, are barred
-pub early-piece : (p : ProjectData) (bound : ℕ) (barred : ℕ → ℕ → ℕ → Bool) (x : Piece) (e : ℕ) → AreBarred p bound barred → x.to < e
+pub early-piece : (p : ProjectData) (bound : ℕ) (barred : ℕ → ℕ → ℕ → Bool) (x : ChoiceRange) (e : ℕ) → AreBarred p bound barred → x.to < e
     → ((s : ScheduleData) → IsFeasible p s → makespan p s ≤ bound → e ≤ start_of s x.activity) → AreBarred p bound (with_piece barred x.activity (is_in x))
 early-piece p bound barred x e barring l after =
     bars p bound barred x.activity (is_in x) barring
@@ -67,7 +67,7 @@ early-piece p bound barred x e barring l after =
     let times = and_parts (nat_le x.from t) (nat_le t x.to) parts.1 in
     absurd (omega (arith, after s feasible short, leb-true t x.to times.1)))
 
-pub late-piece : (p : ProjectData) (bound : ℕ) (barred : ℕ → ℕ → ℕ → Bool) (x : Piece) (mode last : ℕ) → AreBarred p bound barred → x.mode ≡ Some mode → last < x.from + duration p x.activity mode
+pub late-piece : (p : ProjectData) (bound : ℕ) (barred : ℕ → ℕ → ℕ → Bool) (x : ChoiceRange) (mode last : ℕ) → AreBarred p bound barred → x.mode ≡ Some mode → last < x.from + duration p x.activity mode
     → ((s : ScheduleData) → IsFeasible p s → makespan p s ≤ bound → finish p s x.activity ≤ last) → AreBarred p bound (with_piece barred x.activity (is_in x))
 unfolding finish
 late-piece p bound barred x mode last barring e l before =
@@ -94,7 +94,7 @@ keeps-none b = record { project = refl; bound = refl; barred = λ j m t e. e }
 pub keeps-more : (old now new : BarredData) → Keeps old now → Keeps now new → Keeps old new
 keeps-more old now new a b = record { project = b.project ∙ a.project; bound = b.bound ∙ a.bound; barred = λ j m t e. b.barred j m t (a.barred j m t e) }
 
-pub behind-piece : (old now : BarredData) (x : Piece) (mode last : ℕ) → Keeps old now → AreBarred now.project now.bound (is_barred now) → x.mode ≡ Some mode → last < x.from + duration now.project x.activity mode
+pub behind-piece : (old now : BarredData) (x : ChoiceRange) (mode last : ℕ) → Keeps old now → AreBarred now.project now.bound (is_barred now) → x.mode ≡ Some mode → last < x.from + duration now.project x.activity mode
     → ((s : ScheduleData) → IsFeasible old.project s → makespan old.project s ≤ old.bound → finish old.project s x.activity ≤ last) → AreBarred now.project now.bound (with_piece (is_barred now) x.activity (is_in x))
 behind-piece old now x mode last keeps barring e l before =
     late-piece now.project now.bound (is_barred now) x mode last barring e l

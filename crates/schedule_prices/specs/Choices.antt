@@ -3,7 +3,7 @@
 use Rattle.std.specs.Prelude.{◌≡◌, ℕ, ◌<◌, ◌≤◌, Bool, false, true, not, ◌&&◌, ◌||◌, ◌==◌, nat_le, List, [], get_or, Option, Some, None}
 use Rattle.mrcpsp.specs.Project.{ProjectData, size, mode_count}
 use Rattle.mrcpsp.specs.Schedule.{ScheduleData, IsFeasible, mode_of, start_of, makespan}
-use Rattle.schedule_prices.specs.declared.piece.Piece.{Piece}
+use Rattle.schedule_prices.specs.declared.choice_range.ChoiceRange.{ChoiceRange}
 
 -- each feasible schedule is longer than the bound
 abbrev pub EachExceeds : ProjectData → ℕ → Type 0
@@ -27,7 +27,7 @@ is_mode_of None m = true
 is_mode_of (Some k) m = m == k
 
 -- whether the mode and the start are in the piece
-abbrev pub is_in : Piece → ℕ → ℕ → Bool
+abbrev pub is_in : ChoiceRange → ℕ → ℕ → Bool
 is_in x m t = is_mode_of x.mode m && (nat_le x.from t && nat_le t x.to)
 
 -- whether a choice is marked as barred in a table of activities, modes and starts; what has no

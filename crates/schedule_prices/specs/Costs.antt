@@ -2,7 +2,7 @@
 use Rattle.std.specs.Prelude.{◌≡◌, ℕ, true, ◌&&◌, nat_le, nat_lt, List}
 use Rattle.mrcpsp.specs.Project.{ProjectData, is_project, size, renewables, nonrenewables}
 use Rattle.schedule_prices.specs.declared.row.Price.{Price}
-use Rattle.schedule_prices.specs.declared.place.Kind.TheVariants.{Begun, Ended, Used, Consumed}
+use Rattle.schedule_prices.specs.declared.place.SumKind.TheVariants.{Begun, Ended, Used, Consumed}
 use Rattle.schedule_prices.specs.Sums.{place_of, price_at, AreSums}
 use Rattle.schedule_prices.specs.Prices.{are_prices}
 

@@ -2,7 +2,7 @@
 use Rattle.std.specs.Prelude.{◌≡◌, ℕ, ◌+◌, ◌<◌, ◌≤◌, Bool, true, false, List, Option, Some, None}
 use Rattle.mrcpsp.specs.Project.{ProjectData, size, mode_count, duration}
 use Rattle.schedule_prices.specs.declared.barred.TheConstants.{MOST_STARTS}
-use Rattle.schedule_prices.specs.declared.piece.Piece.{Piece}
+use Rattle.schedule_prices.specs.declared.choice_range.ChoiceRange.{ChoiceRange}
 use Rattle.schedule_prices.specs.Costs.{CostsData}
 use Rattle.schedule_prices.specs.Choices.{AreBarred, is_marked, kept_to, is_in}
 
@@ -17,7 +17,7 @@ abbrev pub is_barred : BarredData → ℕ → ℕ → ℕ → Bool
 is_barred b = is_marked b.marks
 
 -- what is barred with an activity kept to a piece, if there is one
-abbrev pub kept : (ℕ → ℕ → ℕ → Bool) → Option Piece → ℕ → ℕ → ℕ → Bool
+abbrev pub kept : (ℕ → ℕ → ℕ → Bool) → Option ChoiceRange → ℕ → ℕ → ℕ → Bool
 kept barred None j m t = barred j m t
 kept barred (Some x) j m t = kept_to barred x.activity (is_in x) j m t
 

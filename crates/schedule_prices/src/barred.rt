@@ -7,11 +7,11 @@ ghost use Rattle.schedule_prices.specs.Prices.{are_prices, are_over, cheapest_in
 ghost use Rattle.schedule_prices.specs.Dear.{AreCheapest, is_choice};
 ghost use Rattle.schedule_prices.specs.Steps.{ends_late, least_in, least_time};
 
+use crate::choice_range::ChoiceRange;
 use crate::choices::{Choices, all_choices, bar_dear_in, bar_in, holds};
 use crate::costs::Costs;
 use crate::fault::PriceFault;
 use crate::least::{lesser, lesser_of};
-use crate::piece::Piece;
 use crate::prices::are_prices;
 use crate::row::Price;
 use crate::time::Time;
@@ -94,7 +94,7 @@ impl<'a> Barred<'a> {
         }
     }
 
-    fn is_left(&self, piece: &Option<Piece>, activity: usize, mode: usize, start: u32) -> bool
+    fn is_left(&self, piece: &Option<ChoiceRange>, activity: usize, mode: usize, start: u32) -> bool
         ensures { result ≡ not (kept (is_barred self.now) piece.now activity mode start) }
     {
         let inside = match piece {
@@ -108,7 +108,7 @@ impl<'a> Barred<'a> {
     fn cheapest_in(
         &self,
         costs: &Costs,
-        piece: &Option<Piece>,
+        piece: &Option<ChoiceRange>,
         activity: usize,
         mode: usize,
     ) -> Option<u64>
@@ -129,7 +129,7 @@ impl<'a> Barred<'a> {
     }
 
     #[tactic(auto, using(crate::proofs::TableLemmas::least_rules), unfolding(crate::specs::Prices::cheapest))]
-    fn cheapest(&self, costs: &Costs, piece: &Option<Piece>, activity: usize) -> Option<u64>
+    fn cheapest(&self, costs: &Costs, piece: &Option<ChoiceRange>, activity: usize) -> Option<u64>
         requires costs { IsFor self.now costs.now }
         requires activity { activity < size self.now.project }
         ensures exact { result ≡ cheapest self.now.project self.now.bound
@@ -143,7 +143,7 @@ impl<'a> Barred<'a> {
         least
     }
 
-    fn are_dear(&self, costs: &Costs, piece: &Option<Piece>) -> bool
+    fn are_dear(&self, costs: &Costs, piece: &Option<ChoiceRange>) -> bool
         requires { IsFor self.now costs.now }
         ensures { result ≡ are_over self.now.project self.now.bound
             (kept (is_barred self.now) piece.now) costs.now.prices }
@@ -167,7 +167,7 @@ impl<'a> Barred<'a> {
         &self,
         alloc: Global,
         prices: &[Price],
-        piece: &Option<Piece>,
+        piece: &Option<ChoiceRange>,
     ) -> Result<bool, AllocError>
         ensures { IfOk result (λ answer. answer ≡ refutes self.now.project self.now.bound
             (kept (is_barred self.now) piece.now) prices.now) }
@@ -220,7 +220,7 @@ impl<'a> Barred<'a> {
     }
 
     /// Bars the choices of the piece.
-    fn bar(&mut self, piece: &Piece)
+    fn bar(&mut self, piece: &ChoiceRange)
         requires { AreBarred self.old.project self.old.bound
             (with_piece (is_barred self.old) piece.now.activity (is_in piece.now)) }
         ensures bars { (j m t : ℕ) → is_barred self.new j m t
@@ -239,7 +239,7 @@ impl<'a> Barred<'a> {
         &mut self,
         alloc: Global,
         prices: &[Price],
-        piece: Piece,
+        piece: ChoiceRange,
     ) -> Result<bool, AllocError>
         ensures exact { IfOk result (λ answer. answer ≡ refutes self.old.project self.old.bound
             (kept_to (is_barred self.old) piece.activity (is_in piece)) prices.now) }
@@ -355,7 +355,7 @@ impl<'a> Barred<'a> {
             return true;
         };
         if end > 0 {
-            self.bar(&Piece {
+            self.bar(&ChoiceRange {
                 activity: after,
                 mode: None,
                 from: 0,
@@ -379,7 +379,7 @@ impl<'a> Barred<'a> {
         let project = self.project();
         for mode in 0..project.mode_count(before) {
             let duration = project.duration(before, mode);
-            self.bar(&Piece {
+            self.bar(&ChoiceRange {
                 activity: before,
                 mode: Some(mode),
                 from: (last + 1).saturating_sub(duration),

@@ -6,10 +6,10 @@ ghost use Rattle.schedule_prices.specs.Rows.{supply};
 ghost use Rattle.schedule_prices.specs.Dear.{is_above, is_dear};
 ghost use Rattle.schedule_prices.specs.Steps.{ends_late};
 
+use crate::choice_range::ChoiceRange;
 use crate::costs::Costs;
 use crate::least::sum_of;
-use crate::piece::Piece;
-use crate::starts::Starts;
+use crate::start_marks::StartMarks;
 use mrcpsp::Project;
 use std::alloc::{AllocError, Global};
 use std::marker::Model;
@@ -17,7 +17,7 @@ use std::marker::Model;
 /// The marks of an activity's choices: of each mode, its starts.
 #[derive(Drop)]
 pub(crate) struct Choices {
-    modes: Vec<Starts>,
+    modes: Vec<StartMarks>,
 }
 
 impl Model for Choices {
@@ -28,7 +28,7 @@ impl Model for Choices {
     ghost view = { λ choices. choices.modes.items };
 }
 
-fn has_mode(piece: &Piece, mode: usize) -> bool
+fn has_mode(piece: &ChoiceRange, mode: usize) -> bool
     ensures { result ≡ is_mode_of piece.now.mode mode }
 {
     match piece.mode {
@@ -38,7 +38,7 @@ fn has_mode(piece: &Piece, mode: usize) -> bool
 }
 
 /// Whether the mode and the start are in the piece.
-pub(crate) fn holds(piece: &Piece, mode: usize, start: u32) -> bool
+pub(crate) fn holds(piece: &ChoiceRange, mode: usize, start: u32) -> bool
     ensures { result ≡ is_in piece.now mode start }
 {
     has_mode(piece, mode) && piece.from <= start && start <= piece.to
@@ -60,7 +60,7 @@ impl Choices {
         let mut modes = Vec::new(alloc);
         for mode in 0..project.mode_count(activity) {
             let count = (bound + 1).saturating_sub(project.duration(activity, mode));
-            modes.push(Starts::new(alloc, count as usize)?)?;
+            modes.push(StartMarks::new(alloc, count as usize)?)?;
         }
         Ok(Choices { modes })
     }
@@ -94,7 +94,7 @@ impl Choices {
     }
 
     /// Bars the choices of the piece.
-    pub(crate) fn bar(&mut self, piece: &Piece)
+    pub(crate) fn bar(&mut self, piece: &ChoiceRange)
         ensures { (m t : ℕ) → get_or (get_or self.new m []) t true
             ≡ (get_or (get_or self.old m []) t true || is_in piece.now m t) }
     {
@@ -126,7 +126,7 @@ pub(crate) fn all_choices(
 }
 
 /// Bars the choices of the piece.
-pub(crate) fn bar_in(activities: &mut Vec<Choices>, piece: &Piece)
+pub(crate) fn bar_in(activities: &mut Vec<Choices>, piece: &ChoiceRange)
     ensures { (j m t : ℕ) → is_marked activities.new.items j m t
         ≡ with_piece (is_marked activities.old.items) piece.now.activity (is_in piece.now) j m t }
 {

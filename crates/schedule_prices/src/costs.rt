@@ -7,11 +7,11 @@ ghost use Rattle.schedule_prices.specs.Prices.{are_prices};
 ghost use Rattle.schedule_prices.specs.Sums.{price_in};
 ghost use Rattle.schedule_prices.specs.Costs.{used_in};
 
-use crate::line::{Line, sum_at};
-use crate::place::Kind;
+use crate::place::SumKind;
 use crate::prices::supply_of;
 use crate::row::Price;
 use crate::sums::sums_of;
+use crate::time_sums::{TimeSums, sum_at};
 use mrcpsp::Project;
 use std::alloc::{AllocError, Global};
 use std::marker::Model;
@@ -23,10 +23,10 @@ pub(crate) struct Costs<'a> {
     project: &'a Project,
     bound: u32,
     prices: &'a [Price],
-    begun: Vec<Line>,
-    ended: Vec<Line>,
-    used: Vec<Line>,
-    consumed: Vec<Line>,
+    begun: Vec<TimeSums>,
+    ended: Vec<TimeSums>,
+    used: Vec<TimeSums>,
+    consumed: Vec<TimeSums>,
 }
 
 impl<'a> Model for Costs<'a> {
@@ -53,12 +53,12 @@ impl<'a> Costs<'a> {
             costs ≡ record { project = project.now; bound = bound; prices = prices.now }) }
     {
         let _all = project.activities();
-        let begun = sums_of(alloc, Kind::Begun, project.size(), bound, prices)?;
-        let ended = sums_of(alloc, Kind::Ended, project.size(), bound, prices)?;
-        let used = sums_of(alloc, Kind::Used, project.renewables(), bound, prices)?;
+        let begun = sums_of(alloc, SumKind::Begun, project.size(), bound, prices)?;
+        let ended = sums_of(alloc, SumKind::Ended, project.size(), bound, prices)?;
+        let used = sums_of(alloc, SumKind::Used, project.renewables(), bound, prices)?;
         let consumed = sums_of(
             alloc,
-            Kind::Consumed,
+            SumKind::Consumed,
             project.nonrenewables(),
             bound,
             prices,
@@ -93,7 +93,7 @@ impl<'a> Costs<'a> {
     fn begun(&self, activity: usize, time: usize) -> u64
         requires activity { activity < size self.now.project }
         requires time { time ≤ self.now.bound }
-        ensures { result ≡ sum_by (price_in Kind.Begun activity time) self.now.prices }
+        ensures { result ≡ sum_by (price_in SumKind.Begun activity time) self.now.prices }
     {
         sum_at(&self.begun, activity, time)
     }
@@ -102,7 +102,7 @@ impl<'a> Costs<'a> {
     fn ended(&self, activity: usize, time: usize) -> u64
         requires activity { activity < size self.now.project }
         requires time { time ≤ self.now.bound }
-        ensures { result ≡ sum_by (price_in Kind.Ended activity time) self.now.prices }
+        ensures { result ≡ sum_by (price_in SumKind.Ended activity time) self.now.prices }
     {
         sum_at(&self.ended, activity, time)
     }
@@ -123,7 +123,7 @@ impl<'a> Costs<'a> {
     /// The prices of a nonrenewable resource.
     fn consumed(&self, resource: usize) -> u64
         requires { resource < nonrenewables self.now.project }
-        ensures { result ≡ sum_by (price_in Kind.Consumed resource 0) self.now.prices }
+        ensures { result ≡ sum_by (price_in SumKind.Consumed resource 0) self.now.prices }
     {
         sum_at(&self.consumed, resource, 0)
     }
@@ -154,7 +154,7 @@ impl<'a> Costs<'a> {
         requires activity { activity < size self.now.project }
         requires mode { mode < mode_count self.now.project activity }
         ensures exact { result ≡ sum_below (λ k. consumption self.now.project activity mode k
-            * sum_by (price_in Kind.Consumed k 0) self.now.prices) (nonrenewables self.now.project) }
+            * sum_by (price_in SumKind.Consumed k 0) self.now.prices) (nonrenewables self.now.project) }
         ensures few { result ≤ 8 * (1000000 * 2 ^ 40) }
     {
         let project = self.project();

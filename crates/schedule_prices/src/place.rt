@@ -4,9 +4,9 @@ ghost use Rattle.schedule_prices.specs.Sums.{place_of};
 
 use crate::row::PricedRow;
 
-/// A `Kind` is what the sums over time are of.
+/// A `SumKind` is what the sums over time are of.
 #[derive(Clone, Copy, Debug, PartialEq, Eq)]
-pub(crate) enum Kind {
+pub(crate) enum SumKind {
     /// Prices that an activity pays if it has started, by its start.
     Begun,
     /// Prices that an activity pays if it is not over, by its end.
@@ -25,12 +25,12 @@ pub(crate) struct Place {
 }
 
 /// The place of a row among the sums of a kind, if it has one.
-pub(crate) fn place_of(kind: Kind, row: PricedRow) -> Option<Place>
+pub(crate) fn place_of(kind: SumKind, row: PricedRow) -> Option<Place>
     ensures { result ≡ place_of kind row }
 {
     let (line, time) = match (kind, row) {
         (
-            Kind::Begun,
+            SumKind::Begun,
             PricedRow::Before {
                 before: _,
                 after,
@@ -38,15 +38,15 @@ pub(crate) fn place_of(kind: Kind, row: PricedRow) -> Option<Place>
             },
         ) => (after, time),
         (
-            Kind::Ended,
+            SumKind::Ended,
             PricedRow::Before {
                 before,
                 after: _,
                 time,
             },
         ) => (before, time),
-        (Kind::Used, PricedRow::Use { resource, time }) => (resource, time),
-        (Kind::Consumed, PricedRow::Stock { resource }) => (resource, 0),
+        (SumKind::Used, PricedRow::Use { resource, time }) => (resource, time),
+        (SumKind::Consumed, PricedRow::Stock { resource }) => (resource, 0),
         _ => return None,
     };
     Some(Place { line, time })

@@ -1,5 +1,5 @@
 //! The local search on small projects whose shortest schedules are known by hand.
-use improve_search::Improving;
+use improve_search::LocalSearch;
 use mrcpsp::{Activity, Mode, Project, Sequence, check};
 use std::alloc::{AllocError, Global};
 use std::process::Abort;
@@ -65,7 +65,7 @@ fn best_of(
     project: &Project,
     most: u64,
 ) -> Result<Option<u32>, Fail> {
-    let Some(mut search) = Improving::new(alloc, project, 7, most)? else {
+    let Some(mut search) = LocalSearch::new(alloc, project, 7, most)? else {
         return Err(Fail::from("a mode may run"));
     };
     let _ = search.run(most);
@@ -102,6 +102,6 @@ fn few_schedules_may_be_too_few(rt: HostRuntime) -> Result<(), Fail> {
 #[test]
 fn a_mode_that_cannot_run_is_none(rt: HostRuntime) -> Result<(), Fail> {
     let project = diamond(rt.alloc(), (1, 0), 1, 1)?.ok_or("limits")?;
-    assert!(rt; Improving::new(rt.alloc(), &project, 1, 100)?.is_none());
+    assert!(rt; LocalSearch::new(rt.alloc(), &project, 1, 100)?.is_none());
     Ok(())
 }

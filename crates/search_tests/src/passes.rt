@@ -6,12 +6,12 @@ ghost use Rattle.serial_pass.specs.Pass.{HasRoom};
 use crate::fixtures::{BLOCKED, DIAMOND, project};
 use measures::Measures;
 use mrcpsp::Schedule;
-use serial_pass::{Candidate, Pass};
+use serial_pass::{Candidate, SerialPass};
 use std::alloc::Global;
 use std::process::Abort;
 
 /// Places the candidate if it is listed, and gives up otherwise.
-fn step(pass: &mut Pass, activity: usize, mode: usize)
+fn step(pass: &mut SerialPass, activity: usize, mode: usize)
     ensures { pass.new.project ≡ pass.old.project }
 {
     let known = activity < pass.project().size();
@@ -25,14 +25,14 @@ fn step(pass: &mut Pass, activity: usize, mode: usize)
     pass.run(None);
 }
 
-fn shows(rt: &impl Abort, pass: &Pass, eligible: &[usize], makespan: Option<u32>) {
+fn shows(rt: &impl Abort, pass: &SerialPass, eligible: &[usize], makespan: Option<u32>) {
     assert!(rt; pass.eligible() == eligible && pass.makespan() == makespan);
     assert!(rt; pass.is_void() == makespan.is_none());
 }
 
 fn node(
     rt: &impl Abort,
-    pass: &mut Pass,
+    pass: &mut SerialPass,
     candidate: (usize, usize),
     eligible: &[usize],
     makespan: Option<u32>,
@@ -44,7 +44,7 @@ fn node(
 }
 
 /// The diamond with its third activity first, in the second mode.
-fn third_first(rt: &impl Abort, pass: &mut Pass)
+fn third_first(rt: &impl Abort, pass: &mut SerialPass)
     ensures { pass.new.project ≡ pass.old.project }
 {
     node(rt, pass, (0, 0), &[1, 2], Some(0));
@@ -54,14 +54,14 @@ fn third_first(rt: &impl Abort, pass: &mut Pass)
 }
 
 /// The first half of the diamond with its second activity first.
-fn second_first(rt: &impl Abort, pass: &mut Pass)
+fn second_first(rt: &impl Abort, pass: &mut SerialPass)
     ensures { pass.new.project ≡ pass.old.project }
 {
     node(rt, pass, (0, 0), &[1, 2], Some(0));
     node(rt, pass, (1, 0), &[2], Some(3));
 }
 
-fn then_third(rt: &impl Abort, pass: &mut Pass)
+fn then_third(rt: &impl Abort, pass: &mut SerialPass)
     ensures { pass.new.project ≡ pass.old.project }
 {
     node(rt, pass, (2, 0), &[3], Some(5));
@@ -69,7 +69,7 @@ fn then_third(rt: &impl Abort, pass: &mut Pass)
 }
 
 /// The third activity cannot be placed, and nothing is placed from then on.
-fn blocked(rt: &impl Abort, pass: &mut Pass)
+fn blocked(rt: &impl Abort, pass: &mut SerialPass)
     ensures { pass.new.project ≡ pass.old.project }
 {
     node(rt, pass, (0, 0), &[1, 2], Some(0));
@@ -78,7 +78,13 @@ fn blocked(rt: &impl Abort, pass: &mut Pass)
     node(rt, pass, (1, 0), &[], None);
 }
 
-fn made(rt: &impl Abort, pass: &Pass, room: Schedule, modes: &[u32], starts: &[u32]) -> Schedule
+fn made(
+    rt: &impl Abort,
+    pass: &SerialPass,
+    room: Schedule,
+    modes: &[u32],
+    starts: &[u32],
+) -> Schedule
     requires { HasRoom (size pass.now.project) room }
     ensures { HasRoom (size pass.now.project) result }
 {
@@ -87,13 +93,13 @@ fn made(rt: &impl Abort, pass: &Pass, room: Schedule, modes: &[u32], starts: &[u
     made
 }
 
-fn pass_over(rt: &impl Abort, alloc: Global, text: &str, capacities: &str) -> Pass {
+fn pass_over(rt: &impl Abort, alloc: Global, text: &str, capacities: &str) -> SerialPass {
     let project = project(rt, alloc, text, capacities);
     let measures = Measures::of(alloc, &project).expect(rt, "no memory for values");
-    Pass::new(alloc, &project, &measures).expect(rt, "no memory for a pass")
+    SerialPass::new(alloc, &project, &measures).expect(rt, "no memory for a pass")
 }
 
-fn room_for(rt: &impl Abort, alloc: Global, pass: &Pass) -> Schedule
+fn room_for(rt: &impl Abort, alloc: Global, pass: &SerialPass) -> Schedule
     ensures { HasRoom (size pass.now.project) result }
 {
     pass.blank(alloc).expect(rt, "no memory for a schedule")
@@ -108,7 +114,7 @@ fn each_starts_as_early_as_it_may(rt: HostRuntime) {
     made(&rt, &pass, room, &[1, 1, 2, 1], &[0, 0, 0, 4]);
 }
 
-fn anew(rt: &impl Abort, pass: &mut Pass)
+fn anew(rt: &impl Abort, pass: &mut SerialPass)
     ensures { pass.new.project ≡ pass.old.project }
 {
     pass.restart();
@@ -118,7 +124,7 @@ fn anew(rt: &impl Abort, pass: &mut Pass)
 }
 
 /// The first half of the diamond in `room`, and then all of it in the same memory.
-fn half_and_whole(rt: &impl Abort, pass: &mut Pass, room: Schedule)
+fn half_and_whole(rt: &impl Abort, pass: &mut SerialPass, room: Schedule)
     requires { HasRoom (size pass.old.project) room }
 {
     second_first(rt, pass);
@@ -134,7 +140,7 @@ fn a_new_pass_in_the_memory_of_the_last(rt: HostRuntime) {
     half_and_whole(&rt, &mut pass, room);
 }
 
-fn allows(rt: &impl Abort, pass: &Pass, activity: usize, modes: &[usize]) {
+fn allows(rt: &impl Abort, pass: &SerialPass, activity: usize, modes: &[usize]) {
     assert!(rt; activity < pass.project().size());
     assert!(rt; pass.allowed_modes(activity).as_slice() == modes);
 }

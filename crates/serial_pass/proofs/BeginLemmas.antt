@@ -4,8 +4,8 @@ use Rattle.std.proofs.lemmas.Bool.{both_ways}
 use Rattle.mrcpsp.specs.Project.{ProjectData, size}
 use Rattle.mrcpsp.specs.Placed.{Placed, placed_use}
 use Rattle.serial_sgs.specs.Board.{IsBoard}
-use Rattle.serial_pass.specs.declared.state.State.{State}
-use Rattle.serial_pass.specs.declared.tables.Tables.{Tables}
+use Rattle.serial_pass.specs.declared.state.PassState.{PassState}
+use Rattle.serial_pass.specs.declared.tables.PassTables.{PassTables}
 use Rattle.serial_pass.specs.declared.waiting.Wait.{Wait}
 use Rattle.serial_pass.specs.Partial.{AreTables, IsState}
 use Rattle.serial_pass.specs.Points.{IsLeft, IsLinked, time_at}
@@ -13,7 +13,7 @@ use Rattle.serial_pass.specs.Waiting.{AreWaiting}
 use Rattle.serial_pass.proofs.BoardLemmas.{early_empty}
 
 -- what the fields are when nothing is placed
-pub record IsFirst (p : ProjectData) (t : Tables) (s : State) : Type 0 where
+pub record IsFirst (p : ProjectData) (t : PassTables) (s : PassState) : Type 0 where
   pub memory : vec_capacity s.placed ≡ size p
   pub room : vec_capacity s.points ≡ size p + 2
   pub linked : IsLinked s.points.items
@@ -29,7 +29,7 @@ none_used : (p : ProjectData) (r u : ℕ) → placed_use p [] r u ≡ 0
 unfolding placed_use
 none_used p r u = refl
 
-pub state_first : (p : ProjectData) (t : Tables) (s : State) → AreTables p t → IsFirst p t s → IsState p [] false s
+pub state_first : (p : ProjectData) (t : PassTables) (s : PassState) → AreTables p t → IsFirst p t s → IsState p [] false s
 state_first p t s tables is = record {
   early = early_empty p tables.project;
   memory = is.memory;

@@ -153,7 +153,7 @@ drawn_next v left bits w place rest more lowest over =
 pub drawn_over : (v : ℕ → ℕ) (left bits w : ℕ) (more : List ℕ) → bits ≡ 0 → drawn_at v left (in_word bits w ++ more) ≡ drawn_at v left more
 drawn_over v left bits w more none = ap (λ (x : ℕ). drawn_at v left (in_word x w ++ more)) none ∙ ap (λ (xs : List ℕ). drawn_at v left (xs ++ more)) (word_none w)
 
--- a bit of a word that is set tells of an activity
+-- a bit of a word that is set is an activity's
 pub word_listed : (words : List ℕ) (w n : ℕ) → w < 4 → ((j : ℕ) → j < 256 → has words j ≡ true → j < n) → (i : ℕ) → i < 64 → bit_at (get_or words w 0) i ≡ 1 → w * 64 + i < n
 word_listed words w n among inside i small set_bit =
     inside (w * 64 + i) (omega (arith, among, small)) (has_at words w i small ∙ eq-eqb (bit_at (get_or words w 0) i) 1 set_bit)

@@ -28,9 +28,9 @@ use Rattle.serial_sgs.proofs.StockLemmas.{affordable_unplaced, amounts_small, ne
 use Rattle.serial_sgs.proofs.SumLemmas.{earliest_here, ready_before}
 use Rattle.strategy.specs.Candidate.{Candidate, placed_from}
 use Rattle.serial_pass.specs.declared.eligible.Eligible.{Eligible}
-use Rattle.serial_pass.specs.declared.points.Point.{Point}
-use Rattle.serial_pass.specs.declared.state.State.{State}
-use Rattle.serial_pass.specs.declared.tables.Tables.{Tables}
+use Rattle.serial_pass.specs.declared.points.FreePoint.{FreePoint}
+use Rattle.serial_pass.specs.declared.state.PassState.{PassState}
+use Rattle.serial_pass.specs.declared.tables.PassTables.{PassTables}
 use Rattle.serial_pass.specs.declared.waiting.Wait.{Wait}
 use Rattle.serial_pass.specs.Eligible.{HasSums}
 use Rattle.serial_pass.specs.Partial.{AreTables, IsState, left_of}
@@ -41,8 +41,8 @@ use Rattle.serial_pass.proofs.BoardLemmas.{IsOpenFor, early_grown, next-executab
 
 -- ---- what is left, and the points
 
--- some point before the end of time tells of each period
-cover : (points : List Point) (fuel k u : ℕ) → IsLinked points → 4294967295 ≤ time_at points k + fuel → k < length points → time_at points k ≤ u → u < 4294967295 → (i : ℕ) × (i < length points) × (time_at points i ≤ u) × (u < time_at points (next_at points i))
+-- each period has a point before the end of time
+cover : (points : List FreePoint) (fuel k u : ℕ) → IsLinked points → 4294967295 ≤ time_at points k + fuel → k < length points → time_at points k ≤ u → u < 4294967295 → (i : ℕ) × (i < length points) × (time_at points i ≤ u) × (u < time_at points (next_at points i))
 cover points zero k u linked enough inside from under = absurd (omega (arith, enough, from, under))
 cover points (suc fuel) k u linked enough inside from under =
     let next = linked.onward k inside (omega (arith, from, under)) in
@@ -51,7 +51,7 @@ cover points (suc fuel) k u linked enough inside from under =
     (λ (later : time_at points (next_at points k) ≤ u). cover points fuel (next_at points k) u linked (omega (arith, enough, next.1)) next.0 later under)
     (cases_lt u (time_at points (next_at points k)))
 
-module _ (p : ProjectData) (placed : List Placed) (j m : ℕ) (points : List Point) (row : ModeRow) (board : IsBoard (record { project = p; placed = placed })) (known : j < size p) (moded : m < mode_count p j) (own : IsRow p j m row) (linked : IsLinked points) (left : IsLeft (left_of p placed) points) where
+module _ (p : ProjectData) (placed : List Placed) (j m : ℕ) (points : List FreePoint) (row : ModeRow) (board : IsBoard (record { project = p; placed = placed })) (known : j < size p) (moded : m < mode_count p j) (own : IsRow p j m row) (linked : IsLinked points) (left : IsLeft (left_of p placed) points) where
   -- a point with room for the row has it in each of its periods
   has_room : (k u : ℕ) → k < length points → time_at points k ≤ u → u < time_at points (next_at points k) → FitsAt points row.request k → HasRoom p placed j m u
   has_room k u inside from under fit r among =
@@ -196,7 +196,7 @@ unlisted n xs j below past =
     (cases_Bool (list_any (λ s. s == j) xs))
 
 -- an activity that waits for the new one, or does not
-pub waits_push : (p : ProjectData) (placed : List Placed) (a : Placed) (points later : List Point) (waits now : List Wait) (after : List ℕ) (finish point : ℕ) → a.activity < size p → is_placed placed a.activity ≡ false → IsAfter p a.activity (size p) after → finish ≡ finish_of p a → ((k : ℕ) → k < length points → (k < length later) × (time_at later k ≡ time_at points k)) → point < length later → time_at later point ≡ finish → AreTold after finish point waits now → AreWaiting p placed points waits → AreWaiting p (placed ++ a ∷ []) later now
+pub waits_push : (p : ProjectData) (placed : List Placed) (a : Placed) (points later : List FreePoint) (waits now : List Wait) (after : List ℕ) (finish point : ℕ) → a.activity < size p → is_placed placed a.activity ≡ false → IsAfter p a.activity (size p) after → finish ≡ finish_of p a → ((k : ℕ) → k < length points → (k < length later) × (time_at later k ≡ time_at points k)) → point < length later → time_at later point ≡ finish → AreTold after finish point waits now → AreWaiting p placed points waits → AreWaiting p (placed ++ a ∷ []) later now
 waits_push p placed a points later waits now after finish point inside new names ends times known there told_all was = record {
   count = told_all.count ∙ was.count;
   each = λ j l.
@@ -241,7 +241,7 @@ nobody_push p placed a inside may was j l there =
     (or_cases (is_placed placed j) (a.activity == j) (sym (is_placed_push placed a j) ∙ there))
 
 -- who is eligible with one activity more
-pub eligible_push : (p : ProjectData) (placed : List Placed) (a : Placed) (points : List Point) (now : List Wait) (after words less members : List ℕ) → IsProject p → MissNobody p placed → a.activity < size p → is_placed placed a.activity ≡ false → IsAfter p a.activity (size p) after → AreWaiting p (placed ++ a ∷ []) points now → AreEligible p placed words → has less a.activity ≡ false → ((j : ℕ) → (j ≡ a.activity → ⊥) → has less j ≡ has words j) → HaveEntered after now less members → AreEligible p (placed ++ a ∷ []) members
+pub eligible_push : (p : ProjectData) (placed : List Placed) (a : Placed) (points : List FreePoint) (now : List Wait) (after words less members : List ℕ) → IsProject p → MissNobody p placed → a.activity < size p → is_placed placed a.activity ≡ false → IsAfter p a.activity (size p) after → AreWaiting p (placed ++ a ∷ []) points now → AreEligible p placed words → has less a.activity ≡ false → ((j : ℕ) → (j ≡ a.activity → ⊥) → has less j ≡ has words j) → HaveEntered after now less members → AreEligible p (placed ++ a ∷ []) members
 eligible_push p placed a points now after words less members ok nobody inside new names waits was gone kept entered =
     let x : ℕ = a.activity in
     let whole : List Placed = placed ++ a ∷ [] in
@@ -288,7 +288,7 @@ affordable_by p placed j m slack extra answer board inside known new slacks own 
 -- ---- a node
 
 -- what is known before the candidate is placed
-pub record IsBefore (p : ProjectData) (t : Tables) (s : State) (c : Candidate) (row : ModeRow) (w : Wait) : Type 0 where
+pub record IsBefore (p : ProjectData) (t : PassTables) (s : PassState) (c : Candidate) (row : ModeRow) (w : Wait) : Type 0 where
   pub can : is_executable p c.activity c.mode ≡ true
   pub new : is_placed s.placed.items c.activity ≡ false
   pub own : IsRow p c.activity c.mode row
@@ -299,7 +299,7 @@ pub record IsBefore (p : ProjectData) (t : Tables) (s : State) (c : Candidate) (
   pub soon : (e : ℕ) × (e < length s.points.items) × (time_at s.points.items e ≤ 1000000000) × (time_at s.points.items w.point ≤ time_at s.points.items e) × (0 < row.duration → FitsFrom s.points.items row.request (time_at s.points.items e))
   pub count : length s.placed.items < size p
 
-pub before_is : (p : ProjectData) (t : Tables) (s : State) (c : Candidate) (row : ModeRow) (w : Wait) → AreTables p t → IsState p s.placed.items false s → MayComeNext p s.placed.items c → IsRow p c.activity c.mode row → w ≡ get_or s.waiting.items c.activity no_wait → IsBefore p t s c row w
+pub before_is : (p : ProjectData) (t : PassTables) (s : PassState) (c : Candidate) (row : ModeRow) (w : Wait) → AreTables p t → IsState p s.placed.items false s → MayComeNext p s.placed.items c → IsRow p c.activity c.mode row → w ≡ get_or s.waiting.items c.activity no_wait → IsBefore p t s c row w
 before_is p t s c row w tables state next own is =
     let placed : List Placed = s.placed.items in
     let board : IsBoard (record { project = p; placed = placed }) = state.early.board in
@@ -321,12 +321,12 @@ before_is p t s c row w tables state next own is =
     }
 
 -- and what the fields of a pass tell
-pub ready_for : (p : ProjectData) (t : Tables) (s : State) (void : Bool) (c : Candidate) (row : ModeRow) (w : Wait) → AreTables p t → IsState p s.placed.items void s → IsOpenFor p s.placed.items void c → ((q : ProjectData) → IsTable q t.rows → c.activity < size q → c.mode < mode_count q c.activity → IsRow q c.activity c.mode row) → w ≡ get_or s.waiting.items c.activity w → IsBefore p t s c row w
+pub ready_for : (p : ProjectData) (t : PassTables) (s : PassState) (void : Bool) (c : Candidate) (row : ModeRow) (w : Wait) → AreTables p t → IsState p s.placed.items void s → IsOpenFor p s.placed.items void c → ((q : ProjectData) → IsTable q t.rows → c.activity < size q → c.mode < mode_count q c.activity → IsRow q c.activity c.mode row) → w ≡ get_or s.waiting.items c.activity w → IsBefore p t s c row w
 ready_for p t s void c row w tables state may own is =
     before_is p t s c row w tables (subst (λ (v : Bool). IsState p s.placed.items v s) may.going state) may.next (own p tables.tabled may.next.activity may.next.mode) (is ∙ get_or_default s.waiting.items c.activity w no_wait (omega (arith, state.waiting.count, may.next.activity)))
 
 -- what the steps of a node are
-pub record IsNode (p : ProjectData) (t : Tables) (s new : State) (c : Candidate) (row : ModeRow) (w : Wait) (start point : ℕ) (less : Eligible) : Type 0 where
+pub record IsNode (p : ProjectData) (t : PassTables) (s new : PassState) (c : Candidate) (row : ModeRow) (w : Wait) (start point : ℕ) (less : Eligible) : Type 0 where
   pub first : IsFirstPoint s.points.items row.request row.duration w.point start
   pub early : time_at s.points.items start ≤ 1000000000
   pub placed : new.placed.items ≡ s.placed.items ++ record { activity = c.activity; mode = c.mode; start = time_at s.points.items start } ∷ []
@@ -347,13 +347,13 @@ pub record IsNode (p : ProjectData) (t : Tables) (s new : State) (c : Candidate)
   pub sums : HasSums p new.eligible
 
 -- the placed activity
-pub start_at : (p : ProjectData) (t : Tables) (s new : State) (c : Candidate) (row : ModeRow) (w : Wait) (start point : ℕ) (less : Eligible) → AreTables p t → IsState p s.placed.items false s → MayComeNext p s.placed.items c → IsBefore p t s c row w → IsNode p t s new c row w start point less → new.placed.items ≡ grown p c s.placed.items
+pub start_at : (p : ProjectData) (t : PassTables) (s new : PassState) (c : Candidate) (row : ModeRow) (w : Wait) (start point : ℕ) (less : Eligible) → AreTables p t → IsState p s.placed.items false s → MayComeNext p s.placed.items c → IsBefore p t s c row w → IsNode p t s new c row w start point less → new.placed.items ≡ grown p c s.placed.items
 unfolding placed_from
 start_at p t s new c row w start point less tables state next before node =
     let is : time_at s.points.items start ≡ earliest p s.placed.items c.activity c.mode 0 = start_is p s.placed.items c.activity c.mode s.points.items row state.early.board next.activity next.mode before.own state.linked state.left w start before.can before.wait node.first node.early before.short in
     node.placed ∙ ap (λ (n : ℕ). let a : Placed = record { activity = c.activity; mode = c.mode; start = n } in s.placed.items ++ a ∷ []) is
 
-pub state_push : (p : ProjectData) (t : Tables) (s new : State) (c : Candidate) (row : ModeRow) (w : Wait) (start point : ℕ) (less : Eligible) → AreTables p t → IsState p s.placed.items false s → MayComeNext p s.placed.items c → IsBefore p t s c row w → IsNode p t s new c row w start point less → IsState p new.placed.items false new
+pub state_push : (p : ProjectData) (t : PassTables) (s new : PassState) (c : Candidate) (row : ModeRow) (w : Wait) (start point : ℕ) (less : Eligible) → AreTables p t → IsState p s.placed.items false s → MayComeNext p s.placed.items c → IsBefore p t s c row w → IsNode p t s new c row w start point less → IsState p new.placed.items false new
 state_push p t s new c row w start point less tables state next before node =
     let placed : List Placed = s.placed.items in
     let begins : ℕ = time_at s.points.items start in

@@ -3,13 +3,13 @@ use Rattle.std.proofs.Common.{◌≡◌, ℕ, ◌+◌, ◌<◌, ◌≤◌, ◌�
 use Rattle.std.proofs.lemmas.Bool.{cases_lt, cases_eq}
 use Rattle.std.proofs.lemmas.List.{length_push, get_or_push, get_or_append_left, get_or-set_same, get_or-set_other}
 use Rattle.serial_sgs.specs.Profile.{IsMore}
-use Rattle.serial_pass.specs.declared.points.Point.{Point}
+use Rattle.serial_pass.specs.declared.points.FreePoint.{FreePoint}
 use Rattle.serial_pass.specs.Points.{FitsAt, FitsFrom, IsBlocked, IsLeft, IsLinked, IsTaken, no_point, free_at, next_at, time_at}
 
 -- ---- the first point
 
 -- a walk from `start`, so far to `at`: the request fits at all points between
-pub record IsWalking (points : List Point) (request : List ℕ) (duration ready start at finish : ℕ) : Type 0 where
+pub record IsWalking (points : List FreePoint) (request : List ℕ) (duration ready start at finish : ℕ) : Type 0 where
   pub begun : start < length points
   pub inside : at < length points
   pub above : time_at points ready ≤ time_at points start
@@ -19,7 +19,7 @@ pub record IsWalking (points : List Point) (request : List ℕ) (duration ready 
   pub room : (k : ℕ) → k < length points → time_at points start ≤ time_at points k → time_at points k < time_at points at → FitsAt points request k
   pub first : (t : ℕ) → time_at points ready ≤ t → t < time_at points start → IsBlocked points request duration t
 
-pub walk_on : (points : List Point) (request : List ℕ) (duration ready start at finish : ℕ) → duration ≤ 1000 → IsLinked points → IsWalking points request duration ready start at finish → time_at points at < finish → FitsAt points request at → IsWalking points request duration ready start (next_at points at) finish
+pub walk_on : (points : List FreePoint) (request : List ℕ) (duration ready start at finish : ℕ) → duration ≤ 1000 → IsLinked points → IsWalking points request duration ready start at finish → time_at points at < finish → FitsAt points request at → IsWalking points request duration ready start (next_at points at) finish
 walk_on points request duration ready start at finish short linked was before fit =
     let next = linked.onward at was.inside (omega (arith, before, was.ends, was.early, short)) in
     record {
@@ -41,7 +41,7 @@ walk_on points request duration ready start at finish short linked was before fi
       first = was.first;
     }
 
-pub walk_over : (points : List Point) (request : List ℕ) (duration ready start at finish e : ℕ) → duration ≤ 1000 → IsLinked points → e < length points → time_at points e ≤ 1000000000 → FitsFrom points request (time_at points e) → IsWalking points request duration ready start at finish → time_at points at < finish → (FitsAt points request at → ⊥) → IsWalking points request duration ready (next_at points at) (next_at points at) (time_at points (next_at points at) + duration)
+pub walk_over : (points : List FreePoint) (request : List ℕ) (duration ready start at finish e : ℕ) → duration ≤ 1000 → IsLinked points → e < length points → time_at points e ≤ 1000000000 → FitsFrom points request (time_at points e) → IsWalking points request duration ready start at finish → time_at points at < finish → (FitsAt points request at → ⊥) → IsWalking points request duration ready (next_at points at) (next_at points at) (time_at points (next_at points at) + duration)
 walk_over points request duration ready start at finish e short linked inside_e early_e fits_e was before full =
     let soon : time_at points at < 4294967295 = omega (arith, before, was.ends, was.early, short) in
     let next = linked.onward at was.inside soon in
@@ -69,14 +69,14 @@ walk_over points request duration ready start at finish e short linked inside_e 
 -- ---- what is taken
 
 -- a walk from `start` that takes, so far to `at`
-pub record IsTaking (points later : List Point) (start finish : ℕ) (request : List ℕ) (before at : ℕ) : Type 0 where
+pub record IsTaking (points later : List FreePoint) (start finish : ℕ) (request : List ℕ) (before at : ℕ) : Type 0 where
   pub taken : IsTaken (time_at points start) (time_at points at) request points later
   pub last : before < length points
   pub inside : at < length points
   pub order : time_at points start ≤ time_at points at
   pub link : (at ≡ start) ⊎ ((next_at points before ≡ at) × (time_at points before < finish) × (time_at points start ≤ time_at points before))
 
-pub take_none : (points : List Point) (start finish : ℕ) (request : List ℕ) → start < length points → IsTaking points points start finish request start start
+pub take_none : (points : List FreePoint) (start finish : ℕ) (request : List ℕ) → start < length points → IsTaking points points start finish request start start
 take_none points start finish request inside = record {
   taken = record {
     count = refl;
@@ -91,7 +91,7 @@ take_none points start finish request inside = record {
   link = inl refl;
 }
 
-take_next_at : (points later : List Point) (start finish : ℕ) (request free : List ℕ) (before at : ℕ) (point : Point) → IsLinked points → finish < 4294967295 → time_at points at < finish → IsTaking points later start finish request before at → point.time ≡ time_at later at → point.next ≡ next_at later at → ((r : ℕ) → r < 8 → free_at later at r ≡ get_or point.free r 0 + get_or request r 0) → IsTaking points (set later at point) start finish request at (next_at points at)
+take_next_at : (points later : List FreePoint) (start finish : ℕ) (request free : List ℕ) (before at : ℕ) (point : FreePoint) → IsLinked points → finish < 4294967295 → time_at points at < finish → IsTaking points later start finish request before at → point.time ≡ time_at later at → point.next ≡ next_at later at → ((r : ℕ) → r < 8 → free_at later at r ≡ get_or point.free r 0 + get_or request r 0) → IsTaking points (set later at point) start finish request at (next_at points at)
 take_next_at points later start finish request free before at point linked soon here was time next taken =
     let onward = linked.onward at was.inside (omega (arith, here, soon)) in
     let long : at < length later = omega (arith, was.taken.count, was.inside) in
@@ -99,8 +99,8 @@ take_next_at points later start finish request free before at point linked soon 
     let rest : (k : ℕ) → (k ≡ at → ⊥) → get_or (set later at point) k no_point ≡ get_or later k no_point = λ k ne. get_or-set_other later at k point no_point ne in
     let times : (k : ℕ) → time_at (set later at point) k ≡ time_at points k = λ k.
     ⊎_elim
-    (λ (e : k ≡ at). rw e (ap (λ (x : Point). x.time) same ∙ time ∙ was.taken.times at))
-    (λ (ne : k ≡ at → ⊥). ap (λ (x : Point). x.time) (rest k ne) ∙ was.taken.times k)
+    (λ (e : k ≡ at). rw e (ap (λ (x : FreePoint). x.time) same ∙ time ∙ was.taken.times at))
+    (λ (ne : k ≡ at → ⊥). ap (λ (x : FreePoint). x.time) (rest k ne) ∙ was.taken.times k)
     (cases_eq k at) in
     record {
       taken = record {
@@ -108,13 +108,13 @@ take_next_at points later start finish request free before at point linked soon 
         times = times;
         nexts = λ k.
             ⊎_elim
-            (λ (e : k ≡ at). rw e (ap (λ (x : Point). x.next) same ∙ next ∙ was.taken.nexts at))
-            (λ (ne : k ≡ at → ⊥). ap (λ (x : Point). x.next) (rest k ne) ∙ was.taken.nexts k)
+            (λ (e : k ≡ at). rw e (ap (λ (x : FreePoint). x.next) same ∙ next ∙ was.taken.nexts at))
+            (λ (ne : k ≡ at → ⊥). ap (λ (x : FreePoint). x.next) (rest k ne) ∙ was.taken.nexts k)
             (cases_eq k at);
         within = λ k r inside among from under.
             ⊎_elim
             (λ (e : k ≡ at).
-            rw e (sym (was.taken.beyond at r was.inside among (inr (omega arith))) ∙ taken r among ∙ ap (λ (x : Point). get_or x.free r 0 + get_or request r 0) (sym same)))
+            rw e (sym (was.taken.beyond at r was.inside among (inr (omega arith))) ∙ taken r among ∙ ap (λ (x : FreePoint). get_or x.free r 0 + get_or request r 0) (sym same)))
             (λ (ne : k ≡ at → ⊥).
             let under_at : time_at points k < time_at points at =
             ⊎_elim
@@ -125,7 +125,7 @@ take_next_at points later start finish request free before at point linked soon 
             (λ (other : time_at points k ≡ time_at points at → ⊥). absurd (omega (arith, linked.nearest k at inside was.inside (omega (arith, late, other)), under)))
             (cases_eq (time_at points k) (time_at points at)))
             (cases_lt (time_at points k) (time_at points at)) in
-            was.taken.within k r inside among from under_at ∙ ap (λ (x : Point). get_or x.free r 0 + get_or request r 0) (sym (rest k ne)))
+            was.taken.within k r inside among from under_at ∙ ap (λ (x : FreePoint). get_or x.free r 0 + get_or request r 0) (sym (rest k ne)))
             (cases_eq k at);
         beyond = λ k r inside among out.
             let ne : k ≡ at → ⊥ = λ e.
@@ -133,7 +133,7 @@ take_next_at points later start finish request free before at point linked soon 
             (λ (early : time_at points k < time_at points start). omega (arith, early, ap (time_at points) e, was.order))
             (λ (over : time_at points (next_at points at) ≤ time_at points k). omega (arith, over, ap (time_at points) e, onward.1))
             out in
-            ap (λ (x : Point). get_or x.free r 0) (rest k ne)
+            ap (λ (x : FreePoint). get_or x.free r 0) (rest k ne)
             ∙ was.taken.beyond k r inside among
             (⊎_elim (λ (early : time_at points k < time_at points start). inl early) (λ (over : time_at points (next_at points at) ≤ time_at points k). inr (omega (arith, over, onward.1))) out);
       };
@@ -143,12 +143,12 @@ take_next_at points later start finish request free before at point linked soon 
       link = inr (refl, here, was.order);
     }
 
-pub take_next : (points later : List Point) (start finish : ℕ) (request free : List ℕ) (before at to : ℕ) (point : Point) → to ≡ next_at later at → IsLinked points → finish < 4294967295 → time_at points at < finish → IsTaking points later start finish request before at → point.time ≡ time_at later at → point.next ≡ next_at later at → ((r : ℕ) → r < 8 → free_at later at r ≡ get_or point.free r 0 + get_or request r 0) → IsTaking points (set later at point) start finish request at to
+pub take_next : (points later : List FreePoint) (start finish : ℕ) (request free : List ℕ) (before at to : ℕ) (point : FreePoint) → to ≡ next_at later at → IsLinked points → finish < 4294967295 → time_at points at < finish → IsTaking points later start finish request before at → point.time ≡ time_at later at → point.next ≡ next_at later at → ((r : ℕ) → r < 8 → free_at later at r ≡ get_or point.free r 0 + get_or request r 0) → IsTaking points (set later at point) start finish request at to
 take_next points later start finish request free before at to point leads linked soon here was time next taken =
     subst (λ (n : ℕ). IsTaking points (set later at point) start finish request at n) (sym (leads ∙ was.taken.nexts at)) (take_next_at points later start finish request free before at point linked soon here was time next taken)
 
 -- the walk is over where no point lies between the finish and its end
-pub take_all : (points later : List Point) (start finish : ℕ) (request : List ℕ) (before at : ℕ) → IsLinked points → time_at points start ≤ finish → IsTaking points later start finish request before at → finish ≤ time_at points at → IsTaken (time_at points start) finish request points later
+pub take_all : (points later : List FreePoint) (start finish : ℕ) (request : List ℕ) (before at : ℕ) → IsLinked points → time_at points start ≤ finish → IsTaking points later start finish request before at → finish ≤ time_at points at → IsTaken (time_at points start) finish request points later
 take_all points later start finish request before at linked order was over = record {
   count = was.taken.count;
   times = was.taken.times;
@@ -169,7 +169,7 @@ take_all points later start finish request before at linked order was over = rec
 
 -- ---- one point more
 
-pub taken_linked : (points later : List Point) (start finish : ℕ) (request : List ℕ) → IsLinked points → IsTaken start finish request points later → IsLinked later
+pub taken_linked : (points later : List FreePoint) (start finish : ℕ) (request : List ℕ) → IsLinked points → IsTaken start finish request points later → IsLinked later
 taken_linked points later start finish request linked taken = record {
   some = omega (arith, taken.count, linked.some);
   begins = taken.times 0 ∙ linked.begins;
@@ -184,7 +184,7 @@ taken_linked points later start finish request linked taken = record {
 }
 
 -- where the finish has a point already
-pub taken_left : (points later : List Point) (start finish : ℕ) (request : List ℕ) (at : ℕ) (left less : ℕ → ℕ → ℕ) → IsLinked points → start < length points → IsTaken (time_at points start) finish request points later → at < length points → time_at points at ≡ finish → IsMore 8 (time_at points start) finish request less left → IsLeft left points → IsLeft less later
+pub taken_left : (points later : List FreePoint) (start finish : ℕ) (request : List ℕ) (at : ℕ) (left less : ℕ → ℕ → ℕ) → IsLinked points → start < length points → IsTaken (time_at points start) finish request points later → at < length points → time_at points at ≡ finish → IsMore 8 (time_at points start) finish request less left → IsLeft left points → IsLeft less later
 taken_left points later start finish request at left less linked begun taken inside ends more was k r u known among from under =
     let here : k < length points = omega (arith, taken.count, known) in
     let after : time_at points k ≤ u = omega (arith, taken.times k, from) in
@@ -203,25 +203,25 @@ taken_left points later start finish request at left less linked begun taken ins
     (cases_lt (time_at points k) (time_at points start))
 
 -- a point is put behind point `before`
-pub record IsPut (points later : List Point) (before : ℕ) (point : Point) : Type 0 where
+pub record IsPut (points later : List FreePoint) (before : ℕ) (point : FreePoint) : Type 0 where
   pub count : length later ≡ length points + 1
   pub own : get_or later (length points) no_point ≡ point
   pub from : get_or later before no_point ≡ record (get_or points before no_point) { next = length points }
   pub rest : (k : ℕ) → k < length points → (k ≡ before → ⊥) → get_or later k no_point ≡ get_or points k no_point
 
-pub put_is : (points later : List Point) (before : ℕ) (point : Point) → before < length points → later ≡ set points before (record (get_or points before no_point) { next = length points }) ++ point ∷ [] → IsPut points later before point
+pub put_is : (points later : List FreePoint) (before : ℕ) (point : FreePoint) → before < length points → later ≡ set points before (record (get_or points before no_point) { next = length points }) ++ point ∷ [] → IsPut points later before point
 put_is points later before point inside is =
-    let changed : Point = record (get_or points before no_point) { next = length points } in
+    let changed : FreePoint = record (get_or points before no_point) { next = length points } in
     let long : length (set points before changed) ≡ length points = length-set points before changed in
     record {
       count = ap length is ∙ length_push (set points before changed) point ∙ ap (λ n. n + 1) long;
-      own = ap (λ (xs : List Point). get_or xs (length points) no_point) is ∙ get_or_push (set points before changed) point no_point (length points) long;
-      from = ap (λ (xs : List Point). get_or xs before no_point) is ∙ get_or_append_left (set points before changed) (point ∷ []) no_point before (omega (arith, long, inside)) ∙ get_or-set_same points before changed no_point inside;
-      rest = λ k l ne. ap (λ (xs : List Point). get_or xs k no_point) is ∙ get_or_append_left (set points before changed) (point ∷ []) no_point k (omega (arith, long, l)) ∙ get_or-set_other points before k changed no_point ne;
+      own = ap (λ (xs : List FreePoint). get_or xs (length points) no_point) is ∙ get_or_push (set points before changed) point no_point (length points) long;
+      from = ap (λ (xs : List FreePoint). get_or xs before no_point) is ∙ get_or_append_left (set points before changed) (point ∷ []) no_point before (omega (arith, long, inside)) ∙ get_or-set_same points before changed no_point inside;
+      rest = λ k l ne. ap (λ (xs : List FreePoint). get_or xs k no_point) is ∙ get_or_append_left (set points before changed) (point ∷ []) no_point k (omega (arith, long, l)) ∙ get_or-set_other points before k changed no_point ne;
     }
 
 -- its place among the others
-pub record HasPlace (points : List Point) (before after : ℕ) (point : Point) : Type 0 where
+pub record HasPlace (points : List FreePoint) (before after : ℕ) (point : FreePoint) : Type 0 where
   pub last : before < length points
   pub inside : after < length points
   pub link : next_at points before ≡ after
@@ -230,31 +230,31 @@ pub record HasPlace (points : List Point) (before after : ℕ) (point : Point) :
   pub next : point.next ≡ after
   pub soon : point.time < 4294967295
 
-pub put_times : (points later : List Point) (before : ℕ) (point : Point) → IsPut points later before point → (k : ℕ) → k < length points → time_at later k ≡ time_at points k
+pub put_times : (points later : List FreePoint) (before : ℕ) (point : FreePoint) → IsPut points later before point → (k : ℕ) → k < length points → time_at later k ≡ time_at points k
 put_times points later before point put k l =
     ⊎_elim
-    (λ (e : k ≡ before). rw e (ap (λ (x : Point). x.time) put.from))
-    (λ (ne : k ≡ before → ⊥). ap (λ (x : Point). x.time) (put.rest k l ne))
+    (λ (e : k ≡ before). rw e (ap (λ (x : FreePoint). x.time) put.from))
+    (λ (ne : k ≡ before → ⊥). ap (λ (x : FreePoint). x.time) (put.rest k l ne))
     (cases_eq k before)
 
-module _ (points later : List Point) (before after : ℕ) (point : Point) (linked : IsLinked points) (place : HasPlace points before after point) (put : IsPut points later before point) where
+module _ (points later : List FreePoint) (before after : ℕ) (point : FreePoint) (linked : IsLinked points) (place : HasPlace points before after point) (put : IsPut points later before point) where
   own_time : time_at later (length points) ≡ point.time
-  own_time = ap (λ (x : Point). x.time) put.own
+  own_time = ap (λ (x : FreePoint). x.time) put.own
 
   own_next : next_at later (length points) ≡ after
-  own_next = ap (λ (x : Point). x.next) put.own ∙ place.next
+  own_next = ap (λ (x : FreePoint). x.next) put.own ∙ place.next
 
   own_next_time : time_at later (next_at later (length points)) ≡ time_at points after
   own_next_time = ap (time_at later) own_next ∙ put_times points later before point put after place.inside
 
   before_next : next_at later before ≡ length points
-  before_next = ap (λ (x : Point). x.next) put.from
+  before_next = ap (λ (x : FreePoint). x.next) put.from
 
   before_next_time : time_at later (next_at later before) ≡ point.time
   before_next_time = ap (time_at later) before_next ∙ own_time
 
   rest_next : (k : ℕ) → k < length points → (k ≡ before → ⊥) → next_at later k ≡ next_at points k
-  rest_next k l ne = ap (λ (x : Point). x.next) (put.rest k l ne)
+  rest_next k l ne = ap (λ (x : FreePoint). x.next) (put.rest k l ne)
 
   rest_next_time : (k : ℕ) → k < length points → (k ≡ before → ⊥) → next_at points k < length points → time_at later (next_at later k) ≡ time_at points (next_at points k)
   rest_next_time k l ne among = ap (time_at later) (rest_next k l ne) ∙ put_times points later before point put (next_at points k) among
@@ -355,7 +355,7 @@ module _ (points later : List Point) (before after : ℕ) (point : Point) (linke
       never_there k l same = omega (arith, linked.nearest k before l place.last (omega (arith, same, place.above)), ap (time_at points) place.link, same, place.below)
 
 -- what is left with a new point at the finish
-pub put_left : (points mid later : List Point) (start finish : ℕ) (request : List ℕ) (before after : ℕ) (point : Point) (left less : ℕ → ℕ → ℕ) → IsLinked points → start < length points → IsTaken (time_at points start) finish request points mid → HasPlace mid before after point → IsPut mid later before point → point.time ≡ finish → time_at points start ≤ time_at points before → ((r : ℕ) → r < 8 → get_or point.free r 0 ≡ free_at mid before r + get_or request r 0) → IsMore 8 (time_at points start) finish request less left → IsLeft left points → IsLeft less later
+pub put_left : (points mid later : List FreePoint) (start finish : ℕ) (request : List ℕ) (before after : ℕ) (point : FreePoint) (left less : ℕ → ℕ → ℕ) → IsLinked points → start < length points → IsTaken (time_at points start) finish request points mid → HasPlace mid before after point → IsPut mid later before point → point.time ≡ finish → time_at points start ≤ time_at points before → ((r : ℕ) → r < 8 → get_or point.free r 0 ≡ free_at mid before r + get_or request r 0) → IsMore 8 (time_at points start) finish request less left → IsLeft left points → IsLeft less later
 put_left points mid later start finish request before after point left less linked begun taken place put ends order given more was k r u known among from under =
     let linked_mid : IsLinked mid = taken_linked points mid (time_at points start) finish request linked taken in
     let last : before < length points = omega (arith, place.last, taken.count) in
@@ -371,11 +371,11 @@ put_left points mid later start finish request before after point left less link
     let here : time_at points before ≤ u = omega (arith, from, mine, ap (time_at points) e) in
     let till : u < finish = omega (arith, under, ap (λ (n : ℕ). time_at later (next_at later n)) e, before_next_time mid later before after point linked_mid place put, ends) in
     let is : free_at points before r ≡ left r u = was before r u last among here (omega (arith, till, below, ap (time_at points) link)) in
-    let free : free_at later k r ≡ free_at mid before r = ap (λ (n : ℕ). free_at later n r) e ∙ ap (λ (x : Point). get_or x.free r 0) put.from in
+    let free : free_at later k r ≡ free_at mid before r = ap (λ (n : ℕ). free_at later n r) e ∙ ap (λ (x : FreePoint). get_or x.free r 0) put.from in
     omega (arith, free, taken.within before r last among order above, is, more.within r u among (omega (arith, here, order)) till))
     (λ (ne : k ≡ before → ⊥).
     let after_k : time_at points k ≤ u = omega (arith, from, mine) in
-    let free : free_at later k r ≡ free_at mid k r = ap (λ (x : Point). get_or x.free r 0) (put.rest k old ne) in
+    let free : free_at later k r ≡ free_at mid k r = ap (λ (x : FreePoint). get_or x.free r 0) (put.rest k old ne) in
     let next_is : next_at later k ≡ next_at points k = rest_next mid later before after point linked_mid place put k old ne ∙ taken.nexts k in
     let soon : time_at points k < 4294967295 =
     ⊎_elim
@@ -403,10 +403,10 @@ put_left points mid later start finish request before after point left less link
     let here : finish ≤ u = omega (arith, from, ap (time_at later) new, own_time mid later before after point linked_mid place put, ends) in
     let till : u < time_at points after = omega (arith, under, ap (λ (n : ℕ). time_at later (next_at later n)) new, own_next_time mid later before after point linked_mid place put, taken.times after) in
     let is : free_at points before r ≡ left r u = was before r u last among (omega (arith, here, above)) (omega (arith, till, ap (time_at points) link)) in
-    let free : free_at later k r ≡ get_or point.free r 0 = ap (λ (n : ℕ). free_at later n r) new ∙ ap (λ (x : Point). get_or x.free r 0) put.own in
+    let free : free_at later k r ≡ get_or point.free r 0 = ap (λ (n : ℕ). free_at later n r) new ∙ ap (λ (x : FreePoint). get_or x.free r 0) put.own in
     omega (arith, free, given r among, taken.within before r last among order above, is, more.beyond r u among (inr here)))
     (last_or mid later before after point linked_mid place put k known)
   where
     -- no period lies behind the last point
-    past_end : (later : List Point) (k : ℕ) → IsLinked later → k < length later → (u : ℕ) → time_at later k ≤ u → u < time_at later (next_at later k) → 4294967295 ≤ time_at later k → ⊥
+    past_end : (later : List FreePoint) (k : ℕ) → IsLinked later → k < length later → (u : ℕ) → time_at later k ≤ u → u < time_at later (next_at later k) → 4294967295 ≤ time_at later k → ⊥
     past_end later k linked inside u from under over = omega (arith, from, under, ap (time_at later) (linked.ends k inside over))

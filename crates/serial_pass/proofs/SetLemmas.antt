@@ -206,7 +206,7 @@ pub word_none : (w : ℕ) → in_word 0 w ≡ []
 unfolding in_word
 word_none w = picked_none (λ j. bit_at 0 (j % 64) == 1) (w * 64) 64 (λ j l m. ap (λ (b : ℕ). b == 1) (bit_at-zero (j % 64)))
 
--- which bit of which word tells of an activity
+-- the word and the bit of an activity
 pub has_at : (words : List ℕ) (w i : ℕ) → i < 64 → has words (w * 64 + i) ≡ (bit_at (get_or words w 0) i == 1)
 unfolding has
 has_at words w i small =

@@ -15,11 +15,11 @@ use Rattle.serial_sgs.specs.Order.{HasBefore, IsBefore}
 use Rattle.serial_sgs.proofs.BoardLemmas.{ineligible_after}
 use Rattle.strategy.specs.Candidate.{eligible_ones}
 use Rattle.serial_pass.specs.declared.eligible.Eligible.{Eligible}
-use Rattle.serial_pass.specs.declared.state.State.{State}
+use Rattle.serial_pass.specs.declared.state.PassState.{PassState}
 use Rattle.serial_pass.specs.Eligible.{HasSums, from_word, members, picked}
 use Rattle.serial_pass.specs.Partial.{IsState}
 use Rattle.serial_pass.specs.Pass.{eligible_in}
-use Rattle.serial_pass.specs.declared.points.Point.{Point}
+use Rattle.serial_pass.specs.declared.points.FreePoint.{FreePoint}
 use Rattle.serial_pass.specs.declared.waiting.Wait.{Wait}
 use Rattle.serial_pass.specs.Points.{IsLinked}
 use Rattle.serial_pass.specs.Waiting.{AreEligible, AreWaiting, IsWait, no_wait}
@@ -45,7 +45,7 @@ empty_list [] l = refl
 empty_list (x ∷ xs) l = absurd (omega (arith, l))
 
 -- the members are who may come next; nobody in a void pass
-pub eligible_are : (p : ProjectData) (placed : List Placed) (void : Bool) (s : State) → IsState p placed void s → members s.eligible.set ≡ eligible_in p (cond void None (Some placed))
+pub eligible_are : (p : ProjectData) (placed : List Placed) (void : Bool) (s : PassState) → IsState p placed void s → members s.eligible.set ≡ eligible_in p (cond void None (Some placed))
 eligible_are p placed true s state = empty_list (members s.eligible.set) (omega (arith, state.sums.count, state.over refl))
 eligible_are p placed false s state = members_are p placed s.eligible.set (omega (arith, state.early.board.project.few)) (state.going refl) ∙ listed_are p placed
 
@@ -90,7 +90,7 @@ ready_first : (p : ProjectData) (j t : ℕ) → are_ready p [] j t ≡ nat_le 0 
 unfolding are_ready
 ready_first p j t = sym (le-leb 0 t (omega arith))
 
-pub first_are : (p : ProjectData) (table : List (List ℕ)) (waits : List Wait) → HasBefore p (size p) table → length waits ≡ length table → ((j : ℕ) → j < length table → get_or waits j no_wait ≡ record { ready = 0; point = 0; missing = length (get_or table j []) }) → (points : List Point) → IsLinked points → AreWaiting p [] points waits
+pub first_are : (p : ProjectData) (table : List (List ℕ)) (waits : List Wait) → HasBefore p (size p) table → length waits ≡ length table → ((j : ℕ) → j < length table → get_or waits j no_wait ≡ record { ready = 0; point = 0; missing = length (get_or table j []) }) → (points : List FreePoint) → IsLinked points → AreWaiting p [] points waits
 first_are p table waits before count each points linked = record {
   count = omega (arith, count, before.count);
   each = λ j l. subst (IsWait p [] points j) (sym (each j (omega (arith, l, before.count)))) (record {

@@ -1,4 +1,4 @@
--- Activities that are told one after the other that a predecessor has been placed.
+-- Activities that wait for one predecessor less, one after the other.
 use Rattle.std.proofs.Common.{◌≡◌, ℕ, zero, suc, ◌+◌, ◌<◌, ◌≤◌, ◌==◌, ◌||◌, Bool, true, false, List, length, get_or, set, length-set, take, add-one, arith, refl, sym, ap, ◌∙◌, ⊎_elim}
 use Rattle.std.specs.List.{list_any}
 use Rattle.std.proofs.lemmas.Bool.{both_ways, cases_eq, eq-eqb, ne_eqb, or_right}
@@ -33,7 +33,7 @@ telling_none after finish point waits words = record {
   entered = record { own = λ s e. absurd (both_ways false refl e); rest = λ s _. refl };
 }
 
--- the next one has not been told yet
+-- the next one is still to be counted
 pub untold : (after : List ℕ) (n i finish point : ℕ) (waits later : List Wait) (words now : List ℕ) → AreOthers n after → i < length after → IsTelling after i finish point waits later words now → (get_or later (get_or after i 0) no_wait ≡ get_or waits (get_or after i 0) no_wait) × (has now (get_or after i 0) ≡ has words (get_or after i 0))
 untold after n i finish point waits later words now apart inside was =
     let new = fresh after n i i apart (omega arith) inside in

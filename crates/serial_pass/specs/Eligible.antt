@@ -13,7 +13,7 @@ use Rattle.serial_pass.specs.declared.eligible.Eligible.{Eligible}
 unfoldable pub picked : (ℕ → Bool) → ℕ → ℕ → List ℕ
 picked test s n = filter test (range_with_len s n)
 
--- the members of which word w of a set tells
+-- the members whose bits word w of a set has
 unfoldable pub in_word : ℕ → ℕ → List ℕ
 in_word bits w = picked (λ j. bit_at bits (j % 64) == 1) (w * 64) 64
 
@@ -34,7 +34,7 @@ pub record IsLowest (bits place rest : ℕ) : Type 0 where
   pub others : (i : ℕ) → (i ≡ place → ⊥) → bit_at rest i ≡ bit_at bits i
   pub less : rest < bits
 
--- word w tells of activities that the list has a number for
+-- word w has bits of activities that the list has a number for
 abbrev pub AreListed : ℕ → ℕ → List ℕ → Type 0
 AreListed bits w lfts = (i : ℕ) → i < 64 → bit_at bits i ≡ 1 → w * 64 + i < length lfts
 

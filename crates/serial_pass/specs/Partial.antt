@@ -8,9 +8,9 @@ use Rattle.mrcpsp.specs.Placed.{Placed, is_placed, latest, placed_use}
 use Rattle.serial_sgs.specs.Board.{needed_of}
 use Rattle.serial_sgs.specs.Order.{HasAfter, missing_of}
 use Rattle.serial_sgs.specs.Rows.{IsTable}
-use Rattle.serial_pass.specs.declared.points.Point.{Point}
-use Rattle.serial_pass.specs.declared.state.State.{State}
-use Rattle.serial_pass.specs.declared.tables.Tables.{Tables}
+use Rattle.serial_pass.specs.declared.points.FreePoint.{FreePoint}
+use Rattle.serial_pass.specs.declared.state.PassState.{PassState}
+use Rattle.serial_pass.specs.declared.tables.PassTables.{PassTables}
 use Rattle.serial_pass.specs.Eligible.{AreFinishes, HasSums}
 use Rattle.serial_pass.specs.Pass.{IsEarly}
 use Rattle.serial_pass.specs.Points.{IsLeft, IsLinked, time_at}
@@ -25,18 +25,18 @@ abbrev pub IsSlack : ProjectData → List Placed → List ℕ → Type 0
 IsSlack p placed slack = (r : ℕ) → r < MOST_RESOURCES → (get_or slack r 0 + needed_of p placed r) % 4294967296 ≡ stock p r
 
 -- what a pass knows of its project: rows, successors, latest finish times, and how each pass begins
-pub record AreTables (p : ProjectData) (t : Tables) : Type 0 where
+pub record AreTables (p : ProjectData) (t : PassTables) : Type 0 where
   pub project : IsProject p
   pub tabled : IsTable p t.rows
   pub after : HasAfter p (size p) t.after.items
   pub finishes : AreFinishes p t.lfts.items
   pub sources : AreEligible p [] t.sources.set
   pub sums : HasSums p t.sources
-  pub first : (points : List Point) → IsLinked points → AreWaiting p [] points t.first.items
+  pub first : (points : List FreePoint) → IsLinked points → AreWaiting p [] points t.first.items
   pub slack : IsSlack p [] t.slack
 
 -- what is kept of the placed activities; nobody is eligible in a void pass
-pub record IsState (p : ProjectData) (placed : List Placed) (void : Bool) (s : State) : Type 0 where
+pub record IsState (p : ProjectData) (placed : List Placed) (void : Bool) (s : PassState) : Type 0 where
   pub early : IsEarly (record { project = p; placed = placed })
   pub memory : vec_capacity s.placed ≡ size p
   pub room : vec_capacity s.points ≡ size p + 2

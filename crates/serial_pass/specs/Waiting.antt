@@ -5,7 +5,7 @@ use Rattle.mrcpsp.specs.Project.{ProjectData, size}
 use Rattle.mrcpsp.specs.Placed.{Placed, are_ready, is_eligible}
 use Rattle.serial_sgs.specs.Members.{has}
 use Rattle.serial_sgs.specs.Order.{missing_of}
-use Rattle.serial_pass.specs.declared.points.Point.{Point}
+use Rattle.serial_pass.specs.declared.points.FreePoint.{FreePoint}
 use Rattle.serial_pass.specs.declared.waiting.Wait.{Wait}
 use Rattle.serial_pass.specs.Points.{time_at}
 
@@ -18,17 +18,17 @@ abbrev pub told : ℕ → ℕ → Wait → Wait
 told finish point w = record { ready = max w.ready finish; point = cond (nat_lt w.ready finish) point w.point; missing = w.missing - 1 }
 
 -- the latest finish of the placed predecessors of activity j, its point, and how many are not placed
-pub record IsWait (p : ProjectData) (placed : List Placed) (points : List Point) (j : ℕ) (w : Wait) : Type 0 where
+pub record IsWait (p : ProjectData) (placed : List Placed) (points : List FreePoint) (j : ℕ) (w : Wait) : Type 0 where
   pub inside : w.point < length points
   pub time : w.ready ≡ time_at points w.point
   pub ready : (t : ℕ) → are_ready p placed j t ≡ nat_le w.ready t
   pub missing : w.missing ≡ missing_of p placed j
 
-pub record AreWaiting (p : ProjectData) (placed : List Placed) (points : List Point) (waits : List Wait) : Type 0 where
+pub record AreWaiting (p : ProjectData) (placed : List Placed) (points : List FreePoint) (waits : List Wait) : Type 0 where
   pub count : length waits ≡ size p
   pub each : (j : ℕ) → j < size p → IsWait p placed points j (get_or waits j no_wait)
 
--- those in `after` are told that a predecessor has been placed, and no others
+-- those in `after` wait for one predecessor less, and no others
 pub record AreTold (after : List ℕ) (finish point : ℕ) (waits later : List Wait) : Type 0 where
   pub count : length later ≡ length waits
   pub own : (s : ℕ) → list_any (λ x. x == s) after ≡ true → get_or later s no_wait ≡ told finish point (get_or waits s no_wait)

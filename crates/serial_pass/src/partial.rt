@@ -10,8 +10,8 @@ use crate::Candidate;
 use crate::amounts::{is_covered, take_off};
 use crate::points::{begin, first_point, occupy};
 use crate::schedule::{blank, schedule_by};
-use crate::state::State;
-use crate::tables::{Tables, nobody};
+use crate::state::PassState;
+use crate::tables::{PassTables, nobody};
 use crate::waiting::{Wait, tell_all};
 use measures::Measures;
 use mrcpsp::{MOST_MODES, Project, Schedule};
@@ -26,12 +26,12 @@ fn copied(alloc: Global, waits: &[Wait]) -> Result<Vec<Wait>, AllocError>
 }
 
 /// A `PartialSchedule` is a pass that is not asked for lists: a partial schedule that grows by one
-/// activity a node, or void. Contracts see what they see of a [`crate::Pass`].
+/// activity a node, or void. Contracts see what they see of a [`crate::SerialPass`].
 #[derive(Drop)]
 pub struct PartialSchedule {
     project: Project,
-    tables: Tables,
-    state: State,
+    tables: PassTables,
+    state: PassState,
     void: bool,
 }
 
@@ -61,7 +61,7 @@ impl PartialSchedule {
         ensures { IfOk result (λ pass. pass ≡ fresh project.now) }
     {
         let size = project.activities().len();
-        let tables = Tables::of(alloc, project, measures)?;
+        let tables = PassTables::of(alloc, project, measures)?;
         let placed = Vec::with_capacity(alloc, size)?;
         let mut points = Vec::with_capacity(alloc, size + 2)?;
         begin(&mut points, &tables.rows.capacities);
@@ -72,7 +72,7 @@ impl PartialSchedule {
         Ok(PartialSchedule {
             project,
             tables,
-            state: State {
+            state: PassState {
                 placed,
                 points,
                 waiting,

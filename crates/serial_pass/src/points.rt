@@ -11,9 +11,10 @@ use serial_sgs::amounts::{Amounts, MOST_SUM, add, subtract};
 /// The time of the last point, in periods.
 pub(crate) const NEVER: u32 = u32::MAX;
 
-/// A `Point` is a time, what is free from then on, and the place of the point with the next time.
+/// A `FreePoint` is a time, what is free from then on, and the place of the point with the next
+/// time.
 #[derive(Clone, Copy)]
-pub(crate) struct Point {
+pub(crate) struct FreePoint {
     pub(crate) free: Amounts,
     pub(crate) time: u32,
     pub(crate) next: u32,
@@ -21,7 +22,12 @@ pub(crate) struct Point {
 
 /// The first point from `ready` on at which the request fits for `duration` periods.
 #[inline(always)]
-pub(crate) fn first_point(points: &[Point], ready: usize, request: &Amounts, duration: u32) -> usize
+pub(crate) fn first_point(
+    points: &[FreePoint],
+    ready: usize,
+    request: &Amounts,
+    duration: u32,
+) -> usize
     requires linked { IsLinked points.now }
     requires ready { ready < length points.now }
     requires short { duration ≤ MOST_DURATION }
@@ -51,7 +57,7 @@ pub(crate) fn first_point(points: &[Point], ready: usize, request: &Amounts, dur
 /// Takes the request off from point `start` on, before `finish`. Returns the last point before
 /// `finish` and the first one that is not.
 #[inline(always)]
-fn take_in(points: &mut [Point], request: &Amounts, start: usize, finish: u32) -> (usize, usize)
+fn take_in(points: &mut [FreePoint], request: &Amounts, start: usize, finish: u32) -> (usize, usize)
     requires linked { IsLinked points.old }
     requires start { start < length points.old }
     requires order { time_at points.old start ≤ finish }
@@ -72,9 +78,9 @@ fn take_in(points: &mut [Point], request: &Amounts, start: usize, finish: u32) -
     (before, at)
 }
 
-/// Is `take_in` for all points.
+/// Calls `take_in` for all points.
 #[inline(always)]
-fn take(points: &mut Vec<Point>, request: &Amounts, start: usize, finish: u32) -> (usize, usize)
+fn take(points: &mut Vec<FreePoint>, request: &Amounts, start: usize, finish: u32) -> (usize, usize)
     requires linked { IsLinked points.old.items }
     requires start { start < length points.old.items }
     requires order { time_at points.old.items start ≤ finish }
@@ -90,7 +96,7 @@ fn take(points: &mut Vec<Point>, request: &Amounts, start: usize, finish: u32) -
 
 /// Puts a point behind point `before`. Returns its place.
 #[inline(always)]
-fn put(points: &mut Vec<Point>, before: usize, point: Point) -> usize
+fn put(points: &mut Vec<FreePoint>, before: usize, point: FreePoint) -> usize
     requires before { before < length points.old.items }
     requires room { length points.old.items < vec_capacity points.old }
     requires few { length points.old.items ≤ MOST_SUM }
@@ -108,7 +114,7 @@ fn put(points: &mut Vec<Point>, before: usize, point: Point) -> usize
 /// Takes no memory.
 #[inline(always)]
 pub(crate) fn occupy(
-    points: &mut Vec<Point>,
+    points: &mut Vec<FreePoint>,
     start: usize,
     request: &Amounts,
     duration: u32,
@@ -142,7 +148,7 @@ pub(crate) fn occupy(
     }
     let mut free = points[before].free;
     add(&mut free, request);
-    let point = Point {
+    let point = FreePoint {
         free,
         time: finish,
         next: at as u32,
@@ -151,7 +157,7 @@ pub(crate) fn occupy(
 }
 
 /// All is free. Takes no memory.
-pub(crate) fn begin(points: &mut Vec<Point>, free: &Amounts)
+pub(crate) fn begin(points: &mut Vec<FreePoint>, free: &Amounts)
     requires { 2 ≤ vec_capacity points.old }
     ensures linked { IsLinked points.new.items }
     ensures two { length points.new.items ≡ 2 }
@@ -160,12 +166,12 @@ pub(crate) fn begin(points: &mut Vec<Point>, free: &Amounts)
     ensures left { IsLeft (λ r u. get_or free.now r 0) points.new.items }
 {
     points.clear();
-    points.push_reserved(Point {
+    points.push_reserved(FreePoint {
         free: *free,
         time: 0,
         next: 1,
     });
-    points.push_reserved(Point {
+    points.push_reserved(FreePoint {
         free: *free,
         time: NEVER,
         next: 1,

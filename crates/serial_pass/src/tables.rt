@@ -19,9 +19,9 @@ use serial_sgs::rows::Rows;
 use serial_sgs::stock::needed_first;
 use std::alloc::{AllocError, Global};
 
-/// A `Tables` is a project as a pass reads it, and how each of its passes begins.
+/// A `PassTables` is a project as a pass reads it, and how each of its passes begins.
 #[derive(Drop)]
-pub(crate) struct Tables {
+pub(crate) struct PassTables {
     pub(crate) rows: Rows,
     pub(crate) after: Vec<Sequence<u32>>,
     /// The latest finish times.
@@ -107,12 +107,12 @@ fn slack_of(project: &Project, measures: &Measures, stocks: &Amounts) -> Amounts
     slack
 }
 
-impl Tables {
+impl PassTables {
     pub(crate) fn of(
         alloc: Global,
         project: &Project,
         measures: &Measures,
-    ) -> Result<Tables, AllocError>
+    ) -> Result<PassTables, AllocError>
         requires project { IsProject project.now }
         requires measured { measures.now ≡ measures_of project.now }
         ensures { IfOk result (AreTables project.now) }
@@ -124,7 +124,7 @@ impl Tables {
         let sources = sources_of(&before, &lfts);
         let first = first_waits(alloc, &before)?;
         let slack = slack_of(project, measures, &rows.stocks);
-        Ok(Tables {
+        Ok(PassTables {
             rows,
             after,
             lfts,

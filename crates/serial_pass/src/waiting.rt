@@ -86,7 +86,7 @@ fn tell_in(
     }
 }
 
-/// Is `tell_in` for all activities.
+/// Calls `tell_in` for all activities.
 #[inline(always)]
 pub(crate) fn tell_all(
     waiting: &mut Vec<Wait>,

@@ -8,7 +8,7 @@ use Rattle.std.proofs.lemmas.Nat.Bits.{bit_at-trailing_zeros, bit_at-zero, bit_a
 use Rattle.std.specs.Int.{bit_at, bit_not, trailing_zeros}
 use Rattle.serial_sgs.specs.Members.{has, IsNext, IsOver}
 
--- which bit of which word tells of an activity
+-- the word and the bit of an activity
 pub has_at : (words : List ℕ) (w i : ℕ) → i < 64 → has words (w * 64 + i) ≡ (bit_at (get_or words w 0) i == 1)
 unfolding has
 has_at words w i small =

@@ -110,7 +110,7 @@ impl Waiting {
         }
     }
 
-    /// Is `new` in the memory of an old one.
+    /// Writes what `new` returns into the memory of an old one.
     pub(crate) fn restart(&mut self, before: &[Sequence<u32>])
         requires count { length before.now ≡ length self.old.flags }
         requires short { All (λ list. length list ≤ MOST_ACTIVITIES) before.now }

@@ -1,4 +1,4 @@
--- The JSON of a result and of a better schedule tells the schedule.
+-- The JSON of a result and of a better schedule holds the schedule.
 use Rattle.std.proofs.Common.{◌≡◌, ℕ, ◌<◌, ◌≤◌, ◌^◌, false, List, [], ◌∷◌, ◌++◌, length, drop, refl, sym, ap, ◌∙◌, subst, arith, append_assoc, codes, decimal, Option, Some, None, IfSome, IsUtf8, option_map, option_and_then}
 use Rattle.std.specs.List.{list_any}
 use Rattle.json.specs.Token.{Token}
@@ -20,7 +20,8 @@ use Rattle.schedule_files.proofs.ObjectLemmas.{numeral, schedule_tree, schedule_
 use Rattle.schedule_files.proofs.ToldLemmas.{is_odd, IsPlain, plain, decimal_plain, number_plain, schedule_plain, then_plain, line_utf8, IsObject, AreObjects, with_feeds, lines_told}
 use Rattle.strategy.specs.declared.verdict.Verdict.{Verdict}
 use Rattle.strategy.specs.declared.verdict.Verdict.TheVariants.{Going, Optimal, Infeasible, Ended}
-use Rattle.solve_cli.specs.FoundText.{verdict_text, object_json, found_json}
+use Rattle.strategy.specs.VerdictText.{verdict_text}
+use Rattle.solve_cli.specs.FoundText.{object_json, found_json}
 use Rattle.solve_cli.specs.Laws.{Improvement, improvements_json, CanBeWritten, JsonTellsTheBest, BetterJsonTells, AllJsonTells}
 
 -- ---- numbers that may be missing
@@ -135,7 +136,7 @@ is_json nodes makespan word s n m same odd can =
     let json = object_is o.members found s can utf8 o.numbers o.shallow (members_read nodes makespan word s n m can) (get_member-put (codes "schedule") (schedule_data s) (front_data nodes makespan word)) in
     subst (λ (l : List ℕ). IsJsonOf (l ++ 10 ∷ []) s) o.printed json
 
--- the object of a result with a best schedule tells this
+-- the object of a result with a best schedule holds it
 object_tells : (nodes : ℕ) (makespan : Option ℕ) (word : List ℕ) (s : ScheduleData) → nodes < 2 ^ 64 → IfSome makespan (λ m. m < 2 ^ 64) → escape word ≡ word → list_any is_odd word ≡ false
     → IsWritable s → length (object_json nodes makespan word (Some s)) ≤ MOST_BYTES → Tells (object_json nodes makespan word (Some s)) s
 object_tells nodes makespan word s n m same odd can short =

@@ -7,7 +7,7 @@ use Rattle.solve_cli.specs.SearchWord.{search_in}
 use Rattle.solve_cli.specs.SearchList.{all_searches, searches_in, searches_of, IsUnpushed, IsUnadded, IsUnnamed}
 use Rattle.solve_cli.specs.declared.search_kinds.SearchKind.{SearchKind}
 use Rattle.solve_cli.specs.declared.kinds.SearchFault.{SearchFault}
-use Rattle.solve_cli.specs.declared.several.TheConstants.{MOST_SEARCHES}
+use Rattle.solve_cli.specs.declared.portfolio.TheConstants.{MOST_SEARCHES}
 use Rattle.solve_cli.specs.declared.kinds.SearchFault.TheVariants.{Unknown, TooMany, NoMemory}
 
 pub searches_all : (word : List ℕ) → is_word word (codes "all") ≡ true → searches_in word ≡ Some all_searches

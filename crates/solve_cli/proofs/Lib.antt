@@ -1,7 +1,7 @@
 pub mod ExecutableLemmas
 pub mod SearchLemmas
-pub mod SeveralLemmas
+pub mod PortfolioLemmas
 pub mod KindLemmas
 pub mod Examples
-pub mod TellingLemmas
+pub mod OutputLemmas
 pub mod JsonLemmas

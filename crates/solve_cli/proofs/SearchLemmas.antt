@@ -8,7 +8,7 @@ use Rattle.strategy.specs.Outcome.{is_closed}
 use Rattle.strategy.specs.Search.{Meaning, shown_closed, ran_on, nodes_within}
 use Rattle.strategy.specs.declared.plan.Plan.{Plan}
 use Rattle.solve_cli.specs.Found.{IsAt, IsBegun, IsOver, IsShown, IsFound}
-use Rattle.solve_cli.specs.declared.searching.SearchResult.{SearchResult}
+use Rattle.solve_cli.specs.declared.search_result.SearchResult.{SearchResult}
 
 from_most : (test : ℕ → Bool) (k t : ℕ) → first_from test k t ≤ t + k
 from_most test zero t = omega arith
@@ -85,7 +85,8 @@ at_then a b c ab bc = record {
 closed_of : (m : Meaning) → m.taken ≡ false → shown_closed m ≡ true → is_closed m.plan m.nodes ≡ true
 closed_of m kept h = rw kept at h
 
--- a search that was begun with so many quanta, and that ran until it was over or had none left, has run as many nodes as that takes
+-- a search with a number of quanta that ran until it was over or had none left has run the lesser
+-- of its quanta and its need
 nodes_of : (of : Plan) (most : ℕ) (begun over : Meaning) → IsBegun of most begun → IsAt begun over → IsOver over → over.nodes ≡ first_from (is_closed of) most 0
 nodes_of of most begun over is ran end =
     let none : begun.nodes ≡ 0 = is.nodes in

@@ -5,13 +5,13 @@ use Rattle.mrcpsp.specs.Schedule.{IsFeasible}
 use Rattle.psplib_mm.specs.Gives.{Fails}
 use Rattle.psplib_mm.specs.Reading.{reading}
 use Rattle.solve_cli.specs.FoundText.{found_text, found_json}
-use Rattle.solve_cli.specs.Several.{IsFoundByEach}
+use Rattle.solve_cli.specs.Portfolio.{IsFoundByEach}
 use Rattle.solve_cli.specs.Verified.{IsVerified}
 use Rattle.solve_cli.specs.declared.fault.VerifyFault.{VerifyFault}
 use Rattle.solve_cli.specs.declared.fault.VerifyFault.TheVariants as verify
 use Rattle.solve_cli.specs.declared.search_kinds.SearchKind.{SearchKind}
-use Rattle.solve_cli.specs.declared.searching.SearchResult.{SearchResult}
-use Rattle.solve_cli.specs.declared.verifying.Verified.{Verified}
+use Rattle.solve_cli.specs.declared.search_result.SearchResult.{SearchResult}
+use Rattle.solve_cli.specs.declared.verification.Verified.{Verified}
 
 -- ---- a project's file and a schedule's text
 

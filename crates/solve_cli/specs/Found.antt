@@ -5,7 +5,7 @@ use Rattle.mrcpsp.specs.Schedule as schedule
 use Rattle.strategy.specs.Outcome.{best_after, is_closed, verdict_after}
 use Rattle.strategy.specs.Search.{Meaning, shown_closed}
 use Rattle.strategy.specs.declared.plan.Plan.{Plan}
-use Rattle.solve_cli.specs.declared.searching.SearchResult.{SearchResult}
+use Rattle.solve_cli.specs.declared.search_result.SearchResult.{SearchResult}
 
 -- the result of a plan's search once it is over, or after `most` nodes
 pub record IsFound (plan : Plan) (most : ℕ) (f : SearchResult) : Type 0 where

@@ -4,16 +4,8 @@ use Rattle.std.specs.Prelude.{ℕ, List, [], ◌∷◌, ◌++◌, Option, Some, 
 use Rattle.mrcpsp.specs.Schedule.{ScheduleData}
 use Rattle.schedule_files.specs.ScheduleText.{schedule_text}
 use Rattle.schedule_json.specs.ScheduleJson.{number_json, schedule_json}
-use Rattle.strategy.specs.declared.verdict.Verdict.{Verdict}
-use Rattle.strategy.specs.declared.verdict.Verdict.TheVariants.{Going, Optimal, Infeasible, Ended}
-use Rattle.solve_cli.specs.declared.searching.SearchResult.{SearchResult}
-
--- the word of a verdict
-abbrev pub verdict_text : Verdict → List ℕ
-verdict_text Going = codes "open"
-verdict_text Optimal = codes "optimal"
-verdict_text Infeasible = codes "infeasible"
-verdict_text Ended = codes "ended"
+use Rattle.strategy.specs.VerdictText.{verdict_text}
+use Rattle.solve_cli.specs.declared.search_result.SearchResult.{SearchResult}
 
 -- the makespan of a best schedule, or `none`
 abbrev pub best_text : Option ℕ → List ℕ

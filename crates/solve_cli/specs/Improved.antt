@@ -6,7 +6,7 @@ use Rattle.mrcpsp.specs.Schedule.{IsFeasible, makespan}
 use Rattle.mrcpsp.specs.Placed.{is_executable}
 use Rattle.strategy.specs.Outcome.{is_at_bound}
 use Rattle.strategy.specs.declared.verdict.Verdict.TheVariants.{Going, Optimal, Infeasible}
-use Rattle.solve_cli.specs.declared.searching.SearchResult.{SearchResult}
+use Rattle.solve_cli.specs.declared.search_result.SearchResult.{SearchResult}
 
 -- whether an activity has an executable mode, and whether each has
 abbrev pub can_run : ProjectData → ℕ → Bool

@@ -11,10 +11,10 @@ use Rattle.schedule_files.specs.Laws.{IsWritable}
 use Rattle.schedule_files.specs.ScheduleText.{Tells}
 use Rattle.solve_cli.specs.Found.{IsFound}
 use Rattle.solve_cli.specs.FoundText.{found_text, found_json, better_line, object_json}
-use Rattle.solve_cli.specs.Several.{IsFoundByEach, IsTrueOf}
+use Rattle.solve_cli.specs.Portfolio.{IsFoundByEach, IsTrueOf}
 use Rattle.solve_cli.specs.declared.search_kinds.SearchKind.{SearchKind}
 use Rattle.solve_cli.specs.declared.search_kinds.SearchKind.TheVariants.{Planned}
-use Rattle.solve_cli.specs.declared.searching.SearchResult.{SearchResult}
+use Rattle.solve_cli.specs.declared.search_result.SearchResult.{SearchResult}
 
 -- the result of several searches is true of the project
 abbrev pub SeveralAreTrue : Type 0
@@ -28,17 +28,17 @@ OneIsItself = (p : ProjectData) (kind : Kind) (most : ℕ) (found : SearchResult
 abbrev pub LinesTellTheBest : Type 0
 LinesTellTheBest = (found : SearchResult) (best : ScheduleData) → found.best ≡ Some best → IsWritable best → length (found_text found) ≤ schedule.MOST_BYTES → Tells (found_text found) best
 
--- the line of a better schedule tells it, likewise
+-- the line of a better schedule holds it, likewise
 abbrev pub BetterLineTells : Type 0
 BetterLineTells = (makespan : ℕ) (best : ScheduleData) → IsWritable best → length (better_line makespan best) ≤ schedule.MOST_BYTES → Tells (better_line makespan best) best
 
--- the JSON of a result tells its best schedule, if its numbers have 64 bits, and those of the
+-- the JSON of a result holds its best schedule, if its numbers have 64 bits, and those of the
 -- schedule 32, and the text is short
 abbrev pub JsonTellsTheBest : Type 0
 JsonTellsTheBest = (found : SearchResult) (best : ScheduleData) → found.best ≡ Some best → IsWritable best → found.nodes < 2 ^ 64 → IfSome found.makespan (λ makespan. makespan < 2 ^ 64)
     → length (found_json found) ≤ schedule.MOST_BYTES → Tells (found_json found) best
 
--- the JSON of a better schedule tells it, likewise
+-- the JSON of a better schedule holds it, likewise
 abbrev pub BetterJsonTells : Type 0
 BetterJsonTells = (nodes makespan : ℕ) (best : ScheduleData) → IsWritable best → nodes < 2 ^ 64 → makespan < 2 ^ 64
     → length (object_json nodes (Some makespan) (codes "open") (Some best)) ≤ schedule.MOST_BYTES → Tells (object_json nodes (Some makespan) (codes "open") (Some best)) best
@@ -59,7 +59,7 @@ abbrev pub CanBeWritten : List Improvement → Type 0
 CanBeWritten [] = Unit {0}
 CanBeWritten (b ∷ bs) = ((b.nodes < 2 ^ 64) × (b.makespan < 2 ^ 64) × IsWritable b.schedule) × CanBeWritten bs
 
--- the JSON of better schedules and of a result tells the result's best schedule, likewise
+-- the JSON of better schedules and of a result holds the result's best schedule, likewise
 abbrev pub AllJsonTells : Type 0
 AllJsonTells = (before : List Improvement) (found : SearchResult) (best : ScheduleData) → found.best ≡ Some best → CanBeWritten before → IsWritable best → found.nodes < 2 ^ 64
     → IfSome found.makespan (λ makespan. makespan < 2 ^ 64) → length (improvements_json before ++ found_json found) ≤ schedule.MOST_BYTES → Tells (improvements_json before ++ found_json found) best

@@ -3,7 +3,7 @@ pub mod Found
 pub mod FoundText
 pub mod Improved
 pub mod Laws
-pub mod Several
+pub mod Portfolio
 pub mod Verified
 pub mod SearchWord
 pub mod SearchList

@@ -8,7 +8,7 @@ use Rattle.solve_cli.specs.declared.search_kinds.SearchKind.{SearchKind}
 use Rattle.solve_cli.specs.declared.search_kinds.SearchKind.TheVariants.{Planned, Improve, Prove}
 use Rattle.solve_cli.specs.declared.kinds.SearchFault.{SearchFault}
 use Rattle.solve_cli.specs.declared.kinds.SearchFault.TheVariants.{Unknown, TooMany, NoMemory}
-use Rattle.solve_cli.specs.declared.several.TheConstants.{MOST_SEARCHES}
+use Rattle.solve_cli.specs.declared.portfolio.TheConstants.{MOST_SEARCHES}
 
 -- the words of a list: the parts between its commas
 abbrev pub words_in : List ℕ → List (List ℕ)

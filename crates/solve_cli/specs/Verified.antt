@@ -9,7 +9,7 @@ use Rattle.psplib_mm.specs.Reading.{reading}
 use Rattle.schedule_files.specs.Places.{IsUntold}
 use Rattle.schedule_files.specs.ScheduleText.{Tells}
 use Rattle.schedule_files.specs.declared.reading.TheConstants.{MOST_BYTES}
-use Rattle.solve_cli.specs.declared.verifying.Verified.{Verified}
+use Rattle.solve_cli.specs.declared.verification.Verified.{Verified}
 use Rattle.solve_cli.specs.declared.fault.VerifyFault.{VerifyFault}
 use Rattle.solve_cli.specs.declared.fault.VerifyFault.TheVariants as fault
 
@@ -35,7 +35,7 @@ pub record IsToldBroken (file text : List ℕ) (b : Breach) : Type 0 where
   pub told : Tells text schedule
   pub first : IsFirstBreach project schedule b
 
--- why a file and a text are no verified schedule. A text without a schedule tells none
+-- why a file and a text are no verified schedule. A text without a schedule holds none
 abbrev pub IsAtFault : List ℕ → List ℕ → VerifyFault → Type 0
 IsAtFault file text (fault.File f) = Fails f (reading file)
 IsAtFault file text fault.Words = IsFile file × (length text ≤ MOST_BYTES) × IsUntold (Tells text)

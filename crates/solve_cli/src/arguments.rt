@@ -1,5 +1,5 @@
 //! The words of a command line.
-use crate::searching::MOST_NODES;
+use crate::search_result::MOST_NODES;
 use clap::builder::ValueParser;
 use clap::{Arg, ArgAction, ArgMatches, Command};
 use explain::MOST_CONFLICTS;
@@ -221,11 +221,10 @@ fn draw_words_of<'a>(chosen: &ArgMatches<'a>) -> DrawWords<'a> {
 }
 
 fn paths_of<'a>(chosen: &ArgMatches<'a>) -> Option<Paths<'a>> {
-    let file = chosen.get_str("FILE")?;
     Some(Paths {
-        file,
-        text: chosen.get_str("SCHEDULE")?,
-        proof: file,
+        file: chosen.get_str("FILE")?,
+        text: Some(chosen.get_str("SCHEDULE")?),
+        other: None,
     })
 }
 
@@ -233,12 +232,12 @@ pub(crate) fn task_of<'a>(matches: &ArgMatches<'a>) -> Option<ProjectTask<'a>> {
     match matches.subcommand() {
         Some(("verify", chosen)) => {
             let paths = paths_of(chosen)?;
-            let told = if chosen.get_flag("all") {
+            let listing = if chosen.get_flag("all") {
                 Listing::All
             } else {
                 Listing::First
             };
-            Some(ProjectTask::Verify(paths, told))
+            Some(ProjectTask::Verify(paths, listing))
         }
         Some(("solve", chosen)) => Some(ProjectTask::Solve(Solving {
             file: chosen.get_str("FILE")?,

@@ -5,12 +5,16 @@ ghost use Rattle.solve_cli.specs.Commands.{IsReported, IsOfFeasible};
 
 use crate::fault::VerifyFault;
 use crate::picture::{PictureWords, picture_of};
+use crate::verification::verify;
 use crate::verify_command::refused;
-use crate::verifying::verify;
-use file_commands::{Answer, FileCommand, Texts};
+use file_commands::{CommandAnswer, FileCommand, Texts};
 use std::alloc::Global;
 
-fn answer_draw(alloc: Global, texts: &Texts<'_>, words: &PictureWords<'_>) -> Answer<VerifyFault>
+fn answer_draw(
+    alloc: Global,
+    texts: &Texts<'_>,
+    words: &PictureWords<'_>,
+) -> CommandAnswer<VerifyFault>
     ensures gives { IfOk result.text (λ text. IsReported IsOfFeasible texts.now.file.now texts.now.text.now (string_bytes text)) }
     ensures refuses { IfErr result.text (λ fault. IsAtFault texts.now.file.now texts.now.text.now fault) }
 {
@@ -19,8 +23,8 @@ fn answer_draw(alloc: Global, texts: &Texts<'_>, words: &PictureWords<'_>) -> An
         Err(fault) => return refused(alloc, texts, fault),
     };
     match picture_of(alloc, &verified, words) {
-        Ok(text) => Answer::new(Ok(text), None),
-        Err(_) => Answer::new(Err(VerifyFault::NoMemory), None),
+        Ok(text) => CommandAnswer::new(Ok(text), None),
+        Err(_) => CommandAnswer::new(Err(VerifyFault::NoMemory), None),
     }
 }
 
@@ -37,7 +41,7 @@ impl FileCommand for Draw<'_, '_> {
 
     ghost refuses = { λ _ texts fault. IsAtFault texts.file texts.text fault };
 
-    fn answer(&mut self, alloc: Global, texts: &Texts<'_>) -> Answer<VerifyFault> {
+    fn answer(&mut self, alloc: Global, texts: &Texts<'_>) -> CommandAnswer<VerifyFault> {
         answer_draw(alloc, texts, self.words)
     }
 }

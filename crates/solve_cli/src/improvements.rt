@@ -1,7 +1,7 @@
 //! Better schedules, printed when they are found.
-use crate::progress::Progress;
-use crate::searching::Observer;
-use crate::telling::{tell_better, tell_better_json};
+use crate::output::{tell_better, tell_better_json};
+use crate::progress::ProgressLine;
+use crate::search_result::Observer;
 use mrcpsp::{Project, Schedule, check};
 use std::alloc::{AllocError, Global};
 use std::io::Print;
@@ -20,11 +20,15 @@ pub(crate) struct Improvements<'a, R> {
     style: Style,
     shortest: Option<u32>,
     ended: u64,
-    progress: Progress<'a, R>,
+    progress: ProgressLine<'a, R>,
 }
 
 impl<'a, R: Runtime + AllocGlobal> Improvements<'a, R> {
-    pub(crate) fn new(rt: &'a R, style: Style, progress: Progress<'a, R>) -> Improvements<'a, R> {
+    pub(crate) fn new(
+        rt: &'a R,
+        style: Style,
+        progress: ProgressLine<'a, R>,
+    ) -> Improvements<'a, R> {
         Improvements {
             rt,
             style,
@@ -34,7 +38,7 @@ impl<'a, R: Runtime + AllocGlobal> Improvements<'a, R> {
         }
     }
 
-    fn told(
+    fn line_of(
         &self,
         alloc: Global,
         nodes: u64,
@@ -64,7 +68,7 @@ impl<'a, R: Runtime + AllocGlobal> Improvements<'a, R> {
         }
         self.shortest = Some(makespan);
         let nodes = self.ended.saturating_add(nodes);
-        if let Some(Ok(text)) = self.told(self.rt.alloc(), nodes, makespan, best) {
+        if let Some(Ok(text)) = self.line_of(self.rt.alloc(), nodes, makespan, best) {
             let _ = print!(self.rt; "{text}");
         }
     }

@@ -4,8 +4,8 @@ ghost use Rattle.std.specs.List.{slice_split};
 ghost use Rattle.strategy.specs.KindWord.{is_word};
 ghost use Rattle.solve_cli.specs.SearchList.{all_searches, searches_in, words_in, kinds_in, IsUnpushed, IsUnadded, IsUnnamed};
 
+use crate::portfolio::MOST_SEARCHES;
 use crate::search_kinds::SearchKind;
-use crate::several::MOST_SEARCHES;
 use std::alloc::{AllocError, Global};
 use strategy::Kind;
 use thiserror::Error;

@@ -3,8 +3,8 @@ ghost use Rattle.std.specs.Prelude.{◌≡◌};
 ghost use Rattle.solve_cli.specs.Laws.{SeveralAreTrue, OneIsItself, LinesTellTheBest, BetterLineTells, JsonTellsTheBest, BetterJsonTells, AllJsonTells};
 ghost use Rattle.solve_cli.specs.Laws.{FilesAreLimited, SchedulesAreLimited, ReadsAreLimited};
 
-use crate::searching::MOST_NODES;
-use crate::several::MOST_SEARCHES;
+use crate::portfolio::MOST_SEARCHES;
+use crate::search_result::MOST_NODES;
 
 /// The best schedule is feasible, with the makespan that is written. 'Optimal' is written only if
 /// none is shorter, and 'infeasible' only if there is none.

@@ -1,14 +1,14 @@
-//! The picture of a schedule, and what its heading says.
+//! The picture of a schedule, and its heading.
 ghost use Rattle.std.specs.Prelude.{◌≡◌, IfOk, IfSome};
 ghost use Rattle.mrcpsp.specs.Schedule.{IsFeasible};
 ghost use Rattle.price_search.specs.LowerBound.{TakesAtLeast};
 
 use crate::arguments::BoundWord;
 use crate::proof::bound_within;
-use crate::verifying::Verified;
+use crate::verification::Verified;
 use mrcpsp::Schedule;
 use price_search::lower_bound;
-use schedule_labels::{Calendar, Name};
+use schedule_labels::{ActivityName, Calendar};
 use schedule_picture::{Bound, Drawing, Ground, Heading, Order, draw};
 use std::alloc::{AllocError, Global};
 
@@ -18,7 +18,7 @@ pub(crate) struct PictureWords<'a> {
     pub(crate) bound: BoundWord,
     pub(crate) order: Order,
     pub(crate) calendar: Option<Calendar>,
-    pub(crate) names: Option<&'a [Name]>,
+    pub(crate) names: Option<&'a [ActivityName]>,
     pub(crate) before: Option<&'a Schedule>,
 }
 

@@ -7,22 +7,21 @@ use crate::draw_command::Draw;
 use crate::improvements::{Improvements, Style};
 use crate::kinds::{SearchFault, kinds_of};
 use crate::picture::PictureWords;
-use crate::progress::{Progress, Telling};
+use crate::portfolio::MOST_SEARCHES;
+use crate::progress::{ProgressLine, Telling};
 use crate::search_kinds::SearchKind;
-use crate::searching::{MOST_NODES, Observer};
-use crate::several::MOST_SEARCHES;
+use crate::search_result::MOST_NODES;
 use crate::solve_command::{Solve, SolveOptions};
 use crate::verify_command::Verify;
 use clap::ArgMatches;
 use explain::{why_no_schedule, why_no_search};
 use file_commands::{
-    CommandWatches, Paths, calendar_of, end_no_memory, open_sources, read_names, read_path,
-    refuse_same,
+    Paths, calendar_of, end_no_memory, is_input_twice, read_names, read_path, refuse_same,
+    run_files,
 };
 use mrcpsp::Schedule;
 use schedule_files::{MOST_BYTES, read_schedule};
 use std::env::Env;
-use std::io;
 use std::io::Eprint;
 use std::process::ExitCode;
 use std::rt::Runtime;
@@ -40,11 +39,11 @@ pub fn run_command<R: Runtime + AllocGlobal>(rt: &R, matches: &ArgMatches<'_>) -
 }
 
 /// Standard input gives its bytes only once.
-fn are_one(paths: Paths<'_>) -> bool {
-    paths.file == "-" && paths.text == "-"
+fn are_both_stdin(paths: Paths<'_>) -> bool {
+    paths.file == "-" && paths.text == Some("-")
 }
 
-fn refuse_one<R: Eprint>(rt: &R) -> ExitCode
+fn refuse_both_stdin<R: Eprint>(rt: &R) -> ExitCode
     ensures { exit_status result ≡ 2 }
 {
     let _ = eprintln!(rt; "farm: FILE and SCHEDULE cannot both be standard input");
@@ -55,25 +54,21 @@ fn run_task<R: Runtime + AllocGlobal>(rt: &R, task: ProjectTask<'_>) -> ExitCode
     ensures { exit_status result ≤ 2 }
 {
     match task {
-        ProjectTask::Verify(paths, _) if are_one(paths) => refuse_one(rt),
-        ProjectTask::Draw(paths, _) if are_one(paths) => refuse_one(rt),
-        ProjectTask::Verify(paths, told) => run_verify(rt, paths, told),
+        ProjectTask::Verify(paths, _) if are_both_stdin(paths) => refuse_both_stdin(rt),
+        ProjectTask::Draw(paths, _) if are_both_stdin(paths) => refuse_both_stdin(rt),
+        ProjectTask::Verify(paths, listing) => run_verify(rt, paths, listing),
         ProjectTask::Solve(solving) => run_solve(rt, solving),
         ProjectTask::Draw(paths, asked) => run_draw(rt, paths, asked),
     }
 }
 
-fn run_verify<R: Runtime + AllocGlobal>(rt: &R, paths: Paths<'_>, told: Listing) -> ExitCode
+fn run_verify<R: Runtime + AllocGlobal>(rt: &R, paths: Paths<'_>, listing: Listing) -> ExitCode
     ensures { exit_status result ≤ 1 }
 {
-    let Some(sources) = open_sources(rt, paths.file, Some(paths.text), None) else {
-        return ExitCode::FAILURE;
-    };
     let verify = Verify {
-        lists_all: told == Listing::All,
+        lists_all: listing == Listing::All,
     };
-    let (mut writer, mut watches) = (io::writer(rt), CommandWatches::new());
-    file_commands::run_command(rt, sources, verify, &mut writer, &mut watches)
+    run_files(rt, paths, verify)
 }
 
 /// Writes on standard error that the text of `--before` has no schedule.
@@ -113,16 +108,11 @@ fn read_before<R: Runtime + AllocGlobal>(
     }
 }
 
-fn is_input_twice(paths: &Paths<'_>, asked: &DrawWords<'_>) -> bool {
-    let others = [asked.names.unwrap_or(""), asked.before.unwrap_or("")];
-    let given = [paths.file, paths.text, others[0], others[1]];
-    given.iter().filter(|path| **path == "-").count() > 1
-}
-
 fn run_draw<R: Runtime + AllocGlobal>(rt: &R, paths: Paths<'_>, asked: DrawWords<'_>) -> ExitCode
     ensures { exit_status result ≤ 2 }
 {
-    if is_input_twice(&paths, &asked) {
+    let (text, names) = (paths.text.unwrap_or(""), asked.names.unwrap_or(""));
+    if is_input_twice(&[paths.file, text, names, asked.before.unwrap_or("")]) {
         return refuse_same(rt);
     }
     let calendar = match calendar_of(rt, asked.start, asked.unit) {
@@ -147,21 +137,7 @@ fn run_draw<R: Runtime + AllocGlobal>(rt: &R, paths: Paths<'_>, asked: DrawWords
         },
         before: before.as_ref(),
     };
-    draw_files(rt, paths, &words)
-}
-
-fn draw_files<R: Runtime + AllocGlobal>(
-    rt: &R,
-    paths: Paths<'_>,
-    words: &PictureWords<'_>,
-) -> ExitCode
-    ensures { exit_status result ≤ 1 }
-{
-    let Some(sources) = open_sources(rt, paths.file, Some(paths.text), None) else {
-        return ExitCode::FAILURE;
-    };
-    let (mut writer, mut watches) = (io::writer(rt), CommandWatches::new());
-    file_commands::run_command(rt, sources, Draw { words }, &mut writer, &mut watches)
+    run_files(rt, paths, Draw { words: &words })
 }
 
 /// An error is the status: 1 for want of memory, and 2 for words that are refused.
@@ -207,24 +183,12 @@ fn run_solve<R: Runtime + AllocGlobal>(rt: &R, solving: Solving<'_>) -> ExitCode
         (_, true, _) => Telling::All,
     };
     let most = each.saturating_mul(kinds.len() as u64);
-    let progress = Progress::new(rt, telling, most);
+    let progress = ProgressLine::new(rt, telling, most);
     let mut looks = Improvements::new(rt, style, progress);
     let asked = SolveOptions::new(kinds.as_slice(), each.min(MOST_NODES), solving.is_json);
-    solve_file(rt, solving.file, asked, &mut looks)
-}
-
-fn solve_file<R: Runtime + AllocGlobal, L: Observer>(
-    rt: &R,
-    path: &str,
-    asked: SolveOptions<'_>,
-    looks: &mut L,
-) -> ExitCode
-    ensures { exit_status result ≤ 1 }
-{
-    let Some(sources) = open_sources(rt, path, None, None) else {
-        return ExitCode::FAILURE;
+    let solve = Solve {
+        asked,
+        looks: &mut looks,
     };
-    let solve = Solve { asked, looks };
-    let (mut writer, mut watches) = (io::writer(rt), CommandWatches::new());
-    file_commands::run_command(rt, sources, solve, &mut writer, &mut watches)
+    run_files(rt, Paths::of(solving.file), solve)
 }

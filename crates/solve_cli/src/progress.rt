@@ -1,6 +1,6 @@
 //! How far a search has come, written on standard error at most once a second.
-use crate::explaining::chain_of;
-use crate::searching::Observer;
+use crate::reasons::chain_of;
+use crate::search_result::Observer;
 use mrcpsp::{Project, Schedule, check};
 use std::fmt;
 use std::io::Eprint;
@@ -17,13 +17,14 @@ pub(crate) enum Telling {
 }
 
 #[derive(Drop)]
-pub(crate) struct Progress<'a, R> {
+pub(crate) struct ProgressLine<'a, R> {
     rt: &'a R,
     telling: Telling,
     /// The most nodes of all searches.
     most: u64,
     start: Option<Instant>,
-    told: u64,
+    /// The seconds at which the last line was written.
+    written: u64,
     ended: u64,
     /// The longest chain of activities, once it was looked for.
     chain: Option<u32>,
@@ -48,20 +49,20 @@ fn makespan_of(project: &Project, best: Option<&Schedule>) -> Option<u32> {
     }
 }
 
-impl<'a, R: Runtime + AllocGlobal> Progress<'a, R> {
+impl<'a, R: Runtime + AllocGlobal> ProgressLine<'a, R> {
     /// Writes nothing if it is not asked to, or if the clock cannot be read.
-    pub(crate) fn new(rt: &'a R, telling: Telling, most: u64) -> Progress<'a, R> {
+    pub(crate) fn new(rt: &'a R, telling: Telling, most: u64) -> ProgressLine<'a, R> {
         let start = if telling == Telling::Nothing {
             None
         } else {
             Instant::now(rt).ok()
         };
-        Progress {
+        ProgressLine {
             rt,
             telling,
             most,
             start,
-            told: 0,
+            written: 0,
             ended: 0,
             chain: None,
         }
@@ -71,7 +72,7 @@ impl<'a, R: Runtime + AllocGlobal> Progress<'a, R> {
     fn due(&self) -> Option<u64> {
         let start = self.start?;
         let seconds = start.elapsed(self.rt).ok()?.as_secs();
-        if seconds > self.told {
+        if seconds > self.written {
             Some(seconds)
         } else {
             None
@@ -91,12 +92,12 @@ impl<'a, R: Runtime + AllocGlobal> Progress<'a, R> {
     }
 }
 
-impl<'a, R: Runtime + AllocGlobal> Observer for Progress<'a, R> {
+impl<'a, R: Runtime + AllocGlobal> Observer for ProgressLine<'a, R> {
     fn look(&mut self, project: &Project, nodes: u64, best: Option<&Schedule>) {
         let Some(seconds) = self.due() else {
             return;
         };
-        self.told = seconds;
+        self.written = seconds;
         let nodes = self.ended.saturating_add(nodes);
         let makespan = makespan_of(project, best);
         if self.telling == Telling::All {

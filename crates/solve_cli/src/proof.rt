@@ -4,15 +4,15 @@ ghost use Rattle.std.specs.Option.{option_copied};
 ghost use Rattle.price_search.specs.LowerBound.{TakesAtLeast};
 ghost use Rattle.prover.specs.Answers.{IsAnswer};
 ghost use Rattle.prover.specs.Known.{IsBest};
-ghost use Rattle.solve_cli.specs.Several.{IsTrueWithin};
+ghost use Rattle.solve_cli.specs.Portfolio.{IsTrueWithin};
 
-use crate::searching::{Observer, SearchResult};
+use crate::search_result::{Observer, SearchResult};
 use mrcpsp::{Project, Schedule};
-use prover::{Allowance, Answer, Best, Overseer, Pace, Proved, prove_alone};
+use prover::{Allowance, Answer, BestKnown, Overseer, Pace, Proved, prove_alone};
 use std::alloc::Global;
 use strategy::Verdict;
 
-/// The most words of four bytes in clauses, as many again in their kernel: 500 megabytes in all.
+/// The most words of four bytes in clauses, and equally many in their kernel: 500 megabytes in all.
 const WORDS: usize = 62_500_000;
 
 /// An observer of a search that proves. A node is a conflict.
@@ -22,7 +22,13 @@ struct Looks<'a, W> {
 }
 
 impl<W: Observer> Overseer for Looks<'_, W> {
-    fn look(&mut self, project: &Project, conflicts: u64, best: Option<&Best>, _bound: u32) -> bool
+    fn look(
+        &mut self,
+        project: &Project,
+        conflicts: u64,
+        best: Option<&BestKnown>,
+        _bound: u32,
+    ) -> bool
         requires best { IfSome (option_copied best) (IsBest project.now) }
         requires bound { TakesAtLeast project.now _bound }
     {
@@ -38,11 +44,11 @@ impl<W: Observer> Overseer for Looks<'_, W> {
     }
 }
 
-fn found_with(nodes: u64, best: Best, verdict: Verdict) -> SearchResult
+fn found_with(nodes: u64, best: BestKnown, verdict: Verdict) -> SearchResult
     ensures { result
         ≡ record { nodes = nodes; best = Some best.schedule; makespan = Some best.makespan; verdict = verdict } }
 {
-    let Best { schedule, makespan } = best;
+    let BestKnown { schedule, makespan } = best;
     SearchResult {
         nodes,
         best: Some(schedule),
@@ -110,7 +116,7 @@ impl Overseer for Unseen {
         &mut self,
         _project: &Project,
         _conflicts: u64,
-        _best: Option<&Best>,
+        _best: Option<&BestKnown>,
         _bound: u32,
     ) -> bool {
         true

@@ -2,14 +2,14 @@
 ghost use Rattle.std.specs.Prelude.{◌≡◌, ◌≤◌, length, IfOk, IfErr, string_bytes};
 ghost use Rattle.solve_cli.specs.Commands.{IsOfFile, IsSolved, told_text};
 
-use crate::explaining::next_step;
 use crate::fault::VerifyFault;
+use crate::output::{tell, tell_json};
+use crate::portfolio::{MOST_SEARCHES, solve_each};
+use crate::reasons::next_step;
 use crate::search_kinds::SearchKind;
-use crate::searching::{MOST_NODES, Observer, SearchResult};
-use crate::several::{MOST_SEARCHES, solve_each};
-use crate::telling::{tell, tell_json};
+use crate::search_result::{MOST_NODES, Observer, SearchResult};
 use explain::why_file;
-use file_commands::{Answer, FileCommand, Texts};
+use file_commands::{CommandAnswer, FileCommand, Texts};
 use psplib_mm::read;
 use std::alloc::{AllocError, Global};
 use std::marker::Model;
@@ -28,8 +28,8 @@ pub struct SolveOptions<'a> {
 impl<'a> Model for SolveOptions<'a> {
     ghost use Rattle.std.specs.Prelude.{◌≤◌, length};
     ghost use Rattle.solve_cli.specs.Commands.{SolveAsked};
-    ghost use Rattle.solve_cli.specs.declared.searching.TheConstants.{MOST_NODES};
-    ghost use Rattle.solve_cli.specs.declared.several.TheConstants.{MOST_SEARCHES};
+    ghost use Rattle.solve_cli.specs.declared.search_result.TheConstants.{MOST_NODES};
+    ghost use Rattle.solve_cli.specs.declared.portfolio.TheConstants.{MOST_SEARCHES};
 
     ghost Value = { SolveAsked };
 
@@ -52,7 +52,7 @@ impl<'a> SolveOptions<'a> {
     }
 }
 
-fn told(alloc: Global, is_json: bool, found: &SearchResult) -> Result<String, AllocError>
+fn output_text(alloc: Global, is_json: bool, found: &SearchResult) -> Result<String, AllocError>
     ensures { IfOk result (λ text. string_bytes text ≡ told_text is_json found.now) }
 {
     if is_json {
@@ -67,7 +67,7 @@ fn answer_solve<L: Observer>(
     texts: &Texts<'_>,
     asked: &SolveOptions<'_>,
     looks: &mut L,
-) -> Answer<VerifyFault>
+) -> CommandAnswer<VerifyFault>
     ensures gives { IfOk result.text (λ text. IsSolved asked.now texts.now.file.now (string_bytes text)) }
     ensures refuses { IfErr result.text (λ fault. IsOfFile fault texts.now.file.now) }
 {
@@ -75,15 +75,15 @@ fn answer_solve<L: Observer>(
         Ok(project) => project,
         Err(fault) => {
             let why = why_file(alloc, texts.file, fault);
-            return Answer::new(Err(VerifyFault::File(fault)), why);
+            return CommandAnswer::new(Err(VerifyFault::File(fault)), why);
         }
     };
     let Ok(found) = solve_each(alloc, &project, asked.kinds, asked.most, looks) else {
-        return Answer::new(Err(VerifyFault::NoMemory), None);
+        return CommandAnswer::new(Err(VerifyFault::NoMemory), None);
     };
-    match told(alloc, asked.is_json, &found) {
-        Ok(text) => Answer::new(Ok(text), next_step(alloc, &project, &found)),
-        Err(_) => Answer::new(Err(VerifyFault::NoMemory), None),
+    match output_text(alloc, asked.is_json, &found) {
+        Ok(text) => CommandAnswer::new(Ok(text), next_step(alloc, &project, &found)),
+        Err(_) => CommandAnswer::new(Err(VerifyFault::NoMemory), None),
     }
 }
 
@@ -101,7 +101,7 @@ impl<L: Observer> FileCommand for Solve<'_, '_, L> {
 
     ghost refuses = { λ _ texts fault. IsOfFile fault texts.file };
 
-    fn answer(&mut self, alloc: Global, texts: &Texts<'_>) -> Answer<VerifyFault> {
+    fn answer(&mut self, alloc: Global, texts: &Texts<'_>) -> CommandAnswer<VerifyFault> {
         answer_solve(alloc, texts, &self.asked, self.looks)
     }
 }

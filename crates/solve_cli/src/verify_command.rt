@@ -3,18 +3,22 @@ ghost use Rattle.std.specs.Prelude.{◌≡◌, Err};
 ghost use Rattle.solve_cli.specs.Verified.{IsAtFault};
 ghost use Rattle.solve_cli.specs.Commands.{IsReported, TellsMakespan};
 
-use crate::explaining::{list_of, why_unverified};
 use crate::fault::VerifyFault;
-use crate::verifying::verify;
-use file_commands::{Answer, FileCommand, Texts};
+use crate::reasons::{list_of, why_unverified};
+use crate::verification::verify;
+use file_commands::{CommandAnswer, FileCommand, Texts};
 use std::alloc::Global;
 
 /// The answer to texts that have no feasible schedule.
-pub(crate) fn refused(alloc: Global, texts: &Texts<'_>, fault: VerifyFault) -> Answer<VerifyFault>
+pub(crate) fn refused(
+    alloc: Global,
+    texts: &Texts<'_>,
+    fault: VerifyFault,
+) -> CommandAnswer<VerifyFault>
     ensures { result.text ≡ Err fault }
 {
     let why = why_unverified(alloc, texts.file, texts.text, fault);
-    Answer::new(Err(fault), why)
+    CommandAnswer::new(Err(fault), why)
 }
 
 /// A `Verify` is the command `verify`: the makespan of a feasible schedule.
@@ -31,7 +35,7 @@ impl FileCommand for Verify {
 
     ghost refuses = { λ _ texts fault. IsAtFault texts.file texts.text fault };
 
-    fn answer(&mut self, alloc: Global, texts: &Texts<'_>) -> Answer<VerifyFault> {
+    fn answer(&mut self, alloc: Global, texts: &Texts<'_>) -> CommandAnswer<VerifyFault> {
         let verified = match verify(alloc, texts.file, texts.text) {
             Ok(verified) => verified,
             Err(fault) => {
@@ -44,8 +48,8 @@ impl FileCommand for Verify {
         };
         let makespan = verified.makespan;
         match format!(in alloc; "feasible makespan {makespan}\n") {
-            Ok(text) => Answer::new(Ok(text), None),
-            Err(_) => Answer::new(Err(VerifyFault::NoMemory), None),
+            Ok(text) => CommandAnswer::new(Ok(text), None),
+            Err(_) => CommandAnswer::new(Err(VerifyFault::NoMemory), None),
         }
     }
 }

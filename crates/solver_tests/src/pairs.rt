@@ -4,7 +4,7 @@ ghost use Rattle.std.specs.Prelude.{◌≡◌};
 use crate::formulas::{holds, is_satisfiable, pigeons, random};
 use crate::searches::packed;
 use clause_kernel::{ClauseList, Formula, Kernel};
-use clause_search::{Answer, Limits, Search};
+use clause_search::{Search, SearchAnswer, SearchLimits};
 use std::alloc::{AllocError, Global};
 use std::marker::Brand;
 use std::mem;
@@ -16,7 +16,7 @@ const SLICE: u64 = 3;
 /// refused, and the clauses that were told.
 #[derive(Clone, Copy)]
 struct Ended {
-    answer: Answer,
+    answer: SearchAnswer,
     holds: bool,
     refused: u64,
     told: u64,
@@ -34,16 +34,16 @@ impl<F: Formula> One<F> {
         requires { formula.now ≡ F.clauses }
     {
         let kernel = Kernel::<F>::new(alloc, formula)?;
-        let mut search = Search::new(alloc, formula, Limits { words: 1_000_000 })?;
+        let mut search = Search::new(alloc, formula, SearchLimits { words: 1_000_000 })?;
         search.tell_up_to(8);
         Ok(One { kernel, search })
     }
 
     /// Searches for a few conflicts. A run that wants memory is made again.
-    fn run(&mut self) -> Answer {
+    fn run(&mut self) -> SearchAnswer {
         self.search
             .run(&mut self.kernel, SLICE)
-            .unwrap_or(Answer::Open)
+            .unwrap_or(SearchAnswer::Open)
     }
 
     /// Takes what the other one has learned. Returns how many clauses that were.
@@ -55,7 +55,7 @@ impl<F: Formula> One<F> {
         Ok(messages.len() as u64)
     }
 
-    fn ended(&self, formula: &ClauseList, answer: Answer, told: u64) -> Ended {
+    fn ended(&self, formula: &ClauseList, answer: SearchAnswer, told: u64) -> Ended {
         Ended {
             answer,
             holds: holds(formula, packed(self.search.values())),
@@ -75,13 +75,13 @@ fn race<F: Formula>(
     one.search.begin_with_true();
     for _ in 0..20_000 {
         let answer = one.run();
-        if answer != Answer::Open {
+        if answer != SearchAnswer::Open {
             return Ok(one.ended(formula, answer, told));
         }
         told = told.saturating_add(other.hear(&mut one)?);
         mem::swap(&mut one, &mut other);
     }
-    Ok(one.ended(formula, Answer::Open, told))
+    Ok(one.ended(formula, SearchAnswer::Open, told))
 }
 
 fn search_both<F: Formula>(alloc: Global, formula: &ClauseList) -> Result<Ended, AllocError>
@@ -103,8 +103,8 @@ fn agrees(alloc: Global, seed: u64) -> Result<bool, AllocError> {
     let formula = random(alloc, drawn, variables, clauses)?;
     let ended = search_any(alloc, &formula)?;
     let is_right = match ended.answer {
-        Answer::Satisfied => ended.holds,
-        Answer::Refuted => !is_satisfiable(&formula, variables),
+        SearchAnswer::Satisfied => ended.holds,
+        SearchAnswer::Refuted => !is_satisfiable(&formula, variables),
         _ => false,
     };
     Ok(is_right && ended.refused == 0)
@@ -132,7 +132,7 @@ fn two_refute_pigeons(rt: HostRuntime) -> Result<(), AllocError> {
     for holes in 3..7 {
         let many = pigeons(rt.alloc(), holes + 1, holes)?;
         let refuted = search_any(rt.alloc(), &many)?;
-        assert!(rt; refuted.answer == Answer::Refuted && refuted.refused == 0);
+        assert!(rt; refuted.answer == SearchAnswer::Refuted && refuted.refused == 0);
         assert!(rt; holes < 5 || refuted.told > 0);
     }
     Ok(())
@@ -145,6 +145,6 @@ fn two_are_never_wrong_without_memory(rt: HostRuntime) {
         return;
     };
     if let Ok(ended) = search_any(rt.alloc(), &many) {
-        assert!(rt; ended.answer == Answer::Open || ended.answer == Answer::Refuted);
+        assert!(rt; ended.answer == SearchAnswer::Open || ended.answer == SearchAnswer::Refuted);
     }
 }

@@ -3,7 +3,7 @@ ghost use Rattle.std.specs.Prelude.{◌≡◌};
 
 use crate::formulas::{holds, is_satisfiable, pigeons, random};
 use clause_kernel::{ClauseList, Formula, Kernel};
-use clause_search::{Answer, Limits, Search};
+use clause_search::{Search, SearchAnswer, SearchLimits};
 use std::alloc::{AllocError, Global};
 use std::marker::Brand;
 
@@ -13,7 +13,7 @@ const SLICE: u64 = 7;
 /// What a search came to: its answer, whether its values satisfy, and the steps that were refused.
 #[derive(Clone, Copy)]
 struct Outcome {
-    answer: Answer,
+    answer: SearchAnswer,
     holds: bool,
     refused: u64,
 }
@@ -40,14 +40,14 @@ fn search_formula<F: Formula>(
     requires { formula.now ≡ F.clauses }
 {
     let mut kernel = Kernel::<F>::new(alloc, formula)?;
-    let mut search = Search::new(alloc, formula, Limits { words })?;
+    let mut search = Search::new(alloc, formula, SearchLimits { words })?;
     if prefers_values {
         search.prefer_values();
     }
-    let mut answer = Answer::Open;
+    let mut answer = SearchAnswer::Open;
     for _ in 0..10_000 {
-        answer = search.run(&mut kernel, SLICE).unwrap_or(Answer::Open);
-        if answer != Answer::Open {
+        answer = search.run(&mut kernel, SLICE).unwrap_or(SearchAnswer::Open);
+        if answer != SearchAnswer::Open {
             break;
         }
     }
@@ -81,8 +81,8 @@ fn agrees(alloc: Global, seed: u64) -> Result<bool, AllocError> {
     )?;
     let outcome = search_any(alloc, &formula, 1_000_000, seed % 2 == 0)?;
     let is_right = match outcome.answer {
-        Answer::Satisfied => outcome.holds,
-        Answer::Refuted => !is_satisfiable(&formula, variables),
+        SearchAnswer::Satisfied => outcome.holds,
+        SearchAnswer::Refuted => !is_satisfiable(&formula, variables),
         _ => false,
     };
     Ok(is_right && outcome.refused == 0)
@@ -110,10 +110,12 @@ fn seats_pigeons(rt: HostRuntime) -> Result<(), AllocError> {
     for holes in 1..7 {
         let few = pigeons(rt.alloc(), holes, holes)?;
         let seated = search_any(rt.alloc(), &few, 1_000_000, true)?;
-        assert!(rt; seated.answer == Answer::Satisfied && seated.holds && seated.refused == 0);
+        assert!(rt;
+            seated.answer == SearchAnswer::Satisfied && seated.holds && seated.refused == 0
+        );
         let many = pigeons(rt.alloc(), holes + 1, holes)?;
         let refuted = search_any(rt.alloc(), &many, 1_000_000, false)?;
-        assert!(rt; refuted.answer == Answer::Refuted && refuted.refused == 0);
+        assert!(rt; refuted.answer == SearchAnswer::Refuted && refuted.refused == 0);
     }
     Ok(())
 }
@@ -123,9 +125,9 @@ fn seats_pigeons(rt: HostRuntime) -> Result<(), AllocError> {
 fn wants_words(rt: HostRuntime) -> Result<(), AllocError> {
     let formula = pigeons(rt.alloc(), 10, 9)?;
     let learned = search_any(rt.alloc(), &formula, 2_600, false)?;
-    assert!(rt; learned.answer == Answer::Full);
+    assert!(rt; learned.answer == SearchAnswer::Full);
     let given = search_any(rt.alloc(), &formula, 100, true)?;
-    assert!(rt; given.answer == Answer::Full);
+    assert!(rt; given.answer == SearchAnswer::Full);
     Ok(())
 }
 
@@ -136,13 +138,17 @@ fn never_wrong_without_memory(rt: HostRuntime) {
         return;
     };
     if let Ok(outcome) = search_any(rt.alloc(), &few, 1_000_000, true) {
-        assert!(rt; outcome.answer == Answer::Open || outcome.answer == Answer::Satisfied);
-        assert!(rt; outcome.answer == Answer::Open || outcome.holds);
+        assert!(rt;
+            outcome.answer == SearchAnswer::Open || outcome.answer == SearchAnswer::Satisfied
+        );
+        assert!(rt; outcome.answer == SearchAnswer::Open || outcome.holds);
     }
     let Ok(many) = pigeons(rt.alloc(), 6, 5) else {
         return;
     };
     if let Ok(outcome) = search_any(rt.alloc(), &many, 1_000_000, false) {
-        assert!(rt; outcome.answer == Answer::Open || outcome.answer == Answer::Refuted);
+        assert!(rt;
+            outcome.answer == SearchAnswer::Open || outcome.answer == SearchAnswer::Refuted
+        );
     }
 }

@@ -48,7 +48,7 @@ pub each_shaped : BestHasShape
 unfolding best_after
 each_shaped plan ok k = shaped-of plan.project (best_of plan.project plan.kind k) (good-of plan.project (kept plan.project ok) plan.kind k)
 
--- what a verdict tells of the search that shows it
+-- what a verdict means for the search that shows it
 abbrev Tells : ProjectData → Option ScheduleData → Verdict → Type 0
 Tells p best Going = Unit {0}
 Tells p best Optimal = IsSomeAnd best (λ s. IsOptimal p s)

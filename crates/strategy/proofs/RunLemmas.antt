@@ -1,4 +1,4 @@
--- Nodes that run one after the other: what they come to, and how many run within a limit.
+-- Nodes that run one after the other: their result, and how many run within a limit.
 use Rattle.std.proofs.Common.{◌≡◌, ℕ, suc, ◌+◌, ◌-◌, ◌<◌, min, ◌||◌, false, refl, ap, arith}
 use Rattle.std.proofs.lemmas.Bool.{cond-false}
 use Rattle.mrcpsp.specs.Numbers.{first_from}
@@ -32,7 +32,7 @@ used_next l r =
     let left : l.left - r - 1 ≡ l.left - (r + 1) = omega arith in
     rw (used, left) refl
 
--- how many run in all of at most so many, told once r of them have run
+-- how many run in all within a limit, once r of them have run
 abbrev pub nodes_from : ℕ → Plan → ℕ → ℕ → ℕ
 nodes_from limit plan nodes r = first_from (λ i. is_closed plan (nodes + i)) (limit - r) r
 

@@ -6,3 +6,4 @@ pub mod Outcome
 pub mod Search
 pub mod Laws
 pub mod KindWord
+pub mod VerdictText

@@ -67,6 +67,6 @@ placed_after p kind zero i placed = Some placed
 placed_after p kind (suc d) i placed =
     option_and_then (λ c. placed_after p kind d (i + 1) (placed ++ placed_from p placed 0 c ∷ [])) (chosen_at p kind i placed)
 
--- pass q, of as many nodes as activities: its schedule, or none if it is void
+-- pass q, of one node for each activity: its schedule, or none if it is void
 unfoldable pub pass : ProjectData → Kind → ℕ → Option ScheduleData
 pass p kind q = option_map (schedule_of (size p)) (placed_after p kind (size p) (q * size p) [])

@@ -97,18 +97,18 @@ fn level_clauses(
     in_order(clauses.alloc(), below)
 }
 
-/// The clauses that all rows to come may have, and each of them.
+/// A `ClauseBudget` is how many clauses all rows to come may have, and each of them.
 #[derive(Drop)]
-pub(crate) struct Room {
+pub(crate) struct ClauseBudget {
     left: usize,
     each: usize,
 }
 
-impl Room {
+impl ClauseBudget {
     /// Each row may have four times its equal share, since most rows are smaller.
-    pub(crate) fn of(rows: usize) -> Room {
+    pub(crate) fn of(rows: usize) -> ClauseBudget {
         let shares = rows.max(1);
-        Room {
+        ClauseBudget {
             left: MOST_ROW_CLAUSES,
             each: MOST_ROW_CLAUSES.saturating_mul(4) / shares,
         }
@@ -153,22 +153,22 @@ fn diagram_clauses(
     Ok(())
 }
 
-/// A row that is too large, or larger than the room that is left, is left out.
+/// Leaves a row out that is too large, or larger than `budget` has left.
 pub(crate) fn row_clauses(
     clauses: &mut Clauses<'_>,
     row: CapacityRow,
     diagram: &Diagram,
-    room: &mut Room,
+    budget: &mut ClauseBudget,
 ) -> Result<(), AllocError>
     requires row { IsRowOf clauses.old.project clauses.old.limit row }
     requires before { AreBefore clauses.old.left_out row }
     ensures { IfOk result (λ _. clauses.new
-        ≡ cond (diagram.now.is_too_large || nat_lt (min room.old.each room.old.left) diagram.now.most_clauses)
+        ≡ cond (diagram.now.is_too_large || nat_lt (min budget.old.each budget.old.left) diagram.now.most_clauses)
         (with_row row clauses.old) clauses.old) }
 {
-    if diagram.is_too_large || diagram.most_clauses > room.most() {
+    if diagram.is_too_large || diagram.most_clauses > budget.most() {
         return clauses.leave_out(row);
     }
-    room.take(diagram.most_clauses);
+    budget.take(diagram.most_clauses);
     diagram_clauses(clauses, row, diagram)
 }

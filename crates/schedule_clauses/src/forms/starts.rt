@@ -56,7 +56,7 @@ pub(crate) fn precedence(
     }
 }
 
-/// Is `precedence` by the shortest mode, whichever mode the activity has.
+/// The clause of `precedence` by the shortest mode, whichever mode the activity has.
 #[tactic(auto, using(crate::proofs::FormLemmas::form_rules))]
 pub(crate) fn shortest_precedence(
     clauses: &mut Clauses<'_>,
@@ -115,7 +115,7 @@ pub(crate) fn end(
     }
 }
 
-/// Is `end` by the shortest mode, whichever mode the activity has.
+/// The clause of `end` by the shortest mode, whichever mode the activity has.
 #[tactic(auto, using(crate::proofs::FormLemmas::end_rules))]
 pub(crate) fn latest(
     clauses: &mut Clauses<'_>,

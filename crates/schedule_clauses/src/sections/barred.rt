@@ -6,7 +6,7 @@ ghost use Rattle.price_search.specs.Barring.{IsBarring};
 
 use crate::forms::barred::starts_outside;
 use crate::scope::Clauses;
-use crate::windows::{Window, Windows, rest_of};
+use crate::windows::{StartWindow, Windows, rest_of};
 use measures::Measures;
 use price_search::Barring;
 use schedule_prices::Barred;
@@ -27,7 +27,7 @@ fn end_of_run(barred: &Barred<'_>, activity: usize, mode: usize, from: u32) -> u
 fn mode_clauses(
     clauses: &mut Clauses<'_>,
     barred: &Barred<'_>,
-    window: Window,
+    window: StartWindow,
     activity: usize,
     mode: usize,
 ) -> Result<(), AllocError>
@@ -66,7 +66,7 @@ fn activity_clauses(
     for mode in 0..scope.project.mode_count(activity) {
         let duration = scope.project.duration(activity, mode).saturating_add(rest);
         if let Some(last) = windows.bound.checked_sub(duration) {
-            mode_clauses(clauses, barred, Window { first, last }, activity, mode)?;
+            mode_clauses(clauses, barred, StartWindow { first, last }, activity, mode)?;
         }
     }
     Ok(())

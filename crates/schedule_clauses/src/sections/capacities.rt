@@ -4,7 +4,7 @@ ghost use Rattle.mrcpsp.specs.Project.{size, mode_count, renewables};
 ghost use Rattle.schedule_clauses.specs.LeftOut.{AreBefore, KeepsSections};
 
 use crate::chains::Chains;
-use crate::diagram::rows::{Room, row_clauses};
+use crate::diagram::rows::{ClauseBudget, row_clauses};
 use crate::diagram::{Demand, Diagram};
 use crate::forms::modes::{exclude, executable, modes};
 use crate::formula::CapacityRow;
@@ -115,7 +115,7 @@ fn use_section(
     windows: &Windows,
     chains: &Chains,
     resource: usize,
-    room: &mut Room,
+    budget: &mut ClauseBudget,
 ) -> Result<(), AllocError>
     requires resource { resource < renewables clauses.old.project }
     requires bound { clauses.old.limit ≡ Some windows.now.bound }
@@ -133,10 +133,10 @@ fn use_section(
         let demands = use_demands(alloc, project, windows, resource, time)?;
         let demands = chains.in_levels(alloc, demands)?;
         if !diagram.is_of(&demands) {
-            diagram = Diagram::new(alloc, capacity, demands, room.most())?;
+            diagram = Diagram::new(alloc, capacity, demands, budget.most())?;
         }
         let row = CapacityRow::Use { resource, time };
-        row_clauses(clauses, row, &diagram, room)?;
+        row_clauses(clauses, row, &diagram, budget)?;
     }
     Ok(())
 }
@@ -153,10 +153,10 @@ pub(crate) fn renewable_section(
 {
     let scope = clauses.scope();
     let resources = scope.project.renewables();
-    let mut room = Room::of(resources.saturating_mul(windows.bound as usize));
+    let mut budget = ClauseBudget::of(resources.saturating_mul(windows.bound as usize));
     let chains = Chains::new(clauses.alloc(), scope.project)?;
     for resource in 0..resources {
-        use_section(clauses, windows, &chains, resource, &mut room)?;
+        use_section(clauses, windows, &chains, resource, &mut budget)?;
     }
     Ok(())
 }
@@ -168,13 +168,13 @@ pub(crate) fn nonrenewable_section(clauses: &mut Clauses<'_>) -> Result<(), Allo
 {
     let scope = clauses.scope();
     let project = scope.project;
-    let mut room = Room::of(project.nonrenewables());
+    let mut budget = ClauseBudget::of(project.nonrenewables());
     for resource in 0..project.nonrenewables() {
         let demands = stock_demands(clauses.alloc(), project, resource)?;
         let stock = project.stock(resource);
-        let diagram = Diagram::new(clauses.alloc(), stock, demands, room.most())?;
+        let diagram = Diagram::new(clauses.alloc(), stock, demands, budget.most())?;
         let row = CapacityRow::Stock { resource };
-        row_clauses(clauses, row, &diagram, &mut room)?;
+        row_clauses(clauses, row, &diagram, &mut budget)?;
     }
     Ok(())
 }

@@ -6,7 +6,7 @@ ghost use Rattle.measures.specs.Measures.{measures_of};
 
 use crate::forms::starts::{end, later, latest, precedence, runs, shortest_precedence};
 use crate::scope::Clauses;
-use crate::windows::{Window, Windows, least_of, rest_of, start_for};
+use crate::windows::{StartWindow, Windows, least_of, rest_of, start_for};
 use measures::Measures;
 use mrcpsp::Project;
 use std::alloc::AllocError;
@@ -14,7 +14,7 @@ use std::alloc::AllocError;
 fn order_clauses(
     clauses: &mut Clauses<'_>,
     activity: usize,
-    window: Window,
+    window: StartWindow,
 ) -> Result<(), AllocError>
     ensures { clauses.new ≡ clauses.old }
 {
@@ -80,7 +80,7 @@ pub(crate) fn end_section(
 /// For each mode of `before`, and for the shortest.
 fn time_clauses(
     clauses: &mut Clauses<'_>,
-    window: Window,
+    window: StartWindow,
     before: usize,
     after: usize,
     time: u32,

@@ -23,26 +23,8 @@ returns-then-not-is_empty c =
     long e in
     all ∙ modes_told p s (c.if-not-has_shape.ensures.0 refl) some
 
-pub push_all_early-requires-clause-modes : goal.push_all_early-requires-clause-modes
-push_all_early-requires-clause-modes c =
-    let p = c.args.project.now in
-    let s = c.args.schedule.now in
-    let told = c.push_modes.new.told.items in
-    let all : told ≡ missing_modes p s = search rules in
-    let e : length told ≡ 0 = grind (arith, nat_tests) in
-    all_modes_exist p s (sym all ∙ no_length told e)
-
-pub push_all_overused-requires-clause-modes : goal.push_all_overused-requires-clause-modes
-push_all_overused-requires-clause-modes c =
-    let p = c.args.project.now in
-    let s = c.args.schedule.now in
-    let told = c.push_modes.new.told.items in
-    let all : told ≡ missing_modes p s = search rules in
-    let e : length told ≡ 0 = grind (arith, nat_tests) in
-    all_modes_exist p s (sym all ∙ no_length told e)
-
-pub push_short-requires-clause-modes : goal.push_short-requires-clause-modes
-push_short-requires-clause-modes c =
+pub invariant_of-fitting-clause-modes : goal.invariant_of-fitting-clause-modes
+invariant_of-fitting-clause-modes c =
     let p = c.args.project.now in
     let s = c.args.schedule.now in
     let told = c.push_modes.new.told.items in

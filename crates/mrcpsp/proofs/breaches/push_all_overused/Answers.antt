@@ -6,8 +6,8 @@ use Rattle.mrcpsp.proofs.breaches.push_all_overused.Goals as goal
 
 pub loop-resource-preserved : goal.loop-resource-preserved
 loop-resource-preserved c =
-    let p = c.args.project.now in
-    let s = c.args.schedule.now in
+    let p = c.args.fitting.now.project.now in
+    let s = c.args.fitting.now.schedule.now in
     let r = c.loop-resource.resource in
     let now = c.loop-resource.told.items in
     let more : c.push_overused.new.told.items ≡ now ++ overuse_of p s r = c.in_ok-push_overused.ensures ∙ ap (λ l. now ++ map (Renewable (r + 1)) (filter (is_overused p s r) l)) c.requires.periods in

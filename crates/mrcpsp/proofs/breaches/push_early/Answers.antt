@@ -7,7 +7,7 @@ use Rattle.mrcpsp.proofs.breaches.push_early.Goals as goal
 
 pub loop-after-preserved : goal.loop-after-preserved
 loop-after-preserved c =
-    let test = is_early c.args.project.now c.args.schedule.now c.args.before in
+    let test = is_early c.args.fitting.now.project.now c.args.fitting.now.schedule.now c.args.before in
     let old = c.args.told.now.items in
     let now = c.loop-after.told.items in
     let at = c.loop-after.after in

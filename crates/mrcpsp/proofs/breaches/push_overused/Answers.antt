@@ -7,7 +7,7 @@ use Rattle.mrcpsp.proofs.breaches.push_overused.Goals as goal
 
 pub loop-period-preserved : goal.loop-period-preserved
 loop-period-preserved c =
-    let test = is_overused c.args.project.now c.args.schedule.now c.args.resource in
+    let test = is_overused c.args.fitting.now.project.now c.args.fitting.now.schedule.now c.args.resource in
     let old = c.args.told.now.items in
     let now = c.loop-period.told.items in
     let at = c.loop-period.period-index in

@@ -7,7 +7,7 @@ use Rattle.mrcpsp.proofs.breaches.push_short.Goals as goal
 
 pub loop-resource-preserved : goal.loop-resource-preserved
 loop-resource-preserved c =
-    let test = is_short c.args.project.now c.args.schedule.now in
+    let test = is_short c.args.fitting.now.project.now c.args.fitting.now.schedule.now in
     let old = c.args.told.now.items in
     let now = c.loop-resource.told.items in
     let at = c.loop-resource.resource in

@@ -4,4 +4,4 @@ use Rattle.mrcpsp.specs.Schedule.{use_of}
 use Rattle.mrcpsp.proofs.feasibility.overused_renewable.Given as goal
 
 abbrev pub invariant-loop-resource : goal.invariant-loop-resource
-invariant-loop-resource l = (r t : ℕ) → r < l.resource → use_of l.project l.schedule r t ≤ capacity l.project r
+invariant-loop-resource l = (r t : ℕ) → r < l.resource → use_of l.fitting.project.now l.fitting.schedule.now r t ≤ capacity l.fitting.project.now r

@@ -6,4 +6,4 @@ use Rattle.schedule_files.proofs.rows.number_in.Goals as goal
 pub returns : goal.returns
 returns c =
     let text = c.args.text.now in
-    c.number_of.ensures ∙ ap number_of (trim_ascii_is text c.trim_ascii.result.now (without_front text) refl c.trim_ascii.ensures.value)
+    c.number.ensures ∙ ap number_of (trim_ascii_is text c.trim_ascii.result.now (without_front text) refl c.trim_ascii.ensures.value)

@@ -1,5 +1,5 @@
 use Rattle.solve_cli.proofs.JsonLemmas.{json_tells, better_json_tells, all_json_tells}
-use Rattle.solve_cli.proofs.TellingLemmas.{lines_tell, better_tells}
+use Rattle.solve_cli.proofs.OutputLemmas.{lines_tell, better_tells}
 use Rattle.solve_cli.proofs.laws.what_is_written_is_told.Goals as goal
 
 pub returns-clause-best : goal.returns-clause-best

@@ -1,5 +1,5 @@
 use Rattle.std.proofs.Common.{◌-◌, None, subst, sym, arith}
-use Rattle.schedule_prices.specs.declared.piece.Piece.{Piece}
+use Rattle.schedule_prices.specs.declared.choice_range.ChoiceRange.{ChoiceRange}
 use Rattle.schedule_prices.specs.declared.time.Time.TheVariants.{End}
 use Rattle.schedule_prices.specs.Choices.{AreBarred}
 use Rattle.schedule_prices.specs.Table.{BarredData, is_barred}
@@ -15,6 +15,6 @@ pub bar-requires : goal.bar-requires
 bar-requires c =
     let b = c.args.self.now in
     let barring = subst (λ (x : BarredData). AreBarred x.project x.bound (is_barred x)) c.self.view_is c.self.invariant.sound in
-    let x : Piece = record { activity = c.args.after; mode = None; from = 0; to = c.in-Some.end - 1 } in
+    let x : ChoiceRange = record { activity = c.args.after; mode = None; from = 0; to = c.in-Some.end - 1 } in
     early-piece b.project b.bound (is_barred b) x c.in-Some.end barring (omega arith)
     (starts-after b.project b.bound (is_barred b) c.args.before c.args.after c.in-Some.end barring c.requires.before c.requires.after c.requires.arc (sym c.in-Some.ensures.exact))

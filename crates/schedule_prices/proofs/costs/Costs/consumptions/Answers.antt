@@ -1,5 +1,5 @@
 use Rattle.std.proofs.Common.{arith}
-use Rattle.schedule_prices.specs.declared.place.Kind.TheVariants.{Consumed}
+use Rattle.schedule_prices.specs.declared.place.SumKind.TheVariants.{Consumed}
 use Rattle.schedule_prices.proofs.CostLemmas.{price_in-low}
 use Rattle.schedule_prices.proofs.costs.Costs.consumptions.Goals as goal
 

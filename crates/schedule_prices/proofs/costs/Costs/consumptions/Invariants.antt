@@ -1,7 +1,7 @@
 use Rattle.std.proofs.Common.{◌≡◌, ◌*◌, ◌≤◌, ◌^◌, sum_by}
 use Rattle.mrcpsp.specs.Numbers.{sum_below}
 use Rattle.mrcpsp.specs.Project.{consumption}
-use Rattle.schedule_prices.specs.declared.place.Kind.TheVariants.{Consumed}
+use Rattle.schedule_prices.specs.declared.place.SumKind.TheVariants.{Consumed}
 use Rattle.schedule_prices.specs.Sums.{price_in}
 use Rattle.schedule_prices.proofs.costs.Costs.consumptions.Given as goal
 

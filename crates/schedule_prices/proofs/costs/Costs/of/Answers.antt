@@ -1,6 +1,6 @@
 use Rattle.std.proofs.Common.{◌+◌, arith, ap}
 use Rattle.mrcpsp.specs.Project.{ProjectData, duration}
-use Rattle.schedule_prices.specs.declared.place.Kind.TheVariants.{Begun, Ended}
+use Rattle.schedule_prices.specs.declared.place.SumKind.TheVariants.{Begun, Ended}
 use Rattle.schedule_prices.proofs.CostLemmas.{price_in-low, cost-low, cost-sum}
 use Rattle.schedule_prices.proofs.costs.Costs.of.Goals as goal
 

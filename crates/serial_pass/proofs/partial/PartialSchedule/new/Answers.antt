@@ -2,7 +2,7 @@ use Rattle.std.proofs.Common.{◌≡◌, ◌∙◌, List, false, length, arith, 
 use Rattle.mrcpsp.specs.Project.{ProjectData, size}
 use Rattle.mrcpsp.specs.Placed.{Placed}
 use Rattle.mrcpsp.proofs.LimitLemmas.{kept}
-use Rattle.serial_pass.specs.declared.state.State.{State}
+use Rattle.serial_pass.specs.declared.state.PassState.{PassState}
 use Rattle.serial_pass.specs.Partial.{AreTables, IsState}
 use Rattle.serial_pass.proofs.BeginLemmas.{IsFirst, state_first}
 use Rattle.serial_pass.proofs.partial.PartialSchedule.new.Goals as goal
@@ -15,7 +15,7 @@ unfolding size
 invariant_of-result c =
     let p = c.args.project.now in
     let t = c.in_ok-tables.tables in
-    let new : State = record { placed = c.in_ok-placed.placed; points = c.begin.new.points; waiting = c.in_ok-waiting.waiting; eligible = t.sources; slack = t.slack; latest = 0 } in
+    let new : PassState = record { placed = c.in_ok-placed.placed; points = c.begin.new.points; waiting = c.in_ok-waiting.waiting; eligible = t.sources; slack = t.slack; latest = 0 } in
     let count : length c.activities-size.result.now ≡ size p = ap length c.activities-size.ensures.all in
     let e = c.in_ok-placed.ensures in
     let first : IsFirst p t new = record {

@@ -9,8 +9,8 @@ use Rattle.serial_sgs.specs.Waiting.{AreOthers}
 use Rattle.serial_sgs.proofs.BoardLemmas.{ineligible_after}
 use Rattle.serial_sgs.proofs.OrderLemmas.{missing_some}
 use Rattle.strategy.specs.Candidate.{Candidate}
-use Rattle.serial_pass.specs.declared.points.Point.{Point}
-use Rattle.serial_pass.specs.declared.state.State.{State}
+use Rattle.serial_pass.specs.declared.points.FreePoint.{FreePoint}
+use Rattle.serial_pass.specs.declared.state.PassState.{PassState}
 use Rattle.serial_pass.specs.Pass.{PassData, grown}
 use Rattle.serial_pass.specs.Partial.{IsState}
 use Rattle.serial_pass.specs.Points.{no_point, time_at}
@@ -81,7 +81,7 @@ occupy-point-requires-clause-enough c =
     let d : Candidate = record { activity = c.candidate.inside.activity; mode = c.candidate.inside.mode } in
     let may : IsOpenFor s.project s.state.placed.items s.void d = open_for s.project s.state.placed.items s.void d (rw (← c.self.view_is, ← c.candidate.view_is) at c.requires) in
     let it : IsBefore s.project s.tables s.state d c.row-row.result.now c.index.result.now = ready_for s.project s.tables s.state s.void d c.row-row.result.now c.index.result.now c.self.invariant.0 c.self.invariant.1 may c.row-row.ensures c.index.ensures in
-    let points : List Point = s.state.points.items in
+    let points : List FreePoint = s.state.points.items in
     let first = rw c.deref.ensures.value at c.first_point-start.ensures.first in
     let early : time_at points c.first_point-start.result ≤ 1000000000 = rw c.deref.ensures.value at c.first_point-start.ensures.early in
     λ k inside from under. first.room k inside from under
@@ -92,10 +92,10 @@ overflow_add-finish c =
     let d : Candidate = record { activity = c.candidate.inside.activity; mode = c.candidate.inside.mode } in
     let may : IsOpenFor s.project s.state.placed.items s.void d = open_for s.project s.state.placed.items s.void d (rw (← c.self.view_is, ← c.candidate.view_is) at c.requires) in
     let it : IsBefore s.project s.tables s.state d c.row-row.result.now c.index.result.now = ready_for s.project s.tables s.state s.void d c.row-row.result.now c.index.result.now c.self.invariant.0 c.self.invariant.1 may c.row-row.ensures c.index.ensures in
-    let points : List Point = s.state.points.items in
+    let points : List FreePoint = s.state.points.items in
     let first = rw c.deref.ensures.value at c.first_point-start.ensures.first in
     let early : time_at points c.first_point-start.result ≤ 1000000000 = rw c.deref.ensures.value at c.first_point-start.ensures.early in
-    let time : c.index-2.result.now.time ≡ time_at points c.first_point-start.result = ap (λ (x : Point). x.time) (c.index-2.ensures ∙ get_or_default points c.first_point-start.result c.index-2.result.now no_point first.inside) in
+    let time : c.index-2.result.now.time ≡ time_at points c.first_point-start.result = ap (λ (x : FreePoint). x.time) (c.index-2.ensures ∙ get_or_default points c.first_point-start.result c.index-2.result.now no_point first.inside) in
     omega (arith, time, early, it.short)
 
 pub push_reserved-requires : goal.push_reserved-requires
@@ -151,14 +151,14 @@ invariant_of-self c =
     let d : Candidate = record { activity = c.candidate.inside.activity; mode = c.candidate.inside.mode } in
     let may : IsOpenFor s.project s.state.placed.items s.void d = open_for s.project s.state.placed.items s.void d (rw (← c.self.view_is, ← c.candidate.view_is) at c.requires) in
     let it : IsBefore s.project s.tables s.state d c.row-row.result.now c.index.result.now = ready_for s.project s.tables s.state s.void d c.row-row.result.now c.index.result.now c.self.invariant.0 c.self.invariant.1 may c.row-row.ensures c.index.ensures in
-    let points : List Point = s.state.points.items in
+    let points : List FreePoint = s.state.points.items in
     let first = rw c.deref.ensures.value at c.first_point-start.ensures.first in
     let early : time_at points c.first_point-start.result ≤ 1000000000 = rw c.deref.ensures.value at c.first_point-start.ensures.early in
-    let time : c.index-2.result.now.time ≡ time_at points c.first_point-start.result = ap (λ (x : Point). x.time) (c.index-2.ensures ∙ get_or_default points c.first_point-start.result c.index-2.result.now no_point first.inside) in
+    let time : c.index-2.result.now.time ≡ time_at points c.first_point-start.result = ap (λ (x : FreePoint). x.time) (c.index-2.ensures ∙ get_or_default points c.first_point-start.result c.index-2.result.now no_point first.inside) in
     let known : d.activity < size s.project = may.next.activity in
     let list : c.as_slice.result.now ≡ get_or s.tables.after.items d.activity [] = c.as_slice.ensures ∙ c.index-3.ensures ∙ get_or_default s.tables.after.items d.activity c.index-3.result.now [] (omega (arith, c.self.invariant.0.after.count, known)) in
     let names : IsAfter s.project d.activity (size s.project) (get_or s.tables.after.items d.activity []) = c.self.invariant.0.after.each d.activity known in
-    let new : State = record { placed = c.push_reserved.new.self; points = c.occupy-point.new.points; waiting = c.tell_all.new.waiting; eligible = c.tell_all.new.eligible; slack = c.take_off.new.amounts; latest = c.max-self-inside.result } in
+    let new : PassState = record { placed = c.push_reserved.new.self; points = c.occupy-point.new.points; waiting = c.tell_all.new.waiting; eligible = c.tell_all.new.eligible; slack = c.take_off.new.amounts; latest = c.max-self-inside.result } in
     let less = c.remove.new.self in
     let state : IsState s.project s.state.placed.items false s.state = subst (λ (v : Bool). IsState s.project s.state.placed.items v s.state) may.going c.self.invariant.1 in
     let sums = c.self.invariant.1.sums in
@@ -191,14 +191,14 @@ returns c =
     let d : Candidate = record { activity = c.candidate.inside.activity; mode = c.candidate.inside.mode } in
     let may : IsOpenFor s.project s.state.placed.items s.void d = open_for s.project s.state.placed.items s.void d (rw (← c.self.view_is, ← c.candidate.view_is) at c.requires) in
     let it : IsBefore s.project s.tables s.state d c.row-row.result.now c.index.result.now = ready_for s.project s.tables s.state s.void d c.row-row.result.now c.index.result.now c.self.invariant.0 c.self.invariant.1 may c.row-row.ensures c.index.ensures in
-    let points : List Point = s.state.points.items in
+    let points : List FreePoint = s.state.points.items in
     let first = rw c.deref.ensures.value at c.first_point-start.ensures.first in
     let early : time_at points c.first_point-start.result ≤ 1000000000 = rw c.deref.ensures.value at c.first_point-start.ensures.early in
-    let time : c.index-2.result.now.time ≡ time_at points c.first_point-start.result = ap (λ (x : Point). x.time) (c.index-2.ensures ∙ get_or_default points c.first_point-start.result c.index-2.result.now no_point first.inside) in
+    let time : c.index-2.result.now.time ≡ time_at points c.first_point-start.result = ap (λ (x : FreePoint). x.time) (c.index-2.ensures ∙ get_or_default points c.first_point-start.result c.index-2.result.now no_point first.inside) in
     let known : d.activity < size s.project = may.next.activity in
     let list : c.as_slice.result.now ≡ get_or s.tables.after.items d.activity [] = c.as_slice.ensures ∙ c.index-3.ensures ∙ get_or_default s.tables.after.items d.activity c.index-3.result.now [] (omega (arith, c.self.invariant.0.after.count, known)) in
     let names : IsAfter s.project d.activity (size s.project) (get_or s.tables.after.items d.activity []) = c.self.invariant.0.after.each d.activity known in
-    let new : State = record { placed = c.push_reserved.new.self; points = c.occupy-point.new.points; waiting = c.tell_all.new.waiting; eligible = c.tell_all.new.eligible; slack = c.take_off.new.amounts; latest = c.max-self-inside.result } in
+    let new : PassState = record { placed = c.push_reserved.new.self; points = c.occupy-point.new.points; waiting = c.tell_all.new.waiting; eligible = c.tell_all.new.eligible; slack = c.take_off.new.amounts; latest = c.max-self-inside.result } in
     let less = c.remove.new.self in
     let state : IsState s.project s.state.placed.items false s.state = subst (λ (v : Bool). IsState s.project s.state.placed.items v s.state) may.going c.self.invariant.1 in
     let sums = c.self.invariant.1.sums in

@@ -1,6 +1,6 @@
 use Rattle.std.proofs.Common.{◌∙◌, List, false, ap, arith, length, refl, subst, sym}
 use Rattle.mrcpsp.specs.Placed.{Placed}
-use Rattle.serial_pass.specs.declared.state.State.{State}
+use Rattle.serial_pass.specs.declared.state.PassState.{PassState}
 use Rattle.serial_pass.specs.Partial.{IsState}
 use Rattle.serial_pass.proofs.BeginLemmas.{IsFirst, state_first}
 use Rattle.serial_pass.proofs.partial.PartialSchedule.restart.Goals as goal
@@ -15,7 +15,7 @@ invariant_of-self c =
     let s = c.self.inside in
     let tables = c.self.invariant.0 in
     let old = c.self.invariant.1 in
-    let new : State = record { placed = c.clear.new.self; points = c.begin.new.points; waiting = c.copy_from_slice.new.self; eligible = s.tables.sources; slack = s.tables.slack; latest = 0 } in
+    let new : PassState = record { placed = c.clear.new.self; points = c.begin.new.points; waiting = c.copy_from_slice.new.self; eligible = s.tables.sources; slack = s.tables.slack; latest = 0 } in
     let first : IsFirst s.project s.tables new = record {
       memory = c.clear.ensures.capacity ∙ old.memory;
       room = c.begin.ensures.memory ∙ old.room;

@@ -4,7 +4,8 @@ use Rattle.strategy.specs.Search.{Meaning, ran_on, nodes_within}
 use Rattle.strategy.proofs.RunLemmas.{nodes_from}
 use Rattle.strategy.proofs.search.Strategy.run.Given as goal
 
--- so many nodes have run, each of them paid, and what is left to look at begins behind them
+-- the nodes before this one have run, each of them paid, and what is left to look at begins behind
+-- them
 abbrev pub invariant-loop-ran : goal.invariant-loop-ran
 invariant-loop-ran g l =
     let m : Meaning = g.Self.Strategy.meaning l.initial.self in

@@ -1,7 +1,0 @@
-use Rattle.std.proofs.Common.{◌≡◌, ◌≤◌, ◌*◌}
-use Rattle.mrcpsp.specs.Numbers.{sum_below}
-use Rattle.mrcpsp.specs.Schedule.{load, mode_of, start_of}
-use Rattle.mrcpsp.proofs.feasibility.use_at.Given as goal
-
-abbrev pub invariant-loop-activity : goal.invariant-loop-activity
-invariant-loop-activity l = (l.total ≡ sum_below (λ j. load l.project l.resource l.period j (mode_of l.schedule j) (start_of l.schedule j)) l.activity) × (l.total ≤ 1000000 * l.activity)

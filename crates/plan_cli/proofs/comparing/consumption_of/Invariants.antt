@@ -1,8 +1,0 @@
-use Rattle.std.proofs.Common.{◌≡◌, ◌≤◌, ◌*◌}
-use Rattle.mrcpsp.specs.Numbers.{sum_below}
-use Rattle.mrcpsp.specs.Project.{consumption}
-use Rattle.mrcpsp.specs.Schedule.{mode_of}
-use Rattle.plan_cli.proofs.comparing.consumption_of.Given as goal
-
-abbrev pub invariant-loop-activity : goal.invariant-loop-activity
-invariant-loop-activity l = (l.total ≡ sum_below (λ j. consumption l.project j (mode_of l.schedule j) l.resource) l.activity) × (l.total ≤ 1000000 * l.activity)

@@ -1,7 +1,0 @@
-use Rattle.std.specs.Prelude.{is_none}
-use Rattle.std.proofs.Common.{◌≡◌, ℕ, List, ◌++◌, string_bytes}
-use Rattle.plan_cli.specs.Table.{AreLines}
-use Rattle.plan_cli.proofs.tabling.put_lines.Given as goal
-
-abbrev pub invariant-loop-activity : goal.invariant-loop-activity
-invariant-loop-activity l = (lines : List ℕ) × AreLines l.layout l.project l.schedule (is_none l.extra) l.activity lines × (string_bytes l.text ≡ string_bytes l.initial.text ++ lines)
