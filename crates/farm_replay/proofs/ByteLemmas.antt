@@ -26,7 +26,8 @@ use Rattle.farm_core.specs.declared.reply.Reply.{Reply}
 use Rattle.farm_core.specs.declared.reply.Reply.TheVariants as reply
 use Rattle.session_lines.specs.declared.said.Said.{Said}
 use Rattle.session_lines.specs.declared.said.Said.TheVariants as said
-use Rattle.session_lines.specs.ReplyText.{phase_text, verdict_text, best_text, line_text as known_text, place_text, places_text, schedule_text, book_text, reply_text, file_text, said_text, who_text}
+use Rattle.strategy.specs.VerdictText.{verdict_text}
+use Rattle.session_lines.specs.ReplyText.{phase_text, best_text, line_text as known_text, place_text, places_text, schedule_text, book_text, reply_text, file_text, said_text, who_text}
 use Rattle.session_lines.specs.Script.{lines_of, requests_of}
 use Rattle.farm_replay.specs.Output.{Parts, Saying, Marked, next, items_of, opening, lines_for, line_text, output_of}
 use Rattle.farm_replay.proofs.BeginLemmas.{IsNamed, AreNamed, name_parts, next_named, script_named, line_begins}

@@ -48,14 +48,10 @@ impl Best {
         ensures none { IfOk result (λ best. best.found ≡ false) }
         ensures sized { IfOk result (λ best. HasSize size best.schedule) }
     {
-        let modes = vec![in alloc; 0; size]?;
-        let starts = vec![in alloc; 0; size]?;
+        let schedule = Schedule::blank(alloc, size)?;
         Ok(Best {
             alloc,
-            schedule: Schedule {
-                modes: Sequence::from(modes),
-                starts: Sequence::from(starts),
-            },
+            schedule,
             found: false,
         })
     }

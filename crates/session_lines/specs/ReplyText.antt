@@ -4,7 +4,7 @@ use Rattle.psplib_mm.specs.FaultText.{fault_text}
 use Rattle.psplib_mm.specs.declared.fault.MmFault.{MmFault}
 use Rattle.psplib_mm.specs.declared.fault.MmFault.TheVariants as fault
 use Rattle.strategy.specs.declared.verdict.Verdict.{Verdict}
-use Rattle.strategy.specs.declared.verdict.Verdict.TheVariants.{Going, Optimal, Infeasible, Ended}
+use Rattle.strategy.specs.VerdictText.{verdict_text}
 use Rattle.mrcpsp.specs.Schedule.{ScheduleData}
 use Rattle.tenant_book.specs.Book.{BookData}
 use Rattle.job_table.specs.declared.phase.Phase.{Phase}
@@ -23,13 +23,6 @@ phase_text (Leaving slice) = codes "leaving"
 phase_text Dry = codes "dry"
 phase_text Closed = codes "closed"
 phase_text Cancelled = codes "cancelled"
-
--- the word of a verdict
-abbrev pub verdict_text : Verdict → List ℕ
-verdict_text Going = codes "open"
-verdict_text Optimal = codes "optimal"
-verdict_text Infeasible = codes "infeasible"
-verdict_text Ended = codes "ended"
 
 -- the makespan of a best schedule, or `none`
 abbrev pub best_text : Option ℕ → List ℕ

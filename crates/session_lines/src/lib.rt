@@ -9,7 +9,7 @@
 //! - `bytes`, `words`: lines of a reader with their first bytes; words and numbers of a line.
 //! - `line`, `text`: what one line means; the text of a submit while its lines come.
 //! - `request`, `reading`: `Request`, `LineFault`, and `read_request`.
-//! - `said`, `reply_words`: what is replied to a line, and its words for phases and verdicts.
+//! - `said`, `reply_words`: what is replied to a line, and its words for phases.
 //! - `put`, `writer`: writing pieces, and `write_reply`.
 //! - `laws`: that requests come in turn.
 #![tactic(auto)]

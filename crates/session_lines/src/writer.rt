@@ -4,10 +4,11 @@ ghost use Rattle.psplib_mm.specs.FaultText.{section_text, limit_text};
 ghost use Rattle.watched_io.specs.Failure.{IsNoted};
 ghost use Rattle.session_lines.specs.Known.{Writes};
 ghost use Rattle.session_lines.specs.Part.{Gathers, part_text, parts_text};
-ghost use Rattle.session_lines.specs.ReplyText.{verdict_text, best_text, line_text, place_text, places_text, schedule_text, book_text, reply_text, file_text, said_text, who_text, reply_line};
+ghost use Rattle.strategy.specs.VerdictText.{verdict_text};
+ghost use Rattle.session_lines.specs.ReplyText.{best_text, line_text, place_text, places_text, schedule_text, book_text, reply_text, file_text, said_text, who_text, reply_line};
 
 use crate::put::{Gathered, Part, WriteFault, gather, gather_parts, put};
-use crate::reply_words::{phase_word, verdict_word};
+use crate::reply_words::phase_word;
 use crate::said::Said;
 use arrayvec::ArrayVec;
 use farm_core::{Line, Name, Reply};
@@ -100,7 +101,7 @@ fn gather_line<W: Write>(
             Part::Text(b" best "),
             best_part(line.best),
             Part::Text(b" "),
-            Part::Text(verdict_word(line.verdict).as_bytes()),
+            Part::Text(line.verdict.word().as_bytes()),
         ],
     )
 }
@@ -283,7 +284,7 @@ fn gather_front<W: Write>(
         Part::Text(b" makespan "),
         best_part(best),
         Part::Text(b" "),
-        Part::Text(verdict_word(verdict).as_bytes()),
+        Part::Text(verdict.word().as_bytes()),
     ];
     gather_parts(writer, watch, gathered, &parts)
 }
