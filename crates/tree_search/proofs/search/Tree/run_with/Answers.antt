@@ -6,8 +6,8 @@ use Rattle.tree_search.specs.Tree.{IsTree, MakesNodes, best_in, cursors_of}
 use Rattle.tree_search.specs.declared.search.Tree as stack
 use Rattle.tree_search.specs.declared.cursor.Cursor.{Cursor}
 use Rattle.tree_search.proofs.ShownLemmas.{RunsTo, bound_late, going_on, ran_on, over_bound, over_all}
-use Rattle.tree_search.proofs.search.TreeNodes.run_nodes.Goals as goal
-use Rattle.tree_search.proofs.search.TreeNodes.run_nodes.Goals.{then-loop-left-test+else-not-is_reached, else-loop-left-test, then-loop-left-test+then-not-is_reached+in_default}
+use Rattle.tree_search.proofs.search.Tree.run_with.Goals as goal
+use Rattle.tree_search.proofs.search.Tree.run_with.Goals.{then-loop-left-test+else-not-is_reached, else-loop-left-test, then-loop-left-test+then-not-is_reached+in_default}
 
 pub loop-left-preserved : goal.loop-left-preserved
 loop-left-preserved c =
@@ -17,7 +17,7 @@ loop-left-preserved c =
     let visited = c.visit-visited in
     let ran = visited.result.ran in
     let so_far = c.loop-left.invariant in
-    let later : stack.Tree = record { path = visited.new.path; top = visited.result.top; incumbent = visited.new.incumbent; bound = t.bound } in
+    let later : stack.Tree = record { path = visited.new.path; top = visited.result.top; incumbent = visited.new.incumbent; bound = t.bound; width = t.width } in
     let kept : (p : ProjectData) → IsTree p t → IsTree p later = λ p tree. record {
       own = visited.ensures.project ∙ tree.own;
       bounded = tree.bounded;
@@ -25,11 +25,13 @@ loop-left-preserved c =
       early = rw tree.own at visited.ensures.early;
       incumbent = rw tree.own at visited.ensures.incumbent;
       top = rw tree.own at visited.ensures.top;
+      width = tree.width;
     } in
     let runs : (p : ProjectData) → IsTree p t → RunsTo p t ran later = λ p tree.
     subst (λ (x : Option Cursor). MakesNodes p t.path.placed (cursors_of t.path.placed x) (best_in t.incumbent) ran later.path.placed (cursors_of later.path.placed later.top) (best_in later.incumbent)) (sym c.in-Some.is) (rw tree.own at visited.ensures.nodes) in
     record {
       within = omega (arith, so_far.within);
+      wide = so_far.wide;
       here = λ plan k at.
           let here = so_far.here plan k at in
           let next : k + (most - left) + ran ≡ k + (most - (left - ran)) = omega (arith, so_far.within, visited.ensures.few) in
