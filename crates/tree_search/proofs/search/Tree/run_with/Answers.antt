@@ -1,62 +1,145 @@
-use Rattle.std.proofs.Common.{◌≡◌, ℕ, ◌+◌, ◌-◌, ◌<◌, ◌≤◌, Option, arith, sym, ap, ◌∙◌, subst, ⊎_elim}
-use Rattle.std.proofs.lemmas.Bool.{cases_lt}
-use Rattle.mrcpsp.specs.Project.{ProjectData}
+use Rattle.std.proofs.Common.{◌≡◌, ℕ, true, ◌+◌, ◌-◌, Option, Some, arith, refl, sym, ap, ◌∙◌, subst}
+use Rattle.strategy.specs.Outcome.{is_closed}
 use Rattle.strategy.specs.Tree.{is_too_late}
-use Rattle.tree_search.specs.Tree.{IsTree, MakesNodes, best_in, cursors_of}
+use Rattle.tree_search.specs.Search.{StandsAt}
+use Rattle.tree_search.specs.Tree.{IsTree, best_in}
 use Rattle.tree_search.specs.declared.search.Tree as stack
 use Rattle.tree_search.specs.declared.cursor.Cursor.{Cursor}
-use Rattle.tree_search.proofs.ShownLemmas.{RunsTo, bound_late, going_on, ran_on, over_bound, over_all}
+use Rattle.tree_search.specs.declared.incumbent.Incumbent.{Incumbent}
+use Rattle.tree_search.proofs.ShownLemmas.{RunsTo, at_bound, over_all, over_bound, run_on, tree_later}
 use Rattle.tree_search.proofs.search.Tree.run_with.Goals as goal
-use Rattle.tree_search.proofs.search.Tree.run_with.Goals.{then-loop-left-test+else-not-is_reached, else-loop-left-test, then-loop-left-test+then-not-is_reached+in_default}
+use Rattle.tree_search.proofs.search.Tree.run_with.Goals.{then-left-eq0-via-then-left-eq0, then-left-eq0-via-else-left-eq0+then-is_over}
 
-pub loop-left-preserved : goal.loop-left-preserved
-loop-left-preserved c =
+pub returns-then-is_reached-clause-over : goal.returns-then-is_reached-clause-over
+returns-then-is_reached-clause-over c plan k at some =
+    let t : stack.Tree = c.args.self.now in
+    let same : k ≡ k + 0 = omega arith in
+    subst (λ (n : ℕ). is_closed plan n ≡ true) same (over_bound plan k t at (at_bound plan k t at ∙ sym (c.is_reached.ensures plan.project at.tree.incumbent) ∙ c.if-is_reached.true))
+
+pub returns-in_default-clause-over : goal.returns-in_default-clause-over
+returns-in_default-clause-over c plan k at some =
+    let same : k ≡ k + 0 = omega arith in
+    subst (λ (n : ℕ). is_closed plan n ≡ true) same (over_all plan k c.args.self.now at c.in_default.is)
+
+pub returns-in_default-top-clause-going : goal.returns-in_default-top-clause-going
+returns-in_default-top-clause-going c plan k at =
     let most = c.args.most in
-    let left = c.loop-left.left in
-    let t : stack.Tree = record c.loop-left.self { top = c.loop-left.top } in
+    let left = c.loop-next.left in
+    let t : stack.Tree = record c.loop-next.self { top = Some c.loop-next.candidate } in
     let visited = c.visit-visited in
     let ran = visited.result.ran in
-    let so_far = c.loop-left.invariant in
     let later : stack.Tree = record { path = visited.new.path; top = visited.result.top; incumbent = visited.new.incumbent; bound = t.bound; width = t.width } in
-    let kept : (p : ProjectData) → IsTree p t → IsTree p later = λ p tree. record {
-      own = visited.ensures.project ∙ tree.own;
-      bounded = tree.bounded;
-      low = tree.low;
-      early = rw tree.own at visited.ensures.early;
-      incumbent = rw tree.own at visited.ensures.incumbent;
-      top = rw tree.own at visited.ensures.top;
-      width = tree.width;
-    } in
-    let runs : (p : ProjectData) → IsTree p t → RunsTo p t ran later = λ p tree.
-    subst (λ (x : Option Cursor). MakesNodes p t.path.placed (cursors_of t.path.placed x) (best_in t.incumbent) ran later.path.placed (cursors_of later.path.placed later.top) (best_in later.incumbent)) (sym c.in-Some.is) (rw tree.own at visited.ensures.nodes) in
+    let so_far = c.loop-next.invariant in
+    let here = so_far.here plan k at in
+    let kept : IsTree plan.project later = tree_later plan.project t later here.tree visited.ensures.project refl refl visited.ensures.early visited.ensures.incumbent visited.ensures.top in
+    let runs : RunsTo plan.project t ran later = rw here.tree.own at visited.ensures.nodes in
+    let both = run_on plan k (most - left) ran t later here kept runs (so_far.above plan k at) (so_far.going plan k at) in
+    let same : most - left + ran ≡ most - (left - ran) = omega (arith, so_far.within, visited.ensures.few) in
+    (rw same at both).1
+
+pub returns-in_default-top-clause-over : goal.returns-in_default-top-clause-over
+returns-in_default-top-clause-over c plan k at few =
+    let most = c.args.most in
+    let left = c.loop-next.left in
+    let t : stack.Tree = record c.loop-next.self { top = Some c.loop-next.candidate } in
+    let visited = c.visit-visited in
+    let ran = visited.result.ran in
+    let later : stack.Tree = record { path = visited.new.path; top = visited.result.top; incumbent = visited.new.incumbent; bound = t.bound; width = t.width } in
+    let so_far = c.loop-next.invariant in
+    let here = so_far.here plan k at in
+    let kept : IsTree plan.project later = tree_later plan.project t later here.tree visited.ensures.project refl refl visited.ensures.early visited.ensures.incumbent visited.ensures.top in
+    let runs : RunsTo plan.project t ran later = rw here.tree.own at visited.ensures.nodes in
+    let both = run_on plan k (most - left) ran t later here kept runs (so_far.above plan k at) (so_far.going plan k at) in
+    let same : most - left + ran ≡ most - (left - ran) = omega (arith, so_far.within, visited.ensures.few) in
+    over_all plan (k + (most - (left - ran))) later (rw same at both).0 c.in_default-top.is
+
+pub returns-then-left-eq0-clause-ran : goal.returns-then-left-eq0-clause-ran
+returns-then-left-eq0-clause-ran c plan k at =
+    let most = c.args.most in
+    let left = c.loop-next.left in
+    let t : stack.Tree = record c.loop-next.self { top = Some c.loop-next.candidate } in
+    let visited = c.visit-visited in
+    let ran = visited.result.ran in
+    let later : stack.Tree = record { path = visited.new.path; top = visited.result.top; incumbent = visited.new.incumbent; bound = t.bound; width = t.width } in
+    let so_far = c.loop-next.invariant in
+    let here = so_far.here plan k at in
+    let kept : IsTree plan.project later = tree_later plan.project t later here.tree visited.ensures.project refl refl visited.ensures.early visited.ensures.incumbent visited.ensures.top in
+    let runs : RunsTo plan.project t ran later = rw here.tree.own at visited.ensures.nodes in
+    let both = run_on plan k (most - left) ran t later here kept runs (so_far.above plan k at) (so_far.going plan k at) in
+    let same : most - left + ran ≡ most - (left - ran) = omega (arith, so_far.within, visited.ensures.few) in
+    subst (λ (x : Option Cursor). StandsAt (record later { top = x }) plan (k + (most - (left - ran)))) c.in-Some-top.is (rw same at both).0
+
+pub returns-then-left-eq0-clause-going : goal.returns-then-left-eq0-clause-going
+returns-then-left-eq0-clause-going c plan k at =
+    let most = c.args.most in
+    let left = c.loop-next.left in
+    let t : stack.Tree = record c.loop-next.self { top = Some c.loop-next.candidate } in
+    let visited = c.visit-visited in
+    let ran = visited.result.ran in
+    let later : stack.Tree = record { path = visited.new.path; top = visited.result.top; incumbent = visited.new.incumbent; bound = t.bound; width = t.width } in
+    let so_far = c.loop-next.invariant in
+    let here = so_far.here plan k at in
+    let kept : IsTree plan.project later = tree_later plan.project t later here.tree visited.ensures.project refl refl visited.ensures.early visited.ensures.incumbent visited.ensures.top in
+    let runs : RunsTo plan.project t ran later = rw here.tree.own at visited.ensures.nodes in
+    let both = run_on plan k (most - left) ran t later here kept runs (so_far.above plan k at) (so_far.going plan k at) in
+    let same : most - left + ran ≡ most - (left - ran) = omega (arith, so_far.within, visited.ensures.few) in
+    (rw same at both).1
+
+pub returns-then-left-eq0-clause-over : goal.returns-then-left-eq0-clause-over
+returns-then-left-eq0-clause-over c plan k at few =
+    let most = c.args.most in
+    let left = c.loop-next.left in
+    let t : stack.Tree = record c.loop-next.self { top = Some c.loop-next.candidate } in
+    let visited = c.visit-visited in
+    let ran = visited.result.ran in
+    let later : stack.Tree = record { path = visited.new.path; top = visited.result.top; incumbent = visited.new.incumbent; bound = t.bound; width = t.width } in
+    let so_far = c.loop-next.invariant in
+    let here = so_far.here plan k at in
+    let kept : IsTree plan.project later = tree_later plan.project t later here.tree visited.ensures.project refl refl visited.ensures.early visited.ensures.incumbent visited.ensures.top in
+    let runs : RunsTo plan.project t ran later = rw here.tree.own at visited.ensures.nodes in
+    let both = run_on plan k (most - left) ran t later here kept runs (so_far.above plan k at) (so_far.going plan k at) in
+    let same : most - left + ran ≡ most - (left - ran) = omega (arith, so_far.within, visited.ensures.few) in
+    let late = c.is_reached_now-is_over.ensures plan.project kept.incumbent (λ full. ap (λ (i : Incumbent). is_too_late plan.project (best_in i) t.bound) (visited.ensures.same full) ∙ sym (at_bound plan (k + (most - left)) t here) ∙ so_far.above plan k at) in
+    elim c.then-left-eq0.branch [
+      | then-left-eq0-via-then-left-eq0 w ↦ absurd (omega (arith, w.if-left-eq0.true, few))
+      | then-left-eq0-via-else-left-eq0+then-is_over w ↦
+          let there = (rw same at both).0 in
+          over_bound plan (k + (most - (left - ran))) later there (at_bound plan (k + (most - (left - ran))) later there ∙ sym late ∙ w.if-is_over.true)
+    ]
+
+pub loop-next-preserved : goal.loop-next-preserved
+loop-next-preserved c =
+    let most = c.args.most in
+    let left = c.loop-next.left in
+    let t : stack.Tree = record c.loop-next.self { top = Some c.loop-next.candidate } in
+    let visited = c.visit-visited in
+    let ran = visited.result.ran in
+    let later : stack.Tree = record { path = visited.new.path; top = visited.result.top; incumbent = visited.new.incumbent; bound = t.bound; width = t.width } in
+    let so_far = c.loop-next.invariant in
     record {
       within = omega (arith, so_far.within);
+      some = omega (arith, c.if-left-eq0.false);
       wide = so_far.wide;
       here = λ plan k at.
           let here = so_far.here plan k at in
-          let next : k + (most - left) + ran ≡ k + (most - (left - ran)) = omega (arith, so_far.within, visited.ensures.few) in
-          rw (← next) (ran_on plan (k + (most - left)) ran t later here (kept plan.project here.tree) (runs plan.project here.tree));
-      going = λ plan k at i l.
-          ⊎_elim
-          (λ (before : i < most - left). so_far.going plan k at i before)
-          (λ (after : most - left ≤ i).
+          let kept : IsTree plan.project later = tree_later plan.project t later here.tree visited.ensures.project refl refl visited.ensures.early visited.ensures.incumbent visited.ensures.top in
+          let runs : RunsTo plan.project t ran later = rw here.tree.own at visited.ensures.nodes in
+          let both = run_on plan k (most - left) ran t later here kept runs (so_far.above plan k at) (so_far.going plan k at) in
+          let same : most - left + ran ≡ most - (left - ran) = omega (arith, so_far.within, visited.ensures.few) in
+          subst (λ (x : Option Cursor). StandsAt (record later { top = x }) plan (k + (most - (left - ran)))) c.in-Some-top.is (rw same at both).0;
+      above = λ plan k at.
           let here = so_far.here plan k at in
-          let n : ℕ = i - (most - left) in
-          let same : k + (most - left) + n ≡ k + i = omega (arith, after) in
-          let above = bound_late plan.project (best_in t.incumbent) ∙ ap (is_too_late plan.project (best_in t.incumbent)) (sym here.tree.bounded) ∙ sym (c.is_reached.ensures plan.project here.tree.incumbent) ∙ c.if-not-is_reached.true in
-          rw (← same) (going_on plan (k + (most - left)) ran t later here (runs plan.project here.tree) above n (omega (arith, l, after, so_far.within, visited.ensures.few))))
-          (cases_lt i (most - left));
+          let kept : IsTree plan.project later = tree_later plan.project t later here.tree visited.ensures.project refl refl visited.ensures.early visited.ensures.incumbent visited.ensures.top in
+          let runs : RunsTo plan.project t ran later = rw here.tree.own at visited.ensures.nodes in
+          let both = run_on plan k (most - left) ran t later here kept runs (so_far.above plan k at) (so_far.going plan k at) in
+          let same : most - left + ran ≡ most - (left - ran) = omega (arith, so_far.within, visited.ensures.few) in
+          let late = c.is_reached_now-is_over.ensures plan.project kept.incumbent (λ full. ap (λ (i : Incumbent). is_too_late plan.project (best_in i) t.bound) (visited.ensures.same full) ∙ sym (at_bound plan (k + (most - left)) t here) ∙ so_far.above plan k at) in
+          at_bound plan (k + (most - left + ran)) later both.0 ∙ sym late ∙ c.if-is_over.false;
+      going = λ plan k at.
+          let here = so_far.here plan k at in
+          let kept : IsTree plan.project later = tree_later plan.project t later here.tree visited.ensures.project refl refl visited.ensures.early visited.ensures.incumbent visited.ensures.top in
+          let runs : RunsTo plan.project t ran later = rw here.tree.own at visited.ensures.nodes in
+          let both = run_on plan k (most - left) ran t later here kept runs (so_far.above plan k at) (so_far.going plan k at) in
+          let same : most - left + ran ≡ most - (left - ran) = omega (arith, so_far.within, visited.ensures.few) in
+          (rw same at both).1;
     }
-
-pub returns-clause-over : goal.returns-clause-over
-returns-clause-over c plan k at few =
-    let most = c.args.most in
-    let left = c.loop-left.left in
-    let t : stack.Tree = record c.loop-left.self { top = c.loop-left.top } in
-    let here = c.loop-left.invariant.here plan k at in
-    elim c.loop-left-test.branch [
-      | then-loop-left-test+else-not-is_reached w ↦
-          over_bound plan (k + (most - left)) t here (bound_late plan.project (best_in t.incumbent) ∙ ap (is_too_late plan.project (best_in t.incumbent)) (sym here.tree.bounded) ∙ sym (w.is_reached.ensures plan.project here.tree.incumbent) ∙ w.if-not-is_reached.false)
-      | else-loop-left-test w ↦ absurd (omega (arith, w.loop-left-test.false, few))
-      | then-loop-left-test+then-not-is_reached+in_default w ↦ over_all plan (k + (most - left)) t here w.in_default.is
-    ]
