@@ -8,7 +8,7 @@ use Rattle.tree_search.specs.declared.cursor.Cursor.{Cursor}
 use Rattle.tree_search.specs.declared.incumbent.Incumbent.{Incumbent}
 use Rattle.tree_search.proofs.ShownLemmas.{RunsTo, at_bound, over_all, over_bound, run_on, tree_later}
 use Rattle.tree_search.proofs.search.Tree.run_with.Goals as goal
-use Rattle.tree_search.proofs.search.Tree.run_with.Goals.{then-left-eq0-via-then-left-eq0, then-left-eq0-via-else-left-eq0+then-is_over}
+use Rattle.tree_search.proofs.search.Tree.run_with.Goals.{then-left-eq0-via-then-left-eq0, then-left-eq0-via-else-left-eq0+then-is_reached_now}
 
 pub returns-then-is_reached-clause-over : goal.returns-then-is_reached-clause-over
 returns-then-is_reached-clause-over c plan k at some =
@@ -99,12 +99,12 @@ returns-then-left-eq0-clause-over c plan k at few =
     let runs : RunsTo plan.project t ran later = rw here.tree.own at visited.ensures.nodes in
     let both = run_on plan k (most - left) ran t later here kept runs (so_far.above plan k at) (so_far.going plan k at) in
     let same : most - left + ran ≡ most - (left - ran) = omega (arith, so_far.within, visited.ensures.few) in
-    let late = c.is_reached_now-is_over.ensures plan.project kept.incumbent (λ full. ap (λ (i : Incumbent). is_too_late plan.project (best_in i) t.bound) (visited.ensures.same full) ∙ sym (at_bound plan (k + (most - left)) t here) ∙ so_far.above plan k at) in
     elim c.then-left-eq0.branch [
       | then-left-eq0-via-then-left-eq0 w ↦ absurd (omega (arith, w.if-left-eq0.true, few))
-      | then-left-eq0-via-else-left-eq0+then-is_over w ↦
+      | then-left-eq0-via-else-left-eq0+then-is_reached_now w ↦
           let there = (rw same at both).0 in
-          over_bound plan (k + (most - (left - ran))) later there (at_bound plan (k + (most - (left - ran))) later there ∙ sym late ∙ w.if-is_over.true)
+          let late = w.is_reached_now.ensures plan.project kept.incumbent (λ full. ap (λ (i : Incumbent). is_too_late plan.project (best_in i) t.bound) (visited.ensures.same full) ∙ sym (at_bound plan (k + (most - left)) t here) ∙ so_far.above plan k at) in
+          over_bound plan (k + (most - (left - ran))) later there (at_bound plan (k + (most - (left - ran))) later there ∙ sym late ∙ w.if-is_reached_now.true)
     ]
 
 pub loop-next-preserved : goal.loop-next-preserved
@@ -133,8 +133,8 @@ loop-next-preserved c =
           let runs : RunsTo plan.project t ran later = rw here.tree.own at visited.ensures.nodes in
           let both = run_on plan k (most - left) ran t later here kept runs (so_far.above plan k at) (so_far.going plan k at) in
           let same : most - left + ran ≡ most - (left - ran) = omega (arith, so_far.within, visited.ensures.few) in
-          let late = c.is_reached_now-is_over.ensures plan.project kept.incumbent (λ full. ap (λ (i : Incumbent). is_too_late plan.project (best_in i) t.bound) (visited.ensures.same full) ∙ sym (at_bound plan (k + (most - left)) t here) ∙ so_far.above plan k at) in
-          at_bound plan (k + (most - left + ran)) later both.0 ∙ sym late ∙ c.if-is_over.false;
+          let late = c.is_reached_now.ensures plan.project kept.incumbent (λ full. ap (λ (i : Incumbent). is_too_late plan.project (best_in i) t.bound) (visited.ensures.same full) ∙ sym (at_bound plan (k + (most - left)) t here) ∙ so_far.above plan k at) in
+          at_bound plan (k + (most - left + ran)) later both.0 ∙ sym late ∙ c.if-is_reached_now.false;
       going = λ plan k at.
           let here = so_far.here plan k at in
           let kept : IsTree plan.project later = tree_later plan.project t later here.tree visited.ensures.project refl refl visited.ensures.early visited.ensures.incumbent visited.ensures.top in
