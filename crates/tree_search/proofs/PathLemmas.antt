@@ -8,7 +8,7 @@ use Rattle.std.proofs.lemmas.List.Elements.{All-nil, All-head, All-tail}
 use Rattle.std.proofs.lemmas.List.Recursion.{or_push}
 use Rattle.std.proofs.lemmas.List.FromFn.{get_or-map-range_with_len}
 use Rattle.mrcpsp.specs.Limits.{IsProject}
-use Rattle.mrcpsp.specs.Project.{ProjectData, size, mode_count, consumption, stock, precedes}
+use Rattle.mrcpsp.specs.Project.{ProjectData, size, renewables, nonrenewables, mode_count, consumption, stock, precedes}
 use Rattle.mrcpsp.specs.Values.{least}
 use Rattle.strategy.specs.Candidate.{is_allowed_mode}
 use Rattle.mrcpsp.specs.Placed.{Placed, finish_of, is_allowed, is_placed, is_eligible, is_affordable, is_executable, last_start}
@@ -31,6 +31,7 @@ use Rattle.tree_search.specs.Front.{IsFrontOf, IsRising, left_at}
 use Rattle.tree_search.specs.Path.{AreDone, AreStages, HasEntered, IsCovered, IsFirstStage, IsHopeless, IsPath, IsStage, IsTaken, WereEligible, no_stage, triangle}
 use Rattle.tree_search.proofs.FrontLemmas.{empty_range, range_before, range_kept}
 use Rattle.tree_search.proofs.NodeLemmas.{last_start_none}
+use Rattle.tree_search.proofs.WidthLemmas.{extra_none, left_none}
 use Rattle.tree_search.proofs.PlacedLemmas.{front_enough, front_first, front_most, front_push}
 
 pub triangle_rises : (i k : ℕ) → i ≤ k → triangle i ≤ triangle k
@@ -306,6 +307,7 @@ affordable_by p placed j m slack extra answer board inside known new slacks own 
 stage_kept : (p : ProjectData) (placed : List Placed) (running later : List Running) (s : Stage) (base : ℕ) → IsStage p placed running s → s.end ≤ base → take base running ≡ take base later → IsStage p placed later s
 stage_kept p placed running later s base was within same = record {
   slack = was.slack;
+  beyond = was.beyond;
   front = subst (λ (xs : List Running). IsFrontOf p placed (last_start placed) s.free xs) (range_kept running later s.begin s.end base was.order within same) was.front;
   order = was.order;
   few = was.few;
@@ -394,6 +396,7 @@ stage_push p placed a running later s new row finish was_board board inside abov
     let runs : Running = record { request = row.request; finish = finish } in
     record {
       slack = λ r l. omega (arith, slack r l, was.slack r l, needed_push p placed a r was_board board, own.extra r l, consumption_small p a.activity a.mode r board.project inside.activity inside.mode);
+      beyond = λ r past l. omega (arith, slack r l, was.beyond r past l, extra_none p a.activity a.mode (nonrenewables p) row board.project inside.activity inside.mode own (omega arith) r past l);
       front = rw (last, begins) (front_push p placed a (last_start placed) s.free new.free (slice_range running s.begin s.end) (slice_range later s.end new.end) runs was.front own.request above ends rising (λ r t l late. kept r t l late ∙ ap (λ (xs : List Running). left_at s.free xs r t) same));
       order = omega (arith, begins, behind);
       few = omega (arith, begins, behind, few, was.few, was.order, many);
@@ -537,6 +540,7 @@ path_first p reserved lines table afters words stage stages running ends readies
     here : IsStage p [] running stage
     here = record {
       slack = start.slack;
+      beyond = start.beyond;
       front = subst (λ (xs : List Running). IsFrontOf p [] (last_start []) stage.free xs) (sym (empty_range running stage.begin stage.end start.begin start.end)) (rw last_start_none (front_first p stage.free start.free));
       order = omega (arith, start.begin);
       few = omega (arith, start.end);
@@ -547,14 +551,15 @@ path_first p reserved lines table afters words stage stages running ends readies
     }
 
 -- there is a place for the list of one more, and its request is left
-pub record HasPlace (a : Placed) (running : List Running) (s : Stage) (row : Row) (finish : ℕ) : Type 0 where
+pub record HasPlace (p : ProjectData) (a : Placed) (running : List Running) (s : Stage) (row : Row) (finish : ℕ) : Type 0 where
   pub order : s.begin ≤ s.end
   pub memory : s.end + s.end + 1 ≤ length running + s.begin
   pub rising : IsRising (slice_range (take s.end running) s.begin s.end)
   pub few : (r t : ℕ) → r < 8 → left_at s.free (slice_range (take s.end running) s.begin s.end) r t ≤ 2000000000
+  pub beyond : (lanes : ℕ) → renewables p ≤ lanes → (r t : ℕ) → lanes ≤ r → r < 8 → left_at s.free (slice_range (take s.end running) s.begin s.end) r t ≡ 0
   pub room : a.start < finish → (r : ℕ) → r < 8 → get_or row.request r 0 ≤ left_at s.free (slice_range (take s.end running) s.begin s.end) r a.start
 
-pub has_place : (p : ProjectData) (placed : List Placed) (a : Placed) (running : List Running) (stages : List Stage) (row : Row) (finish : ℕ) → IsBoard (record { project = p; placed = placed }) → AreStages p placed running stages → length placed < size p → IsInside p a → IsLine p a.activity a.mode row → finish ≡ finish_of p a → last_start placed ≤ a.start → is_allowed p placed a.activity a.mode a.start ≡ true → HasPlace a running (get_or stages (length placed) no_stage) row finish
+pub has_place : (p : ProjectData) (placed : List Placed) (a : Placed) (running : List Running) (stages : List Stage) (row : Row) (finish : ℕ) → IsBoard (record { project = p; placed = placed }) → AreStages p placed running stages → length placed < size p → IsInside p a → IsLine p a.activity a.mode row → finish ≡ finish_of p a → last_start placed ≤ a.start → is_allowed p placed a.activity a.mode a.start ≡ true → HasPlace p a running (get_or stages (length placed) no_stage) row finish
 has_place p placed a running stages row finish board was more inside own ends above fits =
     let s : Stage = get_or stages (length placed) no_stage in
     let here : IsStage p placed running s = stage_here p placed running stages was in
@@ -564,6 +569,7 @@ has_place p placed a running stages row finish board was more inside own ends ab
       memory = omega (arith, here.few, here.within, here.order, triangle_next (length placed), triangle_rises (length placed + 1) (size p) (omega (arith, more)), was.room);
       rising = rw same here.front.rising;
       few = rw same (λ r t l. omega (arith, front_most p placed (last_start placed) s.free (slice_range running s.begin s.end) here.front r t l, capacity_small p r board.project));
+      beyond = rw same (λ lanes enough. left_none p placed (last_start placed) lanes s.free (slice_range running s.begin s.end) here.front enough);
       room = rw same (λ some r l. front_enough p placed a.activity a.mode (last_start placed) s.free (slice_range running s.begin s.end) row.request board.project inside.activity inside.mode (omega (arith, some, ends)) here.front own.request a.start above fits r l);
     }
 

@@ -3,7 +3,7 @@ use Rattle.std.specs.Prelude.{◌≡◌, ℕ, ◌+◌, ◌-◌, ◌%◌, ◌<◌
 use Rattle.std.specs.List.{slice_range, list_any}
 use Rattle.mrcpsp.specs.declared.limits.TheConstants.{MOST_RESOURCES}
 use Rattle.mrcpsp.specs.Numbers.{sum_below}
-use Rattle.mrcpsp.specs.Project.{ProjectData, size, mode_count, duration, capacity, stock}
+use Rattle.mrcpsp.specs.Project.{ProjectData, size, nonrenewables, mode_count, duration, capacity, stock}
 use Rattle.mrcpsp.specs.Values.{tail}
 use Rattle.strategy.specs.Candidate.{is_allowed_mode}
 use Rattle.mrcpsp.specs.Placed.{Placed, finish_of, is_eligible, is_placed, last_start}
@@ -16,6 +16,7 @@ use Rattle.tree_search.specs.declared.path.Stage.{Stage}
 use Rattle.tree_search.specs.declared.table.Table.{Table}
 use Rattle.tree_search.specs.declared.table.TheConstants.{NEVER}
 use Rattle.tree_search.specs.Table.{IsLines}
+use Rattle.tree_search.specs.Width.{IsNone}
 
 -- 1 + 2 + .. + n
 abbrev pub triangle : ℕ → ℕ
@@ -25,10 +26,12 @@ triangle n = sum_below (λ i. i + 1) n
 abbrev pub no_stage : Stage
 no_stage = record { slack = []; free = []; eligible = []; begin = 0; end = 0; from = 0 }
 
--- a stage after these placements: each stock less its need, modulo 2^32; what is free from the last
+-- a stage after these placements: each stock less its need, modulo 2^32, 0 of a resource that is not
+-- there; what is free from the last
 -- start on; who may come next; and the last start
 pub record IsStage (p : ProjectData) (placed : List Placed) (running : List Running) (s : Stage) : Type 0 where
   pub slack : (r : ℕ) → r < MOST_RESOURCES → (get_or s.slack r 0 + needed_of p placed r) % 4294967296 ≡ stock p r
+  pub beyond : IsNone (nonrenewables p) s.slack
   pub front : IsFrontOf p placed (last_start placed) s.free (slice_range running s.begin s.end)
   pub order : s.begin ≤ s.end
   pub few : s.end ≤ s.begin + length placed
@@ -86,6 +89,7 @@ IsCovered taken there = (r : ℕ) → r < MOST_RESOURCES → (get_or there r 0 +
 -- the stage before any placement
 pub record IsFirstStage (p : ProjectData) (words : List ℕ) (s : Stage) : Type 0 where
   pub slack : (r : ℕ) → r < MOST_RESOURCES → (get_or s.slack r 0 + needed_of p [] r) % 4294967296 ≡ stock p r
+  pub beyond : IsNone (nonrenewables p) s.slack
   pub free : (r : ℕ) → r < MOST_RESOURCES → get_or s.free r 0 ≡ capacity p r
   pub eligible : s.eligible ≡ words
   pub begin : s.begin ≡ 0

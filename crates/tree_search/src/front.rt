@@ -3,11 +3,12 @@
 //! start needs. A level's list of running activities stands behind its parent's.
 ghost use Rattle.std.specs.Prelude.{◌≡◌, ℕ, ◌+◌, ◌-◌, ◌<◌, ◌≤◌, cond, nat_lt, drop, take, length, slice_index};
 ghost use Rattle.std.specs.List.{slice_range};
+ghost use Rattle.tree_search.specs.Width.{IsNone};
 ghost use Rattle.tree_search.specs.Front.{IsFirstRoom, IsRising, finish_at, left_at, returned};
 
-use crate::amounts::fits;
+use crate::amounts::{add, fits, subtract};
 use mrcpsp::MOST_RESOURCES;
-use serial_sgs::amounts::{Amounts, MOST_SUM, add, subtract};
+use serial_sgs::amounts::{Amounts, MOST_SUM};
 
 /// A `Running` is what a running activity gives back, and when.
 #[derive(Clone, Copy)]
@@ -16,9 +17,25 @@ pub(crate) struct Running {
     pub(crate) finish: u32,
 }
 
+/// A `Span` is the places of a list of running activities: from `begin` on, before `end`.
+#[derive(Clone, Copy)]
+pub(crate) struct Span {
+    pub(crate) begin: usize,
+    pub(crate) end: usize,
+}
+
 /// The least start from `ready` on from which the request fits for ever.
 #[inline(always)]
-pub(crate) fn earliest(free: &Amounts, running: &[Running], request: &Amounts, ready: u32) -> u32
+pub(crate) fn earliest(
+    free: &Amounts,
+    running: &[Running],
+    request: &Amounts,
+    ready: u32,
+    lanes: usize,
+) -> u32
+    requires lanes { lanes ≤ MOST_RESOURCES }
+    requires none { IsNone lanes request.now }
+    requires beyond { (r t : ℕ) → lanes ≤ r → r < MOST_RESOURCES → left_at free.now running.now r t ≡ 0 }
     requires rising { IsRising running.now }
     requires small { (r : ℕ) → r < MOST_RESOURCES → slice_index request.now r ≤ MOST_SUM }
     requires few { (r t : ℕ) → r < MOST_RESOURCES → left_at free.now running.now r t ≤ MOST_SUM }
@@ -29,9 +46,9 @@ pub(crate) fn earliest(free: &Amounts, running: &[Running], request: &Amounts, r
     let mut left = *free;
     let mut start = 0;
     let mut at = 0;
-    while !fits(request, &left) {
+    while !fits(request, &left, lanes) {
         let next = &running[at];
-        add(&mut left, &next.request);
+        add(&mut left, &next.request, lanes);
         start = next.finish;
         at += 1;
     }
@@ -40,7 +57,9 @@ pub(crate) fn earliest(free: &Amounts, running: &[Running], request: &Amounts, r
 
 /// Gives back what has finished by `start`. Returns the place of the first that has not.
 #[inline(always)]
-fn give_back(free: &mut Amounts, running: &[Running], start: u32) -> usize
+fn give_back(free: &mut Amounts, running: &[Running], start: u32, lanes: usize) -> usize
+    requires lanes { lanes ≤ MOST_RESOURCES }
+    requires beyond { (r t : ℕ) → lanes ≤ r → r < MOST_RESOURCES → left_at free.old running.now r t ≡ 0 }
     requires rising { IsRising running.now }
     requires few { (r t : ℕ) → r < MOST_RESOURCES → left_at free.old running.now r t ≤ MOST_SUM }
     ensures inside { result ≤ length running.now }
@@ -50,7 +69,7 @@ fn give_back(free: &mut Amounts, running: &[Running], start: u32) -> usize
 {
     let mut at = 0;
     while at < running.len() && running[at].finish <= start {
-        add(free, &running[at].request);
+        add(free, &running[at].request, lanes);
         at += 1;
     }
     at
@@ -104,7 +123,11 @@ fn run_into(
     later: &mut [Running],
     new: Running,
     start: u32,
+    lanes: usize,
 ) -> usize
+    requires lanes { lanes ≤ MOST_RESOURCES }
+    requires none { IsNone lanes new.request }
+    requires beyond { (r t : ℕ) → lanes ≤ r → r < MOST_RESOURCES → left_at free.old running.now r t ≡ 0 }
     requires memory { length running.now + 1 ≤ length later.old }
     requires rising { IsRising running.now }
     requires few { (r t : ℕ) → r < MOST_RESOURCES → left_at free.old running.now r t ≤ MOST_SUM }
@@ -117,45 +140,57 @@ fn run_into(
         → left_at free.new (take result later.new) r t + cond (nat_lt t new.finish) (slice_index new.request r) 0
         ≡ left_at free.old running.now r t }
 {
-    let first = give_back(free, running, start);
+    let first = give_back(free, running, start, lanes);
     if new.finish <= start {
         let (_, end) = put_till(later, 0, running, first, u32::MAX);
         return end;
     }
-    subtract(free, &new.request);
+    subtract(free, &new.request, lanes);
     let (middle, place) = put_till(later, 0, running, first, new.finish);
     later[place] = new;
     let (_, end) = put_till(later, place + 1, running, middle, u32::MAX);
     end
 }
 
-/// One more runs, from `start` on: the parent's list is in `at .. upto`, and the new one stands from
-/// `upto` on. Returns its end.
+/// One more runs, from `start` on: the parent's list is in `span`, and the new one stands behind it.
+/// Returns its end.
 #[inline(always)]
 pub(crate) fn run_in(
     list: &mut [Running],
-    at: usize,
-    upto: usize,
+    span: Span,
     free: &mut Amounts,
     new: Running,
     start: u32,
+    lanes: usize,
 ) -> usize
-    requires order { at ≤ upto }
-    requires memory { upto + upto + 1 ≤ length list.old + at }
-    requires rising { IsRising (slice_range (take upto list.old) at upto) }
+    requires lanes { lanes ≤ MOST_RESOURCES }
+    requires none { IsNone lanes new.request }
+    requires beyond { (r t : ℕ) → lanes ≤ r → r < MOST_RESOURCES
+        → left_at free.old (slice_range (take span.end list.old) span.begin span.end) r t ≡ 0 }
+    requires order { span.begin ≤ span.end }
+    requires memory { span.end + span.end + 1 ≤ length list.old + span.begin }
+    requires rising { IsRising (slice_range (take span.end list.old) span.begin span.end) }
     requires few { (r t : ℕ) → r < MOST_RESOURCES
-        → left_at free.old (slice_range (take upto list.old) at upto) r t ≤ MOST_SUM }
+        → left_at free.old (slice_range (take span.end list.old) span.begin span.end) r t ≤ MOST_SUM }
     requires room { start < new.finish → (r : ℕ) → r < MOST_RESOURCES
-        → slice_index new.request r ≤ left_at free.old (slice_range (take upto list.old) at upto) r start }
+        → slice_index new.request r ≤ left_at free.old (slice_range (take span.end list.old) span.begin span.end) r start }
     ensures memory { length list.new ≡ length list.old }
-    ensures same { take upto list.new ≡ take upto list.old }
-    ensures above { upto ≤ result }
-    ensures count { result + at ≤ upto + upto + 1 }
-    ensures rising { IsRising (slice_range list.new upto result) }
+    ensures same { take span.end list.new ≡ take span.end list.old }
+    ensures above { span.end ≤ result }
+    ensures count { result + span.begin ≤ span.end + span.end + 1 }
+    ensures rising { IsRising (slice_range list.new span.end result) }
     ensures kept { (r t : ℕ) → r < MOST_RESOURCES → start ≤ t
-        → left_at free.new (slice_range list.new upto result) r t + cond (nat_lt t new.finish) (slice_index new.request r) 0
-        ≡ left_at free.old (slice_range (take upto list.old) at upto) r t }
+        → left_at free.new (slice_range list.new span.end result) r t + cond (nat_lt t new.finish) (slice_index new.request r) 0
+        ≡ left_at free.old (slice_range (take span.end list.old) span.begin span.end) r t }
 {
-    let (before, behind) = list.split_at_mut(upto);
-    upto + run_into(free, &before[at..upto], behind, new, start)
+    let (before, behind) = list.split_at_mut(span.end);
+    span.end
+        + run_into(
+            free,
+            &before[span.begin..span.end],
+            behind,
+            new,
+            start,
+            lanes,
+        )
 }

@@ -12,11 +12,14 @@ ghost use Rattle.serial_sgs.specs.Members.{has};
 ghost use Rattle.serial_sgs.specs.Order.{HasBefore, IsLatest};
 ghost use Rattle.serial_sgs.specs.Rows.{IsTable};
 ghost use Rattle.tree_search.specs.Table.{IsLines};
+ghost use Rattle.tree_search.specs.Width.{HasWidth, IsNone};
+ghost use Rattle.tree_search.specs.declared.width.Width.TheVariants.{Small};
 ghost use Rattle.tree_search.specs.Path.{AreDone, HasEntered, IsCovered, IsFirstStage, IsHopeless, IsTaken, triangle};
 
 use crate::amounts::{is_covered, take_off};
-use crate::front::{Running, earliest, run_in};
+use crate::front::{Running, Span, earliest, run_in};
 use crate::table::{NEVER, Row, Table};
+use crate::width::Width;
 use measures::Measures;
 use mrcpsp::{
     MOST_ACTIVITIES, MOST_DURATION, MOST_MODES, MOST_RESOURCES, MOST_START, Project, Sequence,
@@ -117,7 +120,7 @@ fn first_stage(project: &Project, measures: &Measures, rows: &Rows, eligible: [u
     ensures { IsFirstStage project.now eligible result }
 {
     let mut slack = rows.stocks;
-    take_off(&mut slack, &needed_first(project, measures));
+    take_off(&mut slack, &needed_first(project, measures), MOST_RESOURCES);
     Stage {
         slack,
         free: rows.capacities,
@@ -154,12 +157,15 @@ fn make_begun(
 
 /// Whether a mode takes `limit` or longer with its tail, or exceeds what is left of a stock.
 #[inline(always)]
-fn is_hopeless(row: &Row, slack: &Amounts, limit: u32) -> bool
+fn is_hopeless(row: &Row, slack: &Amounts, limit: u32, lanes: usize) -> bool
+    requires lanes { lanes ≤ MOST_RESOURCES }
+    requires none { IsNone lanes row.now.extra }
+    requires beyond { IsNone lanes slack.now }
     ensures hopeless { IsTrue result → row.now.reach < limit → IsCovered row.now.extra slack.now → ⊥ }
     ensures short { IsFalse result → row.now.reach < limit }
     ensures covered { IsFalse result → IsCovered row.now.extra slack.now }
 {
-    limit <= row.reach || !is_covered(&row.extra, slack)
+    limit <= row.reach || !is_covered(&row.extra, slack, lanes)
 }
 
 /// The latest finish of the activities in `before`, `NEVER` if one of them is not placed.
@@ -190,7 +196,9 @@ fn enlist(
     after: &[u32],
     before: &[Sequence<u32>],
     finishes: &[u32],
+    width: Width,
 )
+    requires words { width ≡ Small → length readies.old.items ≤ 64 }
     requires inside { All (λ s. s < length readies.old.items) after.now }
     requires few { length readies.old.items ≤ 256 }
     requires listed { length before.now ≡ length readies.old.items }
@@ -204,7 +212,7 @@ fn enlist(
         let latest = latest_done(before[activity].as_slice(), finishes);
         if latest < NEVER {
             readies[activity] = latest;
-            put_in(eligible, activity);
+            put_in(eligible, width.short(activity));
         }
     }
 }
@@ -301,15 +309,16 @@ impl Path {
 
     /// The first eligible activity from `from` on.
     #[inline(always)]
-    pub(crate) fn next_eligible(&self, from: usize) -> Option<usize>
-        requires { from ≤ size self.now.project }
+    pub(crate) fn next_eligible(&self, from: usize, width: Width) -> Option<usize>
+        requires from { from ≤ size self.now.project }
+        requires width { HasWidth self.now.project width }
         ensures { MatchOption result (NoneEligible self.now.project self.now.placed from)
             (IsNextEligible self.now.project self.now.placed from) }
     {
         next_in(
             &self.stages[self.placed.len()].eligible,
-            from,
-            self.finishes.len(),
+            width.short(from),
+            width.short(self.finishes.len()),
         )
     }
 
@@ -322,7 +331,9 @@ impl Path {
         from: usize,
         end: usize,
         limit: u32,
+        width: Width,
     ) -> usize
+        requires width { HasWidth self.now.project width }
         requires activity { activity < size self.now.project }
         requires order { from < end }
         requires within { end ≤ mode_count self.now.project activity }
@@ -337,7 +348,7 @@ impl Path {
         let slack = self.stages[self.placed.len()].slack;
         let mut at = 0;
         loop {
-            if !is_hopeless(&rows[at], &slack, limit) {
+            if !is_hopeless(&rows[at], &slack, limit, width.lanes()) {
                 return from + at;
             }
             at += 1;
@@ -367,7 +378,8 @@ impl Path {
     /// The least start from the last one on at which the activity may be placed in `mode`: its
     /// predecessors have finished, and no renewable capacity is exceeded.
     #[inline(always)]
-    pub(crate) fn earliest_last(&self, activity: usize, mode: usize) -> u32
+    pub(crate) fn earliest_last(&self, activity: usize, mode: usize, width: Width) -> u32
+        requires width { HasWidth self.now.project width }
         requires activity { activity < size self.now.project }
         requires mode { mode < mode_count self.now.project activity }
         requires executable { IsTrue (is_executable self.now.project activity mode) }
@@ -388,12 +400,14 @@ impl Path {
             &self.running[stage.begin..stage.end],
             &row.request,
             ready,
+            width.lanes(),
         )
     }
 
     /// Places the activity behind all others. Takes no memory.
     #[inline(always)]
-    pub(crate) fn place(&mut self, activity: usize, mode: usize, start: u32)
+    pub(crate) fn place(&mut self, activity: usize, mode: usize, start: u32, width: Width)
+        requires width { HasWidth self.old.project width }
         requires activity { activity < size self.old.project }
         requires mode { mode < mode_count self.old.project activity }
         requires eligible { IsTrue (is_eligible self.old.project self.old.placed activity) }
@@ -412,27 +426,37 @@ impl Path {
         let mut eligible = stage.eligible;
         let mut slack = stage.slack;
         let mut free = stage.free;
-        let begin = stage.begin;
-        let upto = stage.end;
-        take_out(&mut eligible, activity);
+        let span = Span {
+            begin: stage.begin,
+            end: stage.end,
+        };
+        take_out(&mut eligible, width.short(activity));
         enlist(
             &mut eligible,
             &mut self.readies,
             self.after[activity].as_slice(),
             &self.before,
             &self.finishes,
+            width,
         );
-        take_off(&mut slack, &row.extra);
+        take_off(&mut slack, &row.extra, width.lanes());
         let new = Running {
             request: row.request,
             finish,
         };
-        let end = run_in(&mut self.running, begin, upto, &mut free, new, start);
+        let end = run_in(
+            &mut self.running,
+            span,
+            &mut free,
+            new,
+            start,
+            width.lanes(),
+        );
         self.stages[depth + 1] = Stage {
             slack,
             free,
             eligible,
-            begin: upto,
+            begin: span.end,
             end,
             from: start,
         };

@@ -4,7 +4,7 @@ use Rattle.tree_search.proofs.cursor.first_candidate.Goals as goal
 
 pub returns-in_err-activity : goal.returns-in_err-activity
 returns-in_err-activity c =
-    rw c.from_residual.ensures (from-none c.args.path.now.project c.args.path.now.placed c.args.from c.requires c.in_err-activity.ensures)
+    rw c.from_residual.ensures (from-none c.args.path.now.project c.args.path.now.placed c.args.from c.requires.from c.in_err-activity.ensures)
 
 pub returns : goal.returns
 returns c =

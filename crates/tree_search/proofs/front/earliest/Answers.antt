@@ -8,6 +8,10 @@ pub fits-requires-clause-few : goal.fits-requires-clause-few
 fits-requires-clause-few c r among =
     omega (arith, c.loop-start.invariant.same r c.loop-start.start among (omega arith), c.requires.few r c.loop-start.start among)
 
+pub fits-requires-clause-beyond : goal.fits-requires-clause-beyond
+fits-requires-clause-beyond c r past among =
+    omega (arith, c.loop-start.invariant.same r c.loop-start.start among (omega arith), c.requires.beyond r c.loop-start.start past among)
+
 pub bounds-running-at : goal.bounds-running-at
 bounds-running-at c =
     let running = c.args.running.now in
@@ -23,6 +27,8 @@ add-requires c =
     let later : c.loop-start.start ≤ t = c.loop-start.invariant.order at (omega arith) inside in
     record {
       few = λ r among. omega (arith, c.loop-start.invariant.same r t among later, c.requires.few r t among, next_back running at r t inside, back_by r t (get_or running at no_running) (omega arith));
+      lanes = c.requires.lanes;
+      none = λ r past among. omega (arith, c.loop-start.invariant.same r t among later, c.requires.beyond r t past among, next_back running at r t inside, back_by r t (get_or running at no_running) (omega arith));
     }
 
 pub loop-start-smaller : goal.loop-start-smaller

@@ -11,6 +11,8 @@ add-requires c =
     let start : ℕ = c.args.start in
     record {
       few = λ r among. omega (arith, c.loop-at.invariant.same r start among (omega arith), c.requires.few r start among, next_back running at r start c.loop-at-test.true, back_by r start (get_or running at no_running) c.if-running-at.true);
+      lanes = c.requires.lanes;
+      none = λ r past among. omega (arith, c.loop-at.invariant.same r start among (omega arith), c.requires.beyond r start past among, next_back running at r start c.loop-at-test.true, back_by r start (get_or running at no_running) c.if-running-at.true);
     }
 
 pub loop-at-preserved : goal.loop-at-preserved

@@ -12,6 +12,8 @@ subtract-requires c =
     let start : ℕ = c.args.start in
     record {
       enough = λ r among. omega (arith, c.requires.room (omega (arith, c.if-new-start.false)) r among, c.give_back-first.ensures.kept r start among (omega arith), none_back running first r start (λ k above inside. c.give_back-first.ensures.beyond k above inside));
+      lanes = c.requires.lanes;
+      none = c.requires.none;
     }
 
 pub put_till-end-requires-2-clause-risen : goal.put_till-end-requires-2-clause-risen

@@ -34,7 +34,7 @@ returns-clause-nodes c k at =
     let project = c.ready.ensures.board.project in
     let few = (project.moded j c.requires.candidate.activity).1 in
     let candidate : IsCandidate p placed here = record { activity = c.requires.candidate.activity; mode = more; few = omega (arith, more, few); eligible = c.requires.candidate.eligible } in
-    nodes_more p placed placed c.examine.new.path.placed _ _ here best (best_in c.examine.new.incumbent) (mode - top.mode) candidate
+    nodes_more p placed placed c.examine-step.new.path.placed _ _ here best (best_in c.examine-step.new.incumbent) (mode - top.mode) candidate
     (nodes_to p placed top best mode c.requires.candidate.activity c.requires.candidate.eligible c.first_hopeful-mode.ensures.above (omega (arith, more)) few
     (λ m above below. hopeless_pruned p placed j m c.time_from-limit.result c.ready.result best project c.requires.candidate.activity (omega (arith, below, more)) c.ready.ensures.most c.ready.ensures.exact (c.time_from-limit.ensures p c.requires.incumbent) (c.first_hopeful-mode.ensures.hopeless m above below)))
-    c.examine.ensures.node k at
+    c.examine-step.ensures.node k at

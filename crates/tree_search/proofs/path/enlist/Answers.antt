@@ -27,7 +27,7 @@ loop-other-preserved c =
     elim c.if-latest-lt-NEVER.branch [
       | then-latest-lt-NEVER w ↦
           let set_is : c.if-latest-lt-NEVER.readies.items ≡ set c.loop-other.readies.items s c.latest_done-latest.result = ap (λ (v : Vec ℕ Global). v.items) w.readies-is in
-          rw (set_is, w.eligible-is) (entered_next after c.args.before.now c.args.finishes.now c.args.eligible.now c.args.readies.now.items c.loop-other.eligible c.loop-other.readies.items w.put_in.new.words i s c.latest_done-latest.result inside refl (omega (arith, known, so_far.count)) (rw list at (c.latest_done-latest.ensures.latest w.if-latest-lt-NEVER.true)) w.put_in.ensures.own w.put_in.ensures.others (rw list at (c.latest_done-latest.ensures.done w.if-latest-lt-NEVER.true)) so_far)
+          rw (set_is, w.eligible-is) (entered_next after c.args.before.now c.args.finishes.now c.args.eligible.now c.args.readies.now.items c.loop-other.eligible c.loop-other.readies.items w.put_in.new.words i s c.latest_done-latest.result inside refl (omega (arith, known, so_far.count)) (rw list at (c.latest_done-latest.ensures.latest w.if-latest-lt-NEVER.true)) (rw w.short.ensures at w.put_in.ensures.own) (rw w.short.ensures at w.put_in.ensures.others) (rw list at (c.latest_done-latest.ensures.done w.if-latest-lt-NEVER.true)) so_far)
       | else-latest-lt-NEVER w ↦
           let same : c.if-latest-lt-NEVER.readies.items ≡ c.loop-other.readies.items = ap (λ (v : Vec ℕ Global). v.items) w.readies-is in
           rw (same, w.eligible-is) (entered_later after c.args.before.now c.args.finishes.now c.args.eligible.now c.args.readies.now.items c.loop-other.eligible c.loop-other.readies.items i s inside refl (rw list at (c.latest_done-latest.ensures.undone w.if-latest-lt-NEVER.false)) so_far)

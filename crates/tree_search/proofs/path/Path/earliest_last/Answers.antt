@@ -1,6 +1,6 @@
 use Rattle.std.proofs.Common.{◌≡◌, ℕ, ◌<◌, ◌≤◌, true, nat_le, get_or, length, arith, ap, ◌∙◌}
 use Rattle.std.proofs.lemmas.List.{get_or_default}
-use Rattle.mrcpsp.specs.Project.{size, mode_count, duration}
+use Rattle.mrcpsp.specs.Project.{size, renewables, mode_count, duration}
 use Rattle.mrcpsp.specs.Placed.{are_ready, earliest, is_executable, last_start}
 use Rattle.mrcpsp.proofs.EarliestLemmas.{earliest-allowed, earliest-ge}
 use Rattle.mrcpsp.proofs.BoundLemmas.{earliest-le-latest}
@@ -10,6 +10,8 @@ use Rattle.serial_sgs.proofs.WalkLemmas.{at_once}
 use Rattle.tree_search.specs.Path.{no_stage}
 use Rattle.tree_search.proofs.PathLemmas.{stage_here, triangle_rises, triangle_small}
 use Rattle.tree_search.proofs.PlacedLemmas.{front_earliest, front_enough, front_most}
+use Rattle.tree_search.specs.Width.{HasWidth}
+use Rattle.tree_search.proofs.WidthLemmas.{left_none, request_none}
 use Rattle.tree_search.proofs.path.Path.earliest_last.Goals as goal
 
 pub row-row-requires : goal.row-row-requires
@@ -61,7 +63,12 @@ earliest-requires c =
     let from : ℕ = last_start placed in
     let e : ℕ = earliest p placed j m from in
     let some : 0 < duration p j m = omega (arith, c.if-row-eq0.false, row.duration) in
+    let wide : HasWidth p c.args.width = rw (← c.self.view_is) at c.requires.width in
+    let enough : renewables p ≤ c.lanes.result = omega (arith, c.lanes.ensures.exact, wide.renewable) in
     rw c.deref.ensures.value (record {
+      lanes = c.lanes.ensures.few;
+      none = request_none p j m c.lanes.result c.row-row.result.now was.board.project known moded row enough;
+      beyond = left_none p placed from c.lanes.result c.index-stage.result.now.free _ front enough;
       rising = front.rising;
       small = λ r among. omega (arith, row.request r among, request_small p j m r was.board.project known moded);
       few = λ r t among. omega (arith, front_most p placed from c.index-stage.result.now.free _ front r t among, capacity_small p r was.board.project);

@@ -1,12 +1,15 @@
 use Rattle.std.proofs.Common.{◌≡◌, ◌+◌, ◌<◌, ◌≤◌, true, get_or, length, arith, ap, ◌∙◌, ⊎_elim}
 use Rattle.std.proofs.lemmas.Bool.{cases_lt}
 use Rattle.std.proofs.lemmas.List.{get_or_default}
-use Rattle.mrcpsp.specs.Project.{size, mode_count}
+use Rattle.mrcpsp.specs.Project.{size, nonrenewables, mode_count}
 use Rattle.mrcpsp.specs.Placed.{is_eligible}
 use Rattle.mrcpsp.proofs.EarliestLemmas.{eligible-unplaced}
 use Rattle.serial_sgs.proofs.BoardLemmas.{count-le-size}
 use Rattle.tree_search.specs.Path.{no_stage}
 use Rattle.tree_search.proofs.PathLemmas.{covered_at, hopeless_at, stage_here}
+use Rattle.tree_search.specs.Table.{no_row}
+use Rattle.tree_search.specs.Width.{HasWidth}
+use Rattle.tree_search.proofs.WidthLemmas.{extra_none}
 use Rattle.tree_search.proofs.path.Path.first_hopeful.Goals as goal
 
 pub loop-rows-init : goal.loop-rows-init
@@ -84,3 +87,15 @@ returns-then-at-rows-clause-hopeless c m above below =
     (λ (before : m < c.args.from + at). c.loop-rows.invariant.hopeless m above before)
     (λ (here : c.args.from + at ≤ m). let same : m ≡ c.args.from + at = omega (arith, here, below, rows.count, c.if-at-rows.true) in rw (same, ← c.self.view_is) one)
     (cases_lt m (c.args.from + at))
+
+pub is_hopeless-requires-clause-none : goal.is_hopeless-requires-clause-none
+is_hopeless-requires-clause-none c =
+    let p = c.self.inside.project in
+    let j = c.args.activity in
+    let known : j < size p = rw (← c.self.view_is) at c.requires.activity in
+    let within : c.args.end ≤ mode_count p j = rw (← c.self.view_is) at c.requires.within in
+    let wide : HasWidth p c.args.width = rw (← c.self.view_is) at c.requires.width in
+    let enough : nonrenewables p ≤ c.lanes.result = omega (arith, c.lanes.ensures.exact, wide.nonrenewable) in
+    let rows = c.modes-rows.ensures p c.self.invariant.tabled known (omega (arith, c.requires.order)) within in
+    let at = c.loop-rows.at in
+    extra_none p j (c.args.from + at) c.lanes.result (get_or c.modes-rows.result.now at no_row) c.self.invariant.board.project known (omega (arith, rows.count, c.loop-rows.invariant.inside, within)) (rows.each at c.loop-rows.invariant.inside) enough

@@ -19,4 +19,4 @@ returns c =
     let ends : c.len-2.result ≡ size p = omega (arith, c.len-2.ensures, b.finishes.ok.0, was.noted) in
     let here = stage_here p placed b.running.items b.stages.items was.staged in
     subst (λ (x : BoardData). MatchOption c.next_in.result (NoneEligible x.project x.placed c.args.from) (IsNextEligible x.project x.placed c.args.from)) c.self.view_is
-    (next_is p placed c.index.result.now.eligible c.args.from c.next_in.result (rw stage here.eligible) (rw stage here.others) (rw ends at c.next_in.ensures))
+    (next_is p placed c.index.result.now.eligible c.args.from c.next_in.result (rw stage here.eligible) (rw stage here.others) (rw (c.short.ensures, c.short-2.ensures ∙ ends) at c.next_in.ensures))

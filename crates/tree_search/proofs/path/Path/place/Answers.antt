@@ -1,6 +1,6 @@
 use Rattle.std.proofs.Common.{◌≡◌, ◌+◌, ◌<◌, ◌≤◌, true, arith, refl, subst, sym, ap, ◌∙◌, get_or, set, length-set, drop, take, take_all, ◌++◌, ℕ, List, All, [], length}
 use Rattle.std.proofs.lemmas.List.{get_or_default, take-append-le}
-use Rattle.mrcpsp.specs.Project.{size, mode_count}
+use Rattle.mrcpsp.specs.Project.{size, renewables, nonrenewables, mode_count}
 use Rattle.mrcpsp.specs.Placed.{Placed, is_allowed, is_eligible, last_start}
 use Rattle.mrcpsp.proofs.EarliestLemmas.{eligible-unplaced}
 use Rattle.serial_sgs.specs.Board.{BoardData, IsInside}
@@ -8,6 +8,8 @@ use Rattle.serial_sgs.proofs.BoardLemmas.{count-lt-size, duration_small}
 use Rattle.tree_search.specs.declared.path.Stage.{Stage}
 use Rattle.tree_search.specs.Path.{HasEntered, no_stage}
 use Rattle.tree_search.proofs.PathLemmas.{IsPlacing, has_place, path_push}
+use Rattle.tree_search.specs.Width.{HasWidth}
+use Rattle.tree_search.proofs.WidthLemmas.{extra_none, request_none}
 use Rattle.tree_search.proofs.path.Path.place.Goals as goal
 
 pub overflow_add-finish : goal.overflow_add-finish
@@ -59,8 +61,19 @@ run_in-end-requires c =
     let room = count-lt-size (record { project = p; placed = placed }) j was.board known (eligible-unplaced p placed j may) in
     let n : c.len-depth.result ≡ length placed = omega (arith, c.len-depth.ensures, b.placed.ok.0) in
     let stage : c.index-stage.result.now ≡ get_or b.stages.items (length placed) no_stage = c.index-stage.ensures ∙ get_or_default b.stages.items c.len-depth.result c.index-stage.result.now no_stage (omega (arith, was.staged.count, room, n)) ∙ ap (λ k. get_or b.stages.items k no_stage) n in
+    let wide : HasWidth p c.args.width = rw (← c.self.view_is) at c.requires.width in
+    let enough : renewables p ≤ c.lanes-2.result = omega (arith, c.lanes-2.ensures.exact, wide.renewable) in
     let it = rw (← stage) at (has_place p placed a b.running.items b.stages.items c.row-row.result.now (c.args.start + c.row-row.result.now.duration) was.board was.staged room inside row (omega (arith, row.duration)) above fits) in
-    rw c.deref_mut.ensures.value (record { order = it.order; memory = it.memory; rising = it.rising; few = it.few; room = it.room })
+    rw c.deref_mut.ensures.value (record {
+      lanes = c.lanes-2.ensures.few;
+      none = request_none p j m c.lanes-2.result c.row-row.result.now was.board.project known in_mode row enough;
+      beyond = it.beyond c.lanes-2.result enough;
+      order = it.order;
+      memory = it.memory;
+      rising = it.rising;
+      few = it.few;
+      room = it.room;
+    })
 
 pub index_mut-requires-2 : goal.index_mut-requires-2
 index_mut-requires-2 c =
@@ -99,8 +112,8 @@ invariant_of-self c =
     record {
       ends_at = omega (arith, row.duration);
       own = row;
-      gone = c.take_out.ensures.own;
-      kept = c.take_out.ensures.others;
+      gone = rw c.short.ensures at c.take_out.ensures.own;
+      kept = rw c.short.ensures at c.take_out.ensures.others;
       entered = entered;
       slack = c.take_off.ensures;
       long = rw c.deref_mut.ensures.value at c.run_in-end.ensures.memory;
@@ -117,3 +130,12 @@ invariant_of-self c =
     rw (c.push_reserved.ensures.items, c.push_reserved.ensures.capacity, n, whole)
     (path_push p placed a _ b.table b.before.items b.after.items b.stages.items b.running.items c.run_in-end.new.list new c.take_out.new.words b.finishes.items b.readies.items c.enlist.new.readies.items c.row-row.result.now finish was inside may fits above room
     (subst (λ (s : Stage). IsPlacing p a b.after.items b.before.items b.running.items c.run_in-end.new.list s new c.take_out.new.words b.finishes.items b.readies.items c.enlist.new.readies.items c.row-row.result.now finish) stage steps))
+
+pub take_off-requires-clause-none : goal.take_off-requires-clause-none
+take_off-requires-clause-none c =
+    let p = c.self.inside.project in
+    let known : c.args.activity < size p = rw (← c.self.view_is) at c.requires.activity in
+    let in_mode : c.args.mode < mode_count p c.args.activity = rw (← c.self.view_is) at c.requires.mode in
+    let wide : HasWidth p c.args.width = rw (← c.self.view_is) at c.requires.width in
+    let enough : nonrenewables p ≤ c.lanes.result = omega (arith, c.lanes.ensures.exact, wide.nonrenewable) in
+    extra_none p c.args.activity c.args.mode c.lanes.result c.row-row.result.now c.self.invariant.board.project known in_mode (c.row-row.ensures p c.self.invariant.tabled known in_mode) enough

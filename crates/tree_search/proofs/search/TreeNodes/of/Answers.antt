@@ -31,6 +31,7 @@ returns c =
           none = λ _. c.in_ok-incumbent.ensures.never;
         };
         top = rw none (first_candidate p project);
+        width = c.of-width.ensures;
       };
       after = rw (none, c.in_ok-incumbent.ensures.none) (first_at p (omega (arith, c.size.ensures.exact, c.size.ensures.some)));
     }
