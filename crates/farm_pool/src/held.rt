@@ -3,11 +3,12 @@ ghost use Rattle.farm_core.specs.Turn.{IsTurn};
 ghost use Rattle.farm_pool.specs.Calls.{MayAsk, AnswersOn, DoesOn};
 
 use crate::image::{AnswerImage, CallImage};
+use crate::query::{Query, query_on};
 use farm_core::{Command, Config, Entry, Farm, NoTurn, Reply, Stranger, Turn};
 use std::alloc::{AllocError, Global};
 use std::marker::Model;
 use strategy::Strategy;
-use turn_lock::{Kept, Runs};
+use turn_lock::{Kept, Queries, Runs};
 
 /// A `FarmCall` is a call under the lock: a tenant's command, a take with its slice, or a give.
 pub enum FarmCall<J> {
@@ -146,5 +147,36 @@ impl Runs for Held<Box<dyn Strategy>> {
 
     fn apply(&mut self, call: FarmCall<Box<dyn Strategy>>) -> FarmAnswer<Box<dyn Strategy>> {
         serve_on(&mut self.farm, call)
+    }
+}
+
+impl Queries for Held<Box<dyn Strategy>> {
+    type Query = Query;
+
+    type Reply = Reply;
+
+    type Says = CallImage;
+
+    type Tells = AnswerImage;
+
+    ghost use Rattle.farm_pool.specs.Calls.{DoesOn};
+    ghost use Rattle.farm_pool.specs.Query.{command_about, query_image};
+    ghost use Rattle.farm_pool.specs.declared.image.AnswerImage.TheVariants as told;
+    ghost use Rattle.farm_pool.specs.declared.held.FarmAnswer.TheVariants as given;
+    ghost use Rattle.farm_pool.specs.declared.held.FarmCall.TheVariants as asked;
+    ghost use Rattle.std.specs.Prelude.{◌<◌, length};
+
+    ghost asked = { query_image };
+
+    ghost replied = { λ reply. told.Replied reply };
+
+    ghost can = { λ held query. query.tenant < length held.config.tenants };
+
+    ghost gives = { λ old query reply new.
+        DoesOn (λ b. (Strategy-box b).meaning b.value) old
+        (asked.Asked query.tenant (command_about query.about)) (given.Replied reply) new };
+
+    fn answer(&mut self, query: &Query) -> Reply {
+        query_on(&mut self.farm, query)
     }
 }

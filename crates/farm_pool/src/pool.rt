@@ -1,6 +1,7 @@
-ghost use Rattle.std.specs.Prelude.{◌≡◌, ◌≢◌, ◌<◌, [], length, IfOk, IfSome};
+ghost use Rattle.std.specs.Prelude.{◌≡◌, ◌≢◌, ◌<◌, ◌≤◌, [], length, map, All, IfOk, IfSome};
+ghost use Rattle.std.specs.Vec.{vec_capacity};
 ghost use Rattle.turn_lock.specs.History.{entries_of};
-ghost use Rattle.turn_lock.specs.Plays.{having_split, newcomer, BothSeen, Called};
+ghost use Rattle.turn_lock.specs.Plays.{having_split, newcomer, AreCalled, BothSeen, Called};
 ghost use Rattle.turn_lock.specs.Rule.{opened};
 ghost use Rattle.turn_lock.specs.Values.{IsPassOf};
 ghost use Rattle.farm_core.specs.Command.{event_of, IsFresh};
@@ -8,11 +9,13 @@ ghost use Rattle.farm_pool.specs.declared.image.AnswerImage.TheVariants as told;
 ghost use Rattle.farm_pool.specs.declared.image.CallImage.TheVariants as said;
 ghost use Rattle.farm_pool.specs.Closed.{IsIsolated};
 ghost use Rattle.farm_pool.specs.Laws.{IsTrueOf};
+ghost use Rattle.farm_pool.specs.Query.{query_image};
 ghost use Rattle.farm_pool.specs.Served.{Served};
 ghost use Rattle.farm_pool.specs.Worked.{IsClosed};
 
 use crate::held::{FarmAnswer, FarmCall, Held};
 use crate::laws::{closed_pools_are_isolated, each_reply_is_true};
+use crate::query::Query;
 use farm_core::{Command, Config, Farm, Reply};
 use std::alloc::{AllocError, Global};
 use std::marker::Model;
@@ -110,6 +113,29 @@ impl Pool {
             FarmAnswer::Replied(reply) => reply,
             _ => unreachable!(),
         }
+    }
+
+    /// Waits for the farm once, and answers `queries` in their order: no other call is made between
+    /// them. Of each reply the laws of [`call`](Pool::call)'s hold.
+    pub fn ask_all<R: Wait>(
+        &self,
+        rt: &R,
+        pass: &mut PoolPass,
+        queries: &[Query],
+        replies: &mut Vec<Reply>,
+    )
+        requires own { IsPassOf self.now.lock pass.old }
+        requires known { All (λ query. query.tenant < length self.now.lock.opening.tenants) queries.now }
+        requires none { replies.old.items ≡ [] }
+        requires room { length queries.now ≤ vec_capacity replies.old }
+        ensures own { IsPassOf self.now.lock pass.new }
+        ensures called { AreCalled Served pass.old.view
+            (map query_image queries.now)
+            (map (λ reply. told.Replied reply) replies.new.items)
+            pass.new.view }
+        ensures capacity { vec_capacity replies.new ≡ vec_capacity replies.old }
+    {
+        self.lock.with_queries(rt, pass, queries, replies);
     }
 
     /// Returns a pass for another thread, with this pass's knowledge and no calls of its own.

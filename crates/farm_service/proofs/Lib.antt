@@ -1,3 +1,5 @@
 pub mod SessionLemmas
 pub mod AskedLemmas
+pub mod BatchLemmas
+pub mod PoolLemmas
 pub mod SettledLemmas

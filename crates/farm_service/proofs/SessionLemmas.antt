@@ -1,5 +1,5 @@
 -- Sessions, request by request.
-use Rattle.std.proofs.Common.{◌≡◌, ℕ, Bool, true, false, List, [], ◌∷◌, Option, refl, ap, ◌∙◌, subst, inl, inr}
+use Rattle.std.proofs.Common.{◌≡◌, ℕ, Bool, true, false, List, [], ◌∷◌, ◌++◌, Option, refl, sym, ap, ◌∙◌, subst, inl, inr}
 use Rattle.std.specs.Prelude.{⊤}
 use Rattle.farm_core.specs.declared.command.Command.{Command}
 use Rattle.farm_core.specs.declared.entry.Event.{Event}
@@ -8,7 +8,7 @@ use Rattle.farm_core.specs.Config.{ConfigData}
 use Rattle.farm_session.specs.declared.heard.Heard.{Heard}
 use Rattle.farm_session.specs.Branch.{BranchValue}
 use Rattle.farm_session.specs.Ready.{ReadyData}
-use Rattle.farm_service.specs.Session.{Stand, stand, HasAnswered, HasServed, IsSession, IsClientServed}
+use Rattle.farm_service.specs.Session.{Stand, stand, HasServed, IsSession, IsPartOfSession, IsClientServed}
 
 module _ {T J : Type 0} (config : ConfigData) (tells : T → ℕ → Event → Reply → T → Type 0) (made : ReadyData → Option J → Type 0) where
   abbrev pub IsBegun : Stand T → Stand T → Type 0
@@ -20,17 +20,19 @@ module _ {T J : Type 0} (config : ConfigData) (tells : T → ℕ → Event → R
   session_begins token branches left written reads writes none unwritten =
       ([], ap (λ (n : ℕ). stand token branches left written n writes) none ∙ ap (λ (n : ℕ). stand token branches left written 0 n) unwritten)
 
-  -- one request more
-  pub session_on : (start mid new : Stand T) (goes : Bool) → goes ≡ true → IsBegun start mid → (heard : Heard (Command ⊤)) × HasAnswered config tells made mid heard goes new
-      → IsBegun start new
-  session_on start mid new goes is so next =
-      (next.0 ∷ so.0, (mid, so.1, subst (λ (b : Bool). HasAnswered config tells made mid next.0 b new) is next.1))
+  served_after : (start mid new : Stand T) (before behind : List (Heard (Command ⊤))) → HasServed config tells made start before mid → HasServed config tells made mid behind new → HasServed config tells made start (behind ++ before) new
+  served_after start mid new before [] one two = subst (HasServed config tells made start before) (sym two) one
+  served_after start mid new before (h ∷ behind) one two = (two.0, served_after start mid two.0 before behind one two.1, two.2)
 
-  -- the last request
-  pub session_ends : (start mid new : Stand T) (goes : Bool) → goes ≡ false → IsBegun start mid → (heard : Heard (Command ⊤)) × HasAnswered config tells made mid heard goes new
-      → IsSession config tells made start new
-  session_ends start mid new goes is so next =
-      (mid, so.0, so.1, next.0, subst (λ (b : Bool). HasAnswered config tells made mid next.0 b new) is next.1)
+  -- some requests more
+  pub session_on : (start mid new : Stand T) (goes : Bool) → goes ≡ true → IsBegun start mid → IsPartOfSession config tells made mid goes new → IsBegun start new
+  session_on start mid new false is so next = absurd (cc is)
+  session_on start mid new true is so next = (next.0 ++ so.0, served_after start mid new so.0 next.0 so.1 next.1)
+
+  -- the last requests
+  pub session_ends : (start mid new : Stand T) (goes : Bool) → goes ≡ false → IsBegun start mid → IsPartOfSession config tells made mid goes new → IsSession config tells made start new
+  session_ends start mid new true is so next = absurd (cc is)
+  session_ends start mid new false is so next = (next.0, next.1 ++ so.0, served_after start mid next.0 so.0 next.1 so.1 next.2, next.3, next.4, next.5, next.6)
 
   -- a client to which nothing was told
   pub client_left : (token : T) (branches : List BranchValue) → IsClientServed config tells made token branches token branches

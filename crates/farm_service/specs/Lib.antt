@@ -1,4 +1,5 @@
 pub mod Asked
+pub mod Batch
 pub mod Role
 pub mod Session
 pub mod Tills

@@ -1,6 +1,6 @@
 -- What a session does for its requests: the calls that it makes, the leases that it has made, and
 -- the lines that it writes.
-use Rattle.std.specs.Prelude.{◌≡◌, ℕ, ⊤, ◌⊎◌, Bool, true, false, not, ◌&&◌, is_ok, List, [], ◌∷◌, Option, None, Result}
+use Rattle.std.specs.Prelude.{◌≡◌, ℕ, ◌≤◌, length, ⊤, ◌⊎◌, Bool, true, false, not, ◌&&◌, is_ok, List, [], ◌∷◌, Option, None, Result}
 use Rattle.watched_io.specs.Failure.{HasFailed, IsNoted}
 use Rattle.farm_core.specs.declared.command.Command.{Command}
 use Rattle.farm_core.specs.declared.entry.Event.{Event}
@@ -19,6 +19,9 @@ use Rattle.farm_session.specs.Heard.{heard_in}
 use Rattle.farm_session.specs.Ready.{ReadyData}
 use Rattle.farm_service.specs.declared.service.Role.{Role}
 use Rattle.farm_service.specs.declared.service.Role.TheVariants.{Worker, Client}
+use Rattle.farm_pool.specs.declared.query.Query.{Query}
+use Rattle.farm_pool.specs.Query.{event_about}
+use Rattle.farm_service.specs.Batch.{IsQueryOf, HasRead}
 use Rattle.farm_service.specs.Told.{IsToldOf}
 
 -- the state of a session: its token of the pool, its branches, if known the bytes left to read and
@@ -42,6 +45,14 @@ is_end Over = true
 is_end Broken = true
 is_end heard = false
 
+-- a tenant's query was called
+pub record IsQueried {T : Type 0} (tells : T → ℕ → Event → Reply → T → Type 0) (old : T) (heard : Heard (Command ⊤)) (new : T) : Type 0 where
+  pub query : Query
+  pub name : List ℕ
+  pub reply : Reply
+  pub is : IsQueryOf heard query name
+  pub told : tells old query.tenant (event_about query.about) reply new
+
 module _ {T J : Type 0} (config : ConfigData) (tells : T → ℕ → Event → Reply → T → Type 0) (made : ReadyData → Option J → Type 0) where
   -- one request was read and answered: its call was made, the lease that it needs, and its line was
   -- written; nothing else was done. The session goes on unless its input has ended, a read or a
@@ -63,9 +74,38 @@ module _ {T J : Type 0} (config : ConfigData) (tells : T → ℕ → Event → R
   HasServed old [] new = new ≡ old
   HasServed old (h ∷ heard) new = (mid : Stand T) × HasServed old heard mid × HasAnswered mid h true new
 
-  -- a session: requests were answered until one ended it, and nothing else was done
+  -- a request was read, and no line was written for it. A query may have been called; no other
+  -- request was
+  pub record HasPassedOver (old : Stand T) (heard : Heard (Command ⊤)) (new : Stand T) : Type 0 where
+    pub read : HasRead config old.left old.reads heard new.left new.reads
+    pub called : (new.token ≡ old.token) ⊎ IsQueried tells old.token heard new.token
+    pub branches : new.branches ≡ old.branches
+    pub written : new.written ≡ old.written
+    pub writes : new.writes ≡ old.writes
+
+  -- requests that were passed over one after another
+  abbrev pub HavePassedOver : Stand T → List (Heard (Command ⊤)) → Stand T → Type 0
+  HavePassedOver old [] new = new ≡ old
+  HavePassedOver old (h ∷ heard) new = (mid : Stand T) × HasPassedOver old h mid × HavePassedOver mid heard new
+
+  -- what a session read behind its last line: nothing, or up to 15 requests if that line's write
+  -- failed
+  pub record IsCutOff (last : Heard (Command ⊤)) (old new : Stand T) : Type 0 where
+    pub heard : List (Heard (Command ⊤))
+    pub passed : HavePassedOver old heard new
+    pub few : length heard ≤ 15
+    pub cause : (heard ≡ []) ⊎ (is_end last ≡ false)
+
+  -- a session: requests were answered until one ended it, and nothing else was done, but for
+  -- queries that were already read when a write failed
   abbrev pub IsSession : Stand T → Stand T → Type 0
-  IsSession old new = (mid : Stand T) × (heard : List (Heard (Command ⊤))) × HasServed old heard mid × (last : Heard (Command ⊤)) × HasAnswered mid last false new
+  IsSession old new =
+      (mid : Stand T) × (heard : List (Heard (Command ⊤))) × HasServed old heard mid × (last : Heard (Command ⊤)) × (end : Stand T) × HasAnswered mid last false end × IsCutOff last end new
+
+  -- some requests of a session: it goes on after them, or has ended
+  abbrev pub IsPartOfSession : Stand T → Bool → Stand T → Type 0
+  IsPartOfSession old true new = (heard : List (Heard (Command ⊤))) × HasServed old heard new
+  IsPartOfSession old false new = IsSession old new
 
   -- a client was served, whatever its connection sends, and no lease was made before or after; or
   -- there was no memory for a session, and nothing was done

@@ -1,39 +1,45 @@
 //! One connection: its requests are read, called and answered in their order.
-ghost use Rattle.std.specs.Prelude.{◌≡◌, ◌<◌, ⊤, ℕ, length};
+ghost use Rattle.std.specs.Prelude.{◌≡◌, ◌<◌, ℕ, true, length};
 ghost use Rattle.watched_io.specs.Failure.{IsNoted};
 ghost use Rattle.farm_core.specs.Command.{event_of, IsFresh};
 ghost use Rattle.farm_session.specs.Branch.{tills_of, HasLeasedOne, HasLeasedIn};
 ghost use Rattle.farm_session.specs.Ready.{MakesFresh};
 ghost use Rattle.farm_session.specs.Heard.{IsKnown};
 ghost use Rattle.farm_service.specs.Asked.{IsCallAnswered};
-ghost use Rattle.farm_session.specs.declared.heard.Heard.{Heard};
-ghost use Rattle.farm_service.specs.Session.{stand, is_end, HasAnswered, IsSession};
+ghost use Rattle.farm_service.specs.Batch.{IsEmptyBatch};
+ghost use Rattle.farm_service.specs.Session.{stand, is_end, IsPartOfSession, IsSession};
 ghost use Rattle.farm_service.specs.Told.{IsToldOf};
 ghost use Rattle.farm_core.specs.Tills.{AreTillsOf};
 
+use crate::batch::{Batch, MOST_TOGETHER, gather, tell_all};
 use crate::lobby::Lobby;
 use crate::shared::Shared;
+use crate::wire::Ahead;
 use farm_core::{Command, Reply};
-use farm_session::{Branch, Heard, Ready, Workshop, command_of, hear_call};
-use session_lines::{Said, WriteFault, read_request, write_reply};
+use farm_session::{Branch, Heard, Ready, Workshop, command_of};
+use session_lines::{Said, WriteFault, write_reply};
 use std::io::{BufRead, Write};
 use std::sync::Wait;
 use watched_io::Watch;
 
+/// A `Desk` is what a connection keeps between its requests.
 #[derive(Drop)]
-struct ConnectionWatches<I, O> {
+struct Desk<I, O> {
     reads: Watch<I>,
     writes: Watch<O>,
+    batch: Batch,
 }
 
-impl<I, O> ConnectionWatches<I, O> {
-    fn new() -> ConnectionWatches<I, O>
+impl<I, O> Desk<I, O> {
+    fn new(batch: Batch) -> Desk<I, O>
         ensures reads { result.reads ≡ 0 }
         ensures writes { result.writes ≡ 0 }
+        ensures batch { result.batch ≡ batch }
     {
-        ConnectionWatches {
+        Desk {
             reads: Watch::new(),
             writes: Watch::new(),
+            batch,
         }
     }
 }
@@ -134,56 +140,75 @@ fn is_end(heard: &Heard<Command<()>>) -> bool
     matches!(heard, Heard::Over | Heard::Broken)
 }
 
-/// Whether the session goes on: it ends with the input, or if a read or a write fails.
-fn serve_next<D: Shared, R: Wait, I: BufRead, O: Write, M: Fn(Ready) -> Option<D::Search>>(
+/// Reads queries as long as a further one was read ahead, answers them in one turn of the farm's
+/// lock, and then answers the request that ended the batch. Whether the session goes on: it ends
+/// with the input, or if a read or a write fails.
+fn serve_next<D: Shared, R: Wait, I: BufRead + Ahead, O: Write, M: Fn(Ready) -> Option<D::Search>>(
     office: &Office<'_, '_, R, D, M>,
     token: &mut D::Token,
     branches: &mut [Branch<'_>],
     reader: &mut I,
     writer: &mut O,
-    watches: &mut ConnectionWatches<I, O>,
+    desk: &mut Desk<I, O>,
 ) -> bool
     requires own { D.owns office.now.shared.now token.old }
     requires config { D.config office.now.shared.now ≡ office.now.shop.config.now }
     requires tills { AreTillsOf office.now.shop.config.now (tills_of branches.old) }
     requires make { M.IsAlwaysCallable office.now.shop.make.now }
     requires fresh { MakesFresh D.means D.leases (M.post office.now.shop.make.now) }
+    requires empty { IsEmptyBatch desk.old.batch }
     ensures own { D.owns office.now.shared.now token.new }
     ensures tills { AreTillsOf office.now.shop.config.now (tills_of branches.new) }
-    ensures answered { (heard : Heard (Command ⊤)) × HasAnswered office.now.shop.config.now
+    ensures empty { result ≡ true → IsEmptyBatch desk.new.batch }
+    ensures served { IsPartOfSession office.now.shop.config.now
         (D.tells office.now.shared.now)
         (M.post office.now.shop.make.now)
         (stand token.old branches.old
         (I.remaining reader.old) (O.contents writer.old)
-        watches.old.reads watches.old.writes)
-        heard
+        desk.old.reads desk.old.writes)
         result
         (stand token.new branches.new
         (I.remaining reader.new) (O.contents writer.new)
-        watches.new.reads watches.new.writes) }
+        desk.new.reads desk.new.writes) }
 {
-    let heard = hear_call(
-        office.shop.config,
-        read_request(office.shop.alloc, reader, &mut watches.reads),
-    );
+    let (alloc, config) = (office.shop.alloc, office.shop.config);
+    let (reads, batch) = (&mut desk.reads, &mut desk.batch);
+    let last = gather(alloc, config, reader, reads, batch, MOST_TOGETHER);
+    let queries = batch.queries.as_slice();
+    office.shared.ask_all(token, queries, &mut batch.replies);
+    batch.turn();
+    if !tell_all(batch, writer, &mut desk.writes) {
+        return false;
+    }
+    let Some(heard) = last else {
+        return true;
+    };
     let is_end = is_end(&heard);
-    let told = reply(office, token, branches, writer, &mut watches.writes, heard);
+    let told = reply(office, token, branches, writer, &mut desk.writes, heard);
     !is_end && told.is_ok()
 }
 
 /// Answers requests until the input ends, or until a read or a write fails.
-pub(crate) fn session<D: Shared, R: Wait, I: BufRead, O: Write, M: Fn(Ready) -> Option<D::Search>>(
+pub(crate) fn session<
+    D: Shared,
+    R: Wait,
+    I: BufRead + Ahead,
+    O: Write,
+    M: Fn(Ready) -> Option<D::Search>,
+>(
     office: &Office<'_, '_, R, D, M>,
     token: &mut D::Token,
     branches: &mut [Branch<'_>],
     reader: &mut I,
     writer: &mut O,
+    batch: Batch,
 )
     requires own { D.owns office.now.shared.now token.old }
     requires config { D.config office.now.shared.now ≡ office.now.shop.config.now }
     requires tills { AreTillsOf office.now.shop.config.now (tills_of branches.old) }
     requires make { M.IsAlwaysCallable office.now.shop.make.now }
     requires fresh { MakesFresh D.means D.leases (M.post office.now.shop.make.now) }
+    requires empty { IsEmptyBatch batch }
     ensures own { D.owns office.now.shared.now token.new }
     ensures served { (reads : ℕ) × (writes : ℕ) × IsSession office.now.shop.config.now
         (D.tells office.now.shared.now)
@@ -192,9 +217,9 @@ pub(crate) fn session<D: Shared, R: Wait, I: BufRead, O: Write, M: Fn(Ready) -> 
         (stand token.new branches.new
         (I.remaining reader.new) (O.contents writer.new) reads writes) }
 {
-    let mut watches = ConnectionWatches::new();
+    let mut desk = Desk::new(batch);
     for _ in office.rt.forever() {
-        if !serve_next(office, token, branches, reader, writer, &mut watches) {
+        if !serve_next(office, token, branches, reader, writer, &mut desk) {
             return;
         }
     }

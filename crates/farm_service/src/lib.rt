@@ -5,12 +5,14 @@
 //!
 //! - `service`: `serve`, its threads and its end.
 //! - `connection`: the requests of one connection.
+//! - `batch`: queries that are already read, answered in one turn of the lock.
 //! - `places`: the desks of the connections.
 //! - `lobby`: when workers rest, and when they go home.
 //! - `shared`: the pool, as the threads see it.
 //! - `wire`: a connection whose replies leave before it waits.
 #![tactic(auto)]
 
+mod batch;
 mod connection;
 mod lobby;
 mod places;

@@ -10,6 +10,7 @@ ghost use Rattle.farm_service.specs.Role.{IsAtTills};
 ghost use Rattle.farm_service.specs.Session.{HasPlayedRole, IsClientServed};
 ghost use Rattle.farm_service.specs.Tills.{IsSettled};
 
+use crate::batch::Batch;
 use crate::connection::{Office, session};
 use crate::lobby::{Lobby, Nobody, Seat};
 use crate::places::places;
@@ -74,10 +75,13 @@ fn welcome<D: Shared, R: Wait, M: Fn(Ready) -> Option<D::Search>>(
     let Ok(output) = BufWriter::new(office.shop.alloc, stream) else {
         return;
     };
+    let Ok(batch) = Batch::new(office.shop.alloc) else {
+        return;
+    };
     let told = RefCell::new(output);
     let mut reader = Incoming { input, told: &told };
     let mut writer = Outgoing { told: &told };
-    session(office, token, own, &mut reader, &mut writer);
+    session(office, token, own, &mut reader, &mut writer, batch);
     let _ = writer.flush();
 }
 

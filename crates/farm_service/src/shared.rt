@@ -2,7 +2,7 @@
 //!
 //! A pool is a farm of boxed searches. What runs in threads is generic in the search, and only
 //! `serve` names the boxes.
-ghost use Rattle.std.specs.Prelude.{◌≡◌, ℕ, ◌<◌, All, length};
+ghost use Rattle.std.specs.Prelude.{◌≡◌, ℕ, ◌<◌, ◌≤◌, [], All, length};
 ghost use Rattle.std.specs.Vec.{vec_len, vec_capacity};
 ghost use Rattle.quanta_till.specs.Lease.{LeaseValue};
 ghost use Rattle.strategy.specs.Search.{Meaning};
@@ -10,9 +10,10 @@ ghost use Rattle.farm_core.specs.Command.{event_of, IsFresh};
 ghost use Rattle.farm_core.specs.Config.{ConfigData};
 ghost use Rattle.farm_core.specs.declared.entry.Event.{Event};
 ghost use Rattle.farm_core.specs.declared.reply.Reply.{Reply};
+ghost use Rattle.farm_service.specs.Asked.{AreAnswered};
 
 use farm_core::{Command, Reply};
-use farm_pool::{Gate, Pool, PoolPass};
+use farm_pool::{Gate, Pool, PoolPass, Query};
 use std::snapshot::Snapshot;
 use std::sync::Wait;
 use std::thread::{Promise, PromisedHandle, Threads};
@@ -43,6 +44,16 @@ pub(crate) trait Shared {
         requires fresh { IsFresh means tenant command }
         ensures own { owns self.now token.new }
         ensures told { tells self.now token.old tenant (event_of command) result token.new };
+
+    /// Answers queries one after another, in one turn of the lock.
+    fn ask_all(&self, token: &mut Self::Token, queries: &[Query], replies: &mut Vec<Reply>)
+        requires own { owns self.now token.old }
+        requires known { All (λ query. query.tenant < length (config self.now).tenants) queries.now }
+        requires none { replies.old.items ≡ [] }
+        requires room { length queries.now ≤ vec_capacity replies.old }
+        ensures own { owns self.now token.new }
+        ensures told { AreAnswered (tells self.now) token.old queries.now replies.new.items token.new }
+        ensures capacity { vec_capacity replies.new ≡ vec_capacity replies.old };
 
     fn work<G: Gate>(&self, token: &mut Self::Token, gate: &G)
         requires { owns self.now token.old }
@@ -103,6 +114,10 @@ impl<'a, R: Wait> Shared for PoolAt<'a, R> {
             (said.Asked tenant (event_of command)) (told.Replied result) token.new.view }
     {
         self.pool.call(self.rt, token, tenant, command)
+    }
+
+    fn ask_all(&self, token: &mut PoolPass, queries: &[Query], replies: &mut Vec<Reply>) {
+        self.pool.ask_all(self.rt, token, queries, replies);
     }
 
     fn work<G: Gate>(&self, token: &mut PoolPass, gate: &G) {

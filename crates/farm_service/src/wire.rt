@@ -11,6 +11,12 @@ pub(crate) struct Incoming<'a, R, W: Write + Drop> {
     pub(crate) told: &'a RefCell<BufWriter<W>>,
 }
 
+/// An `Ahead` is a reader that can look at what it has read ahead, and never waits for it.
+pub(crate) trait Ahead {
+    /// Whether a whole line was read ahead, and its second word begins as that of a query.
+    fn is_query_ahead(&self) -> bool;
+}
+
 /// An `Outgoing` is the replies to a client, gathered until the reader waits for the client.
 #[derive(Drop)]
 pub(crate) struct Outgoing<'a, W: Write + Drop> {
@@ -37,6 +43,26 @@ impl<'a, R: Read, W: Write + Drop> BufRead for Incoming<'a, R, W> {
     fn consume(&mut self, amount: usize) {
         self.input.consume(amount);
     }
+}
+
+impl<'a, R: Read, W: Write + Drop> Ahead for Incoming<'a, R, W> {
+    fn is_query_ahead(&self) -> bool {
+        is_query_line(self.input.buffer())
+    }
+}
+
+/// Whether `bytes` begin with a whole line whose second word begins as `status`, `result` or
+/// `ledger` does. So a submit, whose text may still be on its way, is never taken for a query.
+fn is_query_line(bytes: &[u8]) -> bool {
+    let Some(end) = bytes.iter().position(|byte| *byte == b'\n') else {
+        return false;
+    };
+    let line = &bytes[..end];
+    let Some(blank) = line.iter().position(|byte| matches!(*byte, b' ' | b'\t')) else {
+        return false;
+    };
+    let word = &line[blank + 1..];
+    word.starts_with(b"st") || word.starts_with(b"r") || word.starts_with(b"l")
 }
 
 impl<'a, W: Write + Drop> Write for Outgoing<'a, W> {

@@ -38,6 +38,13 @@ module _ {E : Type 0} where
   pub prefix_longer : (xs ys zs : List (ℕ × E)) → IsPrefix xs ys → IsPrefix xs (ys ++ zs)
   prefix_longer xs ys zs p = (p.0 ++ zs, sym (append_assoc xs p.0 zs) ∙ ap (λ w. w ++ zs) p.1)
 
+  pub prefix_further : (xs ys zs : List (ℕ × E)) → IsPrefix xs ys → IsPrefix ys zs → IsPrefix xs zs
+  prefix_further xs ys zs p q = subst (IsPrefix xs) q.1 (prefix_longer xs ys q.0 p)
+
+  pub tagged-append : (by : ℕ) (es new : List E) → tagged by (es ++ new) ≡ tagged by es ++ tagged by new
+  tagged-append by [] new = refl
+  tagged-append by (e ∷ es) new = ap (λ l. (by, e) ∷ l) (tagged-append by es new)
+
 module _ {O E C A : Type 0} (relation : O → List E → C → Option E → A → Type 0) where
   pub legal-push : (o : O) (before es : List E) (e : E) → LegalFrom relation o before es → MayFollow relation o (before ++ es) e → LegalFrom relation o before (es ++ e ∷ [])
   legal-push o before [] e l m = (subst (λ b. MayFollow relation o b e) (append-nil before) m, tt)
@@ -47,3 +54,11 @@ module _ {O E C A : Type 0} (relation : O → List E → C → Option E → A �
   pub legal-more : (o : O) (call : C) (answer : A) (by : ℕ) (log : List (ℕ × E)) (e : Option E) → relation o (events_of log) call e answer → IsLegal relation o log → IsLegal relation o (log ++ tagged by (listed e))
   legal-more o call answer by log None r l = subst (IsLegal relation o) (sym (append-nil log)) l
   legal-more o call answer by log (Some e) r l = subst (LegalFrom relation o []) (sym (events_of-append log ((by, e) ∷ []))) (legal-push o [] (events_of log) e l (call, answer, r))
+
+  -- a legal history, and what may follow it
+  pub legal-both : (o : O) (before es new : List E) → LegalFrom relation o before es → LegalFrom relation o (before ++ es) new → LegalFrom relation o before (es ++ new)
+  legal-both o before [] new l m = subst (λ b. LegalFrom relation o b new) (append-nil before) m
+  legal-both o before (x ∷ es) new l m = (l.0, legal-both o (before ++ x ∷ []) es new l.1 (subst (λ b. LegalFrom relation o b new) (sym (append_assoc before (x ∷ []) es)) m))
+
+  pub legal-longer : (o : O) (by : ℕ) (log : List (ℕ × E)) (new : List E) → LegalFrom relation o (events_of log) new → IsLegal relation o log → IsLegal relation o (log ++ tagged by new)
+  legal-longer o by log new follows l = subst (LegalFrom relation o []) (sym (events_of-append log (tagged by new) ∙ ap (λ es. events_of log ++ es) (events_of-tagged by new))) (legal-both o [] (events_of log) new l follows)

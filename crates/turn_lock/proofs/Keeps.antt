@@ -1,5 +1,6 @@
 -- Each step of the lock keeps its rule.
-use Rattle.std.proofs.Common.{◌≡◌, ◌≢◌, ◌⊎◌, ℕ, zero, suc, ◌<◌, ◌≤◌, List, [], ◌∷◌, ◌++◌, length, set, get_or, drop, eqb, Option, Some, None, IfSome, refl, sym, ap, ◌∙◌, subst, ⊎_elim, inl, inr, arith, length-set, length-append, get_or-set_same, append-nil}
+use Rattle.std.proofs.Common.{◌≡◌, ◌≢◌, ◌⊎◌, ℕ, zero, suc, ◌+◌, ◌<◌, ◌≤◌, List, [], ◌∷◌, ◌++◌, length, map, set, get_or, drop, eqb, Option, Some, None, IfSome, refl, sym, ap, ◌∙◌, subst, ⊎_elim, inl, inr, arith, length-set, length-append, get_or-set_same, append-nil, append_assoc}
+use Rattle.std.proofs.lemmas.List.{map-append}
 use mathlib.Core.List.{IsPrefix}
 use mathlib.Core.Option.{some, some-injective, some-ne-none}
 use lib.ListN.{get_elem?}
@@ -10,10 +11,11 @@ use Rattle.atomic_table.proofs.Lists.{at_set, at_longer, set_here, set_else, set
 use Rattle.turn_lock.specs.declared.view.View.{View}
 use Rattle.turn_lock.specs.declared.view.Stage.{Stage}
 use Rattle.turn_lock.specs.declared.view.Stage.TheVariants.{Spent, New, Idle, Turn, Joined}
-use Rattle.turn_lock.specs.History.{listed, tagged, events_of, entries_of, IsLegal}
+use Rattle.turn_lock.specs.History.{listed, tagged, events_of, entries_of, LegalFrom, IsLegal}
 use Rattle.turn_lock.specs.Rule.{opened, spent, Knows, FitsAt, IsKept}
-use Rattle.turn_lock.specs.Plays.{having_split, split_off, numbered, taking_in, having_seen, having_made, told, Holds, MayEnd, Called, Ended, took, released, BothSeen, learned}
-use Rattle.turn_lock.proofs.Histories.{events_of-append, events_of-tagged, entries_of-append, entries_of-own, entries_of-others, drop-own, prefix_self, prefix_longer, legal-more}
+use Rattle.turn_lock.specs.Plays.{having_split, split_off, numbered, taking_in, having_seen, having_begun, having_ended, having_made, told, Holds, MayEnd, Called, AreCalled, Ended, took, released, BothSeen, learned}
+use Rattle.turn_lock.specs.Values.{Keeps as Kept', AreKept}
+use Rattle.turn_lock.proofs.Histories.{events_of-append, events_of-tagged, entries_of-append, entries_of-own, entries_of-others, drop-own, prefix_self, prefix_longer, prefix_further, tagged-append, legal-more, legal-longer}
 
 -- the number below the length at which something stands
 pub at_below : {A : Type 0} (l : List A) (i : ℕ) (a : A) → get_elem? l i ≡ some a → i < length l
@@ -31,7 +33,7 @@ module _ {O E : Type 0} where
   pub others : (word holder word' holder' : ℕ) (log log' : List (ℕ × E)) (o : O) (views : List (View O E)) (me : ℕ) (v w : View O E)
       → get_elem? views me ≡ some v → (v.stage ≡ Spent → ⊥)
       → ((j : ℕ) (seen mine : List (ℕ × E)) → me ≢ j → Knows log j seen mine → Knows log' j seen mine)
-      → ((j : ℕ) → j ≢ me → word ≡ 1 → j ≡ holder → (word' ≡ 1) × (holder ≡ holder') × (log ≡ log'))
+      → ((j : ℕ) → j ≢ me → word ≢ 0 → j ≡ holder → (word' ≢ 0) × (holder ≡ holder') × (log ≡ log'))
       → (j : ℕ) (u : View O E) → j ≢ me → (st : Stage E) → FitsAt word holder log o views j u st → FitsAt word' holder' log' o (set views me w) j u st
   others word holder word' holder' log log' o views me v w at live more turn j u apart Spent f = tt
   others word holder word' holder' log log' o views me v w at live more turn j u apart New f = ((f.0.0, more j u.seen u.mine (λ e. apart (sym e)) f.0.1), f.1)
@@ -50,6 +52,22 @@ module _ {O E : Type 0} where
       ⊎_elim (λ (t : (j ≡ me) × (w ≡ u)). subst (λ (x : ℕ × View O E). FitsAt word holder log o views' x.0 x.1 x.1.stage) (λ i. (sym t.0 i, t.1 i)) mine)
       (λ (t : (j ≢ me) × (get_elem? views j ≡ some u)). rest j u t.0 t.1)
       (at_set views me j w u e)
+
+module _ {O E : Type 0} where
+  -- a pass after this number of calls, which made these events
+  abbrev pub having_called : View O E → ℕ → List E → View O E
+  having_called v count es = record v { stage = Idle; seen = v.seen ++ tagged v.number es; mine = v.mine ++ tagged v.number es; calls = v.calls + count }
+
+  pub called_none : (v : View O E) → v.stage ≡ Idle → having_called v 0 [] ≡ v
+  called_none v idle =
+      let calls : v.calls + 0 ≡ v.calls = omega arith in
+      λ i. record v { stage = sym idle i; seen = append-nil v.seen i; mine = append-nil v.mine i; calls = calls i }
+
+  pub called_one : (v : View O E) (es : List E) (count : ℕ) (new : List E) → having_called (having_made v v.seen es) count new ≡ having_called v (suc count) (es ++ new)
+  called_one v es count new =
+      let all : (xs : List (ℕ × E)) → (xs ++ tagged v.number es) ++ tagged v.number new ≡ xs ++ tagged v.number (es ++ new) = λ xs. append_assoc xs (tagged v.number es) (tagged v.number new) ∙ ap (λ l. xs ++ l) (sym (tagged-append v.number es new)) in
+      let calls : (v.calls + 1) + count ≡ v.calls + suc count = omega arith in
+      λ i. record v { stage = Idle; seen = all v.seen i; mine = all v.mine i; calls = calls i }
 
 module _ {T O E C A : Type 0} (opening_of : T → O) (events : T → List E) (relation : O → List E → C → Option E → A → Type 0) (o : O) where
   abbrev Rule : State (Option T) (View O E) → Type 0
@@ -83,7 +101,7 @@ module _ {T O E C A : Type 0} (opening_of : T → O) (events : T → List E) (re
     legal = k.legal;
     at_home = k.at_home;
     fits = each_fits (get_or s.words 0 0) k.holder k.log o s.views (set s.views id w) id w mine
-        (λ j u apart e. others (get_or s.words 0 0) k.holder (get_or s.words 0 0) k.holder k.log k.log o s.views id v w at live (λ _ _ _ _ x. x) (λ _ _ one _. (one, refl, refl)) j u apart u.stage (k.fits j u e));
+        (λ j u apart e. others (get_or s.words 0 0) k.holder (get_or s.words 0 0) k.holder k.log k.log o s.views id v w at live (λ _ _ _ _ x. x) (λ _ _ held _. (held, refl, refl)) j u apart u.stage (k.fits j u e));
     later = λ by le. k.later by (subst (λ (n : ℕ). n ≤ by) (length-set s.views id w) le);
   }
 
@@ -126,27 +144,29 @@ module _ {T O E C A : Type 0} (opening_of : T → O) (events : T → List E) (re
       )
 
   -- the pass takes the turn where the word is 0, and else finds nothing changed
-  pub takes_turn : (slots id : ℕ) (m : Seat') → m.0.stage ≡ Idle → m.1 ≡ [] → (st : Step (Option T)) → Allows Rule slots id m 0 (λ n. either (eqb n 0) 1 n) (took opening_of events relation st m)
-  takes_turn slots id m idle empty st s k wide at fits_word =
+  pub takes_turn : (slots id : ℕ) (m : Seat') → m.0.stage ≡ Idle → m.1 ≡ [] → (st : Step (Option T)) → st.second ≢ 0 → Allows Rule slots id m 0 (λ n. either (eqb n 0) st.second n) (took opening_of events relation st m)
+  takes_turn slots id m idle empty st counts s k wide at fits_word =
+      let count = st.second in
       let word = get_or s.words 0 0 in
       let f = subst (λ (x : Stage E). FitsAt word k.holder k.log o s.views id m.0 x) idle (k.fits id m.0 at) in
       let live : m.0.stage ≡ Spent → ⊥ = λ e. absurd (cc (e, idle)) in
       let F : ℕ → Type 0 = λ n. (w : View O E) × (a : Rattle.atomic_table.specs.Table.Act (Option T)) × Rattle.atomic_table.specs.Table.Valid s.homes m.1 a × Rule (stepped s 0 n id m.1 w a) × took opening_of events relation st m word (w, Rattle.atomic_table.specs.Table.carried_after m.1 a) in
-      exchanged word 0 1 F
+      exchanged word 0 count F
       (λ free. let h = k.at_home free in
-      let w = having_seen m.0 Turn k.log in (
+      let w = having_begun m.0 count k.log in
+      let put : get_or (set s.words 0 count) 0 0 ≡ count = get_or-set_same s.words 0 count 0 (let one = k.one_word in omega arith) in (
         w,
         takes 0 (Some h.0),
         h.1,
         record {
           log = k.log;
           holder = id;
-          one_word = length-set s.words 0 1 ∙ k.one_word;
+          one_word = length-set s.words 0 count ∙ k.one_word;
           legal = k.legal;
-          at_home = λ z. absurd (let n : get_or (set s.words 0 1) 0 0 ≡ 1 = get_or-set_same s.words 0 1 0 (let one = k.one_word in omega arith) in omega arith);
-          fits = each_fits (get_or (set s.words 0 1) 0 0) id k.log o s.views (set s.views id w) id w
-              ((f.0.0, (([], append-nil k.log), f.0.1.2, f.0.1.2)), f.1, get_or-set_same s.words 0 1 0 (let one = k.one_word in omega arith), refl, refl)
-              (λ j u apart e. others word k.holder (get_or (set s.words 0 1) 0 0) id k.log k.log o s.views id m.0 w at live (λ _ _ _ _ x. x) (λ _ _ one _. absurd (omega arith)) j u apart u.stage (k.fits j u e));
+          at_home = λ z. absurd (counts (sym put ∙ z));
+          fits = each_fits (get_or (set s.words 0 count) 0 0) id k.log o s.views (set s.views id w) id w
+              ((f.0.0, (([], append-nil k.log), f.0.1.2, f.0.1.2)), f.1, (λ z. counts (sym put ∙ z)), refl, refl)
+              (λ j u apart e. others word k.holder (get_or (set s.words 0 count) 0 0) id k.log k.log o s.views id m.0 w at live (λ _ _ _ _ x. x) (λ _ _ held _. absurd (held free)) j u apart u.stage (k.fits j u e));
           later = λ by le. k.later by (subst (λ (n : ℕ). n ≤ by) (length-set s.views id w) le);
         },
         (
@@ -165,16 +185,15 @@ module _ {T O E C A : Type 0} (opening_of : T → O) (events : T → List E) (re
       ))
       (λ held. (m.0, keeps, tt, unmoved s k id m.1 m.0 m.0 at live (subst (λ (vs : List (View O E)). FitsAt word k.holder k.log o vs id m.0 m.0.stage) (sym (set_again s.views id m.0 at)) (k.fits id m.0 at)), ((λ z. absurd (held z)), λ _. refl)))
 
-  -- the pass gives the value back, with one event more or none, and ends its turn
-  pub ends_turn : (slots id : ℕ) (m : Seat') (t : T) (call : C) (answer : A) (e : Option E) → m.0.stage ≡ Turn → m.1 ≡ (0, Some t) ∷ [] → m.0.opening ≡ Some (opening_of t)
-      → events t ≡ events_of m.0.seen ++ listed e → relation (opening_of t) (events_of m.0.seen) call e answer → slots ≡ 1 → (st : Step (Option T)) → Allows Rule slots id m 0 (λ _. 0) (λ _. released opening_of events relation st m 0)
-  ends_turn slots id m t call answer e turn has is_open grown stands one_slot st s k wide at fits_word =
+  -- the pass gives the value back, with its new events, and ends its turn
+  pub ends_turn : (slots id : ℕ) (m : Seat') (t : T) (es : List E) → m.0.stage ≡ Turn → m.1 ≡ (0, Some t) ∷ [] → m.0.opening ≡ Some (opening_of t)
+      → events t ≡ events_of m.0.seen ++ es → LegalFrom relation (opening_of t) (events_of m.0.seen) es → slots ≡ 1 → (st : Step (Option T)) → Allows Rule slots id m 0 (λ _. 0) (λ _. released opening_of events relation st m 0)
+  ends_turn slots id m t es turn has is_open grown stands one_slot st s k wide at fits_word =
       let f = subst (λ (x : Stage E). FitsAt (get_or s.words 0 0) k.holder k.log o s.views id m.0 x) turn (k.fits id m.0 at) in
       let word = get_or s.words 0 0 in
       let is_o : opening_of t ≡ o = cc (is_open, f.0.0) in
-      let es = listed e in
       let log' = k.log ++ tagged id es in
-      let w = having_made m.0 m.0.seen es in
+      let w = having_ended m.0 es in
       let all : w.seen ≡ log' = (λ i. f.4 i ++ tagged (f.1 i) es) in
       let own : entries_of id log' ≡ w.mine = entries_of-append id k.log (tagged id es) ∙ ((λ i. f.0.1.2 i ++ entries_of-own id es i) ∙ ap (λ (n : ℕ). m.0.mine ++ tagged n es) (sym f.1)) in
       let put : Rattle.atomic_table.specs.Table.homes_after s.homes m.1 gives ≡ set s.homes 0 (some (Some t)) = ap (λ (c : List (ℕ × Option T)). Rattle.atomic_table.specs.Table.put_back s.homes c) has in (
@@ -185,12 +204,12 @@ module _ {T O E C A : Type 0} (opening_of : T → O) (events : T → List E) (re
           log = log';
           holder = k.holder;
           one_word = length-set s.words 0 0 ∙ k.one_word;
-          legal = legal-more relation o call answer id k.log e (subst (λ (x : O). relation x (events_of k.log) call e answer) is_o (subst (λ (l : List (ℕ × E)). relation (opening_of t) (events_of l) call e answer) f.4 stands)) k.legal;
+          legal = legal-longer relation o id k.log es (subst (λ (x : O). LegalFrom relation x (events_of k.log) es) is_o (subst (λ (l : List (ℕ × E)). LegalFrom relation (opening_of t) (events_of l) es) f.4 stands)) k.legal;
           at_home = λ _. (t, set_here s.homes 0 (some (Some t)) (omega arith), grown ∙ (ap (λ (l : List (ℕ × E)). events_of l ++ es) f.4 ∙ (sym (events_of-append k.log (tagged id es) ∙ ap (λ l. events_of k.log ++ l) (events_of-tagged id es)))), is_o);
           fits = each_fits (get_or (set s.words 0 0) 0 0) k.holder log' o s.views (set s.views id w) id w
               ((f.0.0, (subst (λ (l : List (ℕ × E)). IsPrefix l log') (sym all) (prefix_self log'), subst (λ (l : List (ℕ × E)). entries_of id l ≡ w.mine) (sym all) own, own)), f.1)
               (λ j u apart is. others word k.holder (get_or (set s.words 0 0) 0 0) k.holder k.log log' o s.views id m.0 w at (λ x. absurd (cc (x, turn)))
-              (λ i seen mine off kn. knows_more k.log id i es seen mine off kn) (λ i off one here. absurd (off (here ∙ sym f.3))) j u apart u.stage (k.fits j u is));
+              (λ i seen mine off kn. knows_more k.log id i es seen mine off kn) (λ i off held here. absurd (off (here ∙ sym f.3))) j u apart u.stage (k.fits j u is));
           later = λ by le.
               let le' : length s.views ≤ by = subst (λ (n : ℕ). n ≤ by) (length-set s.views id w) le in
               let below = at_below s.views id m.0 at in
@@ -200,7 +219,7 @@ module _ {T O E C A : Type 0} (opening_of : T → O) (events : T → List E) (re
             let values : Some t ≡ Some t' = ap (λ (x : ℕ × Option T). x.1) pairs in
             let same : t ≡ t' = cc values in
             let d : drop (length m.0.seen) (events t') ≡ es = ap (λ (x : T). drop (length m.0.seen) (events x)) (sym same) ∙ (ap (drop (length m.0.seen)) grown ∙ drop-own m.0.seen es) in
-            λ i. (having_made m.0 m.0.seen (sym d i), rest' m.1 t has i),
+            λ i. (having_ended m.0 (sym d i), rest' m.1 t has i),
       )
     where
       rest' : (c : List (ℕ × Option T)) (x : T) → c ≡ (0, Some x) ∷ [] → Rattle.atomic_table.specs.Table.rest c ≡ []
@@ -224,7 +243,7 @@ module _ {T O E C A : Type 0} (opening_of : T → O) (events : T → List E) (re
         at_home = k.at_home;
         fits = fits_snoc word k.holder k.log views' (split_off v)
             (each_fits word k.holder k.log o s.views views' id w (subst (λ (x : Stage E). FitsAt word k.holder k.log o views' id w x) (sym idle) (f.0, f.1))
-            (λ j u apart e. others word k.holder word k.holder k.log k.log o s.views id v w at (λ x. absurd (cc (x, idle))) (λ _ _ _ _ x. x) (λ _ _ one _. (one, refl, refl)) j u apart u.stage (k.fits j u e)))
+            (λ j u apart e. others word k.holder word k.holder k.log k.log o s.views id v w at (λ x. absurd (cc (x, idle))) (λ _ _ _ _ x. x) (λ _ _ held _. (held, refl, refl)) j u apart u.stage (k.fits j u e)))
             (λ (none : entries_of n k.log ≡ []). ((f.0.0, (f.0.1.0, seen_none k.log n v.seen f.0.1.0 none, none)), (λ (x : v.number ≡ n). absurd (omega arith))))
             (k.later n (omega arith));
         later = λ by le. k.later by (omega (arith, length-append views' (split_off v ∷ [])));
@@ -285,8 +304,8 @@ module _ {T O E C A : Type 0} (opening_of : T → O) (events : T → List E) (re
               ap (get_elem? (set views1 other spent)) h.1 ∙ set_here views1 other spent (at_below views1 other w there),
             ))
             (λ (t : (j ≢ id) × (get_elem? s.views j ≡ some u)).
-            others word k.holder word k.holder k.log k.log o views1 other w spent there (λ x. absurd (cc (x, idle'))) (λ _ _ _ _ x. x) (λ _ _ one _. (one, refl, refl)) j u off u.stage
-            (others word k.holder word k.holder k.log k.log o s.views id v both at (λ x. absurd (cc (x, idle))) (λ _ _ _ _ x. x) (λ _ _ one _. (one, refl, refl)) j u t.0 u.stage (k.fits j u t.1)))
+            others word k.holder word k.holder k.log k.log o views1 other w spent there (λ x. absurd (cc (x, idle'))) (λ _ _ _ _ x. x) (λ _ _ held _. (held, refl, refl)) j u off u.stage
+            (others word k.holder word k.holder k.log k.log o s.views id v both at (λ x. absurd (cc (x, idle))) (λ _ _ _ _ x. x) (λ _ _ held _. (held, refl, refl)) j u t.0 u.stage (k.fits j u t.1)))
             (at_set s.views id j both u e));
         later = λ by le. k.later by (subst (λ (n : ℕ). n ≤ by) (length-set views1 other spent ∙ length-set s.views id both) le);
       }
@@ -311,41 +330,133 @@ module _ {T O E C A : Type 0} (opening_of : T → O) (events : T → List E) (re
         legal = subst (λ (x : O). IsLegal relation x k.log) (sym is_o) k.legal;
       }
 
-  -- after the call the value may go back
-  pub may_end : (v : View O E) (value value' : T) (n : Seat') (call : C) (answer : A) → Holds opening_of events relation v value n → opening_of value' ≡ opening_of value
-      → (e : Option E) × (events value' ≡ events value ++ listed e) × relation (opening_of value) (events value) call e answer → MayEnd opening_of events relation n.0 value'
-  may_end v value value' n call answer h same step = record {
-    call = call;
-    answer = answer;
-    event = step.0;
-    opened = ap (λ (x : Seat'). x.0.opening) h.after ∙ (h.opened ∙ ap Some (sym same));
-    has = step.1 ∙ ap (λ l. l ++ listed step.0) (h.has ∙ ap (λ (x : Seat'). events_of x.0.seen) (sym h.after));
-    stands = subst (λ (x : O). relation x (events_of n.0.seen) call step.0 answer) (sym same)
-        (subst (λ (l : List E). relation (opening_of value) l call step.0 answer) (h.has ∙ ap (λ (x : Seat'). events_of x.0.seen) (sym h.after)) step.2);
-  }
+  -- the new events of steps one after another, and what a pass knows after them
+  pub record Steps (u : View O E) (t : T) (calls : List C) (answers : List A) (t' : T) : Type 0 where
+    pub new : List E
+    pub same : opening_of t' ≡ opening_of t
+    pub grown : events t' ≡ events t ++ new
+    pub legal : LegalFrom relation (opening_of t) (events t) new
+    pub called : AreCalled relation u calls answers (having_called u (length calls) new)
 
-  -- what the pass knows after the call
-  pub calls : (v : View O E) (value value' : T) (n w : Seat') (call : C) (answer : A) → Holds opening_of events relation v value n
-      → (e : Option E) × (events value' ≡ events value ++ listed e) × relation (opening_of value) (events value) call e answer
-      → w ≡ (having_made n.0 n.0.seen (drop (length n.0.seen) (events value')), []) → Called relation v call answer w.0
-  calls v value value' n w call answer h step made =
-      let es = listed step.0 in
-      let rest' : drop (length h.seen) (events value') ≡ es = ap (λ (l : List E). drop (length h.seen) l) (step.1 ∙ ap (λ l. l ++ es) h.has) ∙ drop-own h.seen es in
-      let P : Seat' → View O E = λ x. having_made x.0 x.0.seen (drop (length x.0.seen) (events value')) in
-      let after : w.0 ≡ having_made v h.seen es = ap (λ (x : Seat'). x.0) made ∙ (ap P h.after ∙ ap (having_made v h.seen) rest') in
-      let o' = opening_of value in
-      let stands : relation o' (events_of h.seen) call step.0 answer = subst (λ (l : List E). relation o' l call step.0 answer) h.has step.2 in
+  legal_listed : (x : O) (l : List E) (call : C) (answer : A) (e : Option E) (new : List E) → relation x l call e answer → LegalFrom relation x (l ++ listed e) new → LegalFrom relation x l (listed e ++ new)
+  legal_listed x l call answer None new stands legal = subst (λ (b : List E). LegalFrom relation x b new) (append-nil l) legal
+  legal_listed x l call answer (Some e) new stands legal = ((call, answer, stands), legal)
+
+  -- a pass that has seen the value's history, and makes calls
+  pub steps : (calls : List C) (answers : List A) (u : View O E) (t t' : T) → u.stage ≡ Idle → u.opening ≡ Some (opening_of t) → events t ≡ events_of u.seen → IsLegal relation (opening_of t) u.seen → entries_of u.number u.seen ≡ u.mine
+      → AreKept opening_of events relation t calls answers t' → Steps u t calls answers t'
+  steps [] [] u t t' idle opens has legal own kept = record {
+    new = [];
+    same = ap opening_of kept;
+    grown = ap events kept ∙ sym (append-nil (events t));
+    legal = tt;
+    called = called_none u idle;
+  }
+  steps [] (answer ∷ answers) u t t' idle opens has legal own kept = absurd kept
+  steps (call ∷ calls) [] u t t' idle opens has legal own kept = absurd kept
+  steps (call ∷ calls) (answer ∷ answers) u t t' idle opens has legal own kept =
+      let mid = kept.0 in
+      let first = kept.1 in
+      let e = first.1.0 in
+      let es = listed e in
+      let stands : relation (opening_of t) (events_of u.seen) call e answer = subst (λ (l : List E). relation (opening_of t) l call e answer) has first.1.2 in
+      let v = having_made u u.seen es in
+      let legal' : IsLegal relation (opening_of t) v.seen = legal-more relation (opening_of t) call answer u.number u.seen e stands legal in
+      let own' : entries_of u.number v.seen ≡ v.mine = entries_of-append u.number u.seen (tagged u.number es) ∙ (λ i. own i ++ entries_of-own u.number es i) in
+      let has' : events mid ≡ events_of v.seen = first.1.1 ∙ (ap (λ l. l ++ es) has ∙ (ap (λ l. events_of u.seen ++ l) (sym (events_of-tagged u.number es)) ∙ sym (events_of-append u.seen (tagged u.number es)))) in
+      let rest = steps calls answers v mid t' refl (opens ∙ ap Some (sym first.0)) has' (subst (λ (x : O). IsLegal relation x v.seen) (sym first.0) legal') own' kept.2 in
       record {
-        opening = o';
-        before = h.seen;
-        event = step.0;
-        opened = h.opened;
-        begins = h.begins;
-        after = after;
-        stands = stands;
-        legal = subst (λ (x : View O E). IsLegal relation o' x.seen) (sym after) (legal-more relation o' call answer v.number h.seen step.0 stands h.legal);
-        own = subst (λ (x : View O E). entries_of v.number x.seen ≡ x.mine) (sym after) (entries_of-append v.number h.seen (tagged v.number es) ∙ (λ i. h.own i ++ entries_of-own v.number es i));
+        new = es ++ rest.new;
+        same = rest.same ∙ first.0;
+        grown = rest.grown ∙ (ap (λ l. l ++ rest.new) first.1.1 ∙ append_assoc (events t) es rest.new);
+        legal = legal_listed (opening_of t) (events t) call answer e rest.new first.1.2 (subst (λ (l : List E). LegalFrom relation (opening_of t) l rest.new) first.1.1 (subst (λ (x : O). LegalFrom relation x (events mid) rest.new) first.0 rest.legal));
+        called = (
+          v,
+          record {
+            opening = opening_of t;
+            before = u.seen;
+            event = e;
+            opened = opens;
+            begins = prefix_self u.seen;
+            after = refl;
+            stands = stands;
+            legal = legal';
+            own = own';
+          },
+          subst (AreCalled relation v calls answers) (called_one u es (length calls) rest.new) rest.called,
+        );
       }
+
+  -- a pass that has seen less makes the first call too
+  called_from : (v u : View O E) (call : C) (answer : A) (w : View O E) → u ≡ having_seen v Idle u.seen → IsPrefix v.seen u.seen → Called relation u call answer w → Called relation v call answer w
+  called_from v u call answer w is begins h =
+      let number : u.number ≡ v.number = ap (λ (x : View O E). x.number) is in
+      record {
+        opening = h.opening;
+        before = h.before;
+        event = h.event;
+        opened = sym (ap (λ (x : View O E). x.opening) is) ∙ h.opened;
+        begins = prefix_further v.seen u.seen h.before begins h.begins;
+        after = h.after ∙ ap (λ (x : View O E). having_made x h.before (listed h.event)) is;
+        stands = h.stands;
+        legal = h.legal;
+        own = subst (λ (n : ℕ). entries_of n w.seen ≡ w.mine) number h.own;
+      }
+
+  -- what the value did in a turn
+  pub turn : (v : View O E) (count : ℕ) (value value' : T) (n : Seat') (calls : List C) (answers : List A) → (h : Holds opening_of events relation v count value n)
+      → AreKept opening_of events relation value calls answers value' → Steps (having_seen v Idle h.seen) value calls answers value'
+  turn v count value value' n calls answers h kept = steps calls answers (having_seen v Idle h.seen) value value' refl h.opened h.has h.legal h.own kept
+
+  -- after the calls the value may go back
+  pub may_end : (v : View O E) (count : ℕ) (value value' : T) (n : Seat') (calls : List C) (answers : List A) → Holds opening_of events relation v count value n
+      → AreKept opening_of events relation value calls answers value' → MayEnd opening_of events relation n.0 value'
+  may_end v count value value' n calls answers h kept =
+      let all = turn v count value value' n calls answers h kept in
+      let seen : h.seen ≡ n.0.seen = ap (λ (x : Seat'). x.0.seen) (sym h.after) in
+      record {
+        new = all.new;
+        opened = ap (λ (x : Seat'). x.0.opening) h.after ∙ (h.opened ∙ ap Some (sym all.same));
+        has = all.grown ∙ ap (λ l. l ++ all.new) (h.has ∙ ap events_of seen);
+        legal = subst (λ (x : O). LegalFrom relation x (events_of n.0.seen) all.new) (sym all.same)
+            (subst (λ (l : List E). LegalFrom relation (opening_of value) l all.new) (h.has ∙ ap events_of seen) all.legal);
+      }
+
+  -- what the pass knows after the calls
+  pub calls_made : (v : View O E) (count : ℕ) (value value' : T) (n w : Seat') (call : C) (calls : List C) (answers : List A) → v.stage ≡ Idle → count ≡ length (call ∷ calls) → Holds opening_of events relation v count value n
+      → AreKept opening_of events relation value (call ∷ calls) answers value'
+      → w ≡ (having_ended n.0 (drop (length n.0.seen) (events value')), []) → AreCalled relation v (call ∷ calls) answers w.0
+  calls_made v count value value' n w call calls [] idle all h kept made = absurd kept
+  calls_made v count value value' n w call calls (answer ∷ answers) idle all h kept made =
+      let so = turn v count value value' n (call ∷ calls) (answer ∷ answers) h kept in
+      let u = having_seen v Idle h.seen in
+      let rest' : drop (length h.seen) (events value') ≡ so.new = ap (λ (l : List E). drop (length h.seen) l) (so.grown ∙ ap (λ l. l ++ so.new) h.has) ∙ drop-own h.seen so.new in
+      let P : Seat' → View O E = λ x. having_ended x.0 (drop (length x.0.seen) (events value')) in
+      let after : w.0 ≡ having_called u (length (call ∷ calls)) so.new = ap (λ (x : Seat'). x.0) made ∙ (ap P h.after ∙ (ap (having_ended (having_begun v count h.seen)) rest' ∙ ap (λ (k : ℕ). having_called u k so.new) all)) in
+      let made' : AreCalled relation u (call ∷ calls) (answer ∷ answers) w.0 = subst (AreCalled relation u (call ∷ calls) (answer ∷ answers)) (sym after) so.called in
+      (made'.0, called_from v u call answer made'.0 refl h.begins made'.1, made'.2)
+
+  -- the calls of a turn, if there are any
+  pub all_made : (v : View O E) (count : ℕ) (value value' : T) (n w : Seat') (calls : List C) (answers : List A) → v.stage ≡ Idle → count ≡ length calls → 0 < count → Holds opening_of events relation v count value n
+      → AreKept opening_of events relation value calls answers value'
+      → w ≡ (having_ended n.0 (drop (length n.0.seen) (events value')), []) → AreCalled relation v calls answers w.0
+  all_made v count value value' n w [] answers idle all some' h kept made = absurd (omega (arith, all, some'))
+  all_made v count value value' n w (call ∷ calls) answers idle all some' h kept made = calls_made v count value value' n w call calls answers idle all h kept made
+
+  kept_more : (t mid u : T) (calls : List C) (answers : List A) (call : C) (answer : A) → AreKept opening_of events relation t calls answers mid → Kept' opening_of events relation mid call answer u
+      → AreKept opening_of events relation t (calls ++ call ∷ []) (answers ++ answer ∷ []) u
+  kept_more t mid u [] [] call answer kept next = (u, subst (λ (x : T). Kept' opening_of events relation x call answer u) kept next, refl)
+  kept_more t mid u [] (a ∷ answers) call answer kept next = absurd kept
+  kept_more t mid u (c ∷ calls) [] call answer kept next = absurd kept
+  kept_more t mid u (c ∷ calls) (a ∷ answers) call answer kept next = (kept.0, kept.1, kept_more kept.0 mid u calls answers call answer kept.2 next)
+
+  -- one query more of a turn
+  pub made_more : {Query Reply : Type 0} (asked : Query → C) (replied : Reply → A) (t mid u : T) (done done' : List Query) (replies replies' : List Reply) (query : Query) (reply : Reply)
+      → AreKept opening_of events relation t (map asked done) (map replied replies) mid → Kept' opening_of events relation mid (asked query) (replied reply) u → done' ≡ done ++ query ∷ [] → replies' ≡ replies ++ reply ∷ []
+      → AreKept opening_of events relation t (map asked done') (map replied replies') u
+  made_more asked replied t mid u done done' replies replies' query reply kept next further grown =
+      subst (λ (x : List C × List A). AreKept opening_of events relation t x.0 x.1 u) (λ i. ((sym (map-append asked done (query ∷ [])) ∙ ap (map asked) (sym further)) i, (sym (map-append replied replies (reply ∷ [])) ∙ ap (map replied) (sym grown)) i))
+      (kept_more t mid u (map asked done) (map replied replies) (asked query) (replied reply) kept next)
 
   -- the end of a turn, once the value is back in the slot
   pub ends_turn_as : (slots id : ℕ) (m n : Seat') (value : T) → m.0.stage ≡ Turn → m.1 ≡ (0, None) ∷ [] → n ≡ (m.0, (0, Some value) ∷ Rattle.atomic_table.specs.Table.rest m.1) → MayEnd opening_of events relation m.0 value → slots ≡ 1
@@ -353,7 +464,7 @@ module _ {T O E C A : Type 0} (opening_of : T → O) (events : T → List E) (re
   ends_turn_as slots id m n value turn out back h one_slot st =
       let to : n ≡ (m.0, (0, Some value) ∷ []) = back ∙ ap (λ (l : List (ℕ × Option T)). (m.0, (0, Some value) ∷ Rattle.atomic_table.specs.Table.rest l)) out in
       subst (λ (x : Seat'). Allows Rule slots id x 0 (λ _. 0) (λ _. released opening_of events relation st x 0)) (sym to)
-      (ends_turn slots id (m.0, (0, Some value) ∷ []) value h.call h.answer h.event turn refl h.opened h.has h.stands one_slot st)
+      (ends_turn slots id (m.0, (0, Some value) ∷ []) value h.new turn refl h.opened h.has h.legal one_slot st)
 
   -- one pass has taken in another
   pub both_seen : (v w : View O E) (m n : Seat') (st : Step (Option T)) → m.0 ≡ taking_in v w → learned relation st m 0 n → BothSeen relation v w n.0
@@ -362,8 +473,12 @@ module _ {T O E C A : Type 0} (opening_of : T → O) (events : T → List E) (re
   pub both_seen_at : (v v' w w' n : View O E) → v' ≡ v → w' ≡ w → BothSeen relation v' w' n → BothSeen relation v w n
   both_seen_at v v' w w' n is is' b = subst (λ (x : View O E × View O E). BothSeen relation x.0 x.1 n) (λ i. (is i, is' i)) b
 
-  pub called_at : (v v' w : View O E) (call : C) (answer : A) → v' ≡ v → Called relation v' call answer w → Called relation v call answer w
-  called_at v v' w call answer is h = subst (λ (x : View O E). Called relation x call answer w) is h
+  pub called_at : (v v' w : View O E) (calls : List C) (answers : List A) → v' ≡ v → AreCalled relation v' calls answers w → AreCalled relation v calls answers w
+  called_at v v' w calls answers is h = subst (λ (x : View O E). AreCalled relation x calls answers w) is h
+
+  -- one call alone
+  pub one_called : (v w : View O E) (call : C) (answer : A) → AreCalled relation v (call ∷ []) (answer ∷ []) w → Called relation v call answer w
+  one_called v w call answer h = subst (Called relation v call answer) (sym h.2) h.1
 
   -- what is left, where the word was 0
   pub ends_with : (v v' : View O E) (id : ℕ) (ws : List ℕ) (xs : List (Option T)) (word : ℕ) (value : Option T) → v' ≡ v → v'.stage ≡ Idle → Final (Seen Rule id v') ws xs → get_elem? ws 0 ≡ some word → word ≡ 0 → get_elem? xs 0 ≡ some value

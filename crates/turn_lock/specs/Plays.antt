@@ -3,7 +3,7 @@
 use Rattle.std.specs.Prelude.{◌≡◌, ◌≢◌, ℕ, ◌+◌, List, [], ◌∷◌, ◌++◌, Option, Some, None, length, drop}
 use mathlib.Core.List.{IsPrefix}
 use Rattle.atomic_table.specs.Table.{Me, Step}
-use Rattle.turn_lock.specs.History.{listed, tagged, events_of, entries_of, IsLegal}
+use Rattle.turn_lock.specs.History.{listed, tagged, events_of, entries_of, LegalFrom, IsLegal}
 use Rattle.turn_lock.specs.declared.view.View.{View}
 use Rattle.turn_lock.specs.declared.view.Stage.{Stage}
 use Rattle.turn_lock.specs.declared.view.Stage.TheVariants.{New, Idle, Turn, Joined}
@@ -37,6 +37,14 @@ module _ {O E : Type 0} where
   abbrev pub having_seen : View O E → Stage E → List (ℕ × E) → View O E
   having_seen v stage seen = record v { stage = stage; seen = seen }
 
+  -- the pass has seen `seen`, and begins a turn of this number of calls
+  abbrev pub having_begun : View O E → ℕ → List (ℕ × E) → View O E
+  having_begun v count seen = record v { stage = Turn; seen = seen; calls = v.calls + count }
+
+  -- the pass has ended its turn: it has made these events after what it had seen
+  abbrev pub having_ended : View O E → List E → View O E
+  having_ended v es = record v { stage = Idle; seen = v.seen ++ tagged v.number es; mine = v.mine ++ tagged v.number es }
+
   -- one call more of the pass: it has seen `before`, and has made these events after it
   abbrev pub having_made : View O E → List (ℕ × E) → List E → View O E
   having_made v before es = record v { stage = Idle; seen = before ++ tagged v.number es; mine = v.mine ++ tagged v.number es; calls = v.calls + 1 }
@@ -46,35 +54,34 @@ module _ {O E : Type 0} where
   told st m r n = (n.0.number ≢ m.0.number) × (n ≡ (numbered m.0 n.0.number, m.1)) × (entries_of n.0.number m.0.seen ≡ m.0.mine)
 
 module _ {T O E C A : Type 0} (opening_of : T → O) (events : T → List E) (relation : O → List E → C → Option E → A → Type 0) where
-  -- the pass took the turn and the value: it has seen the value's whole history
-  pub record Took (v : View O E) (n : Me (Option T) (View O E)) : Type 0 where
+  -- the pass took the turn for this number of calls, and the value: it has seen the value's whole
+  -- history
+  pub record Took (v : View O E) (count : ℕ) (n : Me (Option T) (View O E)) : Type 0 where
     pub value : T
     pub seen : List (ℕ × E)
-    pub after : n ≡ (having_seen v Turn seen, (0, Some value) ∷ [])
+    pub after : n ≡ (having_begun v count seen, (0, Some value) ∷ [])
     pub begins : IsPrefix v.seen seen
     pub has : events value ≡ events_of seen
     pub opened : v.opening ≡ Some (opening_of value)
     pub legal : IsLegal relation (opening_of value) seen
     pub own : entries_of v.number seen ≡ v.mine
 
-  -- the pass has the turn, and the value is out of the slot
-  pub record Holds (v : View O E) (value : T) (n : Me (Option T) (View O E)) : Type 0 where
+  -- the pass has the turn for this number of calls, and the value is out of the slot
+  pub record Holds (v : View O E) (count : ℕ) (value : T) (n : Me (Option T) (View O E)) : Type 0 where
     pub seen : List (ℕ × E)
-    pub after : n ≡ (having_seen v Turn seen, (0, None) ∷ [])
+    pub after : n ≡ (having_begun v count seen, (0, None) ∷ [])
     pub begins : IsPrefix v.seen seen
     pub has : events value ≡ events_of seen
     pub opened : v.opening ≡ Some (opening_of value)
     pub legal : IsLegal relation (opening_of value) seen
     pub own : entries_of v.number seen ≡ v.mine
 
-  -- what the value has more than the pass has seen is the event of one call, or nothing
+  -- what the value has more than the pass has seen are events that calls may leave
   pub record MayEnd (v : View O E) (value : T) : Type 0 where
-    pub call : C
-    pub answer : A
-    pub event : Option E
+    pub new : List E
     pub opened : v.opening ≡ Some (opening_of value)
-    pub has : events value ≡ events_of v.seen ++ listed event
-    pub stands : relation (opening_of value) (events_of v.seen) call event answer
+    pub has : events value ≡ events_of v.seen ++ new
+    pub legal : LegalFrom relation (opening_of value) (events_of v.seen) new
 
   -- the value's events make a legal history, which begins with what the pass has seen
   pub record Ended (v : View O E) (value : T) : Type 0 where
@@ -85,13 +92,14 @@ module _ {T O E C A : Type 0} (opening_of : T → O) (events : T → List E) (re
     pub opened : v.opening ≡ Some (opening_of value)
     pub legal : IsLegal relation (opening_of value) log
 
-  -- a try for the turn: 0 is success, anything else changes nothing
+  -- a try for the turn, for as many calls as the word becomes: 0 is success, anything else changes
+  -- nothing
   abbrev pub took : Step (Option T) → Me (Option T) (View O E) → ℕ → Me (Option T) (View O E) → Type 0
-  took st m r n = (r ≡ 0 → Took m.0 n) × (r ≢ 0 → n ≡ m)
+  took st m r n = (r ≡ 0 → Took m.0 st.second n) × (r ≢ 0 → n ≡ m)
 
   -- the turn is released: the value's new events are the pass's own
   abbrev pub released : Step (Option T) → Me (Option T) (View O E) → ℕ → Me (Option T) (View O E) → Type 0
-  released st m r n = (t : T) → m.1 ≡ (0, Some t) ∷ [] → n ≡ (having_made m.0 m.0.seen (drop (length m.0.seen) (events t)), [])
+  released st m r n = (t : T) → m.1 ≡ (0, Some t) ∷ [] → n ≡ (having_ended m.0 (drop (length m.0.seen) (events t)), [])
 
 module _ {O E C A : Type 0} (relation : O → List E → C → Option E → A → Type 0) where
   -- one legal history begins with what both passes had seen, and the entries of each are its own
@@ -120,3 +128,9 @@ module _ {O E C A : Type 0} (relation : O → List E → C → Option E → A �
     pub stands : relation opening (events_of before) call event answer
     pub legal : IsLegal relation opening w.seen
     pub own : entries_of v.number w.seen ≡ w.mine
+
+  -- calls of a pass one after another, each with its answer
+  abbrev pub AreCalled : View O E → List C → List A → View O E → Type 0
+  AreCalled v [] [] w = w ≡ v
+  AreCalled v (call ∷ calls) (answer ∷ answers) w = (mid : View O E) × Called v call answer mid × AreCalled mid calls answers w
+  AreCalled v calls answers w = ⊥

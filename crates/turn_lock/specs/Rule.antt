@@ -33,7 +33,7 @@ module _ {O E : Type 0} where
     FitsAt Spent = Unit {0}
     FitsAt New = Live × (v.number ≢ by)
     FitsAt Idle = Live × (v.number ≡ by)
-    FitsAt Turn = Live × (v.number ≡ by) × (word ≡ 1) × (by ≡ holder) × (v.seen ≡ log)
+    FitsAt Turn = Live × (v.number ≡ by) × (word ≢ 0) × (by ≡ holder) × (v.seen ≡ log)
     FitsAt (Joined other seen mine) = Live × (v.number ≡ by) × (other ≢ by) × Knows log other seen mine × (get_elem? views other ≡ some spent)
 
 module _ {T O E C A : Type 0} (opening_of : T → O) (events : T → List E) (relation : O → List E → C → Option E → A → Type 0) where

@@ -43,3 +43,26 @@ pub trait Runs {
         requires { may self.old call }
         ensures { does self.old call result self.new };
 }
+
+/// A `Queries` is a value with calls by reference, of which many are made in one turn.
+pub trait Queries {
+    type Query;
+
+    type Reply;
+
+    type Says;
+
+    type Tells;
+
+    ghost asked: { Self.Query → Self.Says };
+
+    ghost replied: { Self.Reply → Self.Tells };
+
+    ghost can: { Self → Self.Query → Type 0 };
+
+    ghost gives: { Self → Self.Query → Self.Reply → Self → Type 0 };
+
+    fn answer(&mut self, query: &Self::Query) -> Self::Reply
+        requires { can self.old query.now }
+        ensures { gives self.old query.now result self.new };
+}

@@ -12,6 +12,6 @@ mod lock;
 mod rule;
 mod view;
 
-pub use kept::{Kept, Runs};
+pub use kept::{Kept, Queries, Runs};
 pub use lock::{Pass, TurnLock};
 pub use view::{Stage, View};

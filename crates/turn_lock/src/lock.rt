@@ -1,11 +1,12 @@
-ghost use Rattle.std.specs.Prelude.{◌≡◌, ◌≢◌, [], ◌∷◌, None, length, drop, IfOk, IfErr, IfSome};
+ghost use Rattle.std.specs.Prelude.{◌≡◌, ◌≢◌, ◌<◌, ◌≤◌, [], ◌∷◌, None, length, drop, map, All, IfOk, IfErr, IfSome};
+ghost use Rattle.std.specs.Vec.{vec_capacity};
 ghost use Rattle.turn_lock.specs.History.{entries_of};
 ghost use Rattle.turn_lock.specs.Rule.{opened};
-ghost use Rattle.turn_lock.specs.Plays.{having_made, having_split, newcomer, Holds, MayEnd, BothSeen, Called, Ended};
-ghost use Rattle.turn_lock.specs.Values.{IsPassOf, Keeps};
+ghost use Rattle.turn_lock.specs.Plays.{having_ended, having_split, newcomer, Holds, MayEnd, BothSeen, Called, AreCalled, Ended};
+ghost use Rattle.turn_lock.specs.Values.{IsPassOf, Keeps, AreKept};
 ghost use Rattle.turn_lock.specs.declared.view.Stage.TheVariants.{Idle, Turn};
 
-use crate::kept::{Kept, Runs};
+use crate::kept::{Kept, Queries, Runs};
 use crate::rule::{InTurns, Learn, Release, SplitOff, Take, TakeIn, Tell};
 use crate::view::View;
 use atomic_table::{Refused, Seat, Table};
@@ -16,8 +17,6 @@ use std::sync::Wait;
 use std::thread::yield_now;
 
 const FREE: u64 = 0;
-
-const HELD: u64 = 1;
 
 const TRIES: u32 = 64;
 
@@ -88,16 +87,18 @@ impl<T: Kept + Drop> TurnLock<T> {
         }
     }
 
-    fn take<R: Wait>(&self, rt: &R, seat: &mut Chair<T>) -> T
+    /// Waits for the turn. The word is then the number of its calls.
+    fn take<R: Wait>(&self, rt: &R, seat: &mut Chair<T>, count: u64) -> T
         requires own { seat.old.table_id ≡ self.now.table }
+        requires some { 0 < count }
         requires idle { (seat.old.me.0.stage ≡ Idle) × (seat.old.me.1 ≡ []) }
         ensures own { seat.new.table_id ≡ seat.old.table_id }
-        ensures took { Holds T.opening T.events T.relation seat.old.me.0 result seat.new.me }
+        ensures took { Holds T.opening T.events T.relation seat.old.me.0 count result seat.new.me }
     {
         let shared = &self.table.shared;
         let mut tries: u32 = 0;
         for _ in rt.forever() {
-            if shared.compare_exchange::<Take<T>>(seat, 0, FREE, HELD) == FREE {
+            if shared.compare_exchange::<Take<T>>(seat, 0, FREE, count) == FREE {
                 return shared.exchange(seat, 0, None).unwrap();
             }
             if tries < TRIES {
@@ -115,7 +116,7 @@ impl<T: Kept + Drop> TurnLock<T> {
         requires value { MayEnd T.opening T.events T.relation seat.old.me.0 value }
         ensures own { seat.new.table_id ≡ seat.old.table_id }
         ensures made { seat.new.me
-            ≡ (having_made seat.old.me.0 seat.old.me.0.seen (drop (length seat.old.me.0.seen) (T.events value)), []) }
+            ≡ (having_ended seat.old.me.0 (drop (length seat.old.me.0.seen) (T.events value)), []) }
     {
         let shared = &self.table.shared;
         drop(shared.exchange(seat, 0, Some(value)));
@@ -165,6 +166,26 @@ impl<T: Kept + Drop> TurnLock<T> {
     }
 }
 
+/// Answers `queries` in their order. `replies` has room for all.
+fn answer_all<T: Kept + Queries<Says = <T as Kept>::Said, Tells = <T as Kept>::Told>>(
+    value: &mut T,
+    queries: &[T::Query],
+    replies: &mut Vec<T::Reply>,
+)
+    requires can { All (λ query. (t : T) → T.opening t ≡ T.opening value.old → T.can t query) queries.now }
+    requires keeps { All (λ query. (t : T) (a : T.Reply) (u : T) → T.gives t query a u
+        → Keeps T.opening T.events T.relation t (T.asked query) (T.replied a) u) queries.now }
+    requires none { replies.old.items ≡ [] }
+    requires room { length queries.now ≤ vec_capacity replies.old }
+    ensures kept { AreKept T.opening T.events T.relation value.old
+        (map T.asked queries.now) (map T.replied replies.new.items) value.new }
+    ensures capacity { vec_capacity replies.new ≡ vec_capacity replies.old }
+{
+    for query in queries {
+        replies.push_reserved(value.answer(query));
+    }
+}
+
 impl<T: Kept + Runs<Says = <T as Kept>::Said, Tells = <T as Kept>::Told> + Drop> TurnLock<T> {
     /// Waits for the turn, and makes one call. Its event is then the last that `pass` has seen.
     pub fn with_turn<R: Wait>(&self, rt: &R, pass: &mut Pass<T>, call: T::Call) -> T::Answer
@@ -175,9 +196,39 @@ impl<T: Kept + Runs<Says = <T as Kept>::Said, Tells = <T as Kept>::Told> + Drop>
         ensures own { IsPassOf self.now pass.new }
         ensures called { Called T.relation pass.old.view (T.said call) (T.told result) pass.new.view }
     {
-        let mut value = self.take(rt, &mut pass.seat);
+        let mut value = self.take(rt, &mut pass.seat, 1);
         let answer = value.apply(call);
         self.end_turn(&mut pass.seat, value);
         answer
+    }
+}
+
+impl<T: Kept + Queries<Says = <T as Kept>::Said, Tells = <T as Kept>::Told> + Drop> TurnLock<T> {
+    /// Waits for the turn, and answers `queries` in it, in their order: no other pass calls between
+    /// them. Without queries it does not wait.
+    pub fn with_queries<R: Wait>(
+        &self,
+        rt: &R,
+        pass: &mut Pass<T>,
+        queries: &[T::Query],
+        replies: &mut Vec<T::Reply>,
+    )
+        requires own { IsPassOf self.now pass.old }
+        requires can { All (λ query. (t : T) → T.opening t ≡ self.now.opening → T.can t query) queries.now }
+        requires keeps { All (λ query. (t : T) (a : T.Reply) (u : T) → T.gives t query a u
+            → Keeps T.opening T.events T.relation t (T.asked query) (T.replied a) u) queries.now }
+        requires none { replies.old.items ≡ [] }
+        requires room { length queries.now ≤ vec_capacity replies.old }
+        ensures own { IsPassOf self.now pass.new }
+        ensures called { AreCalled T.relation pass.old.view
+            (map T.asked queries.now) (map T.replied replies.new.items) pass.new.view }
+        ensures capacity { vec_capacity replies.new ≡ vec_capacity replies.old }
+    {
+        if queries.is_empty() {
+            return;
+        }
+        let mut value = self.take(rt, &mut pass.seat, queries.len() as u64);
+        answer_all(&mut value, queries, replies);
+        self.end_turn(&mut pass.seat, value);
     }
 }

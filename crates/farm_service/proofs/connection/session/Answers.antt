@@ -1,3 +1,5 @@
+use Rattle.std.proofs.Common.{sym, subst}
+use Rattle.farm_service.specs.Batch.{IsEmptyBatch}
 use Rattle.farm_service.specs.Session.{stand}
 use Rattle.farm_service.proofs.SessionLemmas.{session_begins, session_on, session_ends}
 use Rattle.farm_service.proofs.connection.session.Goals as goal
@@ -6,33 +8,33 @@ pub loop-init : goal.loop-init
 loop-init g c = record {
   own = c.requires.own;
   tills = c.requires.tills;
+  empty = subst IsEmptyBatch (sym c.new-desk.ensures.batch) c.requires.empty;
   served =
       session_begins c.args.office.now.shop.config.now (g.D.Shared.tells c.args.office.now.shared.now) (goal.M-post g c.args.office.now.shop.make.now)
       c.args.token.now c.args.branches.now (g.I.Read.remaining c.args.reader.now) (g.O.Write.contents c.args.writer.now)
-      c.new-watches.result.reads c.new-watches.result.writes c.new-watches.ensures.reads c.new-watches.ensures.writes;
+      c.new-desk.result.reads c.new-desk.result.writes c.new-desk.ensures.reads c.new-desk.ensures.writes;
 }
 
 pub loop-preserved : goal.loop-preserved
 loop-preserved g c = record {
   own = c.serve_next.ensures.own;
   tills = c.serve_next.ensures.tills;
+  empty = c.serve_next.ensures.empty c.if-not-serve_next.false;
   served =
       session_on c.args.office.now.shop.config.now (g.D.Shared.tells c.args.office.now.shared.now) (goal.M-post g c.args.office.now.shop.make.now)
       (stand c.args.token.now c.args.branches.now (g.I.Read.remaining c.args.reader.now) (g.O.Write.contents c.args.writer.now) 0 0)
-      (stand c.loop.token c.loop.branches (g.I.Read.remaining c.loop.reader) (g.O.Write.contents c.loop.writer) c.loop.watches.reads c.loop.watches.writes)
-      (stand c.serve_next.new.token c.serve_next.new.branches (g.I.Read.remaining c.serve_next.new.reader) (g.O.Write.contents c.serve_next.new.writer)
-      c.serve_next.new.watches.reads c.serve_next.new.watches.writes)
-      c.serve_next.result c.if-not-serve_next.false c.loop.invariant.served c.serve_next.ensures.answered;
+      (stand c.loop.token c.loop.branches (g.I.Read.remaining c.loop.reader) (g.O.Write.contents c.loop.writer) c.loop.desk.reads c.loop.desk.writes)
+      (stand c.serve_next.new.token c.serve_next.new.branches (g.I.Read.remaining c.serve_next.new.reader) (g.O.Write.contents c.serve_next.new.writer) c.serve_next.new.desk.reads c.serve_next.new.desk.writes)
+      c.serve_next.result c.if-not-serve_next.false c.loop.invariant.served c.serve_next.ensures.served;
 }
 
 pub returns-then-not-serve_next-clause-served : goal.returns-then-not-serve_next-clause-served
 returns-then-not-serve_next-clause-served g c = (
-  c.serve_next.new.watches.reads,
-  c.serve_next.new.watches.writes,
+  c.serve_next.new.desk.reads,
+  c.serve_next.new.desk.writes,
   session_ends c.args.office.now.shop.config.now (g.D.Shared.tells c.args.office.now.shared.now) (goal.M-post g c.args.office.now.shop.make.now)
       (stand c.args.token.now c.args.branches.now (g.I.Read.remaining c.args.reader.now) (g.O.Write.contents c.args.writer.now) 0 0)
-      (stand c.loop.token c.loop.branches (g.I.Read.remaining c.loop.reader) (g.O.Write.contents c.loop.writer) c.loop.watches.reads c.loop.watches.writes)
-      (stand c.serve_next.new.token c.serve_next.new.branches (g.I.Read.remaining c.serve_next.new.reader) (g.O.Write.contents c.serve_next.new.writer)
-      c.serve_next.new.watches.reads c.serve_next.new.watches.writes)
-      c.serve_next.result c.if-not-serve_next.true c.loop.invariant.served c.serve_next.ensures.answered,
+      (stand c.loop.token c.loop.branches (g.I.Read.remaining c.loop.reader) (g.O.Write.contents c.loop.writer) c.loop.desk.reads c.loop.desk.writes)
+      (stand c.serve_next.new.token c.serve_next.new.branches (g.I.Read.remaining c.serve_next.new.reader) (g.O.Write.contents c.serve_next.new.writer) c.serve_next.new.desk.reads c.serve_next.new.desk.writes)
+      c.serve_next.result c.if-not-serve_next.true c.loop.invariant.served c.serve_next.ensures.served,
 )

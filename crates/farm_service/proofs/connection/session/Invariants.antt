@@ -1,5 +1,6 @@
 use Rattle.farm_core.specs.Tills.{AreTillsOf}
 use Rattle.farm_session.specs.Branch.{tills_of}
+use Rattle.farm_service.specs.Batch.{IsEmptyBatch}
 use Rattle.farm_service.specs.Session.{stand}
 use Rattle.farm_service.proofs.SessionLemmas.{IsBegun}
 use Rattle.farm_service.proofs.connection.session.Given as goal
@@ -8,7 +9,8 @@ abbrev pub invariant-loop : goal.invariant-loop
 invariant-loop g l = record {
   own : g.D.Shared.owns l.office.shared.now l.token;
   tills : AreTillsOf l.office.shop.config.now (tills_of l.branches);
+  empty : IsEmptyBatch l.desk.batch;
   served : IsBegun l.office.shop.config.now (g.D.Shared.tells l.office.shared.now) (goal.M-post g l.office.shop.make.now)
       (stand l.fn.token l.fn.branches (g.I.Read.remaining l.fn.reader) (g.O.Write.contents l.fn.writer) 0 0)
-      (stand l.token l.branches (g.I.Read.remaining l.reader) (g.O.Write.contents l.writer) l.watches.reads l.watches.writes);
+      (stand l.token l.branches (g.I.Read.remaining l.reader) (g.O.Write.contents l.writer) l.desk.reads l.desk.writes);
 }

@@ -1,4 +1,4 @@
-use Rattle.std.proofs.Common.{rules, sym, ap, ◌∙◌, ◌∷◌, Some}
+use Rattle.std.proofs.Common.{rules, arith, sym, ap, ◌∙◌, ◌∷◌, Some}
 use mathlib.Core.Option.{none}
 use Rattle.atomic_table.specs.Table.{rest, step}
 use Rattle.turn_lock.proofs.Keeps.{takes_turn}
@@ -12,7 +12,7 @@ compare_exchange-requires g c =
     let seat = c.loop.seat in (
       c.loop.invariant.same_table ∙ (c.requires.own ∙ ap (λ l. l.table) (sym c.self.view_is)),
       search rules,
-      takes_turn k.opening k.events k.relation (k.opening t.key.value) t.table_id.slots seat.id seat.me (ap (λ m. m.0.stage) same ∙ c.requires.idle.0) (ap (λ m. m.1) same ∙ c.requires.idle.1) (step 1 0 0 1 none),
+      takes_turn k.opening k.events k.relation (k.opening t.key.value) t.table_id.slots seat.id seat.me (ap (λ m. m.0.stage) same ∙ c.requires.idle.0) (ap (λ m. m.1) same ∙ c.requires.idle.1) (step 1 0 0 c.args.count none) (λ e. absurd (let some = c.requires.some in omega (arith, e))),
     )
 
 pub exchange-requires : goal.exchange-requires
