@@ -108,7 +108,7 @@ fn end_replay<R: AllocGlobal + Env + Eprint>(
         (Ok(()), _) => ExitCode::SUCCESS,
     };
     if explains(rt)
-        && let Some(line) = notes.doubtful
+        && let Some(line) = notes.submit_ends_in_request
     {
         let _ = eprintln!(rt;
             "farm: line {line}: the text of this submit ends with a line that begins with '@'; is its count of lines right?"

@@ -204,7 +204,7 @@ fn first_over(lines: &[LineDraft<'_>], key: Key) -> Option<usize> {
     None
 }
 
-/// Of a purse, the place is its first tenant's.
+/// For `Key::Purse`, the place of the purse's first tenant.
 fn out_of_range(alloc: Global, value: &Value, key: Key) -> ConfigPlace {
     let part = match key {
         Key::Purse => ConfigPart::Purse,

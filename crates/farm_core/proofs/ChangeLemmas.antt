@@ -166,7 +166,7 @@ effect_moves w t capacity event f all then farm l planned decides leaves it told
       told = sym (ap (λ (g : Effect). (done (view t w) g).answer) decides);
       after = ap (λ (g : Effect). (done (view t w) g).after) decides ∙ after;
       noted = sym (ap (λ (g : Effect). is_noted (done (view t w) g).answer) decides) ∙ entry_told (view t w) event ∙ ap leaves_entry decides ∙ leaves;
-      told_of = subst (λ (v : Tenant). IsAccount v then) after told;
+      line_after = subst (λ (v : Tenant). IsAccount v then) after told;
       kept_less = it.kept_less;
       others = it.others;
       order = it.order;

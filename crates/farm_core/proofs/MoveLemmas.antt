@@ -32,7 +32,7 @@ pub record IsMove (w : World) (t : ℕ) (all : TableData) (account : Account) (e
   pub told : answer ≡ (step (view t w) event).answer
   pub after : (step (view t w) event).after ≡ moved_view w t all account
   pub noted : is_noted answer ≡ true
-  pub told_of : IsAccount (moved_view w t all account) account
+  pub line_after : IsAccount (moved_view w t all account) account
   pub kept_less : kept (view t w) ≤ kept (moved_view w t all account) + 1
   pub others : (u : ℕ) → u ≢ t → jobs_of u all.rows ≡ jobs_of u w.rows
   pub order : KeepsOrder t w.waiting all.waiting
@@ -117,7 +117,7 @@ each_account w t all account event answer old farm move u known =
     let new : World = moved w t all account (one_entry t event) in
     let follows = move_follows w t all account event answer move in
     let steps = steps_of w new t event answer follows in
-    let own : IsAccount (view t new) account = subst (λ (v : Tenant). IsAccount v account) (sym (follows.own ∙ move.after)) move.told_of in
+    let own : IsAccount (view t new) account = subst (λ (v : Tenant). IsAccount v account) (sym (follows.own ∙ move.after)) move.line_after in
     ⊎_elim
     (λ (same : u ≡ t). subst (λ v. IsAccount (view v new) (account_of new v)) (sym same) (subst (IsAccount (view t new)) (sym (account_own w t all account (one_entry t event) move.known)) own))
     (λ (ne : u ≡ t → ⊥).

@@ -18,12 +18,12 @@ pub record IsTold (t : Tenant) (s : ℕ) (line : Line) : Type 0 where
   pub found : find_job s t.jobs ≡ Some job
   pub line_is : line_of job ≡ line
 
-told_of : (t : Tenant) (s : ℕ) (line : Line) (found : Option JobData) → find_job s t.jobs ≡ found → option_map line_of found ≡ Some line → IsTold t s line
-told_of t s line None found is = absurd (cc)
-told_of t s line (Some job) found is = record { job = job; found = found; line_is = cc }
+line_after : (t : Tenant) (s : ℕ) (line : Line) (found : Option JobData) → find_job s t.jobs ≡ found → option_map line_of found ≡ Some line → IsTold t s line
+line_after t s line None found is = absurd (cc)
+line_after t s line (Some job) found is = record { job = job; found = found; line_is = cc }
 
 pub told : (t : Tenant) (s : ℕ) (line : Line) → option_map line_of (find_job s t.jobs) ≡ Some line → IsTold t s line
-told t s line is = told_of t s line (find_job s t.jobs) refl is
+told t s line is = line_after t s line (find_job s t.jobs) refl is
 
 none_of : (t : Tenant) (s : ℕ) (found : Option JobData) → find_job s t.jobs ≡ found → option_map line_of found ≡ None → find_job s t.jobs ≡ None
 none_of t s None found is = found

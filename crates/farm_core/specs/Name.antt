@@ -24,6 +24,6 @@ same_bytes [] (c ∷ cs) = false
 same_bytes (b ∷ bs) [] = false
 same_bytes (b ∷ bs) (c ∷ cs) = (b == c) && same_bytes bs cs
 
--- by which most names are told apart at once: the length, and the last two bytes
+-- the tag of a name, which differs for most names: the length, and the last two bytes
 abbrev pub tag_of : List ℕ → ℕ
 tag_of name = (get_or name (length name - 2) 0 * 256 + get_or name (length name - 1) 0) * 256 + length name

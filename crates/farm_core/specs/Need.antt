@@ -80,7 +80,7 @@ pub record HasRested (calls : List Call) (w : World) (t : ℕ) : Type 0 where
   pub gifts : are_gifts (asked_by t calls) ≡ true
   pub rests : AreAtRest (view t w).jobs
 
--- two members of whom the same is told
+-- two members with the same lines and the same ledger
 pub record AreAlike (one other : Tenant) : Type 0 where
   pub lines : map line_of one.jobs ≡ map line_of other.jobs
   pub ledger : book one ≡ book other

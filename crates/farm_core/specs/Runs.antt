@@ -9,7 +9,7 @@ use Rattle.farm_core.specs.World.{World, Call, purses_in, view, Steps, Run, entr
 abbrev pub HasAccounts : World → Type 0
 HasAccounts w = (length w.numbers ≡ length w.config.tenants) × (length w.books ≡ purses_in w.config)
 
--- each tenant can make each call at any time: there is a farm after it, answered as its step says
+-- each call is possible in each state of a farm, and is answered as its tenant's step says
 abbrev pub EachCallCanBeMade : Type 0
 EachCallCanBeMade = (w : World) → HasAccounts w → (t : ℕ) → t < length w.config.tenants → (event : Event) →
     (new : World) × Steps w t event (step (view t w) event).answer new × HasAccounts new

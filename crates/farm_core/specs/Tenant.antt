@@ -45,15 +45,15 @@ pub record Tenant : Type 0 where
 abbrev pub terms_of : TenantLine → Terms
 terms_of line = record { jobs = line.jobs; entries = line.entries }
 
--- a tenant that has done nothing yet,
+-- a member that has done nothing
 abbrev pub new_member : TenantLine → Member
 new_member line = record { terms = terms_of line; next = 1; used = 0; jobs = [] }
 
--- and a purse of which no member has
+-- a purse whose members have done nothing
 unfoldable pub newcomers : List TenantLine → Purse
 newcomers lines = record { granted = granted_by lines; spent = 0; members = map new_member lines }
 
--- a tenant that has done nothing yet, and has its purse for itself
+-- a tenant that has done nothing, and has its purse for itself
 unfoldable pub newcomer : TenantLine → Tenant
 newcomer line = record { terms = terms_of line; granted = line.quanta; spent = 0; beside = 0; next = 1; used = 0; jobs = [] }
 
@@ -68,7 +68,7 @@ held_beside place [] = 0
 held_beside zero (m ∷ members) = sum_by (λ (other : Member). held_by other.jobs) members
 held_beside (suc place) (m ∷ members) = held_by m.jobs + held_beside place members
 
--- a member as it stands, at a place of a purse
+-- a member of a purse, at its place, as a tenant
 abbrev pub seated_at : ℕ → Purse → Member → Tenant
 seated_at place p m = record {
   terms = m.terms;
@@ -80,18 +80,18 @@ seated_at place p m = record {
   jobs = m.jobs;
 }
 
--- one that is not there may ask for nothing
+-- the default for a missing member: no jobs, no entries
 abbrev pub no_member : Member
 no_member = record { terms = record { jobs = 0; entries = 0 }; next = 1; used = 0; jobs = [] }
 
--- the member at a place of a purse,
+-- the tenant at a place of a purse
 abbrev pub seat : Purse → ℕ → Tenant
 seat p place = seated_at place p (get_or p.members place no_member)
 
 abbrev pub own_of : Tenant → Member
 own_of t = record { terms = t.terms; next = t.next; used = t.used; jobs = t.jobs }
 
--- and the purse once that member stands otherwise
+-- the purse with the member at `place` replaced
 abbrev pub with_seat : Purse → ℕ → Tenant → Purse
 with_seat p place t = record p { spent = t.spent; members = set p.members place (own_of t) }
 
@@ -130,7 +130,7 @@ abbrev pub drop_job : ℕ → List JobData → List JobData
 drop_job s [] = []
 drop_job s (job ∷ jobs) = cond (job.seq == s) jobs (job ∷ drop_job s jobs)
 
--- what is told of a job: its best and its verdict are those of its plan after its nodes
+-- the line of a job: its best and its verdict are those of its plan after its nodes
 unfoldable pub line_of : JobData → Line
 line_of job = record {
   seq = job.seq;

@@ -21,7 +21,7 @@ pub record IsTrueBest (plan : Plan) (best : Option ScheduleData) (verdict : Verd
   pub optimal : verdict ≡ Optimal → IsSomeAnd best (λ s. IsOptimal plan.project s)
   pub infeasible : verdict ≡ Infeasible → IsInfeasible plan.project
 
--- what is told of a job by its number: its plan has such a schedule, of the makespan that is named
+-- a reply is true of the job of a number: its plan has such a schedule, of the makespan that is named
 abbrev pub IsTrueOf : (ℕ → Plan → Type 0) → ℕ → Option ℕ → Verdict → Type 0
 IsTrueOf made s best verdict =
     (plan : Plan) × made s plan × ((schedule : Option ScheduleData) × (best ≡ option_map (makespan plan.project) schedule) × IsTrueBest plan schedule verdict)

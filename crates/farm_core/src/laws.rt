@@ -84,7 +84,7 @@ pub fn held_turns_are_no_strangers()
     ensures { HeldTurnsAreNoStrangers }
 {}
 
-/// A held turn runs as many nodes as the farm then replies of that job.
+/// The reply to a give names the nodes that the turn ran.
 pub fn held_turns_run_their_nodes()
     ensures { HeldTurnsRunTheirNodes }
 {}
@@ -109,8 +109,7 @@ pub fn given_jobs_are_not_out()
     ensures { GivenJobsAreNotOut }
 {}
 
-/// Each tenant can make each call at any time: there is a farm after it, in which each other tenant
-/// has what it had.
+/// Each call is possible in each state of a farm, and changes no other tenant.
 pub fn each_call_can_be_made()
     ensures { EachCallCanBeMade }
 {}

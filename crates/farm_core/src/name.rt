@@ -9,7 +9,7 @@ use std::marker::Model;
 pub const MOST_NAME: usize = 32;
 
 /// A `Name` is a tenant's name: 1 to 32 bytes of `a` to `z`, `0` to `9`, `_` and `-`, the first a
-/// letter. Contracts see its bytes. Names of different tags differ, which is seen at once.
+/// letter. Contracts see its bytes. Comparing tags first decides most comparisons.
 #[derive(Debug, Drop)]
 pub struct Name {
     bytes: [u8; MOST_NAME],

@@ -55,7 +55,7 @@ fn is_slice(slice: u64) -> bool
 }
 
 /// The line of job `seq`, or `before` if there is none.
-fn told_of<J>(jobs: &JobTable<J>, tenant: u32, seq: u64, before: Line) -> Line
+fn line_after<J>(jobs: &JobTable<J>, tenant: u32, seq: u64, before: Line) -> Line
     ensures { (job : JobData) → find_row tenant seq jobs.now.rows ≡ Some job → result ≡ line_of job }
 {
     match jobs.find(tenant, seq) {
@@ -198,7 +198,7 @@ impl<J: Strategy> Farm<J> {
                 search,
             }));
         }
-        let line = told_of(&self.jobs, tenant, seq, before);
+        let line = line_after(&self.jobs, tenant, seq, before);
         account.used += 1;
         account.book.spend(ran);
         account.book.free_up(before.left - ran - line.left);
@@ -253,8 +253,8 @@ impl<J: Strategy> Farm<J> {
     }
 
     /// Takes a turn of the first waiting job whose tenant has entries for it. Fails with `NoMemory`
-    /// only if there is such a job. A job whose tenant has none is looked at once, and again after
-    /// such a tenant cancels or forgets a job, which it can do once.
+    /// only if there is such a job. It skips jobs whose tenants have no entries for a turn, and
+    /// remembers how far (`passed`) until such a tenant cancels or forgets a job.
     pub fn take_next(&mut self, slice: u64) -> Result<Turn<J>, NoTurn>
         ensures taken { IfOk result
             (λ turn. IsTaken self.old turn.tenant turn.seq slice (J.meaning turn.search) self.new) }

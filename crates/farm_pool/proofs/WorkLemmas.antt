@@ -9,10 +9,10 @@ use Rattle.turn_lock.specs.Plays.{Called}
 use Rattle.farm_pool.specs.declared.image.TurnImage.{TurnImage}
 use Rattle.farm_pool.specs.declared.image.CallImage.TheVariants as said
 use Rattle.farm_pool.specs.declared.image.AnswerImage.TheVariants as told
-use Rattle.farm_pool.specs.declared.work.Deed.TheVariants.{Turned, Strayed, Waited}
+use Rattle.farm_pool.specs.declared.work.WorkStep.TheVariants.{Turned, Strayed, Waited}
 use Rattle.farm_pool.specs.Served.{Served}
 use Rattle.farm_pool.specs.Calls.{turn_image}
-use Rattle.farm_pool.specs.declared.work.Deed.{Deed}
+use Rattle.farm_pool.specs.declared.work.WorkStep.{WorkStep}
 use Rattle.farm_pool.specs.declared.image.CallImage.{CallImage}
 use Rattle.farm_pool.specs.declared.image.AnswerImage.{AnswerImage}
 use Rattle.farm_pool.specs.Laws.{NoPassIsSplitOff}
@@ -56,7 +56,7 @@ image_ran meaning t u n tenant seq slice unrun ran all is =
 
 -- what a worker has done so far
 pub record WorkedTo (slice : ℕ) (v : PoolView) (turns strangers : ℕ) (w : PoolView) : Type 0 where
-  pub deeds : List Deed
+  pub deeds : List WorkStep
   pub done : HasDone slice deeds v w
   pub turns_are : turns ≡ turns_in deeds
   pub strangers_are : strangers ≡ strangers_in deeds
@@ -92,12 +92,12 @@ ended slice v m w a b so did = record { deeds = so.deeds; done = (m, so.done, di
 call_unsplit : (v w : PoolView) (call : CallImage) (answer : AnswerImage) → Called Served v call answer w → w.splits ≡ v.splits
 call_unsplit v w call answer called = ap (λ (x : PoolView). x.splits) called.after
 
-deed_unsplit : (slice : ℕ) (deed : Deed) (v w : PoolView) → Does slice deed v w → w.splits ≡ v.splits
+deed_unsplit : (slice : ℕ) (deed : WorkStep) (v w : PoolView) → Does slice deed v w → w.splits ≡ v.splits
 deed_unsplit slice Turned v w did = ap (λ (x : PoolView). x.splits) did.gave.gave.after ∙ ap (λ (x : PoolView). x.splits) did.took.after
 deed_unsplit slice Strayed v w did = ap (λ (x : PoolView). x.splits) did.gave.after ∙ ap (λ (x : PoolView). x.splits) did.took.after
 deed_unsplit slice Waited v w did = ap (λ (x : PoolView). x.splits) did.asked.after
 
-deeds_unsplit : (slice : ℕ) (deeds : List Deed) (v w : PoolView) → HasDone slice deeds v w → w.splits ≡ v.splits
+deeds_unsplit : (slice : ℕ) (deeds : List WorkStep) (v w : PoolView) → HasDone slice deeds v w → w.splits ≡ v.splits
 deeds_unsplit slice [] v w done = ap (λ (x : PoolView). x.splits) done
 deeds_unsplit slice (d ∷ deeds) v w done = deed_unsplit slice d done.0 w done.2 ∙ deeds_unsplit slice deeds v done.0 done.1
 

@@ -13,8 +13,8 @@ use Rattle.farm_pool.specs.declared.image.TurnImage.{TurnImage}
 use Rattle.farm_pool.specs.declared.image.AnswerImage.{AnswerImage}
 use Rattle.farm_pool.specs.declared.image.CallImage.TheVariants as said
 use Rattle.farm_pool.specs.declared.image.AnswerImage.TheVariants as told
-use Rattle.farm_pool.specs.declared.work.Deed.{Deed}
-use Rattle.farm_pool.specs.declared.work.Deed.TheVariants.{Turned, Strayed, Waited}
+use Rattle.farm_pool.specs.declared.work.WorkStep.{WorkStep}
+use Rattle.farm_pool.specs.declared.work.WorkStep.TheVariants.{Turned, Strayed, Waited}
 use Rattle.farm_pool.specs.Served.{Served, meaning_in}
 
 -- what a pass of the pool knows
@@ -57,25 +57,25 @@ pub record HasWaited (slice : ℕ) (v w : PoolView) : Type 0 where
   pub none : IsNone answer
 
 -- what each deed of a worker is
-abbrev pub Does : ℕ → Deed → PoolView → PoolView → Type 0
+abbrev pub Does : ℕ → WorkStep → PoolView → PoolView → Type 0
 Does slice Turned v w = IsTurned slice v w
 Does slice Strayed v w = IsStrayed slice v w
 Does slice Waited v w = HasWaited slice v w
 
 -- deeds one after another, the last one first
-abbrev pub HasDone : ℕ → List Deed → PoolView → PoolView → Type 0
+abbrev pub HasDone : ℕ → List WorkStep → PoolView → PoolView → Type 0
 HasDone slice [] v w = w ≡ v
 HasDone slice (d ∷ deeds) v w = (mid : PoolView) × HasDone slice deeds v mid × Does slice d mid w
 
 -- the turns among deeds, at most the greatest u64
-abbrev pub turns_in : List Deed → ℕ
+abbrev pub turns_in : List WorkStep → ℕ
 turns_in [] = 0
 turns_in (Turned ∷ deeds) = min (turns_in deeds + 1) 18446744073709551615
 turns_in (Strayed ∷ deeds) = turns_in deeds
 turns_in (Waited ∷ deeds) = turns_in deeds
 
 -- the strangers among deeds, at most the greatest u64
-abbrev pub strangers_in : List Deed → ℕ
+abbrev pub strangers_in : List WorkStep → ℕ
 strangers_in [] = 0
 strangers_in (Turned ∷ deeds) = strangers_in deeds
 strangers_in (Strayed ∷ deeds) = min (strangers_in deeds + 1) 18446744073709551615
@@ -83,7 +83,7 @@ strangers_in (Waited ∷ deeds) = strangers_in deeds
 
 -- what a worker did from v to w: these deeds, and at last it had no turn
 pub record Worked (slice : ℕ) (v : PoolView) (turns strangers : ℕ) (w : PoolView) : Type 0 where
-  pub deeds : List Deed
+  pub deeds : List WorkStep
   pub done : HasDone slice (Waited ∷ deeds) v w
   pub turns_are : turns ≡ turns_in deeds
   pub strangers_are : strangers ≡ strangers_in deeds

@@ -27,7 +27,8 @@ pub enum FarmAnswer<J> {
     Stray(Turn<J>),
 }
 
-/// A `Held` is a boxed farm, so that the lock moves a pointer, in a type that may implement `Kept`.
+/// A `Held` is a boxed farm. Boxed, so that the lock moves a pointer; a type of its own, since
+/// `Kept` cannot be implemented for a foreign type.
 #[derive(Drop)]
 pub struct Held<J> {
     pub(crate) farm: Box<Farm<J>>,

@@ -39,7 +39,7 @@ pub fn each_call_of_a_run_can_be_made()
     ensures { EachCallOfARunCanBeMade }
 {}
 
-/// Passes of a pool can make each such run without takes and gives that find no turn.
+/// If each take and give of such a run finds its turn, some passes of a pool make exactly that run.
 pub fn passes_can_make_each_run()
     ensures { PassesCanMakeEachRun }
 {}

@@ -46,11 +46,11 @@ impl Model for Pool {
     ghost view = { λ p. record { lock = p.lock; slice = p.slice } };
 }
 
-/// An `OfLock` is a thread's promise to bring back a pass of this lock.
+/// A `ReturnsPass` is a thread's promise to bring back a pass of this lock.
 #[derive(Drop)]
-pub struct OfLock<J>(Snapshot<TurnLock<Held<J>>>);
+pub struct ReturnsPass<J>(Snapshot<TurnLock<Held<J>>>);
 
-impl<J> Model for OfLock<J> {
+impl<J> Model for ReturnsPass<J> {
     ghost use Rattle.farm_core.specs.Config.{ConfigData};
     ghost use Rattle.turn_lock.specs.Values.{LockValue};
 
@@ -59,7 +59,7 @@ impl<J> Model for OfLock<J> {
     ghost view = { λ p. p.0.value };
 }
 
-impl<J> Promise<Pass<Held<J>>> for OfLock<J> {
+impl<J> Promise<Pass<Held<J>>> for ReturnsPass<J> {
     ghost use Rattle.turn_lock.specs.Values.{IsPassOf};
 
     ghost kept_by = { λ lock pass. IsPassOf lock pass };
@@ -161,10 +161,10 @@ impl Pool {
     }
 
     /// The promise of a thread to bring back a pass of this pool.
-    pub fn promise(&self) -> OfLock<Box<dyn Strategy>>
+    pub fn promise(&self) -> ReturnsPass<Box<dyn Strategy>>
         ensures { result ≡ self.now.lock }
     {
-        OfLock(Snapshot::of(&self.lock))
+        ReturnsPass(Snapshot::of(&self.lock))
     }
 
     /// Returns the farm, with a legal history that begins with what `pass` has seen. Returns `None`

@@ -19,7 +19,7 @@ use Rattle.session_lines.specs.declared.request.LineFault.{LineFault}
 use Rattle.session_lines.specs.declared.request.LineFault.TheVariants.{Eof, Read, TooLong, Syntax, File, NoMemory}
 use Rattle.session_lines.specs.declared.said.Said.{Said}
 use Rattle.session_lines.specs.declared.said.Said.TheVariants as said
-use Rattle.farm_session.specs.Heard.{is_line_of, tenant_number, heard_for, heard_of}
+use Rattle.farm_session.specs.Routed.{is_line_of, tenant_number, routed_to, routed_of}
 use Rattle.farm_replay.specs.Output.{Answered, told_under, Parts, opening, part_of, Saying, Next, says, answered, who_in, Marked, is_unread, next, lines_for, parts_after}
 use Rattle.farm_replay.specs.Isolation.{whose, is_of, place_if, seat_of, is_members, own_lines, own_requests, EachReplaysAlone, ReplaysAreIsolated, EachLoneReplaysAlone}
 
@@ -60,7 +60,7 @@ seated config p k t = by (purse_in config t == p) refl
 -- what is said to it, and its purse then
 own_asked : (config : ConfigData) (refused : Bool) (parts : Parts) (who : List ℕ) (ask : Ask) (p k t : ℕ) → IsSeated config p k t
     → let it : Answered = told_under refused (seat (parts p) k) ask in
-    (let n : Next = answered config refused parts (heard_for who ask (Some t)) in
+    (let n : Next = answered config refused parts (routed_to who ask (Some t)) in
     (n.line ≡ record { who = Some who; said = it.said }) × (n.parts p ≡ with_seat (parts p) k it.after))
 own_asked config refused parts who ask p k t at =
     let said : ℕ → ℕ → Answered = λ x y. told_under refused (seat (parts x) y) ask in
@@ -73,7 +73,7 @@ own_asked config refused parts who ask p k t at =
     )
 
 same_asked : (config elsewhere : ConfigData) (refused : Bool) (one other : Parts) (who : List ℕ) (ask : Ask) (p q : ℕ) (t s k : Option ℕ) → place_if config p t ≡ k → place_if elsewhere q s ≡ k
-    → is_some k ≡ true → one p ≡ other q → IsSame p q (answered config refused one (heard_for who ask t)) (answered elsewhere refused other (heard_for who ask s))
+    → is_some k ≡ true → one p ≡ other q → IsSame p q (answered config refused one (routed_to who ask t)) (answered elsewhere refused other (routed_to who ask s))
 same_asked config elsewhere refused one other who ask p q t s None at there own h = absurd (cc)
 same_asked config elsewhere refused one other who ask p q None s (Some k) at there own h = absurd (cc)
 same_asked config elsewhere refused one other who ask p q (Some t) None (Some k) at there own h = absurd (cc)
@@ -87,7 +87,7 @@ same_asked config elsewhere refused one other who ask p q (Some t) (Some s) (Som
     }
 
 -- bytes that are no request are answered alike on every farm, and change nothing
-pub settled : (fault : LineFault) → (words : Said) × ((config : ConfigData) (refused : Bool) (parts : Parts) → answered config refused parts (heard_of config (Err fault)) ≡ says (who_in (Err fault)) words parts)
+pub settled : (fault : LineFault) → (words : Said) × ((config : ConfigData) (refused : Bool) (parts : Parts) → answered config refused parts (routed_of config (Err fault)) ≡ says (who_in (Err fault)) words parts)
 settled Eof = (said.Syntax, λ config refused parts. refl)
 settled Read = (said.Syntax, λ config refused parts. refl)
 settled (TooLong who) = (said.LongLine, λ config refused parts. refl)
@@ -99,7 +99,7 @@ abbrev SameSeats : ConfigData → ConfigData → ℕ → ℕ → Type 0
 SameSeats config elsewhere p q = (who : List ℕ) → seat_of config p who ≡ seat_of elsewhere q who
 
 same_answered : (config elsewhere : ConfigData) (refused : Bool) (one other : Parts) (p q : ℕ) → SameSeats config elsewhere p q → (answer : Result Request LineFault)
-    → is_members config p (who_in answer) ≡ true → one p ≡ other q → IsSame p q (answered config refused one (heard_of config answer)) (answered elsewhere refused other (heard_of elsewhere answer))
+    → is_members config p (who_in answer) ≡ true → one p ≡ other q → IsSame p q (answered config refused one (routed_of config answer)) (answered elsewhere refused other (routed_of elsewhere answer))
 same_answered config elsewhere refused one other p q seats (Ok request) own h =
     same_asked config elsewhere refused one other request.who (ask_of request.what) p q (tenant_number request.who config) (tenant_number request.who elsewhere) (seat_of config p request.who) refl (sym (seats request.who)) own h
 same_answered config elsewhere refused one other p q seats (Err fault) own h =
@@ -111,7 +111,7 @@ same_answered config elsewhere refused one other p q seats (Err fault) own h =
 abbrev next_if : Bool → ConfigData → Parts → Marked → Next
 next_if unread config parts m =
     if unread then says (who_in m.item.answer) (said.Reply reply.NoMemory) parts
-    else answered config m.refused parts (heard_of config m.item.answer)
+    else answered config m.refused parts (routed_of config m.item.answer)
 
 same_next : (config elsewhere : ConfigData) (one other : Parts) (p q : ℕ) → SameSeats config elsewhere p q → (m : Marked) → is_members config p (whose m) ≡ true → one p ≡ other q
     → IsSame p q (next config one m) (next elsewhere other m)
@@ -122,7 +122,7 @@ same_next config elsewhere one other p q seats m own h = elim (is_unread m) as (
 
 -- another's request leaves the purse as it is
 apart_asked : (config : ConfigData) (refused : Bool) (parts : Parts) (who : List ℕ) (ask : Ask) (p : ℕ) (t : Option ℕ) → is_some (place_if config p t) ≡ false
-    → (answered config refused parts (heard_for who ask t)).parts p ≡ parts p
+    → (answered config refused parts (routed_to who ask t)).parts p ≡ parts p
 apart_asked config refused parts who ask p None other = refl
 apart_asked config refused parts who ask p (Some t) other =
     let first = purse_in config t in
@@ -136,7 +136,7 @@ apart_asked config refused parts who ask p (Some t) other =
     ] refl)
 
 apart_answered : (config : ConfigData) (refused : Bool) (parts : Parts) (p : ℕ) (answer : Result Request LineFault) → is_members config p (who_in answer) ≡ false
-    → (answered config refused parts (heard_of config answer)).parts p ≡ parts p
+    → (answered config refused parts (routed_of config answer)).parts p ≡ parts p
 apart_answered config refused parts p (Ok request) other = apart_asked config refused parts request.who (ask_of request.what) p (tenant_number request.who config) other
 apart_answered config refused parts p (Err fault) other = ap (λ (n : Next). n.parts p) ((settled fault).1 config refused parts)
 
@@ -146,11 +146,11 @@ apart_next config parts p m other =
 
 -- ---- lines
 
-asked_who : (config : ConfigData) (refused : Bool) (p : Parts) (who : List ℕ) (ask : Ask) (t : Option ℕ) → (answered config refused p (heard_for who ask t)).line.who ≡ Some who
+asked_who : (config : ConfigData) (refused : Bool) (p : Parts) (who : List ℕ) (ask : Ask) (t : Option ℕ) → (answered config refused p (routed_to who ask t)).line.who ≡ Some who
 asked_who config refused p who ask None = refl
 asked_who config refused p who ask (Some t) = refl
 
-answered_who : (config : ConfigData) (refused : Bool) (p : Parts) (answer : Result Request LineFault) → (answered config refused p (heard_of config answer)).line.who ≡ who_in answer
+answered_who : (config : ConfigData) (refused : Bool) (p : Parts) (answer : Result Request LineFault) → (answered config refused p (routed_of config answer)).line.who ≡ who_in answer
 answered_who config refused p (Ok request) = asked_who config refused p request.who (ask_of request.what) (tenant_number request.who config)
 answered_who config refused p (Err fault) = ap (λ (n : Next). n.line.who) ((settled fault).1 config refused p)
 

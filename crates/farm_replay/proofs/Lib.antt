@@ -1,4 +1,4 @@
-pub mod FloorLemmas
+pub mod ScriptFarmLemmas
 pub mod PlayLemmas
 pub mod HeadlineLemmas
 pub mod IsolationLemmas

@@ -13,7 +13,7 @@ use Rattle.farm_core.specs.Name.{is_name, same_bytes}
 use Rattle.farm_core.specs.Purses.{purse_of, members_of}
 use Rattle.farm_core.specs.World.{purse_in, place_in}
 use Rattle.farm_core.proofs.NameLemmas.{same_bytes_is}
-use Rattle.farm_session.specs.Heard.{is_line_of, tenant_number}
+use Rattle.farm_session.specs.Routed.{is_line_of, tenant_number}
 use Rattle.farm_replay.specs.Isolation.{place_if, is_members}
 use Rattle.farm_replay.specs.Bytes.{EachPurseHasNames}
 

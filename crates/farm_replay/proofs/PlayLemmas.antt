@@ -31,18 +31,18 @@ use Rattle.session_lines.specs.ReplyText.{reply_line}
 use Rattle.session_lines.specs.Script.{Item, lines_of, first, first_request, requests_of, IsAnswerFor, Cuts, Ends, Takes}
 use Rattle.farm_replay.specs.declared.script.ReplayFault.{ReplayFault}
 use Rattle.farm_replay.specs.declared.script.ReplayFault.TheVariants as fault
-use Rattle.farm_session.specs.declared.heard.Heard.{Heard}
-use Rattle.farm_session.specs.declared.heard.Heard.TheVariants as heard
+use Rattle.farm_session.specs.declared.routed.Routed.{Routed}
+use Rattle.farm_session.specs.declared.routed.Routed.TheVariants as routed
 use Rattle.farm_replay.specs.Output.{Answered, request_may_need, told_to, told_under, Parts, opening, part_of, with_tenant, Saying, Next, says, answered, who_in, Marked, next, lines_for, parts_after, AreTrueMarks, line_text, output_of, items_of, has_refusal, lines_past, IsLongNext, IsCutBy, IsCutOff}
-use Rattle.farm_session.specs.Heard.{tenant_number, heard_for, heard_of}
+use Rattle.farm_session.specs.Routed.{tenant_number, routed_to, routed_of}
 use Rattle.farm_replay.specs.Closing.{HasLed}
 use Rattle.farm_replay.specs.Refusal.{is_refusal}
 use Rattle.farm_replay.specs.Replay.{GoesOn, end_of}
 use Rattle.farm_replay.specs.Counts.{Counts}
 use Rattle.farm_replay.specs.Noted.{AreNoted, IsReadNoted, IsWriteNoted}
-use Rattle.farm_replay.specs.Floor.{IsTold}
+use Rattle.farm_replay.specs.ScriptFarm.{IsTold}
 use Rattle.farm_replay.proofs.BeginLemmas.{AreNamed, script_named}
-use Rattle.farm_replay.proofs.FloorLemmas.{seated_same}
+use Rattle.farm_replay.proofs.ScriptFarmLemmas.{seated_same}
 
 -- ---- known bytes
 
@@ -268,14 +268,14 @@ pub record IsAsked (config : ConfigData) (t : ℕ) (who : List ℕ) (ask : Ask) 
   pub asks : ask_of what ≡ ask
   pub number : tenant_number who config ≡ Some t
 
--- what is heard of it is its line
-settled_by : (config : ConfigData) (most : ℕ) (answer : Result Request LineFault) (who : Option (List ℕ)) (words : Said) → heard.Told who words ≡ heard_of config answer
+-- what is routed of it is its line
+settled_by : (config : ConfigData) (most : ℕ) (answer : Result Request LineFault) (who : Option (List ℕ)) (words : Said) → routed.Answered who words ≡ routed_of config answer
     → (ys zs : List ℕ) (it : Cuts most (first None (lines_of ys)) answer ys zs) → it.item.answer ≡ answer → IsSettled config (record { who = who; said = words }) ys zs
 settled_by config most answer who words is ys zs it same = record {
   request = record { item = it.item; refused = false };
   marks = λ marked. absurd (cc);
   cut = record { cut = it.cut };
-  next_is = λ parts. ap (λ a. answered config false parts (heard_of config a)) same ∙ ap (answered config false parts) (sym is);
+  next_is = λ parts. ap (λ a. answered config false parts (routed_of config a)) same ∙ ap (answered config false parts) (sym is);
 }
 
 -- a submit's text is that of the tenant whose request it is
@@ -287,10 +287,10 @@ own_text turns ys item rest who cut text =
 next_unread : (config : ConfigData) (parts : Parts) (item : Item) (who : Option (List ℕ)) → is_some item.submits ≡ true → who_in item.answer ≡ who
     → next config parts (record { item = item; refused = true }) ≡ says who (said.Reply reply.NoMemory) parts
 next_unread config parts item who text own =
-    ap (λ b. if b then says (who_in item.answer) (said.Reply reply.NoMemory) parts else answered config true parts (heard_of config item.answer)) text
+    ap (λ b. if b then says (who_in item.answer) (said.Reply reply.NoMemory) parts else answered config true parts (routed_of config item.answer)) text
     ∙ ap (λ w. says w (said.Reply reply.NoMemory) parts) own
 
-unread_settled : EachInTurn → (config : ConfigData) (most : ℕ) (w : List ℕ) (who : Option (List ℕ)) (words : Said) → (let h : Heard Ask = heard.Told who words in h) ≡ heard.Told (Some w) (said.Reply reply.NoMemory)
+unread_settled : EachInTurn → (config : ConfigData) (most : ℕ) (w : List ℕ) (who : Option (List ℕ)) (words : Said) → (let h : Routed Ask = routed.Answered who words in h) ≡ routed.Answered (Some w) (said.Reply reply.NoMemory)
     → (ys zs : List ℕ) → Cuts most (first None (lines_of ys)) (Err (NoMemory w)) ys zs → IsSettled config (record { who = who; said = words }) ys zs
 unread_settled turns config most w who words is ys zs it = record {
   request = record { item = it.item; refused = true };
@@ -300,7 +300,7 @@ unread_settled turns config most w who words is ys zs it = record {
       ∙ ap (answered config true parts) (sym is);
 }
 
-told_takes : EachInTurn → (config : ConfigData) (most : ℕ) (old new : Option (List ℕ)) (answer : Result Request LineFault) (who : Option (List ℕ)) (words : Said) → heard.Told who words ≡ heard_of config answer
+told_takes : EachInTurn → (config : ConfigData) (most : ℕ) (old new : Option (List ℕ)) (answer : Result Request LineFault) (who : Option (List ℕ)) (words : Said) → routed.Answered who words ≡ routed_of config answer
     → Takes most None old new answer → Goes old new (IsSettled config (record { who = who; said = words }))
 told_takes turns config most old new (Ok request) who words is h =
     goes_to old new (λ ys zs. Cuts most (first None (lines_of ys)) (Ok request) ys zs) (IsSettled config (record { who = who; said = words })) h
@@ -321,7 +321,7 @@ told_takes turns config most old new (Err (NoMemory w)) who words is h =
     (unread_settled turns config most w who words is)
 
 asked_request : (config : ConfigData) (most : ℕ) (request : Request) (t : ℕ) (who : List ℕ) (ask : Ask) (n : Option ℕ) → tenant_number request.who config ≡ n
-    → heard.Asked t who ask ≡ heard_for request.who (ask_of request.what) n → (ys zs : List ℕ) → Cuts most (first None (lines_of ys)) (Ok request) ys zs → IsAsked config t who ask ys zs
+    → routed.Asked t who ask ≡ routed_to request.who (ask_of request.what) n → (ys zs : List ℕ) → Cuts most (first None (lines_of ys)) (Ok request) ys zs → IsAsked config t who ask ys zs
 asked_request config most request t who ask None at is ys zs it = absurd (cc)
 asked_request config most request t who ask (Some n) at is ys zs it =
     let a : request.who ≡ who = cc in
@@ -336,7 +336,7 @@ asked_request config most request t who ask (Some n) at is ys zs it =
       number = ap (λ w. tenant_number w config) (sym a) ∙ at ∙ ap (λ k. Some k) d;
     }
 
-asked_takes : (config : ConfigData) (most : ℕ) (old new : Option (List ℕ)) (answer : Result Request LineFault) (t : ℕ) (who : List ℕ) (ask : Ask) → heard.Asked t who ask ≡ heard_of config answer
+asked_takes : (config : ConfigData) (most : ℕ) (old new : Option (List ℕ)) (answer : Result Request LineFault) (t : ℕ) (who : List ℕ) (ask : Ask) → routed.Asked t who ask ≡ routed_of config answer
     → Takes most None old new answer → Goes old new (IsAsked config t who ask)
 asked_takes config most old new (Ok request) t who ask is h =
     goes_to old new (λ ys zs. Cuts most (first None (lines_of ys)) (Ok request) ys zs) (IsAsked config t who ask) h (asked_request config most request t who ask (tenant_number request.who config) refl is)
@@ -347,11 +347,11 @@ asked_takes config most old new (Err (Syntax w)) t who ask is h = absurd (cc)
 asked_takes config most old new (Err (File w why)) t who ask is h = absurd (cc)
 asked_takes config most old new (Err (NoMemory w)) t who ask is h = absurd (cc)
 
-over_takes : EachInTurn → (config : ConfigData) (most : ℕ) (old new : Option (List ℕ)) (answer : Result Request LineFault) → heard.Over ≡ heard_of config answer → Takes most None old new answer
+over_takes : EachInTurn → (config : ConfigData) (most : ℕ) (old new : Option (List ℕ)) (answer : Result Request LineFault) → routed.End ≡ routed_of config answer → Takes most None old new answer
     → Goes old new (λ ys zs. requests_of ys ≡ [])
 over_takes turns config most old new (Ok request) is h = absurd (nowhere (tenant_number request.who config) is)
   where
-    nowhere : (n : Option ℕ) → heard.Over ≡ heard_for request.who (ask_of request.what) n → ⊥
+    nowhere : (n : Option ℕ) → routed.End ≡ routed_to request.who (ask_of request.what) n → ⊥
     nowhere None e = cc
     nowhere (Some t) e = cc
 over_takes turns config most old new (Err Eof) is h =
@@ -385,14 +385,14 @@ answered_settled config xs ys zs old mid count noted w line it s =
     record { says = ap (λ (n : Next). n.line) is; marks = s.marks; of_config = it.of_config; leads = λ p. it.parts p ∙ ap (λ (n : Next). n.parts p) (sym is) }
 
 pub settled_on : EachInTurn → (config : ConfigData) (a b c old mid new : Option (List ℕ)) (count : ℕ) (noted noted' : Bool) (w : World) (answer : Result Request LineFault) (who : Option (List ℕ)) (words : Said)
-    → heard.Told who words ≡ heard_of config answer → Takes 100000000 None b c answer → Played config a b old mid count noted w → Appends mid new (reply_line who words) → noted' ≡ (noted || is_refusal words) → Played config a c old new (count + 1) noted' w
+    → routed.Answered who words ≡ routed_of config answer → Takes 100000000 None b c answer → Played config a b old mid count noted w → Appends mid new (reply_line who words) → noted' ≡ (noted || is_refusal words) → Played config a c old new (count + 1) noted' w
 settled_on turns config a b c old mid new count noted noted' w answer who words is takes played written refusal =
     goes_on a b c (λ xs ys. IsPlayed config xs ys old mid count noted w) (IsSettled config (record { who = who; said = words })) (λ xs zs. IsPlayed config xs zs old new (count + 1) noted' w)
     played (told_takes turns config 100000000 b c answer who words is takes)
     (λ xs ys zs it s. play_on turns config xs ys zs old mid new count noted noted' w w (record { who = who; said = words }) it s.request s.cut (answered_settled config xs ys zs old mid count noted w (record { who = who; said = words }) it s) written refusal)
 
 pub settled_cut : EachInTurn → (config : ConfigData) (a b c old mid new : Option (List ℕ)) (count : ℕ) (noted : Bool) (w : World) (answer : Result Request LineFault) (who : Option (List ℕ)) (words : Said)
-    → heard.Told who words ≡ heard_of config answer → Takes 100000000 None b c answer → Played config a b old mid count noted w → AppendsPart mid new (reply_line who words)
+    → routed.Answered who words ≡ routed_of config answer → Takes 100000000 None b c answer → Played config a b old mid count noted w → AppendsPart mid new (reply_line who words)
     → (before seen : Counts) → HasFailed before.writes seen.writes → IfSome a (λ xs. IsCutOff config fault.Write before seen xs old new)
 settled_cut turns config a b c old mid new count noted w answer who words is takes played part before seen failed =
     known_first a c (λ xs zs. IsCutOff config fault.Write before seen xs old new) (λ xs. IsCutOff config fault.Write before seen xs old new)
@@ -412,10 +412,10 @@ led_asked : (config : ConfigData) (parts : Parts) (item : Item) (t : ℕ) (who :
     → (refused && is_some item.submits) ≡ false → IsTrueMark refused (told_under refused (part_of config parts t) ask).said
     → IsLed config parts item t who (told_under refused (part_of config parts t) ask) refused
 led_asked config parts item t who what ask refused is asks at text marks =
-    let same : next config parts (record { item = item; refused = refused }) ≡ answered config refused parts (heard.Asked t who ask) =
-    ap (λ b. if b then says (who_in item.answer) (said.Reply reply.NoMemory) parts else answered config refused parts (heard_of config item.answer)) text
-    ∙ ap (λ a. answered config refused parts (heard_of config a)) is ∙ ap (λ n. answered config refused parts (heard_for who (ask_of what) n)) at
-    ∙ ap (λ k. answered config refused parts (heard.Asked t who k)) asks in
+    let same : next config parts (record { item = item; refused = refused }) ≡ answered config refused parts (routed.Asked t who ask) =
+    ap (λ b. if b then says (who_in item.answer) (said.Reply reply.NoMemory) parts else answered config refused parts (routed_of config item.answer)) text
+    ∙ ap (λ a. answered config refused parts (routed_of config a)) is ∙ ap (λ n. answered config refused parts (routed_to who (ask_of what) n)) at
+    ∙ ap (λ k. answered config refused parts (routed.Asked t who k)) asks in
     record { line = ap (λ (n : Next). n.line) same; marks = marks; leads = λ q. ap (λ (n : Next). n.parts q) same }
 
 -- a tenant that stands as it did
@@ -500,7 +500,7 @@ answered_asked config xs ys zs old mid count noted w w' t who ask words it s h =
     )
 
 pub asked_on : EachInTurn → (config : ConfigData) (a b c old mid new : Option (List ℕ)) (count : ℕ) (noted noted' : Bool) (w w' : World) (answer : Result Request LineFault) (t : ℕ) (who : List ℕ) (ask : Ask) (words : Said)
-    → heard.Asked t who ask ≡ heard_of config answer → Takes 100000000 None b c answer → IsTold w t ask words w' → Played config a b old mid count noted w → Appends mid new (reply_line (Some who) words) → noted' ≡ (noted || is_refusal words)
+    → routed.Asked t who ask ≡ routed_of config answer → Takes 100000000 None b c answer → IsTold w t ask words w' → Played config a b old mid count noted w → Appends mid new (reply_line (Some who) words) → noted' ≡ (noted || is_refusal words)
     → Played config a c old new (count + 1) noted' w'
 asked_on turns config a b c old mid new count noted noted' w w' answer t who ask words is takes told played written refusal =
     goes_on a b c (λ xs ys. IsPlayed config xs ys old mid count noted w) (IsAsked config t who ask) (λ xs zs. IsPlayed config xs zs old new (count + 1) noted' w')
@@ -510,7 +510,7 @@ asked_on turns config a b c old mid new count noted noted' w w' answer t who ask
     play_on turns config xs ys zs old mid new count noted noted' w w' (record { who = Some who; said = words }) it (record { item = s.item; refused = by.0 }) (record { cut = s.cut }) by.1 written refusal)
 
 pub asked_cut : EachInTurn → (config : ConfigData) (a b c old mid new : Option (List ℕ)) (count : ℕ) (noted : Bool) (w w' : World) (answer : Result Request LineFault) (t : ℕ) (who : List ℕ) (ask : Ask) (words : Said)
-    → heard.Asked t who ask ≡ heard_of config answer → Takes 100000000 None b c answer → IsTold w t ask words w' → Played config a b old mid count noted w → AppendsPart mid new (reply_line (Some who) words)
+    → routed.Asked t who ask ≡ routed_of config answer → Takes 100000000 None b c answer → IsTold w t ask words w' → Played config a b old mid count noted w → AppendsPart mid new (reply_line (Some who) words)
     → (before seen : Counts) → HasFailed before.writes seen.writes → IfSome a (λ xs. IsCutOff config fault.Write before seen xs old new)
 asked_cut turns config a b c old mid new count noted w w' answer t who ask words is takes told played part before seen failed =
     known_first a c (λ xs zs. IsCutOff config fault.Write before seen xs old new) (λ xs. IsCutOff config fault.Write before seen xs old new)
@@ -523,7 +523,7 @@ asked_cut turns config a b c old mid new count noted w w' answer t who ask words
 
 -- nothing could be sent before it is answered
 pub asked_unsent : EachInTurn → (config : ConfigData) (a b c old new : Option (List ℕ)) (count : ℕ) (noted : Bool) (w : World) (answer : Result Request LineFault) (t : ℕ) (who : List ℕ) (ask : Ask)
-    → heard.Asked t who ask ≡ heard_of config answer → Takes 100000000 None b c answer → Played config a b old new count noted w → (before seen : Counts) → HasFailed before.writes seen.writes → IfSome a (λ xs. IsCutOff config fault.Write before seen xs old new)
+    → routed.Asked t who ask ≡ routed_of config answer → Takes 100000000 None b c answer → Played config a b old new count noted w → (before seen : Counts) → HasFailed before.writes seen.writes → IfSome a (λ xs. IsCutOff config fault.Write before seen xs old new)
 asked_unsent turns config a b c old new count noted w answer t who ask is takes played before seen failed =
     known_first a c (λ xs zs. IsCutOff config fault.Write before seen xs old new) (λ xs. IsCutOff config fault.Write before seen xs old new)
     (goes_on a b c (λ xs ys. IsPlayed config xs ys old new count noted w) (IsAsked config t who ask) (λ xs zs. IsCutOff config fault.Write before seen xs old new)
@@ -531,7 +531,7 @@ asked_unsent turns config a b c old new count noted w answer t who ask is takes 
     (λ xs ys zs it s. cut_before turns config xs ys zs old new count noted w it (record { item = s.item; refused = false }) (record { cut = s.cut }) before seen failed))
     (λ xs zs known it. it)
 
-pub play_over : EachInTurn → (config : ConfigData) (a b c old new : Option (List ℕ)) (count : ℕ) (noted : Bool) (w : World) (answer : Result Request LineFault) → count ≤ 1000000 → heard.Over ≡ heard_of config answer
+pub play_over : EachInTurn → (config : ConfigData) (a b c old new : Option (List ℕ)) (count : ℕ) (noted : Bool) (w : World) (answer : Result Request LineFault) → count ≤ 1000000 → routed.End ≡ routed_of config answer
     → Takes 100000000 None b c answer → Played config a b old new count noted w → IfSome a (λ xs. LedBy config xs noted old new w)
 play_over turns config a b c old new count noted w answer most is takes played =
     known_first a c (λ xs zs. LedBy config xs noted old new w) (λ xs. LedBy config xs noted old new w)
@@ -548,12 +548,12 @@ broken_by : (config : ConfigData) (xs ys : List ℕ) (old new : Option (List ℕ
 broken_by config xs ys old new count noted w Failed it (inl h) = inl h
 broken_by config xs ys old new count noted w Failed it (inr h) = inr (long_next config xs ys old new count noted w it h)
 
--- what was heard tells that the read was given up
-given_up : (config : ConfigData) (Failed : Type 0) (old : Option (List ℕ)) (answer : Result Request LineFault) → heard.Broken ≡ heard_of config answer → IsReadGivenUp 100000000 None Failed old answer
+-- what was routed tells that the read was given up
+given_up : (config : ConfigData) (Failed : Type 0) (old : Option (List ℕ)) (answer : Result Request LineFault) → routed.ReadFailed ≡ routed_of config answer → IsReadGivenUp 100000000 None Failed old answer
     → HasCause Failed old (λ bytes. IsPast 100000000 None (lines_of bytes))
 given_up config Failed old (Ok request) is h = absurd (nowhere (tenant_number request.who config) is)
   where
-    nowhere : (n : Option ℕ) → heard.Broken ≡ heard_for request.who (ask_of request.what) n → ⊥
+    nowhere : (n : Option ℕ) → routed.ReadFailed ≡ routed_to request.who (ask_of request.what) n → ⊥
     nowhere None e = cc
     nowhere (Some t) e = cc
 given_up config Failed old (Err Eof) is h = absurd (cc)
@@ -564,7 +564,7 @@ given_up config Failed old (Err (File w why)) is h = absurd (cc)
 given_up config Failed old (Err (NoMemory w)) is h = absurd (cc)
 
 -- what asks for a line was read with no failure
-pub told_well : (config : ConfigData) (old new : ℕ) (answer : Result Request LineFault) (who : Option (List ℕ)) (words : Said) → heard.Told who words ≡ heard_of config answer → HasReadWell answer old new → new ≡ old
+pub told_well : (config : ConfigData) (old new : ℕ) (answer : Result Request LineFault) (who : Option (List ℕ)) (words : Said) → routed.Answered who words ≡ routed_of config answer → HasReadWell answer old new → new ≡ old
 told_well config old new (Ok request) who words is h = h
 told_well config old new (Err Eof) who words is h = h
 told_well config old new (Err Read) who words is h = absurd (cc)
@@ -573,7 +573,7 @@ told_well config old new (Err (Syntax w)) who words is h = h
 told_well config old new (Err (File w why)) who words is h = h
 told_well config old new (Err (NoMemory w)) who words is h = h
 
-pub asked_well : (config : ConfigData) (old new : ℕ) (answer : Result Request LineFault) (t : ℕ) (who : List ℕ) (ask : Ask) → heard.Asked t who ask ≡ heard_of config answer → HasReadWell answer old new → new ≡ old
+pub asked_well : (config : ConfigData) (old new : ℕ) (answer : Result Request LineFault) (t : ℕ) (who : List ℕ) (ask : Ask) → routed.Asked t who ask ≡ routed_of config answer → HasReadWell answer old new → new ≡ old
 asked_well config old new (Ok request) t who ask is h = h
 asked_well config old new (Err Eof) t who ask is h = h
 asked_well config old new (Err Read) t who ask is h = absurd (cc)
@@ -583,7 +583,7 @@ asked_well config old new (Err (File w why)) t who ask is h = h
 asked_well config old new (Err (NoMemory w)) t who ask is h = h
 
 -- what ends a script was read with no failure, and what breaks it off with at most one
-pub over_well : (config : ConfigData) (old new : ℕ) (answer : Result Request LineFault) → heard.Over ≡ heard_of config answer → HasReadWell answer old new → new ≡ old
+pub over_well : (config : ConfigData) (old new : ℕ) (answer : Result Request LineFault) → routed.End ≡ routed_of config answer → HasReadWell answer old new → new ≡ old
 over_well config old new (Ok request) is h = h
 over_well config old new (Err Eof) is h = h
 over_well config old new (Err Read) is h = absurd (cc)
@@ -624,7 +624,7 @@ cause_at : (Failed : Type 0) (b : Option (List ℕ)) (ys : List ℕ) (P : List �
 cause_at Failed b ys P known (inl h) = inl h
 cause_at Failed b ys P known (inr h) = inr (subst (λ o. IfSome o P) known h)
 
-pub play_broken : (config : ConfigData) (a b old new : Option (List ℕ)) (count : ℕ) (noted : Bool) (w : World) (answer : Result Request LineFault) (before seen : Counts) → heard.Broken ≡ heard_of config answer
+pub play_broken : (config : ConfigData) (a b old new : Option (List ℕ)) (count : ℕ) (noted : Bool) (w : World) (answer : Result Request LineFault) (before seen : Counts) → routed.ReadFailed ≡ routed_of config answer
     → IsReadGivenUp 100000000 None (HasFailed before.reads seen.reads) b answer → Played config a b old new count noted w → IfSome a (λ xs. IsCutOff config fault.Read before seen xs old new)
 play_broken config a b old new count noted w answer before seen is cause played =
     known_first a b (λ xs ys. IsPlayed config xs ys old new count noted w) (λ xs. IsCutOff config fault.Read before seen xs old new) played

@@ -29,7 +29,7 @@ use Rattle.session_lines.specs.declared.request.LineFault.{LineFault}
 use Rattle.session_lines.specs.declared.said.Said.{Said}
 use Rattle.session_lines.specs.declared.said.Said.TheVariants as said
 use Rattle.farm_session.specs.Ask.{ask_of}
-use Rattle.farm_session.specs.Heard.{tenant_number, heard_for, heard_of}
+use Rattle.farm_session.specs.Routed.{tenant_number, routed_to, routed_of}
 use Rattle.farm_replay.specs.Output.{Answered, said_for, told_by, turned, told_to, request_may_need, told_under, Parts, opening, Next, says, answered, who_in, Marked, is_unread, next, parts_after, part_of, with_tenant}
 use Rattle.farm_replay.proofs.IsolationLemmas.{settled}
 use Rattle.farm_replay.proofs.PlayLemmas.{parts_more}
@@ -208,11 +208,11 @@ next_so config parts m P quiet asked =
     silent a words is none t own = let nobody : None ≡ Some t = sym none ∙ sym (ap (owner_of config) is) ∙ own in absurd (cc)
 
     owned : (request : Request) (owner : Option ℕ) → m.item.answer ≡ Ok request → tenant_number request.who config ≡ owner
-        → P (answered config m.refused parts (heard_for request.who (ask_of request.what) owner))
+        → P (answered config m.refused parts (routed_to request.who (ask_of request.what) owner))
     owned request None is at = quiet (Some request.who) said.NoTenant (silent (Ok request) said.NoTenant is at)
     owned request (Some t) is at = asked (record { who = request.who; what = request.what; tenant = t; asks = is; number = at })
 
-    by : (a : Result Request LineFault) → m.item.answer ≡ a → P (answered config m.refused parts (heard_of config a))
+    by : (a : Result Request LineFault) → m.item.answer ≡ a → P (answered config m.refused parts (routed_of config a))
     by (Ok request) is = owned request (tenant_number request.who config) is refl
     by (Err why) is = subst P (sym ((settled why).1 config m.refused parts)) (quiet (who_in (Err why)) (settled why).0 (silent (Err why) (settled why).0 is refl))
 

@@ -4,7 +4,7 @@ use Rattle.farm_core.specs.Config.{ConfigData}
 use Rattle.farm_core.specs.Name.{same_bytes}
 use Rattle.farm_core.specs.World.{purse_in, place_in, opened_purse}
 use Rattle.farm_core.specs.Laws.{IsLone}
-use Rattle.farm_session.specs.Heard.{tenant_number}
+use Rattle.farm_session.specs.Routed.{tenant_number}
 use Rattle.farm_replay.specs.Output.{Saying, Marked, who_in, opening, lines_for}
 
 -- the tenant's name in a request, if it is known, whatever memory was refused

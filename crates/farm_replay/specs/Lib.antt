@@ -3,7 +3,7 @@ pub mod Bytes
 pub mod Closing
 pub mod Counts
 pub mod Cutting
-pub mod Floor
+pub mod ScriptFarm
 pub mod Headline
 pub mod Isolation
 pub mod Leases

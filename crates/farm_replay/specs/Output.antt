@@ -26,9 +26,9 @@ use Rattle.session_lines.specs.Script.{Item, lines_of, first, requests_of}
 use Rattle.farm_session.specs.declared.ask.Ask.{Ask}
 use Rattle.farm_session.specs.declared.ask.Ask.TheVariants.{Call, Turn}
 use Rattle.farm_session.specs.declared.ask.TurnAsk.TheVariants.{Take, Give, Whole}
-use Rattle.farm_session.specs.declared.heard.Heard.{Heard}
-use Rattle.farm_session.specs.declared.heard.Heard.TheVariants as heard
-use Rattle.farm_session.specs.Heard.{heard_of}
+use Rattle.farm_session.specs.declared.routed.Routed.{Routed}
+use Rattle.farm_session.specs.declared.routed.Routed.TheVariants as routed
+use Rattle.farm_session.specs.Routed.{routed_of}
 use Rattle.farm_replay.specs.Refusal.{is_refusal}
 use Rattle.farm_replay.specs.declared.script.TheConstants.{MOST_REQUESTS}
 use Rattle.farm_replay.specs.declared.script.ReplayFault.{ReplayFault}
@@ -122,9 +122,9 @@ says who words parts = record { line = record { who = who; said = words }; parts
 
 -- a request that is routed: its reply is settled, or one tenant's part is asked. The end of the
 -- script and a failed read are no requests
-abbrev pub answered : ConfigData → Bool → Parts → Heard Ask → Next
-answered config refused parts (heard.Told who words) = says who words parts
-answered config refused parts (heard.Asked t who ask) =
+abbrev pub answered : ConfigData → Bool → Parts → Routed Ask → Next
+answered config refused parts (routed.Answered who words) = says who words parts
+answered config refused parts (routed.Asked t who ask) =
     let it : Answered = told_under refused (part_of config parts t) ask in
     says (Some who) it.said (with_tenant config parts t it.after)
 answered config refused parts no_request = says None said.Syntax parts
@@ -151,7 +151,7 @@ is_unread m = m.refused && is_some m.item.submits
 abbrev pub next : ConfigData → Parts → Marked → Next
 next config parts m =
     if is_unread m then says (who_in m.item.answer) (said.Reply reply.NoMemory) parts
-    else answered config m.refused parts (heard_of config m.item.answer)
+    else answered config m.refused parts (routed_of config m.item.answer)
 
 -- the lines that answer requests, one after another
 abbrev pub lines_for : ConfigData → Parts → List Marked → List Saying

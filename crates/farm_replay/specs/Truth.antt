@@ -9,7 +9,7 @@ use Rattle.session_lines.specs.declared.request.What.TheVariants.{Submit}
 use Rattle.session_lines.specs.declared.said.Said.{Said}
 use Rattle.session_lines.specs.declared.said.Said.TheVariants as said
 use Rattle.session_lines.specs.Script.{requests_of}
-use Rattle.farm_session.specs.Heard.{tenant_number}
+use Rattle.farm_session.specs.Routed.{tenant_number}
 use Rattle.farm_replay.specs.Output.{Marked, items_of, opening, next, parts_after}
 
 -- a reply about a job is true of a plan that was made under its number

@@ -9,16 +9,16 @@
 //! - `sending`: when replies go out.
 //! - `watches`: whether a read or a write has failed.
 //! - `notes`: what is noted beside the replies.
-//! - `floor`: the farm with the turns that the script holds.
-//! - `stage`: a floor with the desks at which its searches draw.
+//! - `script_farm`: the farm with the turns that the script holds.
+//! - `stage`: a script's farm with the desks at which its searches draw.
 //! - `laws`: laws of outputs.
 #![tactic(auto)]
 
-mod floor;
 pub mod laws;
 mod notes;
 mod reader;
 mod script;
+mod script_farm;
 mod sending;
 mod stage;
 mod watches;

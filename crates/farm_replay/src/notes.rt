@@ -10,7 +10,7 @@ pub struct Notes {
     /// The line of the first refused request.
     pub refused: Option<u64>,
     /// The line of the first submit whose text ends in a line that begins with `@`.
-    pub doubtful: Option<u64>,
+    pub submit_ends_in_request: Option<u64>,
 }
 
 /// Whether `said` refuses its request: its text begins with the word `no`.
@@ -32,16 +32,16 @@ pub fn is_refused(said: &Said) -> bool
 }
 
 impl Notes {
-    pub(crate) fn add(&mut self, line: u64, is_doubtful: bool, said: &Said)
+    pub(crate) fn add(&mut self, line: u64, ends_in_request: bool, said: &Said)
         ensures refused { self.new.refused ≡ first_line self.old.refused (is_refusal said.now) line }
-        ensures doubtful { self.new.doubtful ≡ first_line self.old.doubtful is_doubtful line }
+        ensures submit_ends_in_request { self.new.submit_ends_in_request ≡ first_line self.old.submit_ends_in_request ends_in_request line }
         ensures any { is_some self.new.refused ≡ (is_some self.old.refused || is_refusal said.now) }
     {
         if self.refused.is_none() && is_refused(said) {
             self.refused = Some(line);
         }
-        if self.doubtful.is_none() && is_doubtful {
-            self.doubtful = Some(line);
+        if self.submit_ends_in_request.is_none() && ends_in_request {
+            self.submit_ends_in_request = Some(line);
         }
     }
 }

@@ -115,7 +115,7 @@ impl<R: Read> Script<R> {
     }
 
     /// Whether the last line of the request's text begins with `@`.
-    pub(crate) fn is_doubtful(&self) -> bool {
+    pub(crate) fn ends_in_request(&self) -> bool {
         self.lines.is_marked
     }
 

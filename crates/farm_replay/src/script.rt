@@ -7,9 +7,9 @@ ghost use Rattle.session_lines.specs.ReplyText.{reply_line};
 ghost use Rattle.session_lines.specs.Script.{requests_of};
 ghost use Rattle.farm_core.specs.Tills.{AreTillsOf};
 ghost use Rattle.job_table.specs.Job.{fresh_search};
-ghost use Rattle.farm_session.specs.Branch.{tills_of};
+ghost use Rattle.farm_session.specs.TillDesk.{tills_of};
 ghost use Rattle.farm_session.specs.Ready.{MakesFresh};
-ghost use Rattle.farm_replay.specs.Floor.{IsFloor};
+ghost use Rattle.farm_replay.specs.ScriptFarm.{IsScriptFarm};
 ghost use Rattle.farm_replay.specs.Closing.{parts_at_end, HasLed};
 ghost use Rattle.farm_replay.specs.Headline.{IsHeadline};
 ghost use Rattle.farm_replay.specs.Leases.{AreLeasesOf};
@@ -18,16 +18,16 @@ ghost use Rattle.farm_replay.specs.Output.{opening, parts_after, IsWritten, IsCu
 ghost use Rattle.farm_replay.specs.Reader.{script_rest};
 ghost use Rattle.farm_replay.specs.Replay.{end_of, GoesOn};
 
-use crate::floor::Floor;
 use crate::laws::{each_line_is_true, each_output_is_alone, outputs_are_isolated};
 use crate::notes::Notes;
 use crate::reader::Script;
+use crate::script_farm::ScriptFarm;
 use crate::sending::{send_before_nodes, send_before_wait};
 use crate::stage::Stage;
 use crate::watches::ReplayWatches;
 use farm_core::laws::farms_are_replayed;
 use farm_core::{Config, Farm, Name};
-use farm_session::{Heard, Ready, Workshop, boxed_search, branches, hear, open_tills};
+use farm_session::{Ready, Routed, Workshop, boxed_search, open_tills, route, till_desks};
 use session_lines::laws::requests_come_in_turn;
 use session_lines::{LineFault, Request, Said, read_request, write_reply};
 use std::alloc::Global;
@@ -101,45 +101,45 @@ fn play<J: Strategy, R: Read, W: Write, M: Fn(Ready) -> Option<J>>(
     watches: &mut ReplayWatches<R, W>,
     notes: &mut Notes,
 ) -> Result<(), ReplayFault>
-    requires farm { stage.old.floor.farm ≡ opened shop.now.config.now }
-    requires tills { AreTillsOf shop.now.config.now (tills_of stage.old.branches.items) }
+    requires farm { stage.old.script_farm.farm ≡ opened shop.now.config.now }
+    requires tills { AreTillsOf shop.now.config.now (tills_of stage.old.till_desks.items) }
     requires make { M.IsAlwaysCallable shop.now.make.now }
     requires fresh { MakesFresh J.meaning J.lease (M.post shop.now.make.now) }
-    requires floor { IsFloor J.meaning stage.old.floor.farm stage.old.floor.held.items }
+    requires script_farm { IsScriptFarm J.meaning stage.old.script_farm.farm stage.old.script_farm.held.items }
     requires notes { is_some notes.old.refused ≡ false }
     ensures written { OnOk result (IfSome (script_rest R.remaining script.old) (λ bytes.
         HasLed (parts_after shop.now.config.now (opening shop.now.config.now)) shop.now.config.now bytes
-        (is_some notes.new.refused) (W.contents writer.old) (W.contents writer.new) stage.new.floor.farm)) }
+        (is_some notes.new.refused) (W.contents writer.old) (W.contents writer.new) stage.new.script_farm.farm)) }
     ensures cut_off { IfErr result (λ fault. IfSome (script_rest R.remaining script.old) (λ bytes.
         IsCutOff shop.now.config.now fault watches.old watches.new bytes (W.contents writer.old) (W.contents writer.new))) }
     ensures noted { AreNoted result watches.old watches.new }
-    ensures floor { IsFloor J.meaning stage.new.floor.farm stage.new.floor.held.items }
+    ensures script_farm { IsScriptFarm J.meaning stage.new.script_farm.farm stage.new.script_farm.held.items }
     ensures leased { AreLeasesOf shop.now.config.now (M.post shop.now.make.now)
-        (script_rest R.remaining script.old) stage.old.branches.items stage.new.branches.items }
+        (script_rest R.remaining script.old) stage.old.till_desks.items stage.new.till_desks.items }
 {
     requests_come_in_turn();
     farms_are_replayed();
     for _answered in 0..MOST_REQUESTS {
         send_before_wait(script, writer);
         script.begin();
-        match hear(
+        match route(
             shop.config,
             read_request(shop.alloc, script, &mut watches.reads),
         ) {
-            Heard::Over => return Ok(()),
-            Heard::Broken => return Err(ReplayFault::Read),
-            Heard::Told(who, said) => {
-                notes.add(script.line(), script.is_doubtful(), &said);
+            Routed::End => return Ok(()),
+            Routed::ReadFailed => return Err(ReplayFault::Read),
+            Routed::Answered(who, said) => {
+                notes.add(script.line(), script.ends_in_request(), &said);
                 if let Err(fault) = tell(writer, &mut watches.writes, who, said) {
                     return Err(fault);
                 }
             }
-            Heard::Asked(tenant, who, asked) => {
+            Routed::Asked(tenant, who, asked) => {
                 if let Err(fault) = send_before_nodes(&asked, writer, &mut watches.writes) {
                     return Err(fault);
                 }
                 let said = stage.answer(shop, tenant, asked);
-                notes.add(script.line(), script.is_doubtful(), &said);
+                notes.add(script.line(), script.ends_in_request(), &said);
                 if let Err(fault) = tell(writer, &mut watches.writes, Some(who), said) {
                     return Err(fault);
                 }
@@ -158,11 +158,11 @@ fn play_out<J: Strategy, R: Read, W: Write, M: Fn(Ready) -> Option<J>>(
     watches: &mut ReplayWatches<R, W>,
     notes: &mut Notes,
 ) -> (Result<(), ReplayFault>, Farm<J>)
-    requires farm { stage.floor.farm ≡ opened shop.now.config.now }
-    requires tills { AreTillsOf shop.now.config.now (tills_of stage.branches.items) }
+    requires farm { stage.script_farm.farm ≡ opened shop.now.config.now }
+    requires tills { AreTillsOf shop.now.config.now (tills_of stage.till_desks.items) }
     requires make { M.IsAlwaysCallable shop.now.make.now }
     requires fresh { MakesFresh J.meaning J.lease (M.post shop.now.make.now) }
-    requires floor { IsFloor J.meaning stage.floor.farm stage.floor.held.items }
+    requires script_farm { IsScriptFarm J.meaning stage.script_farm.farm stage.script_farm.held.items }
     requires notes { is_some notes.old.refused ≡ false }
     ensures written { OnOk result.0 (IfSome (script_rest R.remaining script.old) (λ bytes.
         HasLed (parts_at_end shop.now.config.now) shop.now.config.now bytes
@@ -173,9 +173,12 @@ fn play_out<J: Strategy, R: Read, W: Write, M: Fn(Ready) -> Option<J>>(
 {
     let mut stage = stage;
     let ended = play(shop, &mut stage, script, writer, watches, notes);
-    let Stage { floor, branches } = stage;
-    drop(branches);
-    (ended, floor.close())
+    let Stage {
+        script_farm,
+        till_desks,
+    } = stage;
+    drop(till_desks);
+    (ended, script_farm.close())
 }
 
 /// Runs the requests of `reader` on a new farm of `config`, and writes one reply line for each.
@@ -207,10 +210,10 @@ pub fn replay<R: Read + Drop, W: Write>(
     let Ok((tills, mut desks)) = open_tills(alloc, config) else {
         return Err(ReplayFault::NoMemory);
     };
-    let Ok(branches) = branches(alloc, &tills, &mut desks) else {
+    let Ok(till_desks) = till_desks(alloc, &tills, &mut desks) else {
         return Err(ReplayFault::NoMemory);
     };
-    let Ok(floor) = Floor::<Box<dyn Strategy>>::new(alloc, config) else {
+    let Ok(script_farm) = ScriptFarm::<Box<dyn Strategy>>::new(alloc, config) else {
         return Err(ReplayFault::NoMemory);
     };
     let make = |ready: Ready| -> Option<Box<dyn Strategy>>
@@ -225,7 +228,10 @@ pub fn replay<R: Read + Drop, W: Write>(
     };
     let (ended, farm) = play_out(
         &shop,
-        Stage { floor, branches },
+        Stage {
+            script_farm,
+            till_desks,
+        },
         &mut script,
         writer,
         watches,

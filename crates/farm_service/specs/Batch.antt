@@ -15,9 +15,9 @@ use Rattle.session_lines.specs.Script.{Takes}
 use Rattle.session_lines.specs.Cause.{IsReadGivenUp, HasReadWell}
 use Rattle.session_lines.specs.Known.{Writes}
 use Rattle.session_lines.specs.ReplyText.{reply_line}
-use Rattle.farm_session.specs.declared.heard.Heard.{Heard}
-use Rattle.farm_session.specs.declared.heard.Heard.TheVariants.{Asked}
-use Rattle.farm_session.specs.Heard.{heard_in}
+use Rattle.farm_session.specs.declared.routed.Routed.{Routed}
+use Rattle.farm_session.specs.declared.routed.Routed.TheVariants.{Asked}
+use Rattle.farm_session.specs.Routed.{call_routed}
 use Rattle.farm_pool.specs.declared.query.Query.{Query}
 use Rattle.farm_pool.specs.Query.{event_about}
 use Rattle.farm_service.specs.declared.batch.Batch.{Batch}
@@ -29,32 +29,32 @@ pub record IsEmptyBatch (batch : Batch) : Type 0 where
   pub replies : batch.replies.items ≡ []
   pub room : (16 ≤ vec_capacity batch.queries) × (16 ≤ vec_capacity batch.names) × (16 ≤ vec_capacity batch.replies)
 
--- what was heard is a tenant's query
-pub record IsQueryOf (heard : Heard (Command ⊤)) (query : Query) (name : List ℕ) : Type 0 where
+-- what was routed is a tenant's query
+pub record IsQueryOf (routed : Routed (Command ⊤)) (query : Query) (name : List ℕ) : Type 0 where
   pub call : Command ⊤
-  pub is : heard ≡ Asked query.tenant name call
+  pub is : routed ≡ Asked query.tenant name call
   pub asks : event_of call ≡ event_about query.about
 
 -- a request was read
-pub record HasRead (config : ConfigData) (left : Option (List ℕ)) (reads : ℕ) (heard : Heard (Command ⊤)) (left' : Option (List ℕ)) (reads' : ℕ) : Type 0 where
+pub record HasRead (config : ConfigData) (left : Option (List ℕ)) (reads : ℕ) (routed : Routed (Command ⊤)) (left' : Option (List ℕ)) (reads' : ℕ) : Type 0 where
   pub read : Result Request LineFault
   pub takes : Takes MOST_REQUEST_BYTES None left left' read
   pub cause : IsReadGivenUp MOST_REQUEST_BYTES None (HasFailed reads reads') left read
   pub counted : HasReadWell read reads reads'
-  pub is : heard ≡ heard_in config read
+  pub is : routed ≡ call_routed config read
 
 -- a query of a known tenant was read
 pub record IsQueryRead (config : ConfigData) (left : Option (List ℕ)) (reads : ℕ) (query : Query) (name : List ℕ) (left' : Option (List ℕ)) (reads' : ℕ) : Type 0 where
-  pub heard : Heard (Command ⊤)
-  pub is : IsQueryOf heard query name
+  pub routed : Routed (Command ⊤)
+  pub is : IsQueryOf routed query name
   pub known : query.tenant < length config.tenants
-  pub read : HasRead config left reads heard left' reads'
+  pub read : HasRead config left reads routed left' reads'
 
 -- at most `most` requests were read one after another: these queries, and then perhaps one request
 -- more, of another kind
-abbrev pub AreRead : ConfigData → ℕ → List Query → List (List ℕ) → Option (Heard (Command ⊤)) → Option (List ℕ) → ℕ → Option (List ℕ) → ℕ → Type 0
+abbrev pub AreRead : ConfigData → ℕ → List Query → List (List ℕ) → Option (Routed (Command ⊤)) → Option (List ℕ) → ℕ → Option (List ℕ) → ℕ → Type 0
 AreRead config most [] [] None left reads left' reads' = (left' ≡ left) × (reads' ≡ reads)
-AreRead config most [] [] (Some heard) left reads left' reads' = (1 ≤ most) × HasRead config left reads heard left' reads'
+AreRead config most [] [] (Some routed) left reads left' reads' = (1 ≤ most) × HasRead config left reads routed left' reads'
 AreRead config most (query ∷ queries) (name ∷ names) last left reads left' reads' =
     (rest : ℕ) × (rest + 1 ≡ most) × (mid : Option (List ℕ)) × (count : ℕ) × IsQueryRead config left reads query name mid count × AreRead config rest queries names last mid count left' reads'
 AreRead config most queries names last left reads left' reads' = ⊥

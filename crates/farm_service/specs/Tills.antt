@@ -7,7 +7,7 @@ use Rattle.farm_core.specs.World.{World}
 use Rattle.farm_core.specs.Tills.{AreTillsOf, AreSeated}
 use Rattle.farm_pool.specs.Settle.{books_of, words_at, AreLoaded, first_unsettled}
 use Rattle.farm_pool.specs.Worked.{PoolView, Worked, IsClosed}
-use Rattle.farm_session.specs.Branch.{first_desk, HaveSeated}
+use Rattle.farm_session.specs.TillDesk.{first_desk, HaveSeated}
 
 -- a farm of the configuration was worked until no turn was found, and is settled with its purses'
 -- tills: each has a desk for each session, and its words were loaded once after these. The farm's

@@ -4,13 +4,13 @@ ghost use Rattle.std.specs.Vec.{vec_capacity};
 ghost use Rattle.farm_core.specs.Command.{event_of};
 ghost use Rattle.farm_pool.specs.Query.{event_about};
 ghost use Rattle.farm_pool.specs.declared.query.Query.{Query as QueryData};
-ghost use Rattle.farm_session.specs.Heard.{IsKnown};
+ghost use Rattle.farm_session.specs.Routed.{IsKnown};
 ghost use Rattle.farm_service.specs.Batch.{IsQueryOf, AreRead, AreReplied, IsEmptyBatch};
 
 use crate::wire::Ahead;
 use farm_core::{Command, Config, Name, Reply};
 use farm_pool::{About, Query};
-use farm_session::{Heard, hear_call};
+use farm_session::{Routed, route_call};
 use session_lines::{Said, read_request, write_reply};
 use std::alloc::{AllocError, Global};
 use std::io::{BufRead, Write};
@@ -65,15 +65,15 @@ fn about_of(call: &Command<()>) -> Option<About>
     }
 }
 
-/// A query with its tenant's name, or what was heard if it is none.
-fn query_of(heard: Heard<Command<()>>) -> Result<(Query, Name), Heard<Command<()>>>
-    ensures query { IfOk result (λ it. IsQueryOf heard it.0 it.1) }
-    ensures other { IfErr result (λ other. other ≡ heard) }
+/// A query with its tenant's name, or what was routed if it is none.
+fn query_of(routed: Routed<Command<()>>) -> Result<(Query, Name), Routed<Command<()>>>
+    ensures query { IfOk result (λ it. IsQueryOf routed it.0 it.1) }
+    ensures other { IfErr result (λ other. other ≡ routed) }
 {
-    match heard {
-        Heard::Asked(tenant, name, call) => match about_of(&call) {
+    match routed {
+        Routed::Asked(tenant, name, call) => match about_of(&call) {
             Some(about) => Ok((Query { tenant, about }, name)),
-            None => Err(Heard::Asked(tenant, name, call)),
+            None => Err(Routed::Asked(tenant, name, call)),
         },
         other => Err(other),
     }
@@ -88,10 +88,10 @@ pub(crate) fn gather<I: BufRead + Ahead>(
     watch: &mut Watch<I>,
     batch: &mut Batch,
     most: usize,
-) -> Option<Heard<Command<()>>>
+) -> Option<Routed<Command<()>>>
     requires queries { length batch.old.queries.items + most ≤ vec_capacity batch.old.queries }
     requires names { length batch.old.names.items + most ≤ vec_capacity batch.old.names }
-    ensures last { IfSome result (λ heard. IsKnown config.now heard) }
+    ensures last { IfSome result (λ routed. IsKnown config.now routed) }
     ensures read { (queries : List QueryData) × (names : List (List ℕ))
         × (batch.new.queries.items ≡ batch.old.queries.items ++ queries)
         × (batch.new.names.items ≡ batch.old.names.items ++ names)
@@ -104,8 +104,8 @@ pub(crate) fn gather<I: BufRead + Ahead>(
     if most == 0 {
         return None;
     }
-    let heard = hear_call(config, read_request(alloc, reader, watch));
-    let (query, name) = match query_of(heard) {
+    let routed = route_call(config, read_request(alloc, reader, watch));
+    let (query, name) = match query_of(routed) {
         Ok(it) => it,
         Err(other) => return Some(other),
     };

@@ -6,18 +6,18 @@
 //! - `service`: `serve`, its threads and its end.
 //! - `connection`: the requests of one connection.
 //! - `batch`: queries that are already read, answered in one turn of the lock.
-//! - `places`: the desks of the connections.
-//! - `lobby`: when workers rest, and when they go home.
+//! - `connection_desks`: the desks of the connections.
+//! - `signal`: when workers rest, and when they go home.
 //! - `shared`: the pool, as the threads see it.
 //! - `wire`: a connection whose replies leave before it waits.
 #![tactic(auto)]
 
 mod batch;
 mod connection;
-mod lobby;
-mod places;
+mod connection_desks;
 mod service;
 mod shared;
+mod signal;
 mod wire;
 
 pub use service::{ServeFault, serve};

@@ -133,24 +133,24 @@ impl<'a, R: Wait> Shared for PoolAt<'a, R> {
     }
 }
 
-/// An `OfShared` is a thread's promise to bring back a token of `D`.
+/// A `ReturnsToken` is a thread's promise to bring back a token of `D`.
 #[derive(Drop)]
-pub(crate) struct OfShared<D>(Snapshot<D>);
+pub(crate) struct ReturnsToken<D>(Snapshot<D>);
 
-impl<D: Shared> Promise<D::Token> for OfShared<D> {
+impl<D: Shared> Promise<D::Token> for ReturnsToken<D> {
     ghost kept_by = { λ p token. D.owns p.0.value token };
 }
 
-pub(crate) fn promise_of<D>(shared: &D) -> OfShared<D>
+pub(crate) fn promise_of<D>(shared: &D) -> ReturnsToken<D>
     ensures { result.0.value ≡ shared.now }
 {
-    OfShared(Snapshot::of(shared))
+    ReturnsToken(Snapshot::of(shared))
 }
 
-pub(crate) fn keep<D: Shared<Token: Send + Drop + 'static>>(
+pub(crate) fn push_handle<D: Shared<Token: Send + Drop + 'static>>(
     shared: &D,
-    handles: &mut Vec<PromisedHandle<D::Token, OfShared<D>>>,
-    handle: PromisedHandle<D::Token, OfShared<D>>,
+    handles: &mut Vec<PromisedHandle<D::Token, ReturnsToken<D>>>,
+    handle: PromisedHandle<D::Token, ReturnsToken<D>>,
 )
     requires room { vec_len handles.old < vec_capacity handles.old }
     requires all { All (λ h. h.promise.0.value ≡ shared.now) handles.old.items }
@@ -161,11 +161,11 @@ pub(crate) fn keep<D: Shared<Token: Send + Drop + 'static>>(
 }
 
 /// Waits until all threads have ended, and joins their tokens to `mine`.
-pub(crate) fn take_in<D: Shared<Token: Send + Drop + 'static>, R: Threads>(
+pub(crate) fn join_all<D: Shared<Token: Send + Drop + 'static>, R: Threads>(
     rt: &R,
     shared: &D,
     mine: D::Token,
-    handles: Vec<PromisedHandle<D::Token, OfShared<D>>>,
+    handles: Vec<PromisedHandle<D::Token, ReturnsToken<D>>>,
 ) -> D::Token
     requires own { D.owns shared.now mine }
     requires all { All (λ h. h.promise.0.value ≡ shared.now) handles.items }

@@ -8,7 +8,7 @@ use std::io::{BufRead, BufReader, BufWriter, Error, ErrorKind, Read, Write};
 #[derive(Drop)]
 pub(crate) struct Incoming<'a, R, W: Write + Drop> {
     pub(crate) input: BufReader<R>,
-    pub(crate) told: &'a RefCell<BufWriter<W>>,
+    pub(crate) output: &'a RefCell<BufWriter<W>>,
 }
 
 /// An `Ahead` is a reader that can look at what it has read ahead, and never waits for it.
@@ -20,13 +20,13 @@ pub(crate) trait Ahead {
 /// An `Outgoing` is the replies to a client, gathered until the reader waits for the client.
 #[derive(Drop)]
 pub(crate) struct Outgoing<'a, W: Write + Drop> {
-    pub(crate) told: &'a RefCell<BufWriter<W>>,
+    pub(crate) output: &'a RefCell<BufWriter<W>>,
 }
 
 impl<'a, R: Read, W: Write + Drop> Read for Incoming<'a, R, W> {
     fn read(&mut self, bytes: &mut [u8]) -> io::Result<usize> {
         if self.input.buffer().is_empty() {
-            send(self.told)?;
+            send(self.output)?;
         }
         self.input.read(bytes)
     }
@@ -35,7 +35,7 @@ impl<'a, R: Read, W: Write + Drop> Read for Incoming<'a, R, W> {
 impl<'a, R: Read, W: Write + Drop> BufRead for Incoming<'a, R, W> {
     fn fill_buf(&mut self) -> io::Result<&[u8]> {
         if self.input.buffer().is_empty() {
-            send(self.told)?;
+            send(self.output)?;
         }
         self.input.fill_buf()
     }
@@ -67,21 +67,21 @@ fn is_query_line(bytes: &[u8]) -> bool {
 
 impl<'a, W: Write + Drop> Write for Outgoing<'a, W> {
     fn write(&mut self, bytes: &[u8]) -> io::Result<usize> {
-        match self.told.try_borrow_mut() {
-            Ok(mut told) => told.write(bytes),
+        match self.output.try_borrow_mut() {
+            Ok(mut output) => output.write(bytes),
             Err(_) => Err(Error::from(ErrorKind::Other)),
         }
     }
 
     fn flush(&mut self) -> io::Result<()> {
-        send(self.told)
+        send(self.output)
     }
 }
 
 /// The borrow never fails: one thread has both directions, and uses one at a time.
-fn send<W: Write + Drop>(told: &RefCell<BufWriter<W>>) -> io::Result<()> {
-    match told.try_borrow_mut() {
-        Ok(mut told) => told.flush(),
+fn send<W: Write + Drop>(output: &RefCell<BufWriter<W>>) -> io::Result<()> {
+    match output.try_borrow_mut() {
+        Ok(mut output) => output.flush(),
         Err(_) => Err(Error::from(ErrorKind::Other)),
     }
 }

@@ -1,4 +1,4 @@
 pub mod Ask
-pub mod Branch
-pub mod Heard
+pub mod TillDesk
+pub mod Routed
 pub mod Ready

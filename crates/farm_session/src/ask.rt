@@ -6,11 +6,11 @@ ghost use Rattle.farm_core.specs.Command.{IsFresh};
 ghost use Rattle.farm_core.specs.Tills.{AreTillsOf};
 ghost use Rattle.farm_core.specs.World.{purse_in};
 ghost use Rattle.farm_session.specs.Ask.{ask_of, IsCommandOf, search_in};
-ghost use Rattle.farm_session.specs.Branch.{tills_of, lease_at, HasLeasedFor};
+ghost use Rattle.farm_session.specs.TillDesk.{tills_of, lease_at, HasLeasedFor};
 ghost use Rattle.farm_session.specs.Ready.{MakesFresh};
 
 use crate::ready::{Ready, search_of};
-use crate::tills::Branch;
+use crate::tills::TillDesk;
 use farm_core::{Command, Config};
 use session_lines::What;
 use std::alloc::Global;
@@ -73,12 +73,12 @@ pub struct Workshop<'a, M> {
 /// purse's till, on which the search draws. `None` if there is no memory for that search.
 pub fn command_of<J, M: Fn(Ready) -> Option<J>>(
     shop: &Workshop<'_, M>,
-    branches: &mut [Branch<'_>],
+    till_desks: &mut [TillDesk<'_>],
     tenant: u32,
     call: Command<()>,
 ) -> Option<Command<J>>
     requires known { tenant < length shop.now.config.now.tenants }
-    requires tills { AreTillsOf shop.now.config.now (tills_of branches.old) }
+    requires tills { AreTillsOf shop.now.config.now (tills_of till_desks.old) }
     requires make { M.IsAlwaysCallable shop.now.make.now }
     ensures exact { IsCommandOf call result }
     ensures fresh { (meaning : J → Meaning) (lease : J → LeaseValue)
@@ -86,10 +86,10 @@ pub fn command_of<J, M: Fn(Ready) -> Option<J>>(
         → IfSome result (IsFresh meaning tenant) }
     ensures drawn { (meaning : J → Meaning) (lease : J → LeaseValue)
         → MakesFresh meaning lease (M.post shop.now.make.now)
-        → IfSome (slice_get branches.old (purse_in shop.now.config.now tenant))
-        (λ branch. IfSome (search_in result) (λ search. lease search ≡ lease_at branch tenant)) }
+        → IfSome (slice_get till_desks.old (purse_in shop.now.config.now tenant))
+        (λ till_desk. IfSome (search_in result) (λ search. lease search ≡ lease_at till_desk tenant)) }
     ensures leased { HasLeasedFor (M.post shop.now.make.now)
-        shop.now.config.now tenant call (search_in result) branches.old branches.new }
+        shop.now.config.now tenant call (search_in result) till_desks.old till_desks.new }
 {
     match call {
         Command::Submit {
@@ -98,8 +98,8 @@ pub fn command_of<J, M: Fn(Ready) -> Option<J>>(
             search: (),
         } => {
             let purse = shop.config.purse_of(tenant);
-            let branch = &mut branches[purse as usize];
-            match search_of(shop.alloc, branch, tenant, &plan, shop.make) {
+            let till_desk = &mut till_desks[purse as usize];
+            match search_of(shop.alloc, till_desk, tenant, &plan, shop.make) {
                 Some(search) => Some(Command::Submit {
                     plan,
                     quanta,

@@ -2,14 +2,14 @@ ghost use Rattle.std.specs.Prelude.{◌≡◌, IfSome};
 ghost use Rattle.strategy.specs.declared.kind.Kind.TheVariants as kind;
 ghost use Rattle.quanta_till.specs.Lease.{IsEmpty};
 ghost use Rattle.job_table.specs.Job.{fresh_search};
-ghost use Rattle.farm_session.specs.Branch.{lease_at, HasLeased};
+ghost use Rattle.farm_session.specs.TillDesk.{lease_at, HasLeased};
 ghost use Rattle.tree_search.specs.Search as tree_search;
 ghost use Rattle.rule_search.specs.Rule.{IsRule};
 ghost use Rattle.rule_search.specs.Search as rule_search;
 ghost use Rattle.sample_search.specs.Search as sample_search;
 ghost use Rattle.sample_search.specs.Search.{IsSample};
 
-use crate::tills::Branch;
+use crate::tills::TillDesk;
 use quanta_till::Lease;
 use rule_search::RuleSearch;
 use sample_search::SampleSearch;
@@ -112,17 +112,17 @@ macro_rules! boxed_search {
 /// Makes a search of a copy of `plan` with a new lease. `None` if there is no memory for it.
 pub(crate) fn search_of<J, M: Fn(Ready) -> Option<J>>(
     alloc: Global,
-    branch: &mut Branch<'_>,
+    till_desk: &mut TillDesk<'_>,
     tenant: u32,
     plan: &Plan,
     make: &M,
 ) -> Option<J>
     requires { M.IsAlwaysCallable make.now }
-    ensures { HasLeased (M.post make.now) branch.old
-        (record { plan = plan.now; lease = lease_at branch.old tenant })
-        result branch.new }
+    ensures { HasLeased (M.post make.now) till_desk.old
+        (record { plan = plan.now; lease = lease_at till_desk.old tenant })
+        result till_desk.new }
 {
     let plan = plan.clone_in(alloc).ok()?;
-    let lease = branch.lease(tenant).ok()?;
+    let lease = till_desk.lease(tenant).ok()?;
     make(Ready::new(plan, lease))
 }

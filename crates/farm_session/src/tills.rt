@@ -1,31 +1,31 @@
 ghost use Rattle.std.specs.Prelude.{◌≡◌, map, IfOk, OnOk, OnErr};
 ghost use Rattle.farm_core.specs.Tills.{AreSeated, AreTillsOf};
-ghost use Rattle.farm_session.specs.Branch.{lease_at, having_leased, first_desk, AreNew, HaveSeated};
+ghost use Rattle.farm_session.specs.TillDesk.{lease_at, having_leased, first_desk, AreNew, HaveSeated};
 
 use farm_core::Config;
 use quanta_till::{Desk, Lease, Till};
 use std::alloc::{AllocError, Global};
 use std::marker::Model;
 
-/// A `Branch` is a purse's till with a desk, which counts the leases that are made there.
+/// A `TillDesk` is a purse's till with a desk, which counts the leases that are made there.
 #[derive(Drop)]
-pub struct Branch<'a> {
+pub struct TillDesk<'a> {
     till: &'a Till,
     desk: Desk,
 }
 
-impl<'a> Model for Branch<'a> {
+impl<'a> Model for TillDesk<'a> {
     ghost use Rattle.std.specs.Prelude.{◌≡◌};
-    ghost use Rattle.farm_session.specs.Branch.{BranchValue};
+    ghost use Rattle.farm_session.specs.TillDesk.{TillDeskValue};
 
-    ghost Value = { BranchValue };
+    ghost Value = { TillDeskValue };
 
     ghost view = { λ c. record { till = c.till.now; depth = c.desk.depth; seats = c.desk.seats } };
 
     ghost invariant = { λ c. c.desk.id ≡ c.till.now.id };
 }
 
-impl<'a> Branch<'a> {
+impl<'a> TillDesk<'a> {
     /// Makes an empty lease of this till for `tenant`. If there is no memory, no lease was made.
     pub fn lease(&mut self, tenant: u32) -> Result<Lease, AllocError>
         ensures made { IfOk result (λ lease. lease ≡ lease_at self.old tenant) }
@@ -53,20 +53,20 @@ pub fn open_tills(alloc: Global, config: &Config) -> Result<(Vec<Till>, Vec<Desk
 }
 
 /// One more desk at each till, at which no lease was made yet.
-pub fn branches<'a>(
+pub fn till_desks<'a>(
     alloc: Global,
     tills: &'a [Till],
     desks: &mut [Desk],
-) -> Result<Vec<Branch<'a>>, AllocError>
+) -> Result<Vec<TillDesk<'a>>, AllocError>
     requires seated { AreSeated tills.now desks.old }
     ensures seated { AreSeated tills.entry.now desks.new }
-    ensures new { IfOk result (λ branches. AreNew tills.entry.now desks.old branches.items) }
+    ensures new { IfOk result (λ till_desks. AreNew tills.entry.now desks.old till_desks.items) }
     ensures one { OnOk result (HaveSeated 1 desks.old desks.new) }
 {
-    let mut branches = Vec::new(alloc);
+    let mut till_desks = Vec::new(alloc);
     for (i, till) in tills.iter().enumerate() {
         let desk = till.desk(&mut desks[i]);
-        branches.push(Branch { till, desk })?;
+        till_desks.push(TillDesk { till, desk })?;
     }
-    Ok(branches)
+    Ok(till_desks)
 }

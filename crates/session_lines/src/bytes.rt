@@ -16,8 +16,7 @@ use watched_io::{Watch, fill};
 #[derive(Clone, Copy, Debug, PartialEq, Eq)]
 pub struct ReadFault;
 
-/// The bytes of a line that show that it is too long: one more than it may have, and its end of
-/// two.
+/// `LONGEST` + 1 bytes show that a line is too long; two more hold its `\r\n`.
 pub const KEPT_OF_LINE: usize = LONGEST + 3;
 
 /// A `GatheredLine` is a line that is gathered: its first bytes, with its end if that is among them.

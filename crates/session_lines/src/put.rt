@@ -42,7 +42,7 @@ pub fn put<W: Write>(writer: &mut W, watch: &mut Watch<W>, bytes: &[u8]) -> Resu
     Ok(())
 }
 
-/// Gathers `bytes`. Without room for them all gathered bytes are written too, and none is left.
+/// Gathers `bytes`. If they do not fit, writes what was gathered, then `bytes`.
 pub fn gather<W: Write>(
     writer: &mut W,
     watch: &mut Watch<W>,

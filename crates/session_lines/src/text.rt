@@ -12,7 +12,7 @@ use std::alloc::Global;
 /// The most bytes of a line, without its end.
 pub(crate) const LONGEST: usize = 4096;
 
-/// The bytes of a text that show that it is too long: one more than a file may have.
+/// `MOST_BYTES` + 1 bytes show that a text is too long.
 const KEPT_OF_TEXT: usize = MOST_BYTES + 1;
 
 /// A `Text` is the text of a submit, while its lines come.

@@ -45,4 +45,4 @@ mod threads;
 mod turns;
 
 pub use counter::{Added, Ask, Counter, Reply};
-pub use threads::{Made, OfLock, crowd};
+pub use threads::{Made, ReturnsPass, crowd};

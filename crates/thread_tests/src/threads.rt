@@ -20,9 +20,9 @@ pub struct Made {
 
 /// The promise of a thread to return a pass of this lock.
 #[derive(Drop)]
-pub struct OfLock(Snapshot<TurnLock<Counter>>);
+pub struct ReturnsPass(Snapshot<TurnLock<Counter>>);
 
-impl Promise<Made> for OfLock {
+impl Promise<Made> for ReturnsPass {
     ghost use Rattle.turn_lock.specs.Values.{IsPassOf};
 
     ghost kept_by = { λ p made. IsPassOf p.0.value made.pass };
@@ -54,7 +54,7 @@ fn gather<R: Threads>(
     rt: &R,
     lock: &TurnLock<Counter>,
     pass: &mut Pass<Counter>,
-    handles: Vec<PromisedHandle<Made, OfLock>>,
+    handles: Vec<PromisedHandle<Made, ReturnsPass>>,
     told: &mut Vec<Vec<u64>>,
 )
     requires own { IsPassOf lock.now pass.old }
@@ -102,7 +102,7 @@ pub fn crowd<R: Threads + Wait + Sync>(
                 }
                 let theirs = lock.split_pass(&mut mine);
                 let amount = i + 1;
-                let promise = OfLock(Snapshot::of(lock));
+                let promise = ReturnsPass(Snapshot::of(lock));
                 let spawned = scope.spawn_with(
                     promise,
                     move || -> Made

@@ -125,7 +125,7 @@ impl<J: Strategy> Effect<J> {
 }
 
 impl<J: Strategy> Farm<J> {
-    /// Up to which job all are passed once the effect is made.
+    /// The value of `passed` after `effect`.
     #[inline(always)]
     fn passed_after(&self, tenant: u32, effect: &Effect<J>) -> Option<(u32, u64)>
         requires { tenant < length self.now.config.tenants }

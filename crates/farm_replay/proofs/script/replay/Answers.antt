@@ -9,7 +9,7 @@ use Rattle.farm_replay.proofs.script.replay.Goals as goal
 
 pub play_out-ended-requires-clause-tills : goal.play_out-ended-requires-clause-tills
 play_out-ended-requires-clause-tills g c κs within =
-    ap (map opening_of) (tills_new _ _ _ c.in-Ok-branches.ensures.new ∙ c.deref.ensures.value)
+    ap (map opening_of) (tills_new _ _ _ c.in-Ok-till_desks.ensures.new ∙ c.deref.ensures.value)
     ∙ c.in-Ok-open_tills.ensures.tills
 
 pub returns-clause-written : goal.returns-clause-written

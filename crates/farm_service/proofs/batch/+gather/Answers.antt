@@ -19,7 +19,7 @@ returns-in-Err-clause-read g t c = (
       takes = c.read_request.ensures.takes;
       cause = c.read_request.ensures.cause;
       counted = c.read_request.ensures.kept;
-      is = c.in-Err.ensures.other ∙ c.hear_call-heard.ensures.exact;
+      is = c.in-Err.ensures.other ∙ c.route_call-routed.ensures.exact;
     },
   ),
 )
@@ -38,15 +38,15 @@ returns-then-not-is_query_ahead-clause-read g t c =
         g.I.Read.remaining c.read_request.new.reader,
         c.read_request.new.watch,
         record {
-          heard = c.hear_call-heard.result;
+          routed = c.route_call-routed.result;
           is = c.in-Ok.ensures.query;
-          known = query_known c.args.config.now c.hear_call-heard.result c.in-Ok.it.0 c.in-Ok.it.1 c.in-Ok.ensures.query c.hear_call-heard.ensures.known;
+          known = query_known c.args.config.now c.route_call-routed.result c.in-Ok.it.0 c.in-Ok.it.1 c.in-Ok.ensures.query c.route_call-routed.ensures.known;
           read = record {
             read = c.read_request.result;
             takes = c.read_request.ensures.takes;
             cause = c.read_request.ensures.cause;
             counted = c.read_request.ensures.kept;
-            is = c.hear_call-heard.ensures.exact;
+            is = c.route_call-routed.ensures.exact;
           };
         },
         (refl, refl),
@@ -68,15 +68,15 @@ returns-clause-read g t c =
         g.I.Read.remaining c.read_request.new.reader,
         c.read_request.new.watch,
         record {
-          heard = c.hear_call-heard.result;
+          routed = c.route_call-routed.result;
           is = c.in-Ok.ensures.query;
-          known = query_known c.args.config.now c.hear_call-heard.result c.in-Ok.it.0 c.in-Ok.it.1 c.in-Ok.ensures.query c.hear_call-heard.ensures.known;
+          known = query_known c.args.config.now c.route_call-routed.result c.in-Ok.it.0 c.in-Ok.it.1 c.in-Ok.ensures.query c.route_call-routed.ensures.known;
           read = record {
             read = c.read_request.result;
             takes = c.read_request.ensures.takes;
             cause = c.read_request.ensures.cause;
             counted = c.read_request.ensures.kept;
-            is = c.hear_call-heard.ensures.exact;
+            is = c.route_call-routed.ensures.exact;
           };
         },
         rest.4,

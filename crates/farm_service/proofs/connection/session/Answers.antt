@@ -10,8 +10,8 @@ loop-init g c = record {
   tills = c.requires.tills;
   empty = subst IsEmptyBatch (sym c.new-desk.ensures.batch) c.requires.empty;
   served =
-      session_begins c.args.office.now.shop.config.now (g.D.Shared.tells c.args.office.now.shared.now) (goal.M-post g c.args.office.now.shop.make.now)
-      c.args.token.now c.args.branches.now (g.I.Read.remaining c.args.reader.now) (g.O.Write.contents c.args.writer.now)
+      session_begins c.args.service.now.shop.config.now (g.D.Shared.tells c.args.service.now.shared.now) (goal.M-post g c.args.service.now.shop.make.now)
+      c.args.token.now c.args.till_desks.now (g.I.Read.remaining c.args.reader.now) (g.O.Write.contents c.args.writer.now)
       c.new-desk.result.reads c.new-desk.result.writes c.new-desk.ensures.reads c.new-desk.ensures.writes;
 }
 
@@ -21,10 +21,10 @@ loop-preserved g c = record {
   tills = c.serve_next.ensures.tills;
   empty = c.serve_next.ensures.empty c.if-not-serve_next.false;
   served =
-      session_on c.args.office.now.shop.config.now (g.D.Shared.tells c.args.office.now.shared.now) (goal.M-post g c.args.office.now.shop.make.now)
-      (stand c.args.token.now c.args.branches.now (g.I.Read.remaining c.args.reader.now) (g.O.Write.contents c.args.writer.now) 0 0)
-      (stand c.loop.token c.loop.branches (g.I.Read.remaining c.loop.reader) (g.O.Write.contents c.loop.writer) c.loop.desk.reads c.loop.desk.writes)
-      (stand c.serve_next.new.token c.serve_next.new.branches (g.I.Read.remaining c.serve_next.new.reader) (g.O.Write.contents c.serve_next.new.writer) c.serve_next.new.desk.reads c.serve_next.new.desk.writes)
+      session_on c.args.service.now.shop.config.now (g.D.Shared.tells c.args.service.now.shared.now) (goal.M-post g c.args.service.now.shop.make.now)
+      (stand c.args.token.now c.args.till_desks.now (g.I.Read.remaining c.args.reader.now) (g.O.Write.contents c.args.writer.now) 0 0)
+      (stand c.loop.token c.loop.till_desks (g.I.Read.remaining c.loop.reader) (g.O.Write.contents c.loop.writer) c.loop.desk.reads c.loop.desk.writes)
+      (stand c.serve_next.new.token c.serve_next.new.till_desks (g.I.Read.remaining c.serve_next.new.reader) (g.O.Write.contents c.serve_next.new.writer) c.serve_next.new.desk.reads c.serve_next.new.desk.writes)
       c.serve_next.result c.if-not-serve_next.false c.loop.invariant.served c.serve_next.ensures.served;
 }
 
@@ -32,9 +32,9 @@ pub returns-then-not-serve_next-clause-served : goal.returns-then-not-serve_next
 returns-then-not-serve_next-clause-served g c = (
   c.serve_next.new.desk.reads,
   c.serve_next.new.desk.writes,
-  session_ends c.args.office.now.shop.config.now (g.D.Shared.tells c.args.office.now.shared.now) (goal.M-post g c.args.office.now.shop.make.now)
-      (stand c.args.token.now c.args.branches.now (g.I.Read.remaining c.args.reader.now) (g.O.Write.contents c.args.writer.now) 0 0)
-      (stand c.loop.token c.loop.branches (g.I.Read.remaining c.loop.reader) (g.O.Write.contents c.loop.writer) c.loop.desk.reads c.loop.desk.writes)
-      (stand c.serve_next.new.token c.serve_next.new.branches (g.I.Read.remaining c.serve_next.new.reader) (g.O.Write.contents c.serve_next.new.writer) c.serve_next.new.desk.reads c.serve_next.new.desk.writes)
+  session_ends c.args.service.now.shop.config.now (g.D.Shared.tells c.args.service.now.shared.now) (goal.M-post g c.args.service.now.shop.make.now)
+      (stand c.args.token.now c.args.till_desks.now (g.I.Read.remaining c.args.reader.now) (g.O.Write.contents c.args.writer.now) 0 0)
+      (stand c.loop.token c.loop.till_desks (g.I.Read.remaining c.loop.reader) (g.O.Write.contents c.loop.writer) c.loop.desk.reads c.loop.desk.writes)
+      (stand c.serve_next.new.token c.serve_next.new.till_desks (g.I.Read.remaining c.serve_next.new.reader) (g.O.Write.contents c.serve_next.new.writer) c.serve_next.new.desk.reads c.serve_next.new.desk.writes)
       c.serve_next.result c.if-not-serve_next.true c.loop.invariant.served c.serve_next.ensures.served,
 )

@@ -1,5 +1,5 @@
 use Rattle.farm_core.specs.Tills.{AreTillsOf}
-use Rattle.farm_session.specs.Branch.{tills_of}
+use Rattle.farm_session.specs.TillDesk.{tills_of}
 use Rattle.farm_service.specs.Batch.{IsEmptyBatch}
 use Rattle.farm_service.specs.Session.{stand}
 use Rattle.farm_service.proofs.SessionLemmas.{IsBegun}
@@ -7,10 +7,10 @@ use Rattle.farm_service.proofs.connection.session.Given as goal
 
 abbrev pub invariant-loop : goal.invariant-loop
 invariant-loop g l = record {
-  own : g.D.Shared.owns l.office.shared.now l.token;
-  tills : AreTillsOf l.office.shop.config.now (tills_of l.branches);
+  own : g.D.Shared.owns l.service.shared.now l.token;
+  tills : AreTillsOf l.service.shop.config.now (tills_of l.till_desks);
   empty : IsEmptyBatch l.desk.batch;
-  served : IsBegun l.office.shop.config.now (g.D.Shared.tells l.office.shared.now) (goal.M-post g l.office.shop.make.now)
-      (stand l.fn.token l.fn.branches (g.I.Read.remaining l.fn.reader) (g.O.Write.contents l.fn.writer) 0 0)
-      (stand l.token l.branches (g.I.Read.remaining l.reader) (g.O.Write.contents l.writer) l.desk.reads l.desk.writes);
+  served : IsBegun l.service.shop.config.now (g.D.Shared.tells l.service.shared.now) (goal.M-post g l.service.shop.make.now)
+      (stand l.fn.token l.fn.till_desks (g.I.Read.remaining l.fn.reader) (g.O.Write.contents l.fn.writer) 0 0)
+      (stand l.token l.till_desks (g.I.Read.remaining l.reader) (g.O.Write.contents l.writer) l.desk.reads l.desk.writes);
 }

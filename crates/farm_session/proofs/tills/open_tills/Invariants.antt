@@ -1,7 +1,7 @@
 use Rattle.std.proofs.Common.{◌≡◌, length, map}
 use Rattle.std.specs.List.{range_with_len}
 use Rattle.farm_core.specs.Tills.{opening_of, opening_for, AreSeated}
-use Rattle.farm_session.specs.Branch.{first_desk}
+use Rattle.farm_session.specs.TillDesk.{first_desk}
 use Rattle.farm_session.proofs.tills.open_tills.Given as goal
 
 -- one for each purse so far
