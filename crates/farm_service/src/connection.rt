@@ -22,21 +22,21 @@ use std::io::{BufRead, Write};
 use std::sync::Wait;
 use watched_io::Watch;
 
-/// A `Desk` is what a connection keeps between its requests.
+/// A `SessionIo` is what a connection keeps between its requests.
 #[derive(Drop)]
-struct Desk<I, O> {
+struct SessionIo<I, O> {
     reads: Watch<I>,
     writes: Watch<O>,
     batch: Batch,
 }
 
-impl<I, O> Desk<I, O> {
-    fn new(batch: Batch) -> Desk<I, O>
+impl<I, O> SessionIo<I, O> {
+    fn new(batch: Batch) -> SessionIo<I, O>
         ensures reads { result.reads ≡ 0 }
         ensures writes { result.writes ≡ 0 }
         ensures batch { result.batch ≡ batch }
     {
-        Desk {
+        SessionIo {
             reads: Watch::new(),
             writes: Watch::new(),
             batch,
@@ -149,42 +149,42 @@ fn serve_next<D: Shared, R: Wait, I: BufRead + Ahead, O: Write, M: Fn(Ready) -> 
     till_desks: &mut [TillDesk<'_>],
     reader: &mut I,
     writer: &mut O,
-    desk: &mut Desk<I, O>,
+    io: &mut SessionIo<I, O>,
 ) -> bool
     requires own { D.owns service.now.shared.now token.old }
     requires config { D.config service.now.shared.now ≡ service.now.shop.config.now }
     requires tills { AreTillsOf service.now.shop.config.now (tills_of till_desks.old) }
     requires make { M.IsAlwaysCallable service.now.shop.make.now }
     requires fresh { MakesFresh D.means D.leases (M.post service.now.shop.make.now) }
-    requires empty { IsEmptyBatch desk.old.batch }
+    requires empty { IsEmptyBatch io.old.batch }
     ensures own { D.owns service.now.shared.now token.new }
     ensures tills { AreTillsOf service.now.shop.config.now (tills_of till_desks.new) }
-    ensures empty { result ≡ true → IsEmptyBatch desk.new.batch }
+    ensures empty { result ≡ true → IsEmptyBatch io.new.batch }
     ensures served { IsPartOfSession service.now.shop.config.now
         (D.tells service.now.shared.now)
         (M.post service.now.shop.make.now)
         (stand token.old till_desks.old
         (I.remaining reader.old) (O.contents writer.old)
-        desk.old.reads desk.old.writes)
+        io.old.reads io.old.writes)
         result
         (stand token.new till_desks.new
         (I.remaining reader.new) (O.contents writer.new)
-        desk.new.reads desk.new.writes) }
+        io.new.reads io.new.writes) }
 {
     let (alloc, config) = (service.shop.alloc, service.shop.config);
-    let (reads, batch) = (&mut desk.reads, &mut desk.batch);
+    let (reads, batch) = (&mut io.reads, &mut io.batch);
     let last = gather(alloc, config, reader, reads, batch, MOST_TOGETHER);
     let queries = batch.queries.as_slice();
     service.shared.ask_all(token, queries, &mut batch.replies);
     batch.turn();
-    if !tell_all(batch, writer, &mut desk.writes) {
+    if !tell_all(batch, writer, &mut io.writes) {
         return false;
     }
     let Some(routed) = last else {
         return true;
     };
     let is_end = is_end(&routed);
-    let told = reply(service, token, till_desks, writer, &mut desk.writes, routed);
+    let told = reply(service, token, till_desks, writer, &mut io.writes, routed);
     !is_end && told.is_ok()
 }
 
@@ -217,9 +217,9 @@ pub(crate) fn session<
         (stand token.new till_desks.new
         (I.remaining reader.new) (O.contents writer.new) reads writes) }
 {
-    let mut desk = Desk::new(batch);
+    let mut io = SessionIo::new(batch);
     for _ in service.rt.forever() {
-        if !serve_next(service, token, till_desks, reader, writer, &mut desk) {
+        if !serve_next(service, token, till_desks, reader, writer, &mut io) {
             return;
         }
     }

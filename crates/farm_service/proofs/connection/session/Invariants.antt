@@ -9,8 +9,8 @@ abbrev pub invariant-loop : goal.invariant-loop
 invariant-loop g l = record {
   own : g.D.Shared.owns l.service.shared.now l.token;
   tills : AreTillsOf l.service.shop.config.now (tills_of l.till_desks);
-  empty : IsEmptyBatch l.desk.batch;
+  empty : IsEmptyBatch l.io.batch;
   served : IsBegun l.service.shop.config.now (g.D.Shared.tells l.service.shared.now) (goal.M-post g l.service.shop.make.now)
       (stand l.fn.token l.fn.till_desks (g.I.Read.remaining l.fn.reader) (g.O.Write.contents l.fn.writer) 0 0)
-      (stand l.token l.till_desks (g.I.Read.remaining l.reader) (g.O.Write.contents l.writer) l.desk.reads l.desk.writes);
+      (stand l.token l.till_desks (g.I.Read.remaining l.reader) (g.O.Write.contents l.writer) l.io.reads l.io.writes);
 }
