@@ -116,7 +116,7 @@ impl Pool {
     }
 
     /// Waits for the farm once, and answers `queries` in their order: no other call is made between
-    /// them. Of each reply the laws of [`call`](Pool::call)'s hold.
+    /// them. The laws of a reply of [`call`](Pool::call) hold of each of these.
     pub fn ask_all<R: Wait>(
         &self,
         rt: &R,
