@@ -426,10 +426,9 @@ impl Path {
         let mut eligible = stage.eligible;
         let mut slack = stage.slack;
         let mut free = stage.free;
-        let span = Span {
-            begin: stage.begin,
-            end: stage.end,
-        };
+        let (begin, end) = (stage.begin, stage.end);
+        let span = Span { begin, end };
+        let lanes = width.lanes();
         take_out(&mut eligible, width.short(activity));
         enlist(
             &mut eligible,
@@ -439,19 +438,12 @@ impl Path {
             &self.finishes,
             width,
         );
-        take_off(&mut slack, &row.extra, width.lanes());
+        take_off(&mut slack, &row.extra, lanes);
         let new = Running {
             request: row.request,
             finish,
         };
-        let end = run_in(
-            &mut self.running,
-            span,
-            &mut free,
-            new,
-            start,
-            width.lanes(),
-        );
+        let end = run_in(&mut self.running, span, &mut free, new, start, lanes);
         self.stages[depth + 1] = Stage {
             slack,
             free,

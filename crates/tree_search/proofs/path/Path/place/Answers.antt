@@ -62,12 +62,12 @@ run_in-end-requires c =
     let n : c.len-depth.result ≡ length placed = omega (arith, c.len-depth.ensures, b.placed.ok.0) in
     let stage : c.index-stage.result.now ≡ get_or b.stages.items (length placed) no_stage = c.index-stage.ensures ∙ get_or_default b.stages.items c.len-depth.result c.index-stage.result.now no_stage (omega (arith, was.staged.count, room, n)) ∙ ap (λ k. get_or b.stages.items k no_stage) n in
     let wide : HasWidth p c.args.width = rw (← c.self.view_is) at c.requires.width in
-    let enough : renewables p ≤ c.lanes-2.result = omega (arith, c.lanes-2.ensures.exact, wide.renewable) in
+    let enough : renewables p ≤ c.lanes-lanes.result = omega (arith, c.lanes-lanes.ensures.exact, wide.renewable) in
     let it = rw (← stage) at (has_place p placed a b.running.items b.stages.items c.row-row.result.now (c.args.start + c.row-row.result.now.duration) was.board was.staged room inside row (omega (arith, row.duration)) above fits) in
     rw c.deref_mut.ensures.value (record {
-      lanes = c.lanes-2.ensures.few;
-      none = request_none p j m c.lanes-2.result c.row-row.result.now was.board.project known in_mode row enough;
-      beyond = it.beyond c.lanes-2.result enough;
+      lanes = c.lanes-lanes.ensures.few;
+      none = request_none p j m c.lanes-lanes.result c.row-row.result.now was.board.project known in_mode row enough;
+      beyond = it.beyond c.lanes-lanes.result enough;
       order = it.order;
       memory = it.memory;
       rising = it.rising;
@@ -137,5 +137,5 @@ take_off-requires-clause-none c =
     let known : c.args.activity < size p = rw (← c.self.view_is) at c.requires.activity in
     let in_mode : c.args.mode < mode_count p c.args.activity = rw (← c.self.view_is) at c.requires.mode in
     let wide : HasWidth p c.args.width = rw (← c.self.view_is) at c.requires.width in
-    let enough : nonrenewables p ≤ c.lanes.result = omega (arith, c.lanes.ensures.exact, wide.nonrenewable) in
-    extra_none p c.args.activity c.args.mode c.lanes.result c.row-row.result.now c.self.invariant.board.project known in_mode (c.row-row.ensures p c.self.invariant.tabled known in_mode) enough
+    let enough : nonrenewables p ≤ c.lanes-lanes.result = omega (arith, c.lanes-lanes.ensures.exact, wide.nonrenewable) in
+    extra_none p c.args.activity c.args.mode c.lanes-lanes.result c.row-row.result.now c.self.invariant.board.project known in_mode (c.row-row.ensures p c.self.invariant.tabled known in_mode) enough
