@@ -13,22 +13,22 @@ pub struct Message<F: Formula> {
     pub glue: u32,
 }
 
-/// A learned clause that others are to be told of.
+/// A learned clause that other searches receive.
 #[derive(Clone, Copy)]
 struct News {
     number: u32,
     glue: u32,
 }
 
-/// An `Exchange` is what a search has learned since it last told others.
+/// An `Exchange` is what a search has learned since it last sent its clauses.
 #[derive(Drop)]
 pub struct Exchange {
     alloc: Global,
-    /// The most levels of a clause that is told; 0 tells nothing.
+    /// The most levels of a clause that is sent; 0 sends nothing.
     most_glue: u32,
     /// Learned clauses that no reduction has met yet.
     news: Vec<News>,
-    /// Literals of level 0 that were told: those before this place of the trail.
+    /// The place of the trail before which literals of level 0 were sent.
     told: usize,
 }
 
@@ -42,7 +42,7 @@ impl Exchange {
         }
     }
 
-    /// Tells of clauses of at most so many levels from now on.
+    /// From now on sends clauses of at most `glue` levels.
     pub fn tell_up_to(&mut self, glue: u32) {
         self.most_glue = glue;
     }
@@ -54,7 +54,7 @@ impl Exchange {
         Ok(())
     }
 
-    /// Forgets what was not told yet: the numbers may be those of other clauses from now on.
+    /// Forgets what was not sent yet: from now on the numbers may be those of other clauses.
     pub fn clear(&mut self) {
         self.news.clear();
     }

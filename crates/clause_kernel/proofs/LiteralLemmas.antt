@@ -39,4 +39,4 @@ negated-true v l =
     (λ (e : ((l % 2 == 0) ≡ false) × (l % 2 ≡ 1)). rw (e.0, odd_before l e.1, half_odd l e.1, not-not (v (l / 2))) refl)
     (even_or_odd l)
 
--- what stands as false is false
+-- a literal that is kept as false is false

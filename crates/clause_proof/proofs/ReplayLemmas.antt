@@ -41,7 +41,7 @@ negated-true v l =
     (λ (e : ((l % 2 == 0) ≡ false) × (l % 2 ≡ 1)). rw (e.0, odd_before l e.1, half_odd l e.1, not-not (v (l / 2))) refl)
     (even_or_odd l)
 
--- what stands as false is false
+-- a literal that is kept as false is false
 pub stands_false : (v : ℕ → Bool) (values : List ℕ) (mark q : ℕ) → IsSound v values mark → mark ≤ get_or values (negated q) 0 → literal_true v q ≡ false
 stands_false v values mark q sound h = not-true (literal_true v q) (sym (negated-true v q) ∙ sound.each (negated q) h)
 
@@ -136,7 +136,8 @@ assumes-true clause values mark i d inside h assumes = record {
   sure = λ v. true_by v clause (λ e. true≢false (sym ((assumes.sound v (λ k d below. literal_false v clause k d (omega arith) e)).each (get_or clause i d) h) ∙ literal_false v clause i d inside e));
 }
 
--- what stands as true is true wherever the used clauses before `at` are and the clause is not
+-- a literal that is kept as true is true wherever the used clauses before `at` are and the clause
+-- is not
 pub record Derives (clauses : List (List ℕ)) (used : List Bool) (at : ℕ) (clause values : List ℕ) (mark : ℕ) : Type 0 where
   pub sound : (v : ℕ → Bool) → SatisfiesUsed v clauses used at → clause_true v clause ≡ false → IsSound v values mark
 

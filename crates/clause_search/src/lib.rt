@@ -2,7 +2,7 @@
 //! Moskewicz and others 2001; Een and Sorensson 2003).
 //!
 //! Nothing of the search is believed: each learned clause goes to a kernel with its hints, and
-//! `Refuted` is what the kernel says.
+//! `Refuted` rests on the kernel.
 #![tactic(auto)]
 
 mod elimination;

@@ -27,7 +27,7 @@ pub enum SearchAnswer {
 /// The limits of a search.
 #[derive(Clone, Copy, Debug)]
 pub struct SearchLimits {
-    /// The most words, of 4 bytes, that a search holds in clauses. The kernel holds as many.
+    /// The most words, of 4 bytes, that a search holds in clauses. The kernel holds equally many.
     pub words: usize,
 }
 
@@ -206,7 +206,7 @@ impl Search {
         self.engine.exchange.tell(&self.engine.trail, kernel)
     }
 
-    /// Takes what another search of the formula has told, if this one has begun.
+    /// Takes what another search of the formula has sent, if this one has begun.
     pub fn take<F: Formula>(
         &mut self,
         kernel: &mut Kernel<F>,

@@ -22,7 +22,7 @@ pub struct Queue {
     first: u32,
     last: u32,
     clock: u64,
-    /// No open variable stands behind this one.
+    /// No open variable is behind this one.
     next: u32,
 }
 

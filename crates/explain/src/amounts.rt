@@ -148,7 +148,7 @@ pub fn why_breach(
     }
 }
 
-/// Is `why_breach` of the texts of a project's file and of a schedule.
+/// Reads a project's file and a schedule's text, and calls `why_breach`.
 pub fn why_breach_of(alloc: Global, file: &[u8], text: &[u8], breach: Breach) -> Option<String> {
     let project = psplib_mm::read(alloc, file).ok()?;
     let schedule = read_schedule(alloc, text).ok()??;

@@ -152,7 +152,7 @@ fn why_number(alloc: Global, sheet: &Sheet<'_>, line: usize) -> Result<Option<St
     Ok(None)
 }
 
-/// Empty if nothing is wrong with the successor.
+/// Returns an empty text if nothing is wrong with the successor.
 fn blame_of(words: &[Piece<'_>], from: usize, place: usize, job: u64, jobs: u64) -> &'static str {
     let found = number_at(words, place);
     if found <= job {

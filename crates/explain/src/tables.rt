@@ -43,7 +43,7 @@ fn rows_of(alloc: Global, text: &[u8]) -> Result<Vec<ByteRecord>, AllocError> {
     Ok(rows)
 }
 
-/// Empty behind the row's end.
+/// A cell behind the row's end is empty.
 fn cell_at(row: &ByteRecord, place: usize) -> &[u8] {
     row.get(place).unwrap_or(&[]).trim_ascii()
 }
@@ -115,7 +115,7 @@ fn tell_cell(alloc: Global, line: u64, name: &str, cell: &[u8]) -> Result<String
     format!(in alloc; "line {line}: {shown} is found for the {name}, which is a whole number")
 }
 
-/// As `shown_word`, with blanks.
+/// Shows a text as `shown_word` does, with its blanks.
 fn shown_cell(cell: &[u8]) -> &str {
     if cell.contains(&b' ') && cell.iter().all(|b| *b == b' ' || b.is_ascii_graphic()) {
         match str::from_utf8(cell) {

@@ -14,7 +14,7 @@ pub struct Texts<'a> {
 }
 
 /// A `CommandAnswer` is the text that a command gives, or why it gives none, and what standard
-/// error has beside that.
+/// error has besides.
 #[derive(Drop)]
 pub struct CommandAnswer<F> {
     pub text: Result<String, F>,

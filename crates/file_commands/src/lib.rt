@@ -2,9 +2,9 @@
 //!
 //! A command is a value with its options, which gives a text for what its inputs have, or a fault
 //! ([`FileCommand`]). [`run_command`] reads the inputs, writes the text, and returns the status; a
-//! fault goes to standard error. Its contract says of all commands at once what is read, when
-//! something is written, and which fault is reported when (`specs/Run`, `specs/Ending`).
-//! [`run_files`] opens the inputs and calls it.
+//! fault goes to standard error. Its contract covers all commands: what is read, when something is
+//! written, and which fault is reported when (`specs/Run`, `specs/Ending`). [`run_files`] opens the
+//! inputs and calls it.
 //!
 //! - `inputs`, `sources`: the paths of a command and the bytes of its inputs; its inputs, opened.
 //! - `answer`, `runner`: what a command answers to texts; the runner.

@@ -48,7 +48,7 @@ impl Bytes {
     }
 }
 
-/// Of an input that is not there, no bytes.
+/// An input that is not there has no bytes.
 fn read_some<S: Read + Drop>(
     alloc: Global,
     source: Option<S>,

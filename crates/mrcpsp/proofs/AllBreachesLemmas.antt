@@ -245,7 +245,7 @@ else_first : (told others : List Breach) → (told ≡ [] → ⊥) → or_else t
 else_first [] others some = absurd (some refl)
 else_first (b ∷ told) others some = refl
 
--- what the code tells in each of its three ways
+-- what the code lists in each of its three ways
 pub shape_told : (p : ProjectData) (s : ScheduleData) → (HasShape p s → ⊥) → Shape ∷ [] ≡ breaches_in p s
 shape_told p s bad =
     let test : is_shaped p s ≡ false = ⊎_elim (λ t. absurd (bad (has_shape p s t))) (λ e. e) (cases_Bool (is_shaped p s)) in

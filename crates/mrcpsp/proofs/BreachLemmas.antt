@@ -1,4 +1,4 @@
--- What is told first, and that a schedule with nothing to tell is feasible.
+-- The first breach, and that a schedule without a breach is feasible.
 use Rattle.std.proofs.Common.{◌≡◌, ℕ, zero, suc, ◌+◌, ◌-◌, ◌<◌, ◌≤◌, ◌⊎◌, true, [], ◌∷◌, Option, Some, None, arith, refl, inl, inr, ⊎_elim, ◌∙◌}
 use Rattle.std.proofs.lemmas.Bool.{cases_lt, cases_eq}
 use Rattle.std.proofs.lemmas.Bool.Decides.{nat_tests}

@@ -6,7 +6,7 @@ use Rattle.std.proofs.lemmas.List.Elements.{All-nil, All-cons}
 use Rattle.mrcpsp.specs.Project.{ActivityData, ProjectData, is_between, are_amounts, is_mode, are_successors, are_activities, is_project, horizon, no_mode, no_activity, size, renewables, nonrenewables, modes, mode_count, successors}
 use Rattle.mrcpsp.specs.Limits.{IsLimited, IsProject}
 
--- what a test of all says of each
+-- a test of all holds of each
 pub all-from : {X : Type 0} (test : X → Bool) (xs : List X) (i : ℕ) (d : X) → list_all test xs ≡ true → i < length xs → test (get_or xs i d) ≡ true
 all-from test [] i d h l = absurd (omega arith)
 all-from test (x ∷ xs) zero d h l = (and_parts (test x) (list_all test xs) h).0

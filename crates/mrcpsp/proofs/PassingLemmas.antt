@@ -35,7 +35,7 @@ module _ {X : Type 0} (f : ℕ → X) where
   told_fails : (test : ℕ → Bool) (xs : List ℕ) (x : ℕ) (old now : List X) → test x ≡ false → now ≡ old ++ map f (filter test xs) → now ≡ old ++ map f (filter test (xs ++ x ∷ []))
   told_fails test xs x old now fail h = h ∙ ap (λ l. old ++ map f l) (sym (filter_fails test xs x fail))
 
-  -- the next number, and the next element, is told or not
+  -- the next number, and the next element, is listed or not
   pub number_told : (test : ℕ → Bool) (n : ℕ) (old now : List X) → test n ≡ true → now ≡ old ++ map f (passing test n) → now ++ f n ∷ [] ≡ old ++ map f (passing test (n + 1))
   number_told test n old now pass h = told_passes test (range_with_len 0 n) n old now pass h ∙ ap (λ xs. old ++ map f (filter test xs)) (sym (range_more n))
 
@@ -48,7 +48,7 @@ module _ {X : Type 0} (f : ℕ → X) where
   pub element_passed : (test : ℕ → Bool) (xs : List ℕ) (k : ℕ) (old now : List X) → k < length xs → test (get_or xs k 0) ≡ false → now ≡ old ++ map f (filter test (take k xs)) → now ≡ old ++ map f (filter test (take (k + 1) xs))
   element_passed test xs k old now inside fail h = told_fails test (take k xs) (get_or xs k 0) old now fail h ∙ ap (λ l. old ++ map f (filter test l)) (sym (take_more xs k 0 inside))
 
--- the list of the next number is told
+-- the list of the next number is added
 pub list_told : {X : Type 0} (f : ℕ → List X) (n : ℕ) (old now new : List X) → now ≡ old ++ flat_map f (range_with_len 0 n) → new ≡ now ++ f n → new ≡ old ++ flat_map f (range_with_len 0 (n + 1))
 list_told f n old now new h e =
     e ∙ ap (λ l. l ++ f n) h ∙ append_assoc old (flat_map f (range_with_len 0 n)) (f n)
@@ -72,7 +72,7 @@ module _ {X : Type 0} (f : ℕ → X) (test : ℕ → Bool) where
       (λ (e : test n ≡ false). subst (λ l. All P (map f l)) (sym (cond-false (test n) (n ∷ []) [] e)) (All-nil P))
       (cases_Bool (test n))
 
-  -- what holds of each number that passes holds of all that is told of them
+  -- what holds of each number that passes holds of all that is listed of them
   pub all_passing : (P : X → Type 0) (n : ℕ) → ((j : ℕ) → j < n → test j ≡ true → P (f j)) → All P (map f (passing test n))
   all_passing P zero each = All-nil P
   all_passing P (suc n) each =
@@ -82,7 +82,7 @@ module _ {X : Type 0} (f : ℕ → X) (test : ℕ → Bool) where
   last_told : (n : ℕ) → test n ≡ true → Contains (map f (filter test (n ∷ []))) (f n)
   last_told n t = subst (λ l. Contains (map f l) (f n)) (sym (cond-true (test n) (n ∷ []) [] t)) (0, omega arith, refl)
 
-  -- each number that passes is told
+  -- each number that passes is listed
   pub passing_told : (n j : ℕ) → j < n → test j ≡ true → Contains (map f (passing test n)) (f j)
   passing_told zero j l t = absurd (omega arith)
   passing_told (suc n) j l t =

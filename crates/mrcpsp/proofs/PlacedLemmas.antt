@@ -61,7 +61,7 @@ ones (suc n) = omega (arith, ones n)
 pub count_split : (n : ℕ) (placed : List Placed) → IsDistinct placed → All (λ a. a.activity < n) placed → length placed + sum_below (λ j. cond (is_placed placed j) 0 1) n ≡ n
 count_split n placed distinct inside = omega (arith, sum_split (λ _. 1) n placed distinct inside, counts placed, ones n)
 
--- where as many are placed as there are, each is
+-- if the number of placed activities is the number of all, each is placed
 pub all_placed : (n : ℕ) (placed : List Placed) → IsDistinct placed → All (λ a. a.activity < n) placed → length placed ≡ n → (j : ℕ) → j < n → is_placed placed j ≡ true
 all_placed n placed distinct inside full j l =
     let one : cond (is_placed placed j) 0 1 ≤ sum_below (λ j. cond (is_placed placed j) 0 1) n = at-le-sum_below (λ j. cond (is_placed placed j) 0 1) n j l in

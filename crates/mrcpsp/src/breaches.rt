@@ -2,7 +2,7 @@
 ghost use Rattle.std.specs.Prelude.{◌≡◌, ◌<◌, ◌+◌, ◌-◌, ◌++◌, ◌||◌, ◌==◌, nat_lt, IfOk, length, get_or, map, filter};
 ghost use Rattle.std.specs.List.{range_with_len, flat_map};
 ghost use Rattle.mrcpsp.specs.Project.{size, renewables, nonrenewables};
-ghost use Rattle.mrcpsp.specs.Breach.{HasShape, HasModes};
+ghost use Rattle.mrcpsp.specs.Breach.{HasShape};
 ghost use Rattle.mrcpsp.specs.Breaches.{breaches_in, missing_modes, early_after, overuse_of, short_stocks, start_periods, is_modeless as has_no_mode, is_early as starts_early, is_overused as is_over, is_short as falls_short};
 ghost use Rattle.mrcpsp.specs.declared.breach.Breach.TheVariants.{Renewable};
 

@@ -1,5 +1,5 @@
 //! A schedule with a start and one of its modes for each activity of a project.
-ghost use Rattle.std.specs.Prelude.{◌≡◌, ◌+◌, ◌<◌, ◌≤◌, get_or, is_some, IfSome, IfNone};
+ghost use Rattle.std.specs.Prelude.{◌≡◌, ◌+◌, ◌<◌, ◌≤◌, get_or, IfSome, IfNone};
 ghost use Rattle.mrcpsp.specs.Project.{size, renewables, nonrenewables, mode_count};
 ghost use Rattle.mrcpsp.specs.Schedule.{start_of, finish, mode_of, use_of, consumed, makespan};
 ghost use Rattle.mrcpsp.specs.Breach.{HasShape, HasModes};

@@ -15,7 +15,7 @@ pub fn none_is_below_the_bound()
     ensures { NoneIsBelowBound }
 {}
 
-/// Of the list of all breaches a schedule breaks each, and each breach has a line in it; so the list
+/// A schedule breaks each breach of the list of all, and each breach has a line in it; so the list
 /// of a feasible schedule is empty.
 pub fn breaches_are_right()
     ensures { BreachesAreRight }

@@ -10,7 +10,7 @@ pub const MOST_ACTIVITIES: usize = 202;
 /// The most modes of an activity.
 pub const MOST_MODES: usize = 10;
 
-/// Of renewable resources, and of nonrenewable ones.
+/// The most renewable resources, and the most nonrenewable ones.
 pub const MOST_RESOURCES: usize = 8;
 
 /// The most of a request, a consumption or a capacity, in units of its resource.

@@ -132,7 +132,7 @@ section_words read line lines e =
     joined_assoc read (kept_cells (words_in line)) (kept_cells (scan_left true lines))
     ∙ ap (λ (r : Result (List Cell) MmFault). joined read r) (sym (kept_append (words_in line) (scan_left true lines)) ∙ ap (λ (ws : List Piece). kept_cells ws) (sym (scan_words line lines e)))
 
--- ---- at most so many
+-- ---- no more than a limit
 
 take_of_append : {X : Type 0} (k : ℕ) (xs ys : List X) → take k (xs ++ ys) ≡ take k xs ++ take (k - length xs) ys
 take_of_append zero xs ys =

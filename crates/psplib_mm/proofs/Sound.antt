@@ -102,7 +102,7 @@ modes_sound r v (m ∷ ms) sized long large =
     (amounts_sound v (numbers_of m.nonrenewable) (length-map m.nonrenewable (λ c. c.number) ∙ sized.1) d.1))
     (modes_sound r v ms sized.2 a.1 b.1)
 
--- ---- what reading says of what it read
+-- ---- what holds of what was read
 
 pub guard_then : {A : Type 0} (b : Bool) (d : MmFault) (r : Result A MmFault) (y : A) → cond b (Err d) r ≡ Ok y → (b ≡ false) × (r ≡ Ok y)
 guard_then true d r y e = absurd cc

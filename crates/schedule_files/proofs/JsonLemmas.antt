@@ -36,7 +36,7 @@ one_last_line text a b one other =
     (λ (h : b < a). absurd (none_before text b a other one h))
     (split a b)
 
--- what a text or its last line tells
+-- what a text or its last line holds
 pub json_told : {E : Type 0} (text line : List ℕ) (r : Result (Option ScheduleData) E) → IsUntold (IsJsonOf text) → IfOk r (λ found. IfSome found (λ s. IsJsonOf line s))
     → (0 < length text → (start : ℕ) × BeginsLastLine text start × (line ≡ drop start text)) → (length text ≡ 0 → line ≡ text) → IfOk r (λ found. IfSome found (λ s. TellsJson text s))
 json_told [] line (Ok (Some s)) whole told at empty = inl (subst (λ l. IsJsonOf l s) (empty refl) told)

@@ -1,4 +1,4 @@
--- Words and rows of a text: that a text which tells a schedule is found to tell one.
+-- Words and rows of a text: that a text which holds a schedule is found to hold one.
 use Rattle.std.proofs.Common.{◌≡◌, ◌⊎◌, ⊎_elim, inr, ℕ, zero, suc, ◌+◌, ◌-◌, ◌<◌, List, [], ◌∷◌, ◌++◌, length, length-append, take, drop, get_or, refl, sym, ap, ◌∙◌, arith, subst, Option, Some, None, IfSome, IfNone, Result, Ok, Err, IfOk}
 use Rattle.std.proofs.lemmas.List.{get_or-append_right, take-append-drop}
 use Rattle.std.proofs.lemmas.List.Sorted.{length_permutation}
@@ -31,7 +31,7 @@ read_parts None rest all e = absurd (some_is_not_none all (sym e))
 read_parts (Some x) None all e = absurd (some_is_not_none all (sym e))
 read_parts (Some x) (Some xs) all e = record { place = x; places = xs; one = refl; others = refl; is = sym (some_of [] (x ∷ xs) all e) }
 
--- as many places as texts
+-- one place for each text
 pub places_length : (mark : ℕ) (texts : List (List ℕ)) (places : List ScheduleEntry) → places_at mark texts ≡ Some places → length places ≡ length texts
 places_length mark [] places e = ap length (sym (some_of [] [] places e))
 places_length mark (text ∷ texts) places e =
@@ -54,7 +54,7 @@ drop_front [] back n e = let z : n ≡ 0 = e in rw z refl
 drop_front (x ∷ front) back zero e = absurd (omega (arith, e))
 drop_front (x ∷ front) back (suc n) e = drop_front front back n (omega (arith, e))
 
--- the last words of a text that tells a schedule are those that tell it
+-- the last words of a text that holds a schedule are those that hold it
 pub told_last : (text : List ℕ) (s : ScheduleData) (t : TellsWords text s) → last_words (words_of text) ≡ t.words
 told_last text s t =
     let d : ScheduleEntry = record { activity = 0; mode = 0; start = 0 } in
@@ -140,14 +140,14 @@ rows_none text rows entries (Some x) None is read never told none = λ s t.
     let empty : length x.modes ≡ 0 = none in
     absurd (omega (arith, a, b, c, empty, t.some))
 
--- what a text tells as JSON or as a table, if it tells nothing as words or rows
+-- what a text holds as JSON or as a table, if it holds nothing as words or rows
 pub json_way : {E : Type 0} (text : List ℕ) (r : Result (Option ScheduleData) E) → IsUntold (TellsWords text) → IsUntold (TellsRows text) → IfOk r (λ found. IfSome found (λ s. TellsJsonOrTable text s))
     → IfOk r (λ found. IfSome found (λ s. TellsSomehow text s))
 json_way text (Ok (Some s)) words rows json = inr (words, inr (rows, json))
 json_way text (Ok None) words rows json = tt
 json_way text (Err e) words rows json = tt
 
--- a text that tells nothing in any way tells nothing
+-- a text that holds no schedule of any form holds none
 pub no_way : {E : Type 0} (text : List ℕ) (r : Result (Option ScheduleData) E) → IsUntold (TellsWords text) → IsUntold (TellsRows text) → IfOk r (λ found. IfNone found (IsUntold (TellsJsonOrTable text)))
     → IfOk r (λ found. IfNone found (IsUntold (TellsSomehow text)))
 no_way text (Ok (Some s)) words rows json = tt

@@ -1,5 +1,5 @@
--- Tables of CSV: that a text has one list of rows, and that a table which tells a schedule is found to
--- tell one.
+-- Tables of CSV: that a text has one list of rows, and that a table which holds a schedule is found
+-- to hold one.
 use Rattle.std.proofs.Common.{◌≡◌, ⊎_elim, inr, ℕ, ◌<◌, List, [], ◌∷◌, length, refl, sym, ap, ◌∙◌, arith, subst, Option, Some, None, IfSome, IfNone, Result, Ok, Err, IfOk}
 use Rattle.csv.specs.Machine.{Read, next_record}
 use Rattle.csv.specs.Reading.{Reached, strip_bom}
@@ -60,7 +60,7 @@ table_none text rows entries (Some x) None are read never told none = λ s t.
     let empty : length x.modes ≡ 0 = none in
     absurd (omega (arith, a, b, c, empty, t.some))
 
--- what a text tells as a table, if it tells nothing as JSON
+-- what a text holds as a table, if it holds nothing as JSON
 pub table_way : {E : Type 0} (text : List ℕ) (r : Result (Option ScheduleData) E) → IsUntold (TellsJson text) → IfOk r (λ found. IfSome found (λ s. TellsTable text s))
     → IfOk r (λ found. IfSome found (λ s. TellsJsonOrTable text s))
 table_way text (Ok (Some s)) json table = inr (json, table)

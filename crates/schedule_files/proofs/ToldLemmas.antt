@@ -1,4 +1,4 @@
--- A line of JSON tells nothing as words or as rows, and so tells the schedule that its value has.
+-- A line of JSON holds nothing as words or as rows, and so holds the schedule that its value has.
 use Rattle.std.proofs.Common.{◌≡◌, inl, inr, ℕ, zero, suc, ◌+◌, ◌-◌, ◌<◌, ◌≤◌, ◌^◌, ◌==◌, not, Bool, true, false, cond, List, [], ◌∷◌, ◌++◌, length, length-append, take, drop, get_or, append_assoc, refl, sym, ap, ◌∙◌, arith, ne_eqb, Option, Some, None, IsUtf8, codes, decimal, slice_index, subst}
 use Rattle.std.specs.Char.{is_ascii_digit, is_ascii_whitespace, is_ascii_graphic, digit_value}
 use Rattle.std.specs.List.{filter, list_any, slice_split, position_or_len, suffix_len}
@@ -172,7 +172,7 @@ one_word x xs h =
 
 -- ---- the line
 
--- a plain line that begins with a bracket tells the schedule of its value
+-- a plain line that begins with a bracket holds the schedule of its value
 pub line_told : (x : ℕ) (xs : List ℕ) (s : ScheduleData) → Opens x → IsPlain (x ∷ xs) → length ((x ∷ xs) ++ 10 ∷ []) ≤ MOST_BYTES → IsJsonOf ((x ∷ xs) ++ 10 ∷ []) s → Tells ((x ∷ xs) ++ 10 ∷ []) s
 line_told x xs s o h short json =
     let text = (x ∷ xs) ++ 10 ∷ [] in

@@ -227,7 +227,7 @@ words_read j (mode ∷ modes) (start ∷ starts) few a b =
     ∙ ap (λ l. l ++ words_of rest) (word_whole j mode start (omega arith) (omega (arith, a.0)) (omega (arith, b.0)))
     ∙ ap (λ l. word ∷ l) (words_read (j + 1) modes starts (omega arith) a.1 b.1)
 
--- the schedule that is written at the end of a text is told
+-- the schedule that is written at the end of a text is read
 pub written_told : (front : List ℕ) (s : ScheduleData) → length s.modes ≡ length s.starts → 0 < length s.modes → length s.modes < 4294967296 → AreCounted s.modes → AreCounted s.starts
     → TellsWords (front ++ (schedule_text s ++ 10 ∷ [])) s
 written_told front s even some few a b = record {

@@ -1,4 +1,4 @@
--- A text tells at most one schedule. A text that ends with a schedule's words tells it, and so does
+-- A text holds at most one schedule. A text that ends with a schedule's words holds it, and so does
 -- the schedule's JSON.
 use Rattle.std.specs.Prelude.{◌≡◌, ℕ, ◌<◌, ◌≤◌, ◌++◌, ◌∷◌, [], List, length, Some}
 use Rattle.mrcpsp.specs.Schedule.{ScheduleData}
@@ -6,7 +6,7 @@ use Rattle.schedule_json.specs.ScheduleJson.{schedule_json}
 use Rattle.schedule_files.specs.ScheduleText.{Tells, schedule_text}
 use Rattle.schedule_files.specs.declared.reading.TheConstants.{MOST_BYTES}
 
--- schedules that a text tells are equal
+-- schedules that a text holds are equal
 abbrev pub TellsOne : Type 0
 TellsOne = (text : List ℕ) (s t : ScheduleData) → Tells text s → Tells text t → s ≡ t
 
@@ -23,7 +23,7 @@ pub record IsWritable (s : ScheduleData) : Type 0 where
   pub modes : AreCounted s.modes
   pub starts : AreCounted s.starts
 
--- a text of any front, a schedule's words and a line feed tells the schedule, if it is short
+-- a text of any front, a schedule's words and a line feed holds the schedule, if it is short
 abbrev pub WordsAreTold : Type 0
 WordsAreTold = (front : List ℕ) (s : ScheduleData) → IsWritable s → length (front ++ (schedule_text s ++ 10 ∷ [])) ≤ MOST_BYTES → Tells (front ++ (schedule_text s ++ 10 ∷ [])) s
 

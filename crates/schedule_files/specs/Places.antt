@@ -32,6 +32,6 @@ pub record IsStrayAt (places : List ScheduleEntry) (place : ℕ) : Type 0 where
   pub before : (k : ℕ) (d : ScheduleEntry) → k < place → (get_or places k d).activity ≡ k + 1
   pub here : (d : ScheduleEntry) → (get_or places place d).activity ≡ place + 1 → ⊥
 
--- no schedule is told in this way
+-- there is no schedule of this form
 abbrev pub IsUntold : (ScheduleData → Type 0) → Type 0
 IsUntold Told = (s : ScheduleData) → Told s → ⊥

@@ -71,6 +71,6 @@ places_at mark (text ∷ texts) = do
 abbrev pub last_number : List (List ℕ) → ℕ
 last_number words = option_map_or (λ place. place.activity) (place_at 58 (get_or words (length words - 1) [])) 0
 
--- the last words: as many as the number of the last word's activity
+-- the last words; their count is the number of the last word's activity
 abbrev pub last_words : List (List ℕ) → List (List ℕ)
 last_words words = drop (length words - last_number words) words

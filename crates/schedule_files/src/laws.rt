@@ -1,12 +1,12 @@
 //! Laws of texts of schedules, each the proved contract of a function that does nothing.
 ghost use Rattle.schedule_files.specs.Laws.{ArrayIsTold, TellsOne, WordsAreTold};
 
-/// Two schedules that one text tells are equal.
+/// Two schedules that one text holds are equal.
 pub fn a_text_tells_one_schedule()
     ensures { TellsOne }
 {}
 
-/// A text that ends with what `put_schedule` adds and a line feed tells that schedule, if the text
+/// A text that ends with what `put_schedule` adds and a line feed holds that schedule, if the text
 /// has at most `MOST_BYTES` bytes.
 pub fn written_words_are_told()
     ensures { WordsAreTold }

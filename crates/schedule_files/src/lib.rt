@@ -2,13 +2,13 @@
 //!
 //! The text of a schedule is the words `J:MODE:START` of its activities. Activities and modes are
 //! numbered from 1, periods from 0. [`put_schedule`] adds these words to a text. [`read_schedule`]
-//! returns the one schedule that a text tells, if it tells one (`specs/ScheduleText`, `laws`).
+//! returns the one schedule that a text holds, if it holds one (`specs/ScheduleText`, `laws`).
 //!
 //! - `words`: the words of a schedule.
 //! - `places`, `rows`: the places of activities, and how words and lines write them.
 //! - `reading`, `objects`: the schedule that a text has, and that of a JSON text.
 //! - `table`: the places in a table of CSV, as spreadsheets write it.
-//! - `laws`: a text tells at most one schedule, and what is written is told.
+//! - `laws`: a text holds at most one schedule, and what is written is read.
 #![tactic(auto)]
 
 pub mod laws;

@@ -21,7 +21,7 @@ fn count_of(words: &[&[u8]]) -> usize
     }
 }
 
-/// The last words: as many as the number of the last word's activity.
+/// The last words; their count is the number of the last word's activity.
 fn ending<'a, 'b>(words: &'b [&'a [u8]]) -> &'b [&'a [u8]]
     ensures { map (λ word. word.now) result.now ≡ last_words (map (λ word. word.now) words.now) }
 {

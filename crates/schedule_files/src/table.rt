@@ -60,7 +60,7 @@ pub(crate) fn table_rows(alloc: Global, text: &[u8]) -> Result<Vec<ByteRecord>, 
     Ok(rows)
 }
 
-/// Empty behind the row's end.
+/// A cell behind the row's end is empty.
 fn cell_at(row: &ByteRecord, place: usize) -> &[u8]
     ensures { result.now ≡ cell_at place (fields_of row.now) }
 {
@@ -70,7 +70,7 @@ fn cell_at(row: &ByteRecord, place: usize) -> &[u8]
     }
 }
 
-/// In capital letters or not.
+/// Whether `cell` is `name`, in capital letters or not.
 fn is_named(cell: &[u8], name: &[u8]) -> bool
     requires { map to_ascii_lowercase name.now ≡ name.now }
     ensures { result ≡ is_named name.now cell.now }

@@ -1,5 +1,4 @@
-//! What stands beside the numbers of a table or a picture: dates of periods, and names of
-//! activities.
+//! What a table or a picture has beside its numbers: dates of periods, and names of activities.
 //!
 //! - `calendar`: the moment at which a period begins.
 //! - `names`: names of activities, from lines `J,NAME`.

@@ -90,7 +90,7 @@ impl<R: BufRead> Watch<R> {
 }
 
 impl<W: Write> Watch<W> {
-    /// Is `Write::write`, but again after a signal, and notes an error: no byte taken is one.
+    /// Calls `Write::write`, again after a signal, and notes an error: no byte taken is one.
     pub fn write(&mut self, writer: &mut W, bytes: &[u8]) -> io::Result<usize>
         ensures bound { WritesAtMost result bytes.now }
         ensures bytes { WriteAppends (W.contents writer.old) (W.contents writer.new) result bytes.now }
@@ -125,7 +125,7 @@ impl<W: Write> Watch<W> {
         }
     }
 
-    /// Is `Write::write_fmt`, and notes an error.
+    /// Calls `Write::write_fmt`, and notes an error.
     pub fn write_text<D: Display + Drop>(&mut self, writer: &mut W, text: D) -> io::Result<()>
         ensures bytes { OnOk result (IfSome (D.output text) (Appends (W.contents writer.old) (W.contents writer.new))) }
         ensures noted { IsNoted result self.old self.new }
@@ -150,8 +150,8 @@ impl<W: Write + Drop> Watch<BufWriter<W>> {
     }
 }
 
-/// Is `BufRead::fill_buf`, but again after a signal, and notes an error. At the end of the input
-/// the reader is asked once.
+/// Calls `BufRead::fill_buf`, again after a signal, and notes an error. At the end of the input the
+/// reader is asked once.
 pub fn fill<'a, R: BufRead>(reader: &'a mut R, watch: &mut Watch<R>) -> io::Result<&'a [u8]>
     ensures front { IfSome (R.remaining reader.old) (λ xs. IfOk result (λ s. StartsWith xs s.now)) }
     ensures end { IfSome (R.remaining reader.old)

@@ -1,7 +1,7 @@
 use Rattle.std.proofs.Common.{◌≡◌, ℕ, ◌<◌, ◌≤◌, ◌+◌, get_or, length}
 use Rattle.schedule_files.proofs.objects.last_line.Given as goal
 
--- the line begins the text, or behind a line feed of it, and no line feed stands behind that so far
+-- the line begins the text, or behind a line feed of it, and no line feed is behind that so far
 abbrev pub invariant-loop-place : goal.invariant-loop-place
 invariant-loop-place l = record {
   inside : l.start < l.place;
