@@ -108,11 +108,16 @@ fn read_before<R: Runtime + AllocGlobal>(
     }
 }
 
+/// Whether two of the inputs of `draw` are standard input.
+fn is_read_twice<'a>(paths: &Paths<'a>, asked: &DrawWords<'a>) -> bool {
+    let (text, names) = (paths.text.unwrap_or(""), asked.names.unwrap_or(""));
+    is_input_twice(&[paths.file, text, names, asked.before.unwrap_or("")])
+}
+
 fn run_draw<R: Runtime + AllocGlobal>(rt: &R, paths: Paths<'_>, asked: DrawWords<'_>) -> ExitCode
     ensures { exit_status result ≤ 2 }
 {
-    let (text, names) = (paths.text.unwrap_or(""), asked.names.unwrap_or(""));
-    if is_input_twice(&[paths.file, text, names, asked.before.unwrap_or("")]) {
+    if is_read_twice(&paths, &asked) {
         return refuse_same(rt);
     }
     let calendar = match calendar_of(rt, asked.start, asked.unit) {

@@ -8,6 +8,7 @@
 //! - `gates`, `patient`: gates for turns; a search that waits at its first node.
 //! - `crew`, `pools`: workers at once; pools with their workers in threads.
 //! - `calls`, `play`, `pool_calls`: scripts on a pool call by call, also if growths are refused.
+//! - `pool_queries`: queries that are answered in one turn of the lock.
 //! - `beside`: a cancel while a worker has the job's turn.
 #![tactic(auto)]
 
@@ -34,6 +35,8 @@ mod payments;
 mod play;
 #[cfg(test)]
 mod pool_calls;
+#[cfg(test)]
+mod pool_queries;
 #[cfg(test)]
 mod pools;
 #[cfg(test)]
