@@ -1,15 +1,17 @@
 -- The first breach, and that a schedule without a breach is feasible.
-use Rattle.std.proofs.Common.{◌≡◌, ℕ, zero, suc, ◌+◌, ◌-◌, ◌<◌, ◌≤◌, ◌⊎◌, true, [], ◌∷◌, Option, Some, None, arith, refl, inl, inr, ⊎_elim, ◌∙◌}
-use Rattle.std.proofs.lemmas.Bool.{cases_lt, cases_eq}
+use Rattle.std.proofs.Common.{◌≡◌, ℕ, zero, suc, ◌+◌, ◌-◌, ◌<◌, ◌≤◌, ◌⊎◌, ◌==◌, true, List, [], ◌∷◌, length, get_or, Option, Some, None, arith, refl, inl, inr, ⊎_elim, ◌∙◌}
+use Rattle.std.specs.List.{list_any}
+use Rattle.std.proofs.lemmas.Bool.{cases_lt, cases_eq, or_left, or_right, eq-eqb}
 use Rattle.std.proofs.lemmas.Bool.Decides.{nat_tests}
+use Rattle.std.proofs.lemmas.List.{get_or_default}
 use Rattle.mrcpsp.specs.Numbers.{sum_below}
-use Rattle.mrcpsp.specs.Project.{ProjectData, size, renewables, nonrenewables, capacity, stock, precedes}
+use Rattle.mrcpsp.specs.Project.{ProjectData, size, renewables, nonrenewables, successors, capacity, stock, precedes}
 use Rattle.mrcpsp.specs.Schedule.{ScheduleData, IsFeasible, HasMode, mode_of, start_of, finish, load, use_of, consumed}
 use Rattle.mrcpsp.specs.Breach.{HasShape, HasModes, IsBroken, IsBefore, IsBelow, IsFirstBreach, IsFirstOf, HasNone, StartsEarly, IsFirstOveruse, IsFirstStartOverused, kind_of, numbers_of}
 use Rattle.mrcpsp.specs.declared.breach.Breach.{Breach}
 use Rattle.mrcpsp.specs.declared.breach.Breach.TheVariants.{Shape, Mode, Precedence, Renewable, Nonrenewable}
 use Rattle.mrcpsp.proofs.NumbersLemmas.{sum_below-le, sum_below-same}
-use Rattle.mrcpsp.proofs.ProjectLemmas.{load-before}
+use Rattle.mrcpsp.proofs.ProjectLemmas.{All-at_any, load-before}
 
 -- ---- modes
 
@@ -53,6 +55,27 @@ early-least p s i j earlier before (Precedence x y) k b l =
     (λ f. f.1) e.1) l
 early-least p s i j earlier before (Renewable r t) k b l = absurd (omega arith)
 early-least p s i j earlier before (Nonrenewable r) k b l = absurd (omega arith)
+
+-- a listed number is that of a successor
+listed-any : (xs : List ℕ) (k : ℕ) → k < length xs → list_any (λ s. s == get_or xs k 0) xs ≡ true
+listed-any [] k l = absurd (omega arith)
+listed-any (x ∷ xs) zero l = or_left (x == x) (list_any (λ s. s == x) xs) (eq-eqb x x refl)
+listed-any (x ∷ xs) (suc k) l = or_right (x == get_or xs k 0) (list_any (λ s. s == get_or xs k 0) xs) (listed-any xs k (omega arith))
+
+pub listed-precedes : (p : ProjectData) (i k : ℕ) → k < length (successors p i) → 0 < get_or (successors p i) k 0 → precedes p i (get_or (successors p i) k 0 - 1) ≡ true
+unfolding precedes
+listed-precedes p i k l some =
+    let same : get_or (successors p i) k 0 - 1 + 1 ≡ get_or (successors p i) k 0 = omega arith in
+    rw same (listed-any (successors p i) k l)
+
+-- what comes after each early successor in the list is at most each early successor
+pub early-listed : (p : ProjectData) (s : ScheduleData) (i first : ℕ) → ((k : ℕ) → k < length (successors p i) → start_of s (get_or (successors p i) k 0 - 1) < finish p s i → first ≤ get_or (successors p i) k 0 - 1) → (j : ℕ) → StartsEarly p s i j → first ≤ j
+unfolding precedes
+early-listed p s i first least j early =
+    let same : j + 1 - 1 ≡ j = omega arith in
+    let above : start_of s (j + 1 - 1) < finish p s i → first ≤ j + 1 - 1 = All-at_any (λ x. start_of s (x - 1) < finish p s i → first ≤ x - 1) (successors p i) (j + 1) (λ k d h. rw (get_or_default (successors p i) k d 0 h) (least k h)) early.0 in
+    let begun : start_of s (j + 1 - 1) < finish p s i = rw same early.1 in
+    omega (arith, above begun)
 
 pub early-first : (p : ProjectData) (s : ScheduleData) (i j : ℕ) → i < size p → j < size p → StartsEarly p s i j → ((k m : ℕ) → k < i → m < size p → StartsEarly p s k m → ⊥) → ((k : ℕ) → k < j → StartsEarly p s i k → ⊥) → IsFirstOf 3 p s (Precedence (i + 1) (j + 1))
 early-first p s i j inside within early earlier before =
@@ -188,17 +211,20 @@ use-le-at-start p s r u =
     ))
     (highest_or_none (start_of s) u (size p))
 
-pub overuse-at-start : (p : ProjectData) (s : ScheduleData) (r : ℕ) (found : Option ℕ) → IsFirstStartOverused (size p) p s r found → IsFirstOveruse p s r found
-overuse-at-start p s r None kept = λ t.
-    ⊎_elim (λ (idle : use_of p s r t ≡ 0). omega arith)
-    (λ (some : (k : ℕ) × ((k < size p) × (start_of s k ≤ t) × (use_of p s r t ≤ use_of p s r (start_of s k)))). omega (arith, some.1.2, kept some.0 some.1.0))
-    (use-le-at-start p s r t)
-overuse-at-start p s r (Some t) kept = (
+-- a resource that is not overused at a start before period v is not overused before v at all
+within-before : (p : ProjectData) (s : ScheduleData) (r v : ℕ) → ((j : ℕ) → j < size p → start_of s j < v → use_of p s r (start_of s j) ≤ capacity p r) → (u : ℕ) → u < v → use_of p s r u ≤ capacity p r
+within-before p s r v kept u l =
+    ⊎_elim (λ (idle : use_of p s r u ≡ 0). omega arith)
+    (λ (some : (k : ℕ) × ((k < size p) × (start_of s k ≤ u) × (use_of p s r u ≤ use_of p s r (start_of s k)))). omega (arith, some.1.2, kept some.0 some.1.0 (omega (arith, some.1.1))))
+    (use-le-at-start p s r u)
+
+pub overuse-at-start : (p : ProjectData) (s : ScheduleData) (found : Option (ℕ × ℕ)) → IsFirstStartOverused (size p) p s found → IsFirstOveruse p s found
+overuse-at-start p s None kept = λ q u l. within-before p s q (u + 1) (λ j k _. kept q j l k) u (omega arith)
+overuse-at-start p s (Some first) kept = (
   kept.0,
-  λ u l.
-      ⊎_elim (λ (idle : use_of p s r u ≡ 0). omega arith)
-      (λ (some : (k : ℕ) × ((k < size p) × (start_of s k ≤ u) × (use_of p s r u ≤ use_of p s r (start_of s k)))). omega (arith, some.1.2, kept.1 some.0 some.1.0 (omega (arith, some.1.1))))
-      (use-le-at-start p s r u),
+  kept.1,
+  λ q u l. within-before p s q (u + 1) (λ j k _. kept.2 q j l k) u (omega arith),
+  within-before p s first.0 first.1 kept.3,
 )
 
 -- ---- the first of all

@@ -13,6 +13,9 @@ pub sum_below-same : (f g : ℕ → ℕ) (n : ℕ) → ((j : ℕ) → j < n → 
 sum_below-same f g zero h = refl
 sum_below-same f g (suc n) h = omega (arith, sum_below-same f g n (λ j l. h j (omega arith)), h n (omega arith))
 
+pub sum_below-more : (f : ℕ → ℕ) (n : ℕ) → sum_below f (n + 1) ≡ sum_below f n + f n
+sum_below-more f n = let e : n + 1 ≡ suc n = omega arith in rw e refl
+
 pub at-le-sum_below : (f : ℕ → ℕ) (n j : ℕ) → j < n → f j ≤ sum_below f n
 at-le-sum_below f zero j l = absurd (omega arith)
 at-le-sum_below f (suc n) j l = ⊎_elim (λ e. omega (arith, ap f e)) (λ (ne : j ≡ n → ⊥). omega (arith, at-le-sum_below f n j (omega arith))) (cases_eq j n)

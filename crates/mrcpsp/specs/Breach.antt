@@ -1,6 +1,6 @@
 -- What a schedule breaks, and what it breaks first. In a breach, activities and resources count
 -- from 1, periods from 0.
-use Rattle.std.specs.Prelude.{◌≡◌, ℕ, ◌-◌, ◌<◌, ◌≤◌, ◌⊎◌, true, List, [], ◌∷◌, length, All, Option, Some, None}
+use Rattle.std.specs.Prelude.{◌≡◌, ℕ, ◌-◌, ◌<◌, ◌≤◌, ◌⊎◌, true, List, [], ◌∷◌, length, get_or, All, Option, Some, None}
 use Rattle.mrcpsp.specs.Project.{ProjectData, size, renewables, nonrenewables, capacity, stock, precedes}
 use Rattle.mrcpsp.specs.Schedule.{ScheduleData, HasMode, start_of, finish, use_of, consumed}
 use Rattle.mrcpsp.specs.declared.feasibility.TheConstants.{MOST_START}
@@ -84,12 +84,26 @@ abbrev pub IsFirstEarly : ProjectData → ScheduleData → ℕ → Option ℕ �
 IsFirstEarly p s i None = (j : ℕ) → j < size p → StartsEarly p s i j → ⊥
 IsFirstEarly p s i (Some j) = (j < size p) × StartsEarly p s i j × ((k : ℕ) → k < j → StartsEarly p s i k → ⊥)
 
--- the first period in which renewable resource r is used above its capacity, if there is one
-abbrev pub IsFirstOveruse : ProjectData → ScheduleData → ℕ → Option ℕ → Type 0
-IsFirstOveruse p s r None = (t : ℕ) → use_of p s r t ≤ capacity p r
-IsFirstOveruse p s r (Some t) = (capacity p r < use_of p s r t) × ((u : ℕ) → u < t → use_of p s r u ≤ capacity p r)
+-- a list has the finish of each activity
+abbrev pub AreFinishes : ProjectData → ScheduleData → List ℕ → Type 0
+AreFinishes p s ends = (j : ℕ) → j < size p → get_or ends j 0 ≡ finish p s j
 
--- the first such period among the starts of the first n activities
-abbrev pub IsFirstStartOverused : ℕ → ProjectData → ScheduleData → ℕ → Option ℕ → Type 0
-IsFirstStartOverused n p s r None = (j : ℕ) → j < n → use_of p s r (start_of s j) ≤ capacity p r
-IsFirstStartOverused n p s r (Some t) = (capacity p r < use_of p s r t) × ((j : ℕ) → j < n → start_of s j < t → use_of p s r (start_of s j) ≤ capacity p r)
+-- the least renewable resource that is used above its capacity in period t, if there is one
+abbrev pub IsLeastOverused : ProjectData → ScheduleData → ℕ → Option ℕ → Type 0
+IsLeastOverused p s t None = (q : ℕ) → q < renewables p → use_of p s q t ≤ capacity p q
+IsLeastOverused p s t (Some r) = (r < renewables p) × (capacity p r < use_of p s r t) × ((q : ℕ) → q < r → use_of p s q t ≤ capacity p q)
+
+-- the least renewable resource that is used above its capacity, and the first period of that, if
+-- there is one
+abbrev pub IsFirstOveruse : ProjectData → ScheduleData → Option (ℕ × ℕ) → Type 0
+IsFirstOveruse p s None = (q u : ℕ) → q < renewables p → use_of p s q u ≤ capacity p q
+IsFirstOveruse p s (Some first) =
+    (first.0 < renewables p) × (capacity p first.0 < use_of p s first.0 first.1) × ((q u : ℕ) → q < first.0 → use_of p s q u ≤ capacity p q)
+    × ((u : ℕ) → u < first.1 → use_of p s first.0 u ≤ capacity p first.0)
+
+-- the least such resource, and its first such period, among the starts of the first n activities
+abbrev pub IsFirstStartOverused : ℕ → ProjectData → ScheduleData → Option (ℕ × ℕ) → Type 0
+IsFirstStartOverused n p s None = (q j : ℕ) → q < renewables p → j < n → use_of p s q (start_of s j) ≤ capacity p q
+IsFirstStartOverused n p s (Some first) =
+    (first.0 < renewables p) × (capacity p first.0 < use_of p s first.0 first.1) × ((q j : ℕ) → q < first.0 → j < n → use_of p s q (start_of s j) ≤ capacity p q)
+    × ((j : ℕ) → j < n → start_of s j < first.1 → use_of p s first.0 (start_of s j) ≤ capacity p first.0)

@@ -2,12 +2,12 @@
 ghost use Rattle.std.specs.Prelude.{◌≡◌, ◌<◌, ◌+◌, ◌-◌, ◌++◌, ◌||◌, ◌==◌, nat_lt, IfOk, length, get_or, map, filter};
 ghost use Rattle.std.specs.List.{range_with_len, flat_map};
 ghost use Rattle.mrcpsp.specs.Project.{size, renewables, nonrenewables};
-ghost use Rattle.mrcpsp.specs.Breach.{HasShape};
+ghost use Rattle.mrcpsp.specs.Breach.{HasShape, AreFinishes};
 ghost use Rattle.mrcpsp.specs.Breaches.{breaches_in, missing_modes, early_after, overuse_of, short_stocks, start_periods, is_modeless as has_no_mode, is_early as starts_early, is_overused as is_over, is_short as falls_short};
 ghost use Rattle.mrcpsp.specs.declared.breach.Breach.TheVariants.{Renewable};
 
 use crate::feasibility::has_shape;
-use crate::{Breach, Fitting, MOST_RESOURCES, Project, Schedule};
+use crate::{Breach, Fitting, MOST_ACTIVITIES, MOST_RESOURCES, Project, Schedule};
 use std::alloc::{AllocError, Global};
 
 fn is_modeless(project: &Project, schedule: &Schedule, activity: usize) -> bool
@@ -24,14 +24,20 @@ fn is_early(fitting: &Fitting<'_>, before: usize, after: usize) -> bool
     requires after { after < size fitting.now.project.now }
     ensures { result ≡ starts_early fitting.now.project.now fitting.now.schedule.now before after }
 {
-    fitting.project.precedes(before, after) && fitting.start(after) < fitting.finish(before)
+    fitting.start(after) < fitting.finish(before) && fitting.project.precedes(before, after)
 }
 
-fn is_overused(fitting: &Fitting<'_>, resource: usize, period: u32) -> bool
+fn is_overused(
+    fitting: &Fitting<'_>,
+    finishes: &[u32; MOST_ACTIVITIES],
+    resource: usize,
+    period: u32,
+) -> bool
+    requires finishes { AreFinishes fitting.now.project.now fitting.now.schedule.now finishes.now }
     requires resource { resource < renewables fitting.now.project.now }
     ensures { result ≡ is_over fitting.now.project.now fitting.now.schedule.now resource period }
 {
-    u64::from(fitting.project.capacity(resource)) < fitting.use_at(resource, period)
+    u64::from(fitting.project.capacity(resource)) < fitting.use_at(finishes, resource, period)
 }
 
 fn is_short(fitting: &Fitting<'_>, resource: usize) -> bool
@@ -78,16 +84,18 @@ fn push_early(
 fn push_overused(
     told: &mut Vec<Breach>,
     fitting: &Fitting<'_>,
+    finishes: &[u32; MOST_ACTIVITIES],
     resource: usize,
     periods: &[u32],
 ) -> Result<(), AllocError>
+    requires finishes { AreFinishes fitting.now.project.now fitting.now.schedule.now finishes.now }
     requires resource { resource < renewables fitting.now.project.now }
     requires few { resource < MOST_RESOURCES }
     ensures { IfOk result (λ _. told.new.items ≡ told.old.items
         ++ map (Renewable (resource + 1)) (filter (is_over fitting.now.project.now fitting.now.schedule.now resource) periods.now)) }
 {
     for period in periods {
-        if is_overused(fitting, resource, *period) {
+        if is_overused(fitting, finishes, resource, *period) {
             told.push(Breach::Renewable(resource as u32 + 1, *period))?;
         }
     }
@@ -148,8 +156,9 @@ fn push_all_overused(
     ensures { IfOk result (λ _. told.new.items ≡ told.old.items
         ++ flat_map (overuse_of fitting.now.project.now fitting.now.schedule.now) (range_with_len 0 (renewables fitting.now.project.now))) }
 {
+    let finishes = fitting.finishes();
     for resource in 0..fitting.project.renewables() {
-        push_overused(told, fitting, resource, periods)?;
+        push_overused(told, fitting, &finishes, resource, periods)?;
     }
     Ok(())
 }

@@ -1,9 +1,9 @@
 ghost use Rattle.std.specs.Prelude.{◌≡◌, ◌<◌, ◌↔◌, IsTrue, IsOk, IfOk, IfErr, IfNone};
-ghost use Rattle.mrcpsp.specs.Project.{size, renewables};
+ghost use Rattle.mrcpsp.specs.Project.{size};
 ghost use Rattle.mrcpsp.specs.Schedule.{IsFeasible, makespan as greatest_finish};
-ghost use Rattle.mrcpsp.specs.Breach.{HasShape, HasModes, TellsFirst, IsFirstBreach, IsFirstEarly, IsFirstOveruse};
+ghost use Rattle.mrcpsp.specs.Breach.{HasShape, HasModes, TellsFirst, IsFirstBreach, IsFirstEarly, AreFinishes, IsLeastOverused, IsFirstOveruse};
 
-use crate::{Breach, Fitting, Project, Schedule};
+use crate::{Breach, Fitting, MOST_ACTIVITIES, Project, Schedule};
 
 /// The latest start of an activity in a schedule, as a period from 0.
 pub const MOST_START: u32 = 1_000_000_000;
@@ -74,13 +74,16 @@ fn early_successor(fitting: &Fitting<'_>, before: usize) -> Option<usize>
     requires activity { before < size fitting.now.project.now }
     ensures { IsFirstEarly fitting.now.project.now fitting.now.schedule.now before result }
 {
+    let size = fitting.project.size();
     let end = fitting.finish(before);
-    for after in 0..fitting.project.size() {
-        if fitting.project.precedes(before, after) && fitting.start(after) < end {
-            return Some(after);
+    let mut first = size;
+    for successor in fitting.project.successors(before) {
+        let after = *successor as usize - 1;
+        if fitting.start(after) < end {
+            first = first.min(after);
         }
     }
-    None
+    if first < size { Some(first) } else { None }
 }
 
 fn broken_precedence(fitting: &Fitting<'_>) -> Option<Breach>
@@ -94,18 +97,38 @@ fn broken_precedence(fitting: &Fitting<'_>) -> Option<Breach>
     None
 }
 
-/// The use rises only at starts.
-fn first_overuse(fitting: &Fitting<'_>, resource: usize) -> Option<u32>
-    requires resource { resource < renewables fitting.now.project.now }
-    ensures { IsFirstOveruse fitting.now.project.now fitting.now.schedule.now resource result }
+fn overused_in(
+    fitting: &Fitting<'_>,
+    finishes: &[u32; MOST_ACTIVITIES],
+    period: u32,
+) -> Option<usize>
+    requires { AreFinishes fitting.now.project.now fitting.now.schedule.now finishes.now }
+    ensures { IsLeastOverused fitting.now.project.now fitting.now.schedule.now period result }
 {
-    let capacity = u64::from(fitting.project.capacity(resource));
-    let mut first: Option<u32> = None;
+    let uses = fitting.uses_at(finishes, period);
+    for resource in 0..fitting.project.renewables() {
+        if fitting.project.capacity(resource) < uses[resource] {
+            return Some(resource);
+        }
+    }
+    None
+}
+
+/// The use rises only at starts.
+fn first_overuse(fitting: &Fitting<'_>) -> Option<(usize, u32)>
+    ensures { IsFirstOveruse fitting.now.project.now fitting.now.schedule.now result }
+{
+    let finishes = fitting.finishes();
+    let mut first: Option<(usize, u32)> = None;
     for activity in 0..fitting.project.size() {
         let start = fitting.start(activity);
-        let is_earlier = first.is_none_or(|found| start < found);
-        if is_earlier && capacity < fitting.use_at(resource, start) {
-            first = Some(start);
+        if let Some(resource) = overused_in(fitting, &finishes, start) {
+            let is_earlier = first.is_none_or(|(least, period)| {
+                resource < least || (resource == least && start < period)
+            });
+            if is_earlier {
+                first = Some((resource, start));
+            }
         }
     }
     first
@@ -114,12 +137,10 @@ fn first_overuse(fitting: &Fitting<'_>, resource: usize) -> Option<u32>
 fn overused_renewable(fitting: &Fitting<'_>) -> Option<Breach>
     ensures { TellsFirst 4 fitting.now.project.now fitting.now.schedule.now result }
 {
-    for resource in 0..fitting.project.renewables() {
-        if let Some(period) = first_overuse(fitting, resource) {
-            return Some(Breach::Renewable(resource as u32 + 1, period));
-        }
-    }
-    None
+    let (resource, period) = first_overuse(fitting)?;
+    let renewables = fitting.project.renewables();
+    prove!(resource < renewables);
+    Some(Breach::Renewable(resource as u32 + 1, period))
 }
 
 fn overused_nonrenewable(fitting: &Fitting<'_>) -> Option<Breach>

@@ -1,11 +1,11 @@
 //! A schedule with a start and one of its modes for each activity of a project.
-ghost use Rattle.std.specs.Prelude.{◌≡◌, ◌+◌, ◌<◌, ◌≤◌, get_or, IfSome, IfNone};
-ghost use Rattle.mrcpsp.specs.Project.{size, renewables, nonrenewables, mode_count};
+ghost use Rattle.std.specs.Prelude.{◌≡◌, ℕ, ◌+◌, ◌*◌, ◌<◌, ◌≤◌, ◌↔◌, get_or, slice_index, IsTrue, IfSome, IfNone};
+ghost use Rattle.mrcpsp.specs.Project.{size, renewables, nonrenewables, mode_count, request};
 ghost use Rattle.mrcpsp.specs.Schedule.{start_of, finish, mode_of, use_of, consumed, makespan};
-ghost use Rattle.mrcpsp.specs.Breach.{HasShape, HasModes};
+ghost use Rattle.mrcpsp.specs.Breach.{HasShape, HasModes, AreFinishes};
 
 use crate::feasibility::{MOST_START, has_shape, missing_mode};
-use crate::{MOST_DURATION, Project, Schedule};
+use crate::{MOST_ACTIVITIES, MOST_AMOUNT, MOST_DURATION, MOST_RESOURCES, Project, Schedule};
 
 /// A `Fitting` is a schedule with a start, and one of its modes, for each activity of a project.
 #[derive(Clone, Copy)]
@@ -14,6 +14,12 @@ pub struct Fitting<'a> {
     pub schedule: &'a Schedule,
     pub ghost shape: { HasShape project.now schedule.now },
     pub ghost modes: { HasModes project.now schedule.now },
+}
+
+fn is_running(start: u32, finish: u32, period: u32) -> bool
+    ensures { IsTrue result ↔ ((start ≤ period) × (period < finish)) }
+{
+    start <= period && period < finish
 }
 
 impl<'a> Fitting<'a> {
@@ -79,20 +85,69 @@ impl<'a> Fitting<'a> {
         latest
     }
 
-    #[tactic(auto, unfolding(crate::specs::Schedule::use_of, crate::specs::Schedule::load))]
-    pub(crate) fn use_at(&self, resource: usize, period: u32) -> u64
-        requires { resource < renewables self.now.project.now }
+    /// The finish of each activity, at its place.
+    pub(crate) fn finishes(&self) -> [u32; MOST_ACTIVITIES]
+        ensures { AreFinishes self.now.project.now self.now.schedule.now result }
+    {
+        let mut finishes = [0; MOST_ACTIVITIES];
+        for activity in 0..self.project.size() {
+            finishes[activity] = self.finish(activity);
+        }
+        finishes
+    }
+
+    #[tactic(auto, unfolding(crate::specs::Schedule::use_of, crate::specs::Schedule::load, crate::specs::Schedule::finish))]
+    pub(crate) fn use_at(
+        &self,
+        finishes: &[u32; MOST_ACTIVITIES],
+        resource: usize,
+        period: u32,
+    ) -> u64
+        requires finishes { AreFinishes self.now.project.now self.now.schedule.now finishes.now }
+        requires resource { resource < renewables self.now.project.now }
         ensures { result ≡ use_of self.now.project.now self.now.schedule.now resource period }
     {
         let mut total = 0;
         for activity in 0..self.project.size() {
-            let mode = self.mode_place(activity);
-            let start = self.start(activity);
-            if start <= period && period < start + self.project.duration(activity, mode) {
+            if is_running(self.start(activity), finishes[activity], period) {
+                let mode = self.mode_place(activity);
                 total += u64::from(self.project.request(activity, mode, resource));
             }
         }
         total
+    }
+
+    fn add_requests(&self, uses: &mut [u32; MOST_RESOURCES], activity: usize)
+        requires activity { activity < size self.now.project.now }
+        requires few { (r : ℕ) → slice_index uses.old r ≤ MOST_ACTIVITIES * MOST_AMOUNT }
+        ensures sums { (r : ℕ) → r < renewables self.now.project.now → slice_index uses.new r
+            ≡ slice_index uses.old r + request self.now.project.now activity (mode_of self.now.schedule.now activity) r }
+        ensures few { (r : ℕ) → slice_index uses.new r ≤ slice_index uses.old r + MOST_AMOUNT }
+    {
+        let requests = self.project.requests(activity, self.mode_place(activity));
+        for resource in 0..self.project.renewables() {
+            uses[resource] += requests[resource];
+        }
+    }
+
+    /// The use of each renewable resource in `period`.
+    #[tactic(auto, unfolding(crate::specs::Schedule::use_of, crate::specs::Schedule::load, crate::specs::Schedule::finish))]
+    pub(crate) fn uses_at(
+        &self,
+        finishes: &[u32; MOST_ACTIVITIES],
+        period: u32,
+    ) -> [u32; MOST_RESOURCES]
+        requires { AreFinishes self.now.project.now self.now.schedule.now finishes.now }
+        ensures { (r : ℕ) → r < renewables self.now.project.now
+            → slice_index result r ≡ use_of self.now.project.now self.now.schedule.now r period }
+    {
+        let mut uses = [0; MOST_RESOURCES];
+        for activity in 0..self.project.size() {
+            if is_running(self.start(activity), finishes[activity], period) {
+                self.add_requests(&mut uses, activity);
+            }
+        }
+        uses
     }
 
     /// What the activities consume of a nonrenewable resource.

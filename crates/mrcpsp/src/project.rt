@@ -1,4 +1,4 @@
-ghost use Rattle.std.specs.Prelude.{◌≡◌, ◌↔◌, ◌<◌, ◌≤◌, ◌+◌, Some, None, IsTrue, IfOk, All, get_or, if◌then◌else◌};
+ghost use Rattle.std.specs.Prelude.{◌≡◌, ℕ, ◌↔◌, ◌<◌, ◌≤◌, ◌+◌, Some, None, IsTrue, IfOk, All, length, get_or, slice_index, if◌then◌else◌};
 ghost use Rattle.mrcpsp.specs.Limits.{IsLimited, IsProject};
 ghost use Rattle.mrcpsp.specs.Project.{ProjectData, is_project, horizon, no_activity, no_mode, modes, size, renewables, nonrenewables, mode_count, successors, precedes, duration, request, consumption, capacity, stock};
 
@@ -258,6 +258,17 @@ impl Project {
         ensures most { result ≤ MOST_AMOUNT }
     {
         self.mode(activity, mode).renewable.as_slice()[resource]
+    }
+
+    #[tactic(auto, unfolding(crate::specs::Project::request))]
+    pub(crate) fn requests(&self, activity: usize, mode: usize) -> &[u32]
+        requires activity { activity < size self.now }
+        requires mode { mode < mode_count self.now activity }
+        ensures each { (r : ℕ) → slice_index result.now r ≡ request self.now activity mode r }
+        ensures count { length result.now ≡ renewables self.now }
+        ensures most { All (λ a. a ≤ MOST_AMOUNT) result.now }
+    {
+        self.mode(activity, mode).renewable.as_slice()
     }
 
     /// The consumption of a nonrenewable resource in all.

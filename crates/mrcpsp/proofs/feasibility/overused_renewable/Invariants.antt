@@ -1,7 +1,0 @@
-use Rattle.std.proofs.Common.{ℕ, ◌<◌, ◌≤◌}
-use Rattle.mrcpsp.specs.Project.{capacity}
-use Rattle.mrcpsp.specs.Schedule.{use_of}
-use Rattle.mrcpsp.proofs.feasibility.overused_renewable.Given as goal
-
-abbrev pub invariant-loop-resource : goal.invariant-loop-resource
-invariant-loop-resource l = (r t : ℕ) → r < l.resource → use_of l.fitting.project.now l.fitting.schedule.now r t ≤ capacity l.fitting.project.now r
