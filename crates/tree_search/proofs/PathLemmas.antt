@@ -2,7 +2,7 @@
 use Rattle.std.proofs.Common.{◌≡◌, ℕ, zero, suc, ◌+◌, ◌*◌, ◌-◌, ◌/◌, ◌%◌, ◌<◌, ◌≤◌, ◌==◌, ◌↔◌, ◌||◌, nat_lt, cond, Bool, true, false, List, [], ◌∷◌, ◌++◌, IsTrue, length, fold, map, get_or, set, take, length-set, take_all, All, arith, refl, sym, ap, ◌∙◌, subst, ⊎_elim, Option, None, Some, MatchOption}
 use Rattle.std.specs.List.{slice_range, list_any, range_with_len}
 use Rattle.std.proofs.lemmas.Bool.{and_parts, both_ways, cases_lt, cases_eq, cases_Bool, eqb-true, eqb-false, eq-eqb, ne_eqb, or_cases, or_left, or_right, or_parts}
-use Rattle.std.proofs.lemmas.List.{take-append-le, take_more, length-take-le, get_or-take, get_or_default, get_or_append_left, get_or_push, length_push, get_or-set_same, get_or-set_other}
+use Rattle.std.proofs.lemmas.List.{get_or_past, take-append-le, take_more, length-take-le, get_or-take, get_or_default, get_or_append_left, get_or_push, length_push, get_or-set_same, get_or-set_other}
 use Rattle.std.proofs.lemmas.Nat.Bits.{bit_at-zero}
 use Rattle.std.proofs.lemmas.List.Elements.{All-nil, All-head, All-tail}
 use Rattle.std.proofs.lemmas.List.Recursion.{or_push}
@@ -20,7 +20,7 @@ use Rattle.serial_sgs.specs.Members.{has, IsNext, IsOver}
 use Rattle.serial_sgs.specs.Order.{AreReadied, AreRenewed, HasAfter, HasBefore, IsBefore, IsLatest, missing_of}
 use Rattle.serial_sgs.proofs.BoardLemmas.{board_empty, board_push, board_pop, duration_small, ineligible, ineligible_after}
 use Rattle.serial_sgs.proofs.OrderLemmas.{AreNoted, noted_push, noted_pop, readied_push, readied_pop, all_there, there_all}
-use Rattle.serial_sgs.proofs.RowLemmas.{capacity_small, consumption_small, stock_small}
+use Rattle.serial_sgs.proofs.RowLemmas.{capacity_past, capacity_small, consumption_small, stock_small}
 use Rattle.serial_sgs.proofs.StockLemmas.{needed_push, alone_at_end, affordable_unplaced, amounts_small}
 use Rattle.tree_search.specs.declared.front.Running.{Running}
 use Rattle.tree_search.specs.declared.path.Stage.{Stage}
@@ -28,9 +28,10 @@ use Rattle.tree_search.specs.declared.table.Row.{Row}
 use Rattle.tree_search.specs.declared.table.Table.{Table}
 use Rattle.tree_search.specs.Table.{IsLine, IsLines, no_row}
 use Rattle.tree_search.specs.Front.{IsFrontOf, IsRising, left_at}
-use Rattle.tree_search.specs.Path.{AreDone, AreStages, HasEntered, IsCovered, IsFirstStage, IsHopeless, IsPath, IsStage, IsTaken, WereEligible, no_stage, triangle}
+use Rattle.tree_search.specs.Path.{AreDone, AreStages, HasEntered, IsBlank, IsCovered, IsFirstStage, IsHopeless, IsPath, IsStage, IsTaken, WereEligible, no_stage, triangle}
 use Rattle.tree_search.proofs.FrontLemmas.{empty_range, range_before, range_kept}
 use Rattle.tree_search.proofs.NodeLemmas.{last_start_none}
+use Rattle.tree_search.specs.Width.{IsNone}
 use Rattle.tree_search.proofs.WidthLemmas.{extra_none, left_none}
 use Rattle.tree_search.proofs.PlacedLemmas.{front_enough, front_first, front_most, front_push}
 
@@ -286,6 +287,29 @@ entered_later after table ends words readies now later i x inside is undone was 
       others = λ j gone. was.others j (or_parts (list_any (λ s. s == j) (take i after)) (get_or after i 0 == j) (sym (listed_next after i j inside) ∙ gone)).0;
     }
 
+-- other words with the same members
+pub entered_as : (after : List ℕ) (table : List (List ℕ)) (ends words readies now later same : List ℕ) → ((j : ℕ) → has same j ≡ has now j) → HasEntered after table ends words readies now later → HasEntered after table ends words readies same later
+entered_as after table ends words readies now later same is was = record {
+  count = was.count;
+  ready = λ k l all. let (member, fresh) = was.ready k l all in (is (get_or after k 0) ∙ member, fresh);
+  waiting = λ k l undone. is (get_or after k 0) ∙ was.waiting k l undone;
+  others = λ j apart. let (member, still) = was.others j apart in (is j ∙ member, still);
+}
+
+-- the first words are copied, and the others had the same members
+pub members_copied : (old words new : List ℕ) (count : ℕ) → length words ≡ 4 → length new ≡ 4 → ((k : ℕ) → k < count → get_or words k 0 ≡ get_or new k 0) → ((k : ℕ) → count ≤ k → get_or words k 0 ≡ get_or old k 0) → ((j : ℕ) → 64 * count ≤ j → j < 256 → has old j ≡ has new j) → (j : ℕ) → has words j ≡ has new j
+unfolding has
+members_copied old words new count fit fits copied kept same j =
+    let k : ℕ = j / 64 in
+    ⊎_elim
+    (λ (first : k < count). rw (copied k first) refl)
+    (λ (rest : count ≤ k).
+    ⊎_elim
+    (λ (inside : j < 256). rw (kept k rest) (same j (omega (arith, rest)) inside))
+    (λ (past : 256 ≤ j). rw (get_or_past words k 0 (omega (arith, past, fit)), get_or_past new k 0 (omega (arith, past, fits))) refl)
+    (cases_lt j 256))
+    (cases_lt k count)
+
 -- ---- the nonrenewable resources
 
 -- a stock less its need covers what a mode takes beyond the least exactly if the mode is affordable
@@ -317,8 +341,25 @@ stage_kept p placed running later s base was within same = record {
   last = was.last;
 }
 
-pub stages_push : (p : ProjectData) (placed : List Placed) (a : Placed) (running later : List Running) (stages : List Stage) (new : Stage) → length placed < size p → AreStages p placed running stages → length later ≡ length running → take (get_or stages (length placed) no_stage).end running ≡ take (get_or stages (length placed) no_stage).end later → (get_or stages (length placed) no_stage).end ≤ new.end → IsStage p (placed ++ a ∷ []) later new → AreStages p (placed ++ a ∷ []) later (set stages (length placed + 1) new)
-stages_push p placed a running later stages new room was long same above here =
+-- the new stage has nothing of a resource or an activity that is not there
+pub blank_push : (p : ProjectData) (a : Placed) (table afters : List (List ℕ)) (old later : List Running) (s new : Stage) (less ends readies soon : List ℕ) (row : Row) (finish : ℕ) → IsProject p → IsInside p a → HasAfter p (size p) afters → IsLine p a.activity a.mode row → IsNone (nonrenewables p) s.slack → ((j : ℕ) → size p ≤ j → j < 256 → has s.eligible j ≡ false) → ((j : ℕ) → (j ≡ a.activity → ⊥) → has less j ≡ has s.eligible j) → HasEntered (get_or afters a.activity []) table ends less readies new.eligible soon → ((r : ℕ) → r < 8 → get_or new.slack r 0 ≡ (get_or s.slack r 0 + (4294967296 - get_or row.extra r 0)) % 4294967296) → ((r : ℕ) → renewables p ≤ r → r < 8 → left_at s.free old r a.start ≡ 0) → ((r t : ℕ) → r < 8 → a.start ≤ t → left_at new.free later r t + cond (nat_lt t finish) (get_or row.request r 0) 0 ≡ left_at s.free old r t) → IsBlank p new
+blank_push p a table afters old later s new less ends readies soon row finish project inside after own beyond others kept entered slack nothing left = record {
+  slack = λ r past l. omega (arith, slack r l, beyond r past l, extra_none p a.activity a.mode (nonrenewables p) row project inside.activity inside.mode own (omega arith) r past l);
+  free = λ r past l. omega (arith, left r a.start l (omega arith), nothing r past l);
+  words = λ j past below.
+      let apart : list_any (λ s. s == j) (get_or afters a.activity []) ≡ false = unlisted (size p) (get_or afters a.activity []) j (after.each a.activity inside.activity).others.inside past in
+      (entered.others j apart).0 ∙ kept j (λ e. omega (arith, e, inside.activity, past)) ∙ others j past below;
+}
+
+pub blank_as : (p : ProjectData) (made new : Stage) → new.slack ≡ made.slack → new.free ≡ made.free → ((j : ℕ) → has new.eligible j ≡ has made.eligible j) → IsBlank p made → IsBlank p new
+blank_as p made new slack free members was = record {
+  slack = rw slack was.slack;
+  free = rw free was.free;
+  words = λ j past below. members j ∙ was.words j past below;
+}
+
+pub stages_push : (p : ProjectData) (placed : List Placed) (a : Placed) (running later : List Running) (stages : List Stage) (new : Stage) → length placed < size p → AreStages p placed running stages → length later ≡ length running → take (get_or stages (length placed) no_stage).end running ≡ take (get_or stages (length placed) no_stage).end later → (get_or stages (length placed) no_stage).end ≤ new.end → IsStage p (placed ++ a ∷ []) later new → IsBlank p new → AreStages p (placed ++ a ∷ []) later (set stages (length placed + 1) new)
+stages_push p placed a running later stages new room was long same above here blank =
     let n : ℕ = length placed in
     let many : length (placed ++ a ∷ []) ≡ n + 1 = length_push placed a in
     let base : ℕ = (get_or stages n no_stage).end in
@@ -346,6 +387,11 @@ stages_push p placed a running later stages new room was long same above here =
           (λ (too : n + 1 ≤ i). let same_one : i ≡ n + 1 = omega (arith, too, l, last) in rw (last, same_one) (omega arith))
           (cases_lt i (n + 1)))
           (cases_lt k (n + 1));
+      blank = λ i l.
+          ⊎_elim
+          (λ (e : i ≡ n + 1). rw (e, own) blank)
+          (λ (ne : i ≡ n + 1 → ⊥). rw (get_or-set_other stages (n + 1) i new no_stage ne) (was.blank i (omega (arith, l, length-set stages (n + 1) new))))
+          (cases_eq i (n + 1));
     }
 
 pub stages_pop : (p : ProjectData) (placed : List Placed) (a : Placed) (running : List Running) (stages : List Stage) → AreStages p (placed ++ a ∷ []) running stages → AreStages p placed running stages
@@ -354,6 +400,7 @@ stages_pop p placed a running stages was = record {
   room = was.room;
   each = λ i l. rw (take-append-le i placed (a ∷ []) l) at (was.each i (omega (arith, length_push placed a)));
   apart = λ i k l inside. was.apart i k l (omega (arith, length_push placed a));
+  blank = was.blank;
 }
 
 -- ---- the whole path
@@ -425,6 +472,7 @@ pub record IsPlacing (p : ProjectData) (a : Placed) (afters table : List (List �
   pub starts : new.from ≡ a.start
   pub rising : IsRising (slice_range later s.end new.end)
   pub left : (r t : ℕ) → r < 8 → a.start ≤ t → left_at new.free (slice_range later s.end new.end) r t + cond (nat_lt t finish) (get_or row.request r 0) 0 ≡ left_at s.free (slice_range (take s.end running) s.begin s.end) r t
+  pub blank : IsBlank p new
 
 pub path_push : (p : ProjectData) (placed : List Placed) (a : Placed) (reserved : ℕ) (lines : Table) (table afters : List (List ℕ)) (stages : List Stage) (running later : List Running) (new : Stage) (less ends readies soon : List ℕ) (row : Row) (finish : ℕ) → IsPath p placed reserved lines table afters stages running ends readies → IsInside p a → is_eligible p placed a.activity ≡ true → is_allowed p placed a.activity a.mode a.start ≡ true → last_start placed ≤ a.start → length placed < size p → IsPlacing p a afters table running later (get_or stages (length placed) no_stage) new less ends readies soon row finish → IsPath p (placed ++ a ∷ []) reserved lines table afters (set stages (length placed + 1) new) later (set ends a.activity finish) soon
 path_push p placed a reserved lines table afters stages running later new less ends readies soon row finish was inside may fits above room steps =
@@ -459,7 +507,7 @@ path_push p placed a reserved lines table afters stages running later new less e
       never = never;
       readied = readied_push p placed a missing (set ends a.activity finish) readies soon table afters board inside.activity new_one missed noted was.before was.after renewed was.readied;
       entered = entered_push p placed a was.entered may;
-      staged = stages_push p placed a running later stages new room was.staged steps.long (sym steps.same) steps.behind (stage_push p placed a running later s new row finish was.board board inside above steps.ends_at steps.own here entered steps.slack steps.begins steps.behind steps.few steps.starts steps.rising steps.left);
+      staged = stages_push p placed a running later stages new room was.staged steps.long (sym steps.same) steps.behind (stage_push p placed a running later s new row finish was.board board inside above steps.ends_at steps.own here entered steps.slack steps.begins steps.behind steps.few steps.starts steps.rising steps.left) steps.blank;
     }
 
 pub path_pop : (p : ProjectData) (placed rest : List Placed) (a : Placed) (reserved memory : ℕ) (lines : Table) (table afters : List (List ℕ)) (stages : List Stage) (running : List Running) (ends readies : List ℕ) → placed ≡ rest ++ a ∷ [] → memory ≡ reserved → IsPath p placed reserved lines table afters stages running ends readies → IsPath p rest memory lines table afters stages running (set ends a.activity 4294967295) readies
@@ -505,7 +553,7 @@ next_is p placed words from (Some j) own others next =
     }
 
 -- nothing is placed
-pub path_first : (p : ProjectData) (reserved : ℕ) (lines : Table) (table afters : List (List ℕ)) (words : List ℕ) (stage : Stage) (stages : List Stage) (running : List Running) (ends readies : List ℕ) → IsProject p → reserved ≡ size p → IsLines p lines → HasBefore p (size p) table → HasAfter p (size p) afters → length ends ≡ size p → ((j : ℕ) → j < size p → get_or ends j 0 ≡ 4294967295) → AreReadied p [] readies → length stages ≡ size p + 1 → length running ≡ triangle (size p) → get_or stages 0 no_stage ≡ stage → IsFirstStage p words stage → ((j : ℕ) → j < size p → has words j ≡ (length (get_or table j []) == 0)) → ((j : ℕ) → size p ≤ j → j < 256 → has words j ≡ false) → IsPath p [] reserved lines table afters stages running ends readies
+pub path_first : (p : ProjectData) (reserved : ℕ) (lines : Table) (table afters : List (List ℕ)) (words : List ℕ) (stage : Stage) (stages : List Stage) (running : List Running) (ends readies : List ℕ) → IsProject p → reserved ≡ size p → IsLines p lines → HasBefore p (size p) table → HasAfter p (size p) afters → length ends ≡ size p → ((j : ℕ) → j < size p → get_or ends j 0 ≡ 4294967295) → AreReadied p [] readies → length stages ≡ size p + 1 → length running ≡ triangle (size p) → ((i : ℕ) → i < length stages → get_or stages i no_stage ≡ stage) → IsFirstStage p words stage → ((j : ℕ) → j < size p → has words j ≡ (length (get_or table j []) == 0)) → ((j : ℕ) → size p ≤ j → j < 256 → has words j ≡ false) → IsPath p [] reserved lines table afters stages running ends readies
 path_first p reserved lines table afters words stage stages running ends readies project memory tabled before after long never readied count room first start members others = record {
   board = board_empty p project;
   memory = memory;
@@ -520,8 +568,13 @@ path_first p reserved lines table afters words stage stages running ends readies
   staged = record {
     count = count;
     room = room;
-    each = λ i l. let none : i ≡ 0 = omega arith in rw (none, first) here;
+    each = λ i l. let none : i ≡ 0 = omega arith in rw (none, first 0 (omega (arith, count))) here;
     apart = λ i k l inside. let none : k ≡ 0 = omega arith in let too : i ≡ 0 = omega (arith, l, none) in rw (none, too) (omega arith);
+    blank = λ i l. rw (first i l) (record {
+      slack = start.beyond;
+      free = λ r past among. omega (arith, start.free r among, capacity_past p r past);
+      words = λ j past below. ap (λ (xs : List ℕ). has xs j) start.eligible ∙ others j past below;
+    });
   };
 }
   where

@@ -5,7 +5,8 @@ use Rattle.std.proofs.lemmas.Bool.{cases_lt, cases_eq}
 use Rattle.std.proofs.lemmas.List.{get_or_append_left, get_or_push, length_push, get_or-take, get_or-drop, get_or_default, length-take-le}
 use Rattle.mrcpsp.specs.Limits.{IsProject}
 use Rattle.mrcpsp.specs.Project.{ProjectData, size, mode_count}
-use Rattle.tree_search.specs.Table.{AreLines, AreModes, AreSome, IsLine, IsLines, modes_before, no_row}
+use Rattle.tree_search.specs.Table.{AreLines, AreModes, AreSome, IsLine, IsLines, modes_before, no_places, no_row}
+use Rattle.tree_search.specs.declared.table.ModeRows.{ModeRows}
 use Rattle.tree_search.specs.declared.table.Row.{Row}
 use Rattle.tree_search.specs.declared.table.Table.{Table}
 
@@ -51,22 +52,28 @@ some_more p j m earlier rows row was own = record {
       (cases_lt i m);
 }
 
-pub lines_none : (p : ProjectData) (rows : List Row) (first : List ℕ) → rows ≡ [] → first ≡ [] → AreLines p 0 rows first
-lines_none p rows first none empty = record {
+pub lines_none : (p : ProjectData) (rows : List Row) (places : List ModeRows) → rows ≡ [] → places ≡ [] → AreLines p 0 rows places
+lines_none p rows places none empty = record {
   count = omega (arith, before_none p, ap length none);
   all = omega (arith, ap length empty);
   first = λ j l. absurd (omega arith);
+  several = λ j l. absurd (omega arith);
   each = λ j m l k. absurd (omega arith);
 }
 
-pub lines_more : (p : ProjectData) (j at : ℕ) (rows later : List Row) (first : List ℕ) → AreLines p j rows first → at ≡ length rows → AreSome p j (mode_count p j) rows later → AreLines p (j + 1) later (first ++ at ∷ [])
-lines_more p j at rows later first was is new = record {
+pub lines_more : (p : ProjectData) (j : ℕ) (rows later : List Row) (places : List ModeRows) (own : ModeRows) → AreLines p j rows places → own.first ≡ length rows → own.count ≡ mode_count p j → AreSome p j (mode_count p j) rows later → AreLines p (j + 1) later (places ++ own ∷ [])
+lines_more p j rows later places own was is many new = record {
   count = omega (arith, new.count, was.count, before_next p j);
-  all = omega (arith, length_push first at, was.all);
+  all = omega (arith, length_push places own, was.all);
   first = λ i l.
       ⊎_elim
-      (λ (before : i < j). get_or_append_left first (at ∷ []) 0 i (omega (arith, was.all)) ∙ was.first i before)
-      (λ (here : j ≤ i). let same : i ≡ j = omega arith in rw (same, get_or_push first at 0 j was.all) (omega (arith, is, was.count)))
+      (λ (before : i < j). ap (λ (x : ModeRows). x.first) (get_or_append_left places (own ∷ []) no_places i (omega (arith, was.all))) ∙ was.first i before)
+      (λ (here : j ≤ i). let same : i ≡ j = omega arith in rw (same, get_or_push places own no_places j was.all) (omega (arith, is, was.count)))
+      (cases_lt i j);
+  several = λ i l.
+      ⊎_elim
+      (λ (before : i < j). ap (λ (x : ModeRows). x.count) (get_or_append_left places (own ∷ []) no_places i (omega (arith, was.all))) ∙ was.several i before)
+      (λ (here : j ≤ i). let same : i ≡ j = omega arith in rw (same, get_or_push places own no_places j was.all) many)
       (cases_lt i j);
   each = λ i m l k.
       ⊎_elim
@@ -75,19 +82,6 @@ lines_more p j at rows later first was is new = record {
       let same : i ≡ j = omega arith in
       rw (same, sym was.count) (new.each m (omega (arith, k, ap (mode_count p) same))))
       (cases_lt i j);
-}
-
-pub lines_all : (p : ProjectData) (t : Table) (at : ℕ) (first : List ℕ) → AreLines p (size p) t.rows.items first → at ≡ length t.rows.items → t.first.items ≡ first ++ at ∷ [] → IsLines p t
-lines_all p t at first was is ends = record {
-  count = was.count;
-  all = omega (arith, ap length ends, length_push first at, was.all);
-  first = λ j l.
-      ap (λ (xs : List ℕ). get_or xs j 0) ends
-      ∙ ⊎_elim
-      (λ (before : j < size p). get_or_append_left first (at ∷ []) 0 j (omega (arith, was.all)) ∙ was.first j before)
-      (λ (here : size p ≤ j). let same : j ≡ size p = omega arith in rw same (get_or_push first at 0 (size p) was.all ∙ is ∙ was.count))
-      (cases_lt j (size p));
-  each = was.each;
 }
 
 -- the rows of some modes of one activity
@@ -107,9 +101,12 @@ modes_in p t j from end lines inside order within =
           rw (at, place) (lines.each j (from + k) inside (omega (arith, short, many, within)));
     }
 
--- what is read of the first places
-pub first_is : (p : ProjectData) (t : Table) (j v : ℕ) → IsLines p t → j ≤ size p → v ≡ get_or t.first.items j v → v ≡ modes_before p j
-first_is p t j v lines within is = is ∙ get_or_default t.first.items j v 0 (omega (arith, lines.all)) ∙ lines.first j within
+-- what is read of the places
+pub first_is : (p : ProjectData) (t : Table) (j : ℕ) (v : ModeRows) → IsLines p t → j < size p → v ≡ get_or t.places.items j v → v.first ≡ modes_before p j
+first_is p t j v lines within is = ap (λ (x : ModeRows). x.first) (is ∙ get_or_default t.places.items j v no_places (omega (arith, lines.all))) ∙ lines.first j within
+
+pub count_is : (p : ProjectData) (t : Table) (j : ℕ) (v : ModeRows) → IsLines p t → j < size p → v ≡ get_or t.places.items j v → v.count ≡ mode_count p j
+count_is p t j v lines within is = ap (λ (x : ModeRows). x.count) (is ∙ get_or_default t.places.items j v no_places (omega (arith, lines.all))) ∙ lines.several j within
 
 -- what is read of the rows
 pub row_is : (p : ProjectData) (t : Table) (j m at : ℕ) (row : Row) → IsLines p t → j < size p → m < mode_count p j → at ≡ modes_before p j + m → row ≡ get_or t.rows.items at row → IsLine p j m row

@@ -3,7 +3,7 @@ use Rattle.std.specs.Prelude.{◌≡◌, ℕ, ◌+◌, ◌-◌, ◌%◌, ◌<◌
 use Rattle.std.specs.List.{slice_range, list_any}
 use Rattle.mrcpsp.specs.declared.limits.TheConstants.{MOST_RESOURCES}
 use Rattle.mrcpsp.specs.Numbers.{sum_below}
-use Rattle.mrcpsp.specs.Project.{ProjectData, size, nonrenewables, mode_count, duration, capacity, stock}
+use Rattle.mrcpsp.specs.Project.{ProjectData, size, renewables, nonrenewables, mode_count, duration, capacity, stock}
 use Rattle.mrcpsp.specs.Values.{tail}
 use Rattle.strategy.specs.Candidate.{is_allowed_mode}
 use Rattle.mrcpsp.specs.Placed.{Placed, finish_of, is_eligible, is_placed, last_start}
@@ -40,12 +40,19 @@ pub record IsStage (p : ProjectData) (placed : List Placed) (running : List Runn
   pub others : (j : ℕ) → size p ≤ j → j < 256 → has s.eligible j ≡ false
   pub last : s.from ≡ last_start placed
 
+-- no stage has anything of a resource or an activity that is not there
+pub record IsBlank (p : ProjectData) (s : Stage) : Type 0 where
+  pub slack : IsNone (nonrenewables p) s.slack
+  pub free : IsNone (renewables p) s.free
+  pub words : (j : ℕ) → size p ≤ j → j < 256 → has s.eligible j ≡ false
+
 -- a stage after each number of placements. No list of a later stage covers that of an earlier one
 pub record AreStages (p : ProjectData) (placed : List Placed) (running : List Running) (stages : List Stage) : Type 0 where
   pub count : length stages ≡ size p + 1
   pub room : length running ≡ triangle (size p)
   pub each : (i : ℕ) → i ≤ length placed → IsStage p (take i placed) running (get_or stages i no_stage)
   pub apart : (i k : ℕ) → i ≤ k → k ≤ length placed → (get_or stages i no_stage).end ≤ (get_or stages k no_stage).end
+  pub blank : (i : ℕ) → i < length stages → IsBlank p (get_or stages i no_stage)
 
 -- each of them was eligible when it was placed
 abbrev pub WereEligible : ProjectData → List Placed → Type 0

@@ -10,6 +10,11 @@ abbrev pub lanes_of : Width → ℕ
 lanes_of Small = 4
 lanes_of Large = MOST_RESOURCES
 
+-- the number of words of a set that are looked at
+abbrev pub words_of : Width → ℕ
+words_of Small = 1
+words_of Large = 4
+
 -- the project has no more resources, and its activities fit into one word if that is all
 pub record HasWidth (p : ProjectData) (w : Width) : Type 0 where
   pub renewable : renewables p ≤ lanes_of w

@@ -83,3 +83,16 @@ pub(crate) fn take_off(amounts: &mut Amounts, less: &Amounts, lanes: usize)
     }
     *amounts = rests;
 }
+
+/// Copies the first lanes of `new`. Beyond them both are 0.
+#[inline(always)]
+pub(crate) fn copy_lanes(amounts: &mut Amounts, new: &Amounts, lanes: usize)
+    requires lanes { lanes ≤ MOST_RESOURCES }
+    requires none { IsNone lanes new.now }
+    requires beyond { IsNone lanes amounts.old }
+    ensures { amounts.new ≡ new.now }
+{
+    for kind in 0..lanes {
+        amounts[kind] = new[kind];
+    }
+}

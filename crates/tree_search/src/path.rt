@@ -1,5 +1,5 @@
 //! A partial schedule of the tree: starts never fall from placement to placement.
-ghost use Rattle.std.specs.Prelude.{◌≡◌, ℕ, ◌+◌, ◌<◌, ◌≤◌, ◌==◌, [], ◌∷◌, ◌++◌, ◌%◌, true, false, IsTrue, IsFalse, IfOk, MatchOption, All, get_or, length, max, nat_le, replicate};
+ghost use Rattle.std.specs.Prelude.{◌≡◌, ℕ, ◌+◌, ◌*◌, ◌<◌, ◌≤◌, ◌==◌, [], ◌∷◌, ◌++◌, ◌%◌, true, false, IsTrue, IsFalse, IfOk, MatchOption, All, get_or, length, max, nat_le, replicate};
 ghost use Rattle.std.specs.List.{list_any};
 ghost use Rattle.mrcpsp.specs.Limits.{IsProject};
 ghost use Rattle.mrcpsp.specs.Project.{ProjectData, size, mode_count, duration, stock, capacity};
@@ -16,7 +16,7 @@ ghost use Rattle.tree_search.specs.Width.{HasWidth, IsNone};
 ghost use Rattle.tree_search.specs.declared.width.Width.TheVariants.{Small};
 ghost use Rattle.tree_search.specs.Path.{AreDone, HasEntered, IsCovered, IsFirstStage, IsHopeless, IsTaken, triangle};
 
-use crate::amounts::{is_covered, take_off};
+use crate::amounts::{copy_lanes, is_covered, take_off};
 use crate::front::{Running, Span, earliest, run_in};
 use crate::table::{NEVER, Row, Table};
 use crate::width::Width;
@@ -48,6 +48,30 @@ pub(crate) struct Stage {
     end: usize,
     /// The last start, 0 if nothing is placed.
     from: u32,
+}
+
+impl Stage {
+    ghost use Rattle.tree_search.specs.Path.{IsBlank};
+
+    /// Overwrites all of the stage. What the width leaves out is 0 in both.
+    #[inline(always)]
+    fn overwrite(&mut self, new: &Stage, width: Width)
+        requires { (p : ProjectData) × HasWidth p width × IsBlank p self.old × IsBlank p new.now }
+        ensures slack { self.new.slack ≡ new.now.slack }
+        ensures free { self.new.free ≡ new.now.free }
+        ensures eligible { (j : ℕ) → has self.new.eligible j ≡ has new.now.eligible j }
+        ensures begin { self.new.begin ≡ new.now.begin }
+        ensures end { self.new.end ≡ new.now.end }
+        ensures from { self.new.from ≡ new.now.from }
+    {
+        let lanes = width.lanes();
+        copy_lanes(&mut self.slack, &new.slack, lanes);
+        copy_lanes(&mut self.free, &new.free, lanes);
+        copy_words(&mut self.eligible, &new.eligible, width.words());
+        self.begin = new.begin;
+        self.end = new.end;
+        self.from = new.from;
+    }
 }
 
 /// A `Path` is a partial schedule whose starts never fall (Sprecher and Drexl 1998). Contracts see
@@ -83,6 +107,13 @@ fn filled(alloc: Global, number: u32, size: usize) -> Result<Vec<u32>, AllocErro
     ensures { IfOk result (λ list. list.items ≡ replicate size number) }
 {
     Ok(vec![in alloc; number; size]?)
+}
+
+/// A stage for each number of placements, all as `first`.
+fn stages_of(alloc: Global, first: Stage, count: usize) -> Result<Vec<Stage>, AllocError>
+    ensures { IfOk result (λ stages. stages.items ≡ replicate count first) }
+{
+    Ok(vec![in alloc; first; count]?)
 }
 
 /// The places of all lists of running activities.
@@ -168,6 +199,16 @@ fn is_hopeless(row: &Row, slack: &Amounts, limit: u32, lanes: usize) -> bool
     limit <= row.reach || !is_covered(&row.extra, slack, lanes)
 }
 
+/// Whether the last of the activities in `before` is not placed: the likeliest one.
+#[inline(always)]
+fn is_last_missing(before: &[u32], finishes: &[u32]) -> bool
+    requires { (k : ℕ) → k < length before.now → get_or before.now k 0 < length finishes.now }
+    ensures { IsTrue result → AreDone before.now finishes.now → ⊥ }
+{
+    let count = before.len();
+    count > 0 && finishes[before[count - 1] as usize] == NEVER
+}
+
 /// The latest finish of the activities in `before`, `NEVER` if one of them is not placed.
 #[inline(always)]
 fn latest_done(before: &[u32], finishes: &[u32]) -> u32
@@ -176,6 +217,9 @@ fn latest_done(before: &[u32], finishes: &[u32]) -> u32
     ensures done { result < NEVER → AreDone before.now finishes.now }
     ensures undone { NEVER ≤ result → AreDone before.now finishes.now → ⊥ }
 {
+    if is_last_missing(before, finishes) {
+        return NEVER;
+    }
     let mut latest: u32 = 0;
     for other in before {
         let finish = finishes[*other as usize];
@@ -185,6 +229,18 @@ fn latest_done(before: &[u32], finishes: &[u32]) -> u32
         latest = latest.max(finish);
     }
     latest
+}
+
+/// Copies the first `count` words. The others have the same members.
+#[inline(always)]
+fn copy_words(words: &mut [u64; 4], new: &[u64; 4], count: usize)
+    requires count { count ≤ 4 }
+    requires rest { (j : ℕ) → 64 * count ≤ j → j < 256 → has words.old j ≡ has new.now j }
+    ensures { (j : ℕ) → has words.new j ≡ has new.now j }
+{
+    for word in 0..count {
+        words[word] = new[word];
+    }
 }
 
 /// Lets each activity in `after` come next whose predecessors are all placed. It is ready at the
@@ -235,8 +291,7 @@ impl Path {
         let stage = begun.stage;
         let placed = Vec::with_capacity(alloc, size)?;
         let after = successors(alloc, project)?;
-        let mut stages = vec![in alloc; stage; size + 1]?;
-        stages[0] = stage;
+        let stages = stages_of(alloc, stage, size + 1)?;
         let request = stage.free;
         let none = Running {
             request,
@@ -444,7 +499,7 @@ impl Path {
             finish,
         };
         let end = run_in(&mut self.running, span, &mut free, new, start, lanes);
-        self.stages[depth + 1] = Stage {
+        let later = Stage {
             slack,
             free,
             eligible,
@@ -452,6 +507,7 @@ impl Path {
             end,
             from: start,
         };
+        self.stages[depth + 1].overwrite(&later, width);
         self.placed.push_reserved(Placement {
             activity,
             mode,

@@ -28,11 +28,18 @@ pub(crate) struct Row {
     pub(crate) reach: u32,
 }
 
-/// A `Table` is the rows of all modes, and the place of each activity's first one.
+/// A `ModeRows` is where the rows of an activity's modes are: from place `first` on.
+#[derive(Clone, Copy)]
+struct ModeRows {
+    first: u32,
+    count: u32,
+}
+
+/// A `Table` is the rows of all modes, and where those of each activity are.
 #[derive(Drop)]
 pub(crate) struct Table {
     rows: Vec<Row>,
-    first: Vec<u32>,
+    places: Vec<ModeRows>,
 }
 
 fn row_of(project: &Project, rows: &Rows, measures: &Measures, activity: usize, mode: usize) -> Row
@@ -104,13 +111,14 @@ impl Table {
         ensures { IfOk result (IsLines project.now) }
     {
         let mut list = Vec::with_capacity(alloc, count_all(project, rows))?;
-        let mut first = Vec::with_capacity(alloc, rows.size() + 1)?;
+        let mut places = Vec::with_capacity(alloc, rows.size())?;
         for activity in 0..rows.size() {
-            first.push(list.len() as u32)?;
+            let first = list.len() as u32;
+            let count = rows.count(activity) as u32;
+            places.push(ModeRows { first, count })?;
             push_modes(&mut list, project, rows, measures, activity)?;
         }
-        first.push(list.len() as u32)?;
-        Ok(Table { rows: list, first })
+        Ok(Table { rows: list, places })
     }
 
     #[inline(always)]
@@ -118,7 +126,7 @@ impl Table {
         requires { (p : ProjectData) × IsLines p self.now × (activity < size p) }
         ensures { (p : ProjectData) → IsLines p self.now → activity < size p → result ≡ mode_count p activity }
     {
-        (self.first[activity + 1] - self.first[activity]) as usize
+        self.places[activity].count as usize
     }
 
     #[inline(always)]
@@ -128,7 +136,7 @@ impl Table {
         ensures { (p : ProjectData) → IsLines p self.now → activity < size p → mode < mode_count p activity
             → IsLine p activity mode result.now }
     {
-        &self.rows[self.first[activity] as usize + mode]
+        &self.rows[self.places[activity].first as usize + mode]
     }
 
     /// The rows of the modes from `from` on, before `end`.
@@ -139,7 +147,7 @@ impl Table {
         ensures { (p : ProjectData) → IsLines p self.now → activity < size p → from ≤ end → end ≤ mode_count p activity
             → AreModes p activity from end result.now }
     {
-        let first = self.first[activity] as usize;
+        let first = self.places[activity].first as usize;
         &self.rows[first + from..first + end]
     }
 }

@@ -1,6 +1,6 @@
 //! How much of the amounts and the sets a search looks at.
 ghost use Rattle.std.specs.Prelude.{◌≡◌, ◌<◌, ◌≤◌};
-ghost use Rattle.tree_search.specs.Width.{HasWidth, lanes_of};
+ghost use Rattle.tree_search.specs.Width.{HasWidth, lanes_of, words_of};
 ghost use Rattle.tree_search.specs.declared.width.Width.TheVariants.{Small};
 
 use mrcpsp::{MOST_RESOURCES, Project};
@@ -36,6 +36,18 @@ impl Width {
         match self {
             Width::Small => 4,
             Width::Large => MOST_RESOURCES,
+        }
+    }
+
+    /// The number of words in which activities are.
+    #[inline(always)]
+    pub(crate) fn words(self) -> usize
+        ensures exact { result ≡ words_of self }
+        ensures few { result ≤ 4 }
+    {
+        match self {
+            Width::Small => 1,
+            Width::Large => 4,
         }
     }
 

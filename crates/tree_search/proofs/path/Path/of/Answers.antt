@@ -1,5 +1,5 @@
-use Rattle.std.proofs.Common.{◌≡◌, ℕ, List, get_or, set, length, length-set, arith, ap, ◌∙◌}
-use Rattle.std.proofs.lemmas.List.{length-replicate, get_or-replicate, get_or-set_same}
+use Rattle.std.proofs.Common.{◌≡◌, ℕ, List, get_or, length, arith, ap, ◌∙◌}
+use Rattle.std.proofs.lemmas.List.{length-replicate, get_or-replicate}
 use Rattle.mrcpsp.specs.Limits.{IsProject}
 use Rattle.mrcpsp.specs.Project.{size}
 use Rattle.mrcpsp.proofs.LimitLemmas.{kept}
@@ -21,7 +21,7 @@ invariant_of-result c =
     let made = c.in_ok-begun.ensures in
     let stage : Stage = c.in_ok-begun.begun.stage in
     rw (same, c.in_ok-placed.ensures.items)
-    (path_first p _ c.in_ok-begun.begun.table c.in_ok-before.before.items c.in_ok-after.after.items c.first_eligible.result stage (set c.in_ok-stages.stages.items 0 stage) c.in_ok-running.running.items c.in_ok-finishes.finishes.items c.in_ok-readies.readies.items project
+    (path_first p _ c.in_ok-begun.begun.table c.in_ok-before.before.items c.in_ok-after.after.items c.first_eligible.result stage c.in_ok-stages.stages.items c.in_ok-running.running.items c.in_ok-finishes.finishes.items c.in_ok-readies.readies.items project
     (omega (arith, c.in_ok-placed.ensures.exact, count))
     made.0
     c.in_ok-before.ensures
@@ -29,9 +29,9 @@ invariant_of-result c =
     (ap length c.in_ok-finishes.ensures ∙ length-replicate _ _ ∙ count)
     (λ j l. ap (λ (xs : List ℕ). get_or xs j 0) c.in_ok-finishes.ensures ∙ get_or-replicate _ j 4294967295 0 (omega (arith, count, l)))
     (readied_first p c.in_ok-readies.readies.items (ap length c.in_ok-readies.ensures ∙ length-replicate _ _ ∙ count) (λ j l. ap (λ (xs : List ℕ). get_or xs j 0) c.in_ok-readies.ensures ∙ get_or-replicate _ j 0 0 (omega (arith, count))))
-    (omega (arith, length-set c.in_ok-stages.stages.items 0 stage, c.in_ok-stages.ensures.len, c.in_ok-stages.stages.ok.0, count))
+    (omega (arith, ap length c.in_ok-stages.ensures ∙ length-replicate _ _, count))
     (omega (arith, c.in_ok-running.ensures.len, c.in_ok-running.running.ok.0, c.places_of_lists.ensures, ap triangle count))
-    (get_or-set_same c.in_ok-stages.stages.items 0 stage no_stage (omega (arith, c.in_ok-stages.ensures.len, c.in_ok-stages.stages.ok.0)))
+    (λ i l. ap (λ (xs : List Stage). get_or xs i no_stage) c.in_ok-stages.ensures ∙ get_or-replicate _ i stage no_stage (omega (arith, l, ap length c.in_ok-stages.ensures ∙ length-replicate _ _)))
     made.1
     (λ j l. exact j (omega (arith, l, c.in_ok-before.ensures.count)))
     (λ j past below. beyond j (omega (arith, past, c.in_ok-before.ensures.count)) below))

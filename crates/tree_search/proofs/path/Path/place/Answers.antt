@@ -1,4 +1,5 @@
-use Rattle.std.proofs.Common.{◌≡◌, ◌+◌, ◌<◌, ◌≤◌, true, arith, refl, subst, sym, ap, ◌∙◌, get_or, set, length-set, drop, take, take_all, ◌++◌, ℕ, List, All, [], length}
+use Rattle.std.proofs.Common.{◌≡◌, ◌+◌, ◌<◌, ◌≤◌, true, arith, subst, sym, ap, ◌∙◌, get_or, set, length-set, drop, take, take_all, ◌++◌, ℕ, List, All, [], length}
+use Rattle.std.specs.List.{slice_range}
 use Rattle.std.proofs.lemmas.List.{get_or_default, take-append-le}
 use Rattle.mrcpsp.specs.Project.{size, renewables, nonrenewables, mode_count}
 use Rattle.mrcpsp.specs.Placed.{Placed, is_allowed, is_eligible, last_start}
@@ -6,8 +7,8 @@ use Rattle.mrcpsp.proofs.EarliestLemmas.{eligible-unplaced}
 use Rattle.serial_sgs.specs.Board.{BoardData, IsInside}
 use Rattle.serial_sgs.proofs.BoardLemmas.{count-lt-size, duration_small}
 use Rattle.tree_search.specs.declared.path.Stage.{Stage}
-use Rattle.tree_search.specs.Path.{HasEntered, no_stage}
-use Rattle.tree_search.proofs.PathLemmas.{IsPlacing, has_place, path_push}
+use Rattle.tree_search.specs.Path.{HasEntered, IsBlank, no_stage}
+use Rattle.tree_search.proofs.PathLemmas.{IsPlacing, blank_as, blank_push, entered_as, has_place, path_push, stage_here}
 use Rattle.tree_search.specs.Width.{HasWidth}
 use Rattle.tree_search.proofs.WidthLemmas.{extra_none, request_none}
 use Rattle.tree_search.proofs.path.Path.place.Goals as goal
@@ -106,24 +107,30 @@ invariant_of-self c =
     let n : c.len-depth.result ≡ length placed = omega (arith, c.len-depth.ensures, b.placed.ok.0) in
     let stage : c.index-stage.result.now ≡ get_or b.stages.items (length placed) no_stage = c.index-stage.ensures ∙ get_or_default b.stages.items c.len-depth.result c.index-stage.result.now no_stage (omega (arith, was.staged.count, room, n)) ∙ ap (λ k. get_or b.stages.items k no_stage) n in
     let list : c.as_slice.result.now ≡ get_or b.after.items j [] = c.as_slice.ensures ∙ c.index.ensures ∙ get_or_default b.after.items j c.index.result.now [] (omega (arith, was.after.count, known)) in
-    let new : Stage = record { slack = c.take_off.new.amounts; free = c.run_in-end.new.free; eligible = c.enlist.new.eligible; begin = c.index-stage.result.now.end; end = c.run_in-end.result; from = c.args.start } in
+    let made : Stage = record { slack = c.take_off.new.amounts; free = c.run_in-end.new.free; eligible = c.enlist.new.eligible; begin = c.index-stage.result.now.end; end = c.run_in-end.result; from = c.args.start } in
+    let new : Stage = c.overwrite.new.self in
     let entered : HasEntered (get_or b.after.items j []) b.before.items (set b.finishes.items j finish) c.take_out.new.words b.readies.items c.enlist.new.eligible c.enlist.new.readies.items = rw (list, c.deref.ensures.value, c.deref-2.ensures.value) at c.enlist.ensures in
+    let here = rw (← stage) at (stage_here p placed b.running.items b.stages.items was.staged) in
+    let it = rw (← stage) at (has_place p placed a b.running.items b.stages.items c.row-row.result.now finish was.board was.staged room inside row (omega (arith, row.duration)) above fits) in
+    let blank : IsBlank p made = blank_push p a b.before.items b.after.items _ (slice_range c.run_in-end.new.list c.index-stage.result.now.end c.run_in-end.result) c.index-stage.result.now made c.take_out.new.words (set b.finishes.items j finish) b.readies.items c.enlist.new.readies.items c.row-row.result.now finish was.board.project inside was.after row here.beyond here.others (rw c.short.ensures at c.take_out.ensures.others) entered c.take_off.ensures (λ r past l. it.beyond (renewables p) (omega arith) r c.args.start past l) (rw c.deref_mut.ensures.value at c.run_in-end.ensures.kept) in
+    let wrote = c.overwrite.ensures in
     let steps : IsPlacing p a b.after.items b.before.items b.running.items c.run_in-end.new.list c.index-stage.result.now new c.take_out.new.words b.finishes.items b.readies.items c.enlist.new.readies.items c.row-row.result.now finish =
     record {
       ends_at = omega (arith, row.duration);
       own = row;
       gone = rw c.short.ensures at c.take_out.ensures.own;
       kept = rw c.short.ensures at c.take_out.ensures.others;
-      entered = entered;
-      slack = c.take_off.ensures;
+      entered = entered_as (get_or b.after.items j []) b.before.items (set b.finishes.items j finish) c.take_out.new.words b.readies.items c.enlist.new.eligible c.enlist.new.readies.items new.eligible wrote.eligible entered;
+      slack = rw wrote.slack c.take_off.ensures;
       long = rw c.deref_mut.ensures.value at c.run_in-end.ensures.memory;
       same = rw c.deref_mut.ensures.value at c.run_in-end.ensures.same;
-      begins = refl;
-      behind = c.run_in-end.ensures.above;
-      few = c.run_in-end.ensures.count;
-      starts = refl;
-      rising = c.run_in-end.ensures.rising;
-      left = rw c.deref_mut.ensures.value at c.run_in-end.ensures.kept;
+      begins = wrote.begin;
+      behind = omega (arith, wrote.end, c.run_in-end.ensures.above);
+      few = omega (arith, wrote.end, c.run_in-end.ensures.count);
+      starts = wrote.from;
+      rising = rw wrote.end c.run_in-end.ensures.rising;
+      left = rw (wrote.free, wrote.end) (rw c.deref_mut.ensures.value at c.run_in-end.ensures.kept);
+      blank = blank_as p made new wrote.slack wrote.free wrote.eligible blank;
     } in
     let whole : take b.running.len (c.run_in-end.new.list ++ drop (length c.run_in-end.new.list) b.running.items) ≡ c.run_in-end.new.list =
     take-append-le b.running.len c.run_in-end.new.list (drop (length c.run_in-end.new.list) b.running.items) (omega (arith, steps.long, b.running.ok.0)) ∙ take_all b.running.len c.run_in-end.new.list (omega (arith, steps.long, b.running.ok.0)) in
@@ -139,3 +146,33 @@ take_off-requires-clause-none c =
     let wide : HasWidth p c.args.width = rw (← c.self.view_is) at c.requires.width in
     let enough : nonrenewables p ≤ c.lanes-lanes.result = omega (arith, c.lanes-lanes.ensures.exact, wide.nonrenewable) in
     extra_none p c.args.activity c.args.mode c.lanes-lanes.result c.row-row.result.now c.self.invariant.board.project known in_mode (c.row-row.ensures p c.self.invariant.tabled known in_mode) enough
+
+pub overwrite-requires : goal.overwrite-requires
+overwrite-requires c =
+    let b = c.self.inside in
+    let p = b.project in
+    let placed = b.placed.items in
+    let was = c.self.invariant in
+    let j = c.args.activity in
+    let m = c.args.mode in
+    let a : Placed = record { activity = j; mode = m; start = c.args.start } in
+    let known : j < size p = rw (← c.self.view_is) at c.requires.activity in
+    let in_mode : m < mode_count p j = rw (← c.self.view_is) at c.requires.mode in
+    let may : is_eligible p placed j ≡ true = rw (← c.self.view_is) at c.requires.eligible in
+    let fits : is_allowed p placed j m c.args.start ≡ true = rw (← c.self.view_is) at c.requires.allowed in
+    let above : last_start placed ≤ c.args.start = rw (← c.self.view_is) at c.requires.last in
+    let row = c.row-row.ensures p was.tabled known in_mode in
+    let inside : IsInside p a = record { activity = known; mode = in_mode; start = c.requires.start } in
+    let room = count-lt-size (record { project = p; placed = placed }) j was.board known (eligible-unplaced p placed j may) in
+    let finish : ℕ = c.args.start + c.row-row.result.now.duration in
+    let n : c.len-depth.result ≡ length placed = omega (arith, c.len-depth.ensures, b.placed.ok.0) in
+    let stage : c.index-stage.result.now ≡ get_or b.stages.items (length placed) no_stage = c.index-stage.ensures ∙ get_or_default b.stages.items c.len-depth.result c.index-stage.result.now no_stage (omega (arith, was.staged.count, room, n)) ∙ ap (λ k. get_or b.stages.items k no_stage) n in
+    let list : c.as_slice.result.now ≡ get_or b.after.items j [] = c.as_slice.ensures ∙ c.index.ensures ∙ get_or_default b.after.items j c.index.result.now [] (omega (arith, was.after.count, known)) in
+    let entered : HasEntered (get_or b.after.items j []) b.before.items (set b.finishes.items j finish) c.take_out.new.words b.readies.items c.enlist.new.eligible c.enlist.new.readies.items = rw (list, c.deref.ensures.value, c.deref-2.ensures.value) at c.enlist.ensures in
+    let made : Stage = record { slack = c.take_off.new.amounts; free = c.run_in-end.new.free; eligible = c.enlist.new.eligible; begin = c.index-stage.result.now.end; end = c.run_in-end.result; from = c.args.start } in
+    let here = rw (← stage) at (stage_here p placed b.running.items b.stages.items was.staged) in
+    let it = rw (← stage) at (has_place p placed a b.running.items b.stages.items c.row-row.result.now finish was.board was.staged room inside row (omega (arith, row.duration)) above fits) in
+    let blank : IsBlank p made = blank_push p a b.before.items b.after.items _ (slice_range c.run_in-end.new.list c.index-stage.result.now.end c.run_in-end.result) c.index-stage.result.now made c.take_out.new.words (set b.finishes.items j finish) b.readies.items c.enlist.new.readies.items c.row-row.result.now finish was.board.project inside was.after row here.beyond here.others (rw c.short.ensures at c.take_out.ensures.others) entered c.take_off.ensures (λ r past l. it.beyond (renewables p) (omega arith) r c.args.start past l) (rw c.deref_mut.ensures.value at c.run_in-end.ensures.kept) in
+    let wide : HasWidth p c.args.width = rw (← c.self.view_is) at c.requires.width in
+    let later : c.index_mut-2.result.now ≡ get_or b.stages.items (c.len-depth.result + 1) no_stage = c.index_mut-2.ensures.value ∙ get_or_default b.stages.items (c.len-depth.result + 1) c.index_mut-2.result.now no_stage (omega (arith, was.staged.count, room, n)) in
+    (p, wide, rw later (was.staged.blank (c.len-depth.result + 1) (omega (arith, was.staged.count, room, n))), blank)

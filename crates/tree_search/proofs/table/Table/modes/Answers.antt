@@ -7,10 +7,10 @@ slice_bounds-result-end c =
     let (p, lines, inside, order, within, project) = c.requires in
     let t = c.args.self.now in
     let j = c.args.activity in
-    omega (arith, first_is p t j c.index.result.now lines (omega (arith, inside)) c.index.ensures, place_inside p t j c.args.end lines inside within, t.rows.ok.0, ap length c.deref.ensures.value)
+    omega (arith, first_is p t j c.index.result.now lines inside c.index.ensures, place_inside p t j c.args.end lines inside within, t.rows.ok.0, ap length c.deref.ensures.value)
 
 pub returns : goal.returns
 returns c p lines inside order within =
     let t = c.args.self.now in
     let j = c.args.activity in
-    rw (c.deref.ensures.value, first_is p t j c.index.result.now lines (omega (arith, inside)) c.index.ensures) (modes_in p t j c.args.from c.args.end lines inside order within)
+    rw (c.deref.ensures.value, first_is p t j c.index.result.now lines inside c.index.ensures) (modes_in p t j c.args.from c.args.end lines inside order within)

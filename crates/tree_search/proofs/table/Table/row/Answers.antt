@@ -7,10 +7,10 @@ index-requires-2 c =
     let (p, lines, inside, known, project) = c.requires in
     let t = c.args.self.now in
     let j = c.args.activity in
-    omega (arith, first_is p t j c.index.result.now lines (omega (arith, inside)) c.index.ensures, place_inside p t j (c.args.mode + 1) lines inside (omega (arith, known)), t.rows.ok.0)
+    omega (arith, first_is p t j c.index.result.now lines inside c.index.ensures, place_inside p t j (c.args.mode + 1) lines inside (omega (arith, known)), t.rows.ok.0)
 
 pub returns : goal.returns
 returns c p lines inside known =
     let t = c.args.self.now in
     let j = c.args.activity in
-    row_is p t j c.args.mode (c.index.result.now + c.args.mode) c.index-2.result.now lines inside known (omega (arith, first_is p t j c.index.result.now lines (omega (arith, inside)) c.index.ensures)) c.index-2.ensures
+    row_is p t j c.args.mode (c.index.result.now.first + c.args.mode) c.index-2.result.now lines inside known (omega (arith, first_is p t j c.index.result.now lines inside c.index.ensures)) c.index-2.ensures
