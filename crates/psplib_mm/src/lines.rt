@@ -5,6 +5,7 @@ ghost use Rattle.psplib_mm.specs.Text.{is_line_feed, is_text_end, lines_of};
 ghost use Rattle.psplib_mm.specs.Scan.{Takes};
 
 use crate::reading::MOST_BYTES;
+use memchr::memchr;
 use std::marker::Model;
 
 /// A `Piece` is a line or a word, with the number of its line, from 1.
@@ -100,13 +101,13 @@ impl<'a> Lines<'a> {
 fn line_end(bytes: &[u8]) -> Option<usize>
     ensures { result ≡ position is_line_feed bytes.now }
 {
-    bytes.iter().position(|b| *b == b'\n')
+    memchr(b'\n', bytes)
 }
 
 fn text_end(text: &[u8]) -> Option<usize>
     ensures { result ≡ position is_text_end text.now }
 {
-    text.iter().position(|b| *b == 0x1A)
+    memchr(0x1A, text)
 }
 
 /// The text up to its end mark.
