@@ -1,5 +1,5 @@
 //! The farm.
-ghost use Rattle.std.specs.Prelude.{◌≡◌, ℕ, ◌<◌, ◌≤◌, ◌+◌, ◌++◌, ◌*◌, [], ◌∷◌, IsTrue, true, length, map, get_or, option_map, slice_set, false, None, IfOk, OnOk};
+ghost use Rattle.std.specs.Prelude.{◌≡◌, ℕ, ◌<◌, ◌≤◌, ◌+◌, ◌++◌, ◌*◌, ◌^◌, [], ◌∷◌, IsTrue, true, length, map, get_or, option_map, slice_set, false, None, IfOk, OnOk};
 ghost use Rattle.std.specs.Option.{option_copied};
 ghost use Rattle.std.specs.Vec.{vec_len, vec_capacity};
 ghost use Rattle.farm_core.specs.Tenant.{book, held, ledger_of, find_job, line_of};
@@ -154,6 +154,25 @@ impl Ledgers {
         let Account { book, next, used } = account;
         self.books[purse as usize] = book;
         self.numbers[tenant as usize] = Numbers { next, used };
+        journal.push_reserved(Entry { tenant, event });
+    }
+
+    /// Writes an entry that leaves the ledger of the purse as it is. Touches no other memory than
+    /// the numbers of `tenant` and the journal.
+    pub(crate) fn note(&mut self, journal: &mut Vec<Entry>, tenant: u32, event: Event)
+        requires known { tenant < length self.old.numbers.items }
+        requires few { (get_or self.old.numbers.items tenant new_numbers).used < 2 ^ 63 }
+        requires room { vec_len journal.old < vec_capacity journal.old }
+        ensures purses { self.new.purses.items ≡ self.old.purses.items }
+        ensures books { self.new.books.items ≡ self.old.books.items }
+        ensures numbers { self.new.numbers.items ≡ slice_set self.old.numbers.items tenant
+            (record (get_or self.old.numbers.items tenant new_numbers) {
+              used = (get_or self.old.numbers.items tenant new_numbers).used + 1;
+            }) }
+        ensures journal { journal.new.items ≡ journal.old.items ++ record { tenant = tenant; event = event } ∷ [] }
+        ensures capacity { vec_capacity journal.new ≡ vec_capacity journal.old }
+    {
+        self.numbers[tenant as usize].used += 1;
         journal.push_reserved(Entry { tenant, event });
     }
 }

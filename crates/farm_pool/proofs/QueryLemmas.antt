@@ -4,7 +4,7 @@ use Rattle.strategy.specs.Search.{Meaning}
 use Rattle.farm_core.specs.declared.entry.Event.{Event}
 use Rattle.farm_core.specs.declared.entry.Event.TheVariants as event
 use Rattle.farm_pool.specs.declared.image.CallImage.TheVariants as said
-use Rattle.farm_pool.specs.declared.held.FarmCall.TheVariants as asked
+use Rattle.farm_pool.specs.declared.locked_farm.FarmCall.TheVariants as asked
 use Rattle.farm_pool.specs.declared.query.About.{About}
 use Rattle.farm_pool.specs.declared.query.About.TheVariants.{Status, Fetch, Ledger}
 use Rattle.farm_pool.specs.Calls.{call_image}

@@ -1,5 +1,5 @@
 -- What a call of the farm is answered, by the entries before.
-use Rattle.farm_pool.specs.declared.held.FarmAnswer.{FarmAnswer}
+use Rattle.farm_pool.specs.declared.locked_farm.FarmAnswer.{FarmAnswer}
 use Rattle.std.proofs.Common.{◌≡◌, ℕ, Bool, true, false, cond, List, [], ◌∷◌, ◌++◌, Option, Some, None, refl, sym, ap, ◌∙◌, subst, ◌<◌, length, ⊎_elim, inl, inr}
 use Rattle.strategy.specs.Search.{Meaning}
 use Rattle.job_table.specs.Job.{gone_out, IsStrange}
@@ -23,9 +23,9 @@ use Rattle.turn_lock.specs.History.{listed}
 use Rattle.farm_pool.specs.declared.image.CallImage.TheVariants as said
 use Rattle.farm_pool.specs.declared.image.CallImage.{CallImage}
 use Rattle.farm_pool.specs.declared.image.AnswerImage.TheVariants as told
-use Rattle.farm_pool.specs.declared.held.FarmCall.{FarmCall}
-use Rattle.farm_pool.specs.declared.held.FarmCall.TheVariants as asked
-use Rattle.farm_pool.specs.declared.held.FarmAnswer.TheVariants as given
+use Rattle.farm_pool.specs.declared.locked_farm.FarmCall.{FarmCall}
+use Rattle.farm_pool.specs.declared.locked_farm.FarmCall.TheVariants as asked
+use Rattle.farm_pool.specs.declared.locked_farm.FarmAnswer.TheVariants as given
 use Rattle.farm_core.specs.Command.{may_need}
 use Rattle.farm_core.specs.declared.command.Command.{Command}
 use Rattle.farm_pool.specs.Served.{tenant_at, entry_if, IsStep, IsAnswered, Answers}

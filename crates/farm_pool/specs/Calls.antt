@@ -14,10 +14,10 @@ use Rattle.farm_pool.specs.declared.image.CallImage.{CallImage}
 use Rattle.farm_pool.specs.declared.image.CallImage.TheVariants as said
 use Rattle.farm_pool.specs.declared.image.AnswerImage.{AnswerImage}
 use Rattle.farm_pool.specs.declared.image.AnswerImage.TheVariants as told
-use Rattle.farm_pool.specs.declared.held.FarmCall.{FarmCall}
-use Rattle.farm_pool.specs.declared.held.FarmCall.TheVariants as asked
-use Rattle.farm_pool.specs.declared.held.FarmAnswer.{FarmAnswer}
-use Rattle.farm_pool.specs.declared.held.FarmAnswer.TheVariants as given
+use Rattle.farm_pool.specs.declared.locked_farm.FarmCall.{FarmCall}
+use Rattle.farm_pool.specs.declared.locked_farm.FarmCall.TheVariants as asked
+use Rattle.farm_pool.specs.declared.locked_farm.FarmAnswer.{FarmAnswer}
+use Rattle.farm_pool.specs.declared.locked_farm.FarmAnswer.TheVariants as given
 use Rattle.farm_pool.specs.Served.{Answers, Served}
 
 -- a turn without its search

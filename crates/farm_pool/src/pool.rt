@@ -13,8 +13,8 @@ ghost use Rattle.farm_pool.specs.Query.{query_image};
 ghost use Rattle.farm_pool.specs.Served.{Served};
 ghost use Rattle.farm_pool.specs.Worked.{IsClosed};
 
-use crate::held::{FarmAnswer, FarmCall, Held};
 use crate::laws::{closed_pools_are_isolated, each_reply_is_true};
+use crate::locked_farm::{FarmAnswer, FarmCall, LockedFarm};
 use crate::query::Query;
 use farm_core::{Command, Config, Farm, Reply};
 use std::alloc::{AllocError, Global};
@@ -26,10 +26,10 @@ use strategy::Strategy;
 use turn_lock::{Pass, TurnLock};
 
 /// Not generic in the search: what a lock sends to threads may not rest on a bound on searches.
-pub(crate) type FarmLock = TurnLock<Held<Box<dyn Strategy>>>;
+pub(crate) type FarmLock = TurnLock<LockedFarm<Box<dyn Strategy>>>;
 
 /// A `PoolPass` is a thread's token for calls of a pool. It knows a prefix of the history.
-pub type PoolPass = Pass<Held<Box<dyn Strategy>>>;
+pub type PoolPass = Pass<LockedFarm<Box<dyn Strategy>>>;
 
 /// A `Pool` is a farm that threads call one at a time. Nodes run while no thread has the farm.
 #[derive(Drop)]
@@ -48,7 +48,7 @@ impl Model for Pool {
 
 /// A `ReturnsPass` is a thread's promise to bring back a pass of this lock.
 #[derive(Drop)]
-pub struct ReturnsPass<J>(Snapshot<TurnLock<Held<J>>>);
+pub struct ReturnsPass<J>(Snapshot<TurnLock<LockedFarm<J>>>);
 
 impl<J> Model for ReturnsPass<J> {
     ghost use Rattle.farm_core.specs.Config.{ConfigData};
@@ -59,7 +59,7 @@ impl<J> Model for ReturnsPass<J> {
     ghost view = { λ p. p.0.value };
 }
 
-impl<J> Promise<Pass<Held<J>>> for ReturnsPass<J> {
+impl<J> Promise<Pass<LockedFarm<J>>> for ReturnsPass<J> {
     ghost use Rattle.turn_lock.specs.Values.{IsPassOf};
 
     ghost kept_by = { λ lock pass. IsPassOf lock pass };
@@ -73,8 +73,8 @@ impl Pool {
         ensures slice { IfOk result (λ made. made.0.slice ≡ config.now.slice) }
         ensures pass { IfOk result (λ made. made.1.view ≡ opened config.now) }
     {
-        let held = Held::new(alloc, config)?;
-        match TurnLock::new(alloc, held) {
+        let farm = LockedFarm::new(alloc, config)?;
+        match TurnLock::new(alloc, farm) {
             Ok((lock, pass)) => Ok((
                 Pool {
                     lock,
@@ -178,7 +178,7 @@ impl Pool {
         closed_pools_are_isolated();
         let Pool { lock, slice: _ } = self;
         match lock.close(pass) {
-            Some(Held { farm }) => {
+            Some(LockedFarm { farm }) => {
                 farm.journal();
                 Some(Box::into_inner(farm))
             }

@@ -3,8 +3,8 @@ ghost use Rattle.std.specs.Prelude.{◌<◌, length};
 ghost use Rattle.farm_core.specs.Farm.{IsReply};
 ghost use Rattle.farm_pool.specs.Calls.{DoesOn};
 ghost use Rattle.farm_pool.specs.Query.{event_about, command_about};
-ghost use Rattle.farm_pool.specs.declared.held.FarmAnswer.TheVariants.{Replied};
-ghost use Rattle.farm_pool.specs.declared.held.FarmCall.TheVariants.{Asked};
+ghost use Rattle.farm_pool.specs.declared.locked_farm.FarmAnswer.TheVariants.{Replied};
+ghost use Rattle.farm_pool.specs.declared.locked_farm.FarmCall.TheVariants.{Asked};
 
 use farm_core::{Farm, Reply};
 use strategy::Strategy;

@@ -3,7 +3,7 @@ ghost use Rattle.std.specs.Prelude.{◌≡◌, ◌+◌, ◌*◌, ◌<◌, ◌≤
 ghost use Rattle.std.specs.Vec.{vec_capacity};
 ghost use Rattle.job_table.specs.Table.{find_row, add_job};
 ghost use Rattle.farm_core.specs.declared.reply.Reply.{Reply};
-ghost use Rattle.farm_core.specs.Step.{has_room};
+ghost use Rattle.farm_core.specs.Step.{has_room, decided, Notes};
 ghost use Rattle.farm_core.specs.World.{World, view};
 ghost use Rattle.farm_core.specs.Farm.{IsReply, ArePassed};
 ghost use Rattle.farm_core.specs.Truth.{IsPlanned};
@@ -140,6 +140,22 @@ impl<J: Strategy> Farm<J> {
         }
     }
 
+    /// Writes the entry of a call that changes no job and no ledger.
+    #[inline(always)]
+    fn note(&mut self, tenant: u32, event: Event, reply: Reply) -> Reply
+        requires known { tenant < length self.old.config.tenants }
+        requires decided { decided (view tenant self.old) event ≡ Notes reply }
+        requires planned { IsPlanned event }
+        ensures follows { IsReply self.old tenant event result self.new }
+        ensures turns { WaitsThen self.old tenant event result self.new }
+    {
+        let Ok(()) = keep_room(&mut self.journal, self.jobs.len()) else {
+            return Reply::NoMemory;
+        };
+        self.ledgers.note(&mut self.journal, tenant, event);
+        reply
+    }
+
     /// Makes `effect` and writes the entry. Replies `NoMemory` if there is no memory for them. Then
     /// nothing has changed. Inlined, as `decide_ledger` and its like are: each command then has the
     /// code of its own effects alone.
@@ -154,6 +170,7 @@ impl<J: Strategy> Farm<J> {
     {
         let effect = match effect {
             Effect::Nothing(reply) => return reply,
+            Effect::Notes(reply) => return self.note(tenant, event, reply),
             effect => effect,
         };
         let (purse, mut account) = (self.purse_of(tenant), self.account(tenant));

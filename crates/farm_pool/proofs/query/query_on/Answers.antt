@@ -1,8 +1,8 @@
 use Rattle.std.proofs.Common.{refl}
 use Rattle.farm_core.proofs.ReplyLemmas.{command_needs}
 use Rattle.farm_pool.specs.Query.{event_about, command_about}
-use Rattle.farm_pool.specs.declared.held.FarmCall.TheVariants as asked
-use Rattle.farm_pool.specs.declared.held.FarmAnswer.TheVariants as given
+use Rattle.farm_pool.specs.declared.locked_farm.FarmCall.TheVariants as asked
+use Rattle.farm_pool.specs.declared.locked_farm.FarmAnswer.TheVariants as given
 use Rattle.farm_pool.proofs.ServedLemmas.{asked_replied, does_on}
 use Rattle.farm_pool.proofs.QueryLemmas.{asks, cancels_nothing}
 use Rattle.farm_pool.proofs.query.query_on.Goals as goal

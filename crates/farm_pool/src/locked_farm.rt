@@ -27,36 +27,36 @@ pub enum FarmAnswer<J> {
     Stray(Turn<J>),
 }
 
-/// A `Held` is a boxed farm. Boxed, so that the lock moves a pointer; a type of its own, since
+/// A `LockedFarm` is a boxed farm. Boxed, so that the lock moves a pointer; a type of its own, since
 /// `Kept` cannot be implemented for a foreign type.
 #[derive(Drop)]
-pub struct Held<J> {
+pub struct LockedFarm<J> {
     pub(crate) farm: Box<Farm<J>>,
 }
 
-impl<J> Model for Held<J> {
+impl<J> Model for LockedFarm<J> {
     ghost use Rattle.farm_core.specs.World.{World};
 
     ghost Value = { World };
 
-    ghost view = { λ held. held.farm.value };
+    ghost view = { λ locked. locked.farm.value };
 }
 
-impl<J: Drop> Held<J> {
+impl<J: Drop> LockedFarm<J> {
     #[tactic(auto, unfolding(farm_core::specs::World::opened))]
-    pub(crate) fn new(alloc: Global, config: &Config) -> Result<Held<J>, AllocError>
-        ensures opening { IfOk result (λ held. held.config ≡ config.now) }
-        ensures empty { IfOk result (λ held. held.journal ≡ []) }
+    pub(crate) fn new(alloc: Global, config: &Config) -> Result<LockedFarm<J>, AllocError>
+        ensures opening { IfOk result (λ locked. locked.config ≡ config.now) }
+        ensures empty { IfOk result (λ locked. locked.journal ≡ []) }
     {
         match Box::new(alloc, Farm::new(alloc, config)?) {
-            Ok(farm) => Ok(Held { farm }),
+            Ok(farm) => Ok(LockedFarm { farm }),
             Err(_) => Err(AllocError),
         }
     }
 }
 
 // No bound on `J`: a lock of a farm of boxed searches is then a type like any other.
-impl<J> Kept for Held<J> {
+impl<J> Kept for LockedFarm<J> {
     type Said = CallImage;
 
     type Told = AnswerImage;
@@ -67,9 +67,9 @@ impl<J> Kept for Held<J> {
 
     ghost use Rattle.farm_pool.specs.Served.{Served};
 
-    ghost opening = { λ held. held.config };
+    ghost opening = { λ locked. locked.config };
 
-    ghost events = { λ held. held.journal };
+    ghost events = { λ locked. locked.journal };
 
     ghost relation = { Served };
 
@@ -126,7 +126,7 @@ pub(crate) fn serve_on<J: Strategy>(farm: &mut Farm<J>, call: FarmCall<J>) -> Fa
     }
 }
 
-impl Runs for Held<Box<dyn Strategy>> {
+impl Runs for LockedFarm<Box<dyn Strategy>> {
     type Call = FarmCall<Box<dyn Strategy>>;
 
     type Answer = FarmAnswer<Box<dyn Strategy>>;
@@ -141,7 +141,7 @@ impl Runs for Held<Box<dyn Strategy>> {
 
     ghost told = { λ answer. answer_image (λ b. (Strategy-box b).meaning b.value) answer };
 
-    ghost may = { λ held call. MayAsk (λ b. (Strategy-box b).meaning b.value) held.config call };
+    ghost may = { λ locked call. MayAsk (λ b. (Strategy-box b).meaning b.value) locked.config call };
 
     ghost does = { λ old call answer new.
         DoesOn (λ b. (Strategy-box b).meaning b.value) old call answer new };
@@ -151,7 +151,7 @@ impl Runs for Held<Box<dyn Strategy>> {
     }
 }
 
-impl Queries for Held<Box<dyn Strategy>> {
+impl Queries for LockedFarm<Box<dyn Strategy>> {
     type Query = Query;
 
     type Reply = Reply;
@@ -163,15 +163,15 @@ impl Queries for Held<Box<dyn Strategy>> {
     ghost use Rattle.farm_pool.specs.Calls.{DoesOn};
     ghost use Rattle.farm_pool.specs.Query.{command_about, query_image};
     ghost use Rattle.farm_pool.specs.declared.image.AnswerImage.TheVariants as told;
-    ghost use Rattle.farm_pool.specs.declared.held.FarmAnswer.TheVariants as given;
-    ghost use Rattle.farm_pool.specs.declared.held.FarmCall.TheVariants as asked;
+    ghost use Rattle.farm_pool.specs.declared.locked_farm.FarmAnswer.TheVariants as given;
+    ghost use Rattle.farm_pool.specs.declared.locked_farm.FarmCall.TheVariants as asked;
     ghost use Rattle.std.specs.Prelude.{◌<◌, length};
 
     ghost asked = { query_image };
 
     ghost replied = { λ reply. told.Replied reply };
 
-    ghost can = { λ held query. query.tenant < length held.config.tenants };
+    ghost can = { λ locked query. query.tenant < length locked.config.tenants };
 
     ghost gives = { λ old query reply new.
         DoesOn (λ b. (Strategy-box b).meaning b.value) old

@@ -1,5 +1,5 @@
 use Rattle.farm_pool.proofs.ServedLemmas.{gave_back, strayed}
-use Rattle.farm_pool.proofs.held.back_to.Goals as goal
+use Rattle.farm_pool.proofs.locked_farm.back_to.Goals as goal
 
 pub returns-in-Ok : goal.returns-in-Ok
 returns-in-Ok g c =

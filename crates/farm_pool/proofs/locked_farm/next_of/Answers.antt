@@ -1,5 +1,5 @@
 use Rattle.farm_pool.proofs.ServedLemmas.{sent_out, idled, unsent}
-use Rattle.farm_pool.proofs.held.next_of.Goals as goal
+use Rattle.farm_pool.proofs.locked_farm.next_of.Goals as goal
 
 pub returns-in-Ok : goal.returns-in-Ok
 returns-in-Ok g c =

@@ -2,9 +2,9 @@ use Rattle.std.proofs.Common.{ap}
 use Rattle.farm_core.specs.Command.{event_of}
 use Rattle.farm_core.proofs.ReplyLemmas.{command_needs}
 use Rattle.farm_pool.specs.Calls.{call_image}
-use Rattle.farm_pool.specs.declared.held.FarmAnswer.TheVariants as given
+use Rattle.farm_pool.specs.declared.locked_farm.FarmAnswer.TheVariants as given
 use Rattle.farm_pool.proofs.ServedLemmas.{asked_may, asked_replied, does_on}
-use Rattle.farm_pool.proofs.held.serve_on.Goals as goal
+use Rattle.farm_pool.proofs.locked_farm.serve_on.Goals as goal
 
 pub returns-in-Asked : goal.returns-in-Asked
 returns-in-Asked g c =
