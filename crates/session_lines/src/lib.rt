@@ -9,8 +9,9 @@
 //! - `bytes`, `words`: lines of a reader with their first bytes; words and numbers of a line.
 //! - `line`, `text`: what one line means; the text of a submit while its lines come.
 //! - `request`, `reading`: `Request`, `LineFault`, and `read_request`.
-//! - `said`, `reply_words`: what is replied to a line, and its words for phases.
-//! - `put`, `writer`: writing pieces, and `write_reply`.
+//! - `said`, `reply_parts`, `reply_words`: what is replied to a line, its parts, and the words for
+//!   phases.
+//! - `put`, `writer`: writing parts, and `write_reply`.
 //! - `laws`: that requests come in turn.
 #![tactic(auto)]
 
@@ -19,6 +20,7 @@ pub mod laws;
 mod line;
 mod put;
 mod reading;
+mod reply_parts;
 mod reply_words;
 mod request;
 mod said;

@@ -1,110 +1,21 @@
 //! Reply lines to a writer.
-ghost use Rattle.std.specs.Prelude.{◌≡◌, ◌++◌, codes, decimal};
-ghost use Rattle.psplib_mm.specs.FaultText.{section_text, limit_text};
+ghost use Rattle.std.specs.Prelude.{◌≡◌, ◌++◌};
 ghost use Rattle.watched_io.specs.Failure.{IsNoted};
 ghost use Rattle.session_lines.specs.Known.{Writes};
-ghost use Rattle.session_lines.specs.Part.{Gathers, part_text, parts_text};
-ghost use Rattle.strategy.specs.VerdictText.{verdict_text};
-ghost use Rattle.session_lines.specs.ReplyText.{best_text, line_text, place_text, places_text, schedule_text, book_text, reply_text, file_text, said_text, who_text, reply_line};
+ghost use Rattle.session_lines.specs.Part.{Gathers, parts_text};
+ghost use Rattle.session_lines.specs.ReplyText.{line_text, places_text, reply_text, said_text, reply_line};
 
 use crate::put::{Gathered, Part, WriteFault, gather, gather_parts, put};
-use crate::reply_words::phase_word;
+use crate::reply_parts::{
+    best_parts, file_parts, forgotten_parts, job_parts, ledger_parts, line_parts, place_parts,
+    ran_parts, who_parts,
+};
 use crate::said::Said;
 use arrayvec::ArrayVec;
 use farm_core::{Line, Name, Reply};
 use mrcpsp::Schedule;
-use psplib_mm::{LimitName, MmFault, SectionName};
 use std::io::Write;
-use strategy::Verdict;
-use tenant_book::Book;
 use watched_io::Watch;
-
-fn section_word(name: SectionName) -> &'static str
-    ensures { result.now ≡ section_text name }
-{
-    match name {
-        SectionName::PrecedenceRelations => "PRECEDENCE RELATIONS",
-        SectionName::RequestsDurations => "REQUESTS/DURATIONS",
-        SectionName::ResourceAvailabilities => "RESOURCEAVAILABILITIES",
-    }
-}
-
-fn limit_word(name: LimitName) -> &'static str
-    ensures { result.now ≡ limit_text name }
-{
-    match name {
-        LimitName::Jobs => "jobs",
-        LimitName::Modes => "modes",
-        LimitName::Renewable => "renewable",
-        LimitName::Nonrenewable => "nonrenewable",
-        LimitName::Duration => "duration",
-        LimitName::Request => "request",
-        LimitName::Capacity => "capacity",
-        LimitName::Horizon => "horizon",
-    }
-}
-
-fn best_part(best: Option<u32>) -> Part<'static>
-    ensures { part_text result ≡ best_text best }
-{
-    match best {
-        Some(makespan) => Part::Number(u64::from(makespan)),
-        None => Part::Text(b"none"),
-    }
-}
-
-fn gather_who<W: Write>(
-    writer: &mut W,
-    watch: &mut Watch<W>,
-    gathered: &mut Gathered,
-    who: Option<Name>,
-) -> Result<(), WriteFault>
-    ensures gathers { Gathers result (W.contents writer.old) (W.contents writer.new)
-        gathered.old.items gathered.new.items (who_text who) }
-    ensures noted { IsNoted result watch.old watch.new }
-{
-    match &who {
-        Some(name) => gather_parts(
-            writer,
-            watch,
-            gathered,
-            &[
-                Part::Text(b"@"),
-                Part::Text(name.as_bytes()),
-                Part::Text(b" "),
-            ],
-        ),
-        None => gather(writer, watch, gathered, b"@? "),
-    }
-}
-
-fn gather_line<W: Write>(
-    writer: &mut W,
-    watch: &mut Watch<W>,
-    gathered: &mut Gathered,
-    line: &Line,
-) -> Result<(), WriteFault>
-    ensures gathers { Gathers result (W.contents writer.old) (W.contents writer.new)
-        gathered.old.items gathered.new.items (line_text line.now) }
-    ensures noted { IsNoted result watch.old watch.new }
-{
-    gather_parts(
-        writer,
-        watch,
-        gathered,
-        &[
-            Part::Text(phase_word(line.phase).as_bytes()),
-            Part::Text(b" nodes "),
-            Part::Number(line.nodes),
-            Part::Text(b" left "),
-            Part::Number(line.left),
-            Part::Text(b" best "),
-            best_part(line.best),
-            Part::Text(b" "),
-            Part::Text(line.verdict.word().as_bytes()),
-        ],
-    )
-}
 
 fn gather_job<W: Write>(
     writer: &mut W,
@@ -120,78 +31,7 @@ fn gather_job<W: Write>(
     if let Err(fault) = gather_parts(writer, watch, gathered, parts) {
         return Err(fault);
     }
-    gather_line(writer, watch, gathered, line)
-}
-
-fn gather_book<W: Write>(
-    writer: &mut W,
-    watch: &mut Watch<W>,
-    gathered: &mut Gathered,
-    book: &Book,
-) -> Result<(), WriteFault>
-    ensures gathers { Gathers result (W.contents writer.old) (W.contents writer.new)
-        gathered.old.items gathered.new.items (book_text book.now) }
-    ensures noted { IsNoted result watch.old watch.new }
-{
-    gather_parts(
-        writer,
-        watch,
-        gathered,
-        &[
-            Part::Text(b"ledger granted "),
-            Part::Number(book.granted()),
-            Part::Text(b" free "),
-            Part::Number(book.free()),
-            Part::Text(b" held "),
-            Part::Number(book.held()),
-            Part::Text(b" spent "),
-            Part::Number(book.spent()),
-        ],
-    )
-}
-
-fn alone(text: &[u8]) -> [Part<'_>; 3]
-    ensures { parts_text result ≡ text.entry.now }
-{
-    [Part::Text(text), Part::Text(b""), Part::Text(b"")]
-}
-
-fn with_line(text: &[u8], line: u32) -> [Part<'_>; 3]
-    ensures { parts_text result ≡ text.entry.now ++ decimal line ++ codes ")" }
-{
-    [
-        Part::Text(text),
-        Part::Number(u64::from(line)),
-        Part::Text(b")"),
-    ]
-}
-
-fn with_word<'a>(text: &'a [u8], word: &'a str) -> [Part<'a>; 3]
-    ensures { parts_text result ≡ text.entry.now ++ word.entry.now ++ codes ")" }
-{
-    [
-        Part::Text(text),
-        Part::Text(word.as_bytes()),
-        Part::Text(b")"),
-    ]
-}
-
-fn file_parts(fault: MmFault) -> [Part<'static>; 3]
-    ensures { parts_text result ≡ file_text fault }
-{
-    match fault {
-        MmFault::TooLong => alone(b"no file TooLong"),
-        MmFault::Header => alone(b"no file Header"),
-        MmFault::Projects => alone(b"no file Projects"),
-        MmFault::Doubly => alone(b"no file Doubly"),
-        MmFault::Section(name) => with_word(b"no file Section(", section_word(name)),
-        MmFault::Number(line) => with_line(b"no file Number(", line),
-        MmFault::Count(name) => with_word(b"no file Count(", section_word(name)),
-        MmFault::Numbering(line) => with_line(b"no file Numbering(", line),
-        MmFault::Successor(line) => with_line(b"no file Successor(", line),
-        MmFault::Limit(name) => with_word(b"no file Limit(", limit_word(name)),
-        MmFault::NoMemory => alone(b"no memory"),
-    }
+    gather_parts(writer, watch, gathered, &line_parts(line))
 }
 
 fn gather_schedule<W: Write>(
@@ -208,103 +48,12 @@ fn gather_schedule<W: Write>(
     let starts = schedule.starts.as_slice();
     let count = modes.len().min(starts.len());
     for place in 0..count {
-        if let Err(fault) = gather_place(
-            writer,
-            watch,
-            gathered,
-            place + 1,
-            modes[place],
-            starts[place],
-        ) {
+        let parts = place_parts(place + 1, modes[place], starts[place]);
+        if let Err(fault) = gather_parts(writer, watch, gathered, &parts) {
             return Err(fault);
         }
     }
     Ok(())
-}
-
-fn gather_place<W: Write>(
-    writer: &mut W,
-    watch: &mut Watch<W>,
-    gathered: &mut Gathered,
-    number: usize,
-    mode: u32,
-    start: u32,
-) -> Result<(), WriteFault>
-    ensures gathers { Gathers result (W.contents writer.old) (W.contents writer.new)
-        gathered.old.items gathered.new.items (place_text number mode start) }
-    ensures noted { IsNoted result watch.old watch.new }
-{
-    gather_parts(
-        writer,
-        watch,
-        gathered,
-        &[
-            Part::Text(b" "),
-            Part::Number(number as u64),
-            Part::Text(b":"),
-            Part::Number(u64::from(mode)),
-            Part::Text(b":"),
-            Part::Number(u64::from(start)),
-        ],
-    )
-}
-
-fn gather_places<W: Write>(
-    writer: &mut W,
-    watch: &mut Watch<W>,
-    gathered: &mut Gathered,
-    schedule: &Option<Schedule>,
-) -> Result<(), WriteFault>
-    ensures gathers { Gathers result (W.contents writer.old) (W.contents writer.new)
-        gathered.old.items gathered.new.items (schedule_text schedule.now) }
-    ensures noted { IsNoted result watch.old watch.new }
-{
-    match schedule {
-        Some(schedule) => gather_schedule(writer, watch, gathered, schedule),
-        None => Ok(()),
-    }
-}
-
-fn gather_front<W: Write>(
-    writer: &mut W,
-    watch: &mut Watch<W>,
-    gathered: &mut Gathered,
-    seq: u64,
-    best: Option<u32>,
-    verdict: Verdict,
-) -> Result<(), WriteFault>
-    ensures gathers { Gathers result (W.contents writer.old) (W.contents writer.new)
-        gathered.old.items gathered.new.items (codes "job " ++ decimal seq ++ codes " makespan " ++ best_text best ++ codes " "
-        ++ verdict_text verdict) }
-    ensures noted { IsNoted result watch.old watch.new }
-{
-    let parts = [
-        Part::Text(b"job "),
-        Part::Number(seq),
-        Part::Text(b" makespan "),
-        best_part(best),
-        Part::Text(b" "),
-        Part::Text(verdict.word().as_bytes()),
-    ];
-    gather_parts(writer, watch, gathered, &parts)
-}
-
-fn gather_forgotten<W: Write>(
-    writer: &mut W,
-    watch: &mut Watch<W>,
-    gathered: &mut Gathered,
-    seq: u64,
-) -> Result<(), WriteFault>
-    ensures gathers { Gathers result (W.contents writer.old) (W.contents writer.new)
-        gathered.old.items gathered.new.items (codes "job " ++ decimal seq ++ codes " forgotten") }
-    ensures noted { IsNoted result watch.old watch.new }
-{
-    let parts = [
-        Part::Text(b"job "),
-        Part::Number(seq),
-        Part::Text(b" forgotten"),
-    ];
-    gather_parts(writer, watch, gathered, &parts)
 }
 
 fn gather_reply<W: Write>(
@@ -324,32 +73,22 @@ fn gather_reply<W: Write>(
             gathered,
             &[Part::Text(b"job "), Part::Number(*seq)],
         ),
-        Reply::Line(line) => {
-            let parts = [
-                Part::Text(b"job "),
-                Part::Number(line.seq),
-                Part::Text(b" "),
-            ];
-            gather_job(writer, watch, gathered, &parts, line)
-        }
+        Reply::Line(line) => { gather_job(writer, watch, gathered, &job_parts(line.seq), line) }
         Reply::Ran(ran, line) => {
-            let parts = [
-                Part::Text(b"job "),
-                Part::Number(line.seq),
-                Part::Text(b" ran "),
-                Part::Number(*ran),
-                Part::Text(b" "),
-            ];
-            gather_job(writer, watch, gathered, &parts, line)
+            gather_job(writer, watch, gathered, &ran_parts(line.seq, *ran), line)
         }
         Reply::Best(seq, schedule, best, verdict) => {
-            if let Err(fault) = gather_front(writer, watch, gathered, *seq, *best, *verdict) {
+            let parts = best_parts(*seq, *best, *verdict);
+            if let Err(fault) = gather_parts(writer, watch, gathered, &parts) {
                 return Err(fault);
             }
-            gather_places(writer, watch, gathered, schedule)
+            match schedule {
+                Some(schedule) => gather_schedule(writer, watch, gathered, schedule),
+                None => Ok(()),
+            }
         }
-        Reply::Forgotten(seq) => gather_forgotten(writer, watch, gathered, *seq),
-        Reply::Ledger(book) => gather_book(writer, watch, gathered, book),
+        Reply::Forgotten(seq) => gather_parts(writer, watch, gathered, &forgotten_parts(*seq)),
+        Reply::Ledger(book) => gather_parts(writer, watch, gathered, &ledger_parts(book)),
         Reply::NoRoom => gather(writer, watch, gathered, b"no room"),
         Reply::NoUnknown => gather(writer, watch, gathered, b"no unknown"),
         Reply::NoBusy => gather(writer, watch, gathered, b"no busy"),
@@ -399,7 +138,7 @@ fn gather_reply_line<W: Write>(
         gathered.old.items gathered.new.items (reply_line who said.now) }
     ensures noted { IsNoted result watch.old watch.new }
 {
-    if let Err(fault) = gather_who(writer, watch, gathered, who) {
+    if let Err(fault) = gather_parts(writer, watch, gathered, &who_parts(&who)) {
         return Err(fault);
     }
     if let Err(fault) = gather_said(writer, watch, gathered, said) {

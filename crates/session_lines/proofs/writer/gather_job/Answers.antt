@@ -5,4 +5,5 @@ pub returns-in-Err-clause-gathers : goal.returns-in-Err-clause-gathers
 returns-in-Err-clause-gathers g c = gathers_part _ _ _ _ _ _ _ _ c.in-Err.ensures.gathers
 
 pub returns-clause-gathers : goal.returns-clause-gathers
-returns-clause-gathers g c = gathers_then _ _ _ _ _ _ _ _ _ _ (rw c.in_default.is at c.gather_parts.ensures.gathers) c.gather_line.ensures.gathers
+returns-clause-gathers g c =
+    gathers_then _ _ _ _ _ _ _ _ _ _ (rw c.in_default.is at c.gather_parts.ensures.gathers) (rw c.line_parts.ensures at c.gather_parts-2.ensures.gathers)

@@ -4,7 +4,10 @@ use Rattle.session_lines.proofs.PartLemmas.{gathers_then, gathers_part, gathers_
 use Rattle.session_lines.proofs.writer.gather_reply.Goals as goal
 
 pub returns-in-Err-clause-gathers : goal.returns-in-Err-clause-gathers
-returns-in-Err-clause-gathers g c = gathers_same _ _ _ _ _ _ _ (gathers_part _ _ _ _ _ _ _ (schedule_text c.in-Best.schedule) c.in-Err.ensures.gathers) (ap reply_text (sym c.in-Best.is))
+returns-in-Err-clause-gathers g c =
+    gathers_same _ _ _ _ _ _ _ (gathers_part _ _ _ _ _ _ _ (schedule_text c.in-Best.schedule) (rw c.best_parts-parts.ensures at c.in-Err.ensures.gathers)) (ap reply_text (sym c.in-Best.is))
 
-pub returns-in_default-clause-gathers : goal.returns-in_default-clause-gathers
-returns-in_default-clause-gathers g c = gathers_same _ _ _ _ _ _ _ (gathers_then _ _ _ _ _ _ _ _ _ _ (rw c.in_default.is at c.gather_front.ensures.gathers) c.gather_places.ensures.gathers) (ap reply_text (sym c.in-Best.is))
+pub returns-in-Some-clause-gathers : goal.returns-in-Some-clause-gathers
+returns-in-Some-clause-gathers g c =
+    let places = gathers_same _ _ _ _ _ _ _ c.gather_schedule.ensures.gathers (ap schedule_text (sym c.in-Some.is)) in
+    gathers_same _ _ _ _ _ _ _ (gathers_then _ _ _ _ _ _ _ _ _ _ (rw (c.in_default.is, c.best_parts-parts.ensures) at c.gather_parts-in-Best.ensures.gathers) places) (ap reply_text (sym c.in-Best.is))
