@@ -2,8 +2,8 @@
 
 const STEPS: u64 = 1_024;
 
-/// The first temperature, one period, with 32 binary places.
-const HOTTEST: u64 = 1 << 32;
+/// The first temperature, half a period, with 32 binary places.
+const HOTTEST: u64 = 1 << 31;
 
 /// What a step leaves of the temperature, with 32 binary places: all steps leave a twentieth.
 const RATE: u64 = 4_282_420_646;

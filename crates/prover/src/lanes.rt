@@ -20,24 +20,13 @@ use std::time::Clock;
 pub enum Lane {
     /// Prices, then bounds from below by clauses.
     Low,
-    /// A schedule a period shorter than the best one, by a team of searches of clauses.
+    /// A schedule a period shorter than the best one, by clauses.
     High,
-    /// A schedule halfway between the bound and the best one, by clauses.
+    /// Local search; once the team is called, a schedule a third of the way from the bound to the
+    /// best one, by a team of searches of clauses.
     Middle,
     /// Local search.
     Improve,
-}
-
-impl Lane {
-    /// The most open periods with which the lane leaves all to a team: its question is asked by the
-    /// team or by another lane. 0 if it never does.
-    fn last_gap(self) -> u32 {
-        match self {
-            Lane::Low => 1,
-            Lane::Middle => 2,
-            Lane::High | Lane::Improve => 0,
-        }
-    }
 }
 
 /// A `Worker` is a lane with the seed of its local search.
@@ -55,6 +44,9 @@ pub(crate) const CHUNK: u64 = 256;
 
 /// The most conflicts between two looks at a search.
 pub(crate) const SLICE: u64 = 200;
+
+/// The conflicts of a question of the lowest bound after which the team is called.
+const HARD: u64 = 10_000;
 
 /// The conflicts of a question that is more than a period above the bound.
 pub(crate) const LEAP: u64 = 2_000;
@@ -74,9 +66,12 @@ struct Shift<'a, 'b, F: Subject, R, H> {
 impl<F: Subject, R: Wait + Clock, H: Herald> SearchObserver for Shift<'_, '_, F, R, H> {
     fn look(&mut self, conflicts: u64) -> u64 {
         let shared = self.shared;
+        if self.lane == Lane::Low && conflicts >= HARD {
+            shared.call_the_team();
+        }
         if shared.deadline.is_over()
             || shared.is_moot(self.question)
-            || shared.is_left_to_the_team(self.lane.last_gap())
+            || shared.is_left_to_the_team()
         {
             return 0;
         }
@@ -107,7 +102,7 @@ pub(crate) fn question_of(
     };
     let within = match lane {
         Lane::High => highest,
-        Lane::Middle => bound + (highest - bound.min(highest)) / 2,
+        Lane::Middle => bound + (highest - bound.min(highest)) / 3,
         _ => bound.saturating_add(stride - stride.min(1)).min(highest),
     };
     Some(Question { within })
@@ -176,7 +171,7 @@ fn step<F: Subject, R: Wait + Clock, H: Herald>(
     left: u64,
 ) -> Result<Option<u32>, AllocError> {
     let shared = shift.shared;
-    shared.rest(Lane::Low.last_gap());
+    shared.rest();
     let (bound, makespan) = shared.gap();
     let Some(question) = question_of(Lane::Low, bound, makespan, stride) else {
         return Ok(None);
@@ -187,7 +182,7 @@ fn step<F: Subject, R: Wait + Clock, H: Herald>(
     shift.question = question;
     shift.most = if stride > 1 { LEAP.min(left) } else { left };
     let taken = ask(shift)?;
-    let is_left = shared.is_left_to_the_team(Lane::Low.last_gap());
+    let is_left = shared.is_left_to_the_team();
     if taken == Gain::Nothing && stride <= 1 && !shared.is_moot(question) && !is_left {
         return Ok(None);
     }
@@ -236,12 +231,12 @@ fn ask_of_lane<F: Subject + Send + Sync, R: Threads + Wait + Clock + Sync, H: He
     let shared = shift.shared;
     shift.question = question;
     shift.most = shared.limits.conflicts;
-    if shift.lane == Lane::High {
+    if shift.lane == Lane::Middle {
         ask_together(shared, question)?;
         return Ok(shared.is_moot(question));
     }
     let is_answered = ask(shift)? != Gain::Nothing;
-    Ok(is_answered || shared.is_moot(question) || shared.is_left_to_the_team(shift.lane.last_gap()))
+    Ok(is_answered || shared.is_moot(question) || shared.is_left_to_the_team())
 }
 
 /// Asks for shorter schedules until nothing is open, or a question ends without an answer.
@@ -250,7 +245,9 @@ fn descend<F: Subject + Send + Sync, R: Threads + Wait + Clock + Sync, H: Herald
 ) -> Result<(), AllocError> {
     let shared = shift.shared;
     for _ in shared.deadline.rt.forever() {
-        shared.rest(shift.lane.last_gap());
+        if shift.lane == Lane::High {
+            shared.rest();
+        }
         let (bound, makespan) = shared.gap();
         let Some(question) = question_of(shift.lane, bound, makespan, 1) else {
             return Ok(());
@@ -270,13 +267,32 @@ fn descend<F: Subject + Send + Sync, R: Threads + Wait + Clock + Sync, H: Herald
     Ok(())
 }
 
-/// Asks for schedules a period shorter, by a team.
+/// Searches for shorter schedules until the team is called.
+fn await_call<F: Subject, R: Wait + Clock, H: Herald>(
+    shift: &mut Shift<'_, '_, F, R, H>,
+) -> Result<(), AllocError> {
+    let shared = shift.shared;
+    for _ in shared.deadline.rt.forever() {
+        if shared.deadline.is_over() || shared.is_decided() || shared.is_called() {
+            return Ok(());
+        }
+        if !improve_once(shift)? {
+            shared.wait();
+        }
+    }
+    Ok(())
+}
+
+/// Improves, and once the team is called asks its questions.
 fn lead<F: Subject + Send + Sync, R: Threads + Wait + Clock + Sync, H: Herald + Sync>(
     shift: &mut Shift<'_, '_, F, R, H>,
 ) -> Result<(), AllocError> {
     let is_teamed = shift.shared.is_teamed;
     is_teamed.store(true, Ordering::SeqCst);
-    let descended = descend(shift);
+    let descended = match await_call(shift) {
+        Ok(()) => descend(shift),
+        Err(fault) => Err(fault),
+    };
     is_teamed.store(false, Ordering::SeqCst);
     descended
 }
@@ -302,11 +318,12 @@ fn run_lane<F: Subject + Send + Sync, R: Threads + Wait + Clock + Sync, H: Heral
     match shift.lane {
         Lane::Low => {
             let climbed = climb(shift);
+            shift.shared.call_the_team();
             shift.shared.deadline.end();
             climbed?;
         }
-        Lane::High => lead(shift)?,
-        Lane::Middle => descend(shift)?,
+        Lane::High => descend(shift)?,
+        Lane::Middle => lead(shift)?,
         Lane::Improve => improve(shift)?,
     }
     if shift.shared.limits.time.is_some() {

@@ -32,8 +32,10 @@ pub(crate) struct SharedWork<'a, F: Subject, R, H> {
     pub(crate) limits: Limits,
     /// How many workers there are.
     pub(crate) jobs: usize,
-    /// A team asks for a schedule a period shorter than the best one.
+    /// A worker leads a team, or will once it is called.
     pub(crate) is_teamed: &'a AtomicBool,
+    /// The question of the lowest bound is hard: it is for the team.
+    pub(crate) is_called: &'a AtomicBool,
     /// A schedule to begin with.
     pub(crate) first: Option<&'a Schedule>,
     pub(crate) herald: &'a H,
@@ -67,17 +69,20 @@ impl<F: Subject, R: Wait + Clock, H: Herald> SharedWork<'_, F, R, H> {
         (known.bound(), known.makespan())
     }
 
-    /// Whether at most `gap` makespans below the best one are open.
-    pub(crate) fn is_gap_at_most(&self, gap: u32) -> bool {
-        match self.gap() {
-            (bound, Some(makespan)) => makespan.saturating_sub(bound) <= gap,
-            (_, None) => gap == u32::MAX,
+    /// Calls the team, if a schedule is known.
+    pub(crate) fn call_the_team(&self) {
+        if let (_, Some(_)) = self.gap() {
+            self.is_called.store(true, Ordering::SeqCst);
         }
     }
 
-    /// Whether the team asks all that is left, if at most `gap` periods are open.
-    pub(crate) fn is_left_to_the_team(&self, gap: u32) -> bool {
-        self.is_teamed.load(Ordering::SeqCst) && self.is_gap_at_most(gap) && !self.is_decided()
+    pub(crate) fn is_called(&self) -> bool {
+        self.is_called.load(Ordering::SeqCst)
+    }
+
+    /// Whether the team asks all that is left for clauses.
+    pub(crate) fn is_left_to_the_team(&self) -> bool {
+        self.is_teamed.load(Ordering::SeqCst) && self.is_called() && !self.is_decided()
     }
 
     /// Waits for a moment.
@@ -86,9 +91,9 @@ impl<F: Subject, R: Wait + Clock, H: Herald> SharedWork<'_, F, R, H> {
     }
 
     /// Waits while all that is left is asked by the team.
-    pub(crate) fn rest(&self, gap: u32) {
+    pub(crate) fn rest(&self) {
         for _ in self.deadline.rt.forever() {
-            if self.deadline.is_over() || !self.is_left_to_the_team(gap) {
+            if self.deadline.is_over() || !self.is_left_to_the_team() {
                 return;
             }
             self.wait();

@@ -36,33 +36,30 @@ enum TeamStyle {
     Values,
 }
 
-/// A `Member` is a search of a team, and how few periods are open when it begins.
+/// A `Member` is a search of a team.
 #[derive(Clone, Copy, Debug)]
 struct Member {
     place: usize,
     style: TeamStyle,
-    gap: u32,
 }
 
-/// The members of a team in the order of their places: as the gap closes, the workers of the other
-/// lanes of clauses have nothing else to ask.
-const MEMBERS: [Member; 3] = [
-    Member {
-        place: 0,
-        style: TeamStyle::Plain,
-        gap: u32::MAX,
-    },
-    Member {
-        place: 1,
-        style: TeamStyle::TrueFirst,
-        gap: 1,
-    },
-    Member {
-        place: 2,
-        style: TeamStyle::Values,
-        gap: 2,
-    },
-];
+/// The most searches of a team.
+const MOST_MEMBERS: usize = 3;
+
+/// How the search at a place begins. That a schedule is found is likely with the last question alone.
+fn style_at(place: usize, is_last: bool) -> TeamStyle {
+    match place {
+        0 => TeamStyle::Plain,
+        1 => TeamStyle::TrueFirst,
+        _ => {
+            if is_last {
+                TeamStyle::Values
+            } else {
+                TeamStyle::Plain
+            }
+        }
+    }
+}
 
 /// A `Team` is what the searches of a question share.
 #[derive(Drop)]
@@ -159,27 +156,27 @@ impl<F: Subject, L: clause_kernel::Formula, R: Wait + Clock, H: Herald> Team<'_,
         Ok(())
     }
 
-    /// Waits until so few periods are open that a member is wanted. False if that never happens.
-    fn is_wanted(&self, member: Member) -> bool {
-        let shared = self.shared;
-        for _ in shared.deadline.rt.forever() {
-            if shared.deadline.is_over() || shared.is_moot(self.question) {
-                return false;
-            }
-            if shared.is_gap_at_most(member.gap) {
-                return true;
-            }
-            shared.wait();
-        }
-        false
-    }
-
     /// Want of memory ends a member alone.
     fn join(&self, member: Member) {
-        if self.is_wanted(member) {
-            let _ = self.search(member);
+        let _ = self.search(member);
+    }
+}
+
+/// One worker improves, and the others ask together.
+fn members<F: Subject, R: Wait + Clock, H: Herald>(
+    shared: &SharedWork<'_, F, R, H>,
+    question: Question,
+) -> Result<Vec<Member>, AllocError> {
+    let (_, makespan) = shared.gap();
+    let is_last = makespan == question.within.checked_add(1);
+    let mut members = Vec::with_capacity(shared.alloc, MOST_MEMBERS)?;
+    for place in 0..MOST_MEMBERS {
+        if place + 1 < shared.jobs {
+            let style = style_at(place, is_last);
+            members.push(Member { place, style })?;
         }
     }
+    Ok(members)
 }
 
 #[tactic(auto, using(crate::proofs::DecideLemmas::decide_rules))]
@@ -196,12 +193,7 @@ fn ask_as<
     requires clauses { formula.now.clauses ≡ L.clauses }
     requires short { SatisfiedByShort F.project question.within L.clauses }
 {
-    let mut members = Vec::with_capacity(shared.alloc, MEMBERS.len())?;
-    for member in MEMBERS {
-        if member.place + 1 < shared.jobs {
-            members.push(member)?;
-        }
-    }
+    let members = members(shared, question)?;
     let board = Mutex::new(MessageBoard::<L>::new(shared.alloc));
     let team = Team {
         shared,
@@ -218,7 +210,7 @@ fn ask_as<
     Ok(())
 }
 
-/// Asks the question by a search, which others join as the gap closes. Only want of memory is an
+/// Asks the question by searches in threads of their own. Only want of memory is an
 /// error; a question of too many clauses decides nothing.
 pub(crate) fn ask_together<
     F: Subject + Send + Sync,

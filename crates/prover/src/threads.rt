@@ -31,8 +31,8 @@ fn lane_at(place: usize, activities: usize) -> Lane {
     }
     match place {
         0 => Lane::Low,
-        2 => Lane::High,
-        3 => Lane::Middle,
+        2 => Lane::Middle,
+        3 => Lane::High,
         _ => Lane::Improve,
     }
 }
@@ -108,6 +108,7 @@ fn prove_together<'a, F: Subject + Send + Sync, R: Threads + Wait + Clock + Sync
     let known = Mutex::new(Known::<F>::new());
     let conflicts = AtomicU64::new(0);
     let is_teamed = AtomicBool::new(false);
+    let is_called = AtomicBool::new(false);
     let shared = SharedWork {
         alloc,
         project,
@@ -117,6 +118,7 @@ fn prove_together<'a, F: Subject + Send + Sync, R: Threads + Wait + Clock + Sync
         limits: task.limits,
         jobs: task.jobs,
         is_teamed: &is_teamed,
+        is_called: &is_called,
         first: task.first,
         herald,
     };
