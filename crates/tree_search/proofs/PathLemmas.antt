@@ -27,8 +27,8 @@ use Rattle.tree_search.specs.declared.path.Stage.{Stage}
 use Rattle.tree_search.specs.declared.table.Row.{Row}
 use Rattle.tree_search.specs.declared.table.Table.{Table}
 use Rattle.tree_search.specs.Table.{IsLine, IsLines, no_row}
-use Rattle.tree_search.specs.Front.{IsFrontOf, IsRising, left_at}
-use Rattle.tree_search.specs.Path.{AreDone, AreStages, HasEntered, IsBlank, IsCovered, IsFirstStage, IsHopeless, IsPath, IsStage, IsTaken, WereEligible, no_stage, triangle}
+use Rattle.tree_search.specs.Front.{AreNone, IsFrontOf, IsRising, left_at}
+use Rattle.tree_search.specs.Path.{AreDone, AreReached, AreStages, HasEntered, IsBlank, IsCovered, IsFirstStage, IsHopeless, IsPath, IsStage, IsTaken, WereEligible, no_stage, triangle}
 use Rattle.tree_search.proofs.FrontLemmas.{empty_range, range_before, range_kept}
 use Rattle.tree_search.proofs.NodeLemmas.{last_start_none}
 use Rattle.tree_search.specs.Width.{IsNone}
@@ -152,6 +152,22 @@ at_any (x ∷ xs) j e =
     (λ (here : (x == j) ≡ true). (zero, omega arith, eqb-true x j here))
     (λ (later : list_any (λ s. s == j) xs ≡ true). let (k, l, is) = at_any xs j later in (suc k, omega arith, is))
     (or_cases (x == j) (list_any (λ s. s == j) xs) e)
+
+any_at : (xs : List ℕ) (k : ℕ) → k < length xs → list_any (λ s. s == get_or xs k 0) xs ≡ true
+any_at [] k l = absurd (omega arith)
+any_at (x ∷ xs) zero l = or_left (x == x) (list_any (λ s. s == x) xs) (eq-eqb x x refl)
+any_at (x ∷ xs) (suc k) l = or_right (x == get_or xs k 0) (list_any (λ s. s == get_or xs k 0) xs) (any_at xs k (omega arith))
+
+-- who comes after another has a predecessor
+pub reached_in : (p : ProjectData) (table afters : List (List ℕ)) (i : ℕ) → HasBefore p (size p) table → HasAfter p (size p) afters → i < size p → AreReached table (get_or afters i [])
+reached_in p table afters i before after inside k l =
+    let xs : List ℕ = get_or afters i [] in
+    let s : ℕ = get_or xs k 0 in
+    let mine = after.each i inside in
+    let known : s < size p = mine.others.inside k 0 l in
+    let first : precedes p i s ≡ true = sym (mine.members s known) ∙ any_at xs k l in
+    let (n, within, _) = (before.each s known).all i inside first in
+    omega (arith, within)
 
 unlisted : (n : ℕ) (xs : List ℕ) (j : ℕ) → All (λ s. s < n) xs → n ≤ j → list_any (λ s. s == j) xs ≡ false
 unlisted n xs j below past =
@@ -358,8 +374,8 @@ blank_as p made new slack free members was = record {
   words = λ j past below. members j ∙ was.words j past below;
 }
 
-pub stages_push : (p : ProjectData) (placed : List Placed) (a : Placed) (running later : List Running) (stages : List Stage) (new : Stage) → length placed < size p → AreStages p placed running stages → length later ≡ length running → take (get_or stages (length placed) no_stage).end running ≡ take (get_or stages (length placed) no_stage).end later → (get_or stages (length placed) no_stage).end ≤ new.end → IsStage p (placed ++ a ∷ []) later new → IsBlank p new → AreStages p (placed ++ a ∷ []) later (set stages (length placed + 1) new)
-stages_push p placed a running later stages new room was long same above here blank =
+pub stages_push : (p : ProjectData) (placed : List Placed) (a : Placed) (running later : List Running) (stages : List Stage) (new : Stage) → length placed < size p → AreStages p placed running stages → length later ≡ length running → take (get_or stages (length placed) no_stage).end running ≡ take (get_or stages (length placed) no_stage).end later → (get_or stages (length placed) no_stage).end ≤ new.end → IsStage p (placed ++ a ∷ []) later new → IsBlank p new → AreNone (renewables p) later → AreStages p (placed ++ a ∷ []) later (set stages (length placed + 1) new)
+stages_push p placed a running later stages new room was long same above here blank none =
     let n : ℕ = length placed in
     let many : length (placed ++ a ∷ []) ≡ n + 1 = length_push placed a in
     let base : ℕ = (get_or stages n no_stage).end in
@@ -368,6 +384,7 @@ stages_push p placed a running later stages new room was long same above here bl
     record {
       count = length-set stages (n + 1) new ∙ was.count;
       room = long ∙ was.room;
+      none = none;
       each = λ i l.
           ⊎_elim
           (λ (before : i < n + 1).
@@ -401,6 +418,7 @@ stages_pop p placed a running stages was = record {
   each = λ i l. rw (take-append-le i placed (a ∷ []) l) at (was.each i (omega (arith, length_push placed a)));
   apart = λ i k l inside. was.apart i k l (omega (arith, length_push placed a));
   blank = was.blank;
+  none = was.none;
 }
 
 -- ---- the whole path
@@ -473,6 +491,7 @@ pub record IsPlacing (p : ProjectData) (a : Placed) (afters table : List (List �
   pub rising : IsRising (slice_range later s.end new.end)
   pub left : (r t : ℕ) → r < 8 → a.start ≤ t → left_at new.free (slice_range later s.end new.end) r t + cond (nat_lt t finish) (get_or row.request r 0) 0 ≡ left_at s.free (slice_range (take s.end running) s.begin s.end) r t
   pub blank : IsBlank p new
+  pub none : AreNone (renewables p) later
 
 pub path_push : (p : ProjectData) (placed : List Placed) (a : Placed) (reserved : ℕ) (lines : Table) (table afters : List (List ℕ)) (stages : List Stage) (running later : List Running) (new : Stage) (less ends readies soon : List ℕ) (row : Row) (finish : ℕ) → IsPath p placed reserved lines table afters stages running ends readies → IsInside p a → is_eligible p placed a.activity ≡ true → is_allowed p placed a.activity a.mode a.start ≡ true → last_start placed ≤ a.start → length placed < size p → IsPlacing p a afters table running later (get_or stages (length placed) no_stage) new less ends readies soon row finish → IsPath p (placed ++ a ∷ []) reserved lines table afters (set stages (length placed + 1) new) later (set ends a.activity finish) soon
 path_push p placed a reserved lines table afters stages running later new less ends readies soon row finish was inside may fits above room steps =
@@ -507,7 +526,7 @@ path_push p placed a reserved lines table afters stages running later new less e
       never = never;
       readied = readied_push p placed a missing (set ends a.activity finish) readies soon table afters board inside.activity new_one missed noted was.before was.after renewed was.readied;
       entered = entered_push p placed a was.entered may;
-      staged = stages_push p placed a running later stages new room was.staged steps.long (sym steps.same) steps.behind (stage_push p placed a running later s new row finish was.board board inside above steps.ends_at steps.own here entered steps.slack steps.begins steps.behind steps.few steps.starts steps.rising steps.left) steps.blank;
+      staged = stages_push p placed a running later stages new room was.staged steps.long (sym steps.same) steps.behind (stage_push p placed a running later s new row finish was.board board inside above steps.ends_at steps.own here entered steps.slack steps.begins steps.behind steps.few steps.starts steps.rising steps.left) steps.blank steps.none;
     }
 
 pub path_pop : (p : ProjectData) (placed rest : List Placed) (a : Placed) (reserved memory : ℕ) (lines : Table) (table afters : List (List ℕ)) (stages : List Stage) (running : List Running) (ends readies : List ℕ) → placed ≡ rest ++ a ∷ [] → memory ≡ reserved → IsPath p placed reserved lines table afters stages running ends readies → IsPath p rest memory lines table afters stages running (set ends a.activity 4294967295) readies
@@ -553,8 +572,8 @@ next_is p placed words from (Some j) own others next =
     }
 
 -- nothing is placed
-pub path_first : (p : ProjectData) (reserved : ℕ) (lines : Table) (table afters : List (List ℕ)) (words : List ℕ) (stage : Stage) (stages : List Stage) (running : List Running) (ends readies : List ℕ) → IsProject p → reserved ≡ size p → IsLines p lines → HasBefore p (size p) table → HasAfter p (size p) afters → length ends ≡ size p → ((j : ℕ) → j < size p → get_or ends j 0 ≡ 4294967295) → AreReadied p [] readies → length stages ≡ size p + 1 → length running ≡ triangle (size p) → ((i : ℕ) → i < length stages → get_or stages i no_stage ≡ stage) → IsFirstStage p words stage → ((j : ℕ) → j < size p → has words j ≡ (length (get_or table j []) == 0)) → ((j : ℕ) → size p ≤ j → j < 256 → has words j ≡ false) → IsPath p [] reserved lines table afters stages running ends readies
-path_first p reserved lines table afters words stage stages running ends readies project memory tabled before after long never readied count room first start members others = record {
+pub path_first : (p : ProjectData) (reserved : ℕ) (lines : Table) (table afters : List (List ℕ)) (words : List ℕ) (stage : Stage) (stages : List Stage) (running : List Running) (ends readies : List ℕ) → IsProject p → reserved ≡ size p → IsLines p lines → HasBefore p (size p) table → HasAfter p (size p) afters → length ends ≡ size p → ((j : ℕ) → j < size p → get_or ends j 0 ≡ 4294967295) → AreReadied p [] readies → length stages ≡ size p + 1 → length running ≡ triangle (size p) → AreNone (renewables p) running → ((i : ℕ) → i < length stages → get_or stages i no_stage ≡ stage) → IsFirstStage p words stage → ((j : ℕ) → j < size p → has words j ≡ (length (get_or table j []) == 0)) → ((j : ℕ) → size p ≤ j → j < 256 → has words j ≡ false) → IsPath p [] reserved lines table afters stages running ends readies
+path_first p reserved lines table afters words stage stages running ends readies project memory tabled before after long never readied count room none first start members others = record {
   board = board_empty p project;
   memory = memory;
   tabled = tabled;
@@ -568,6 +587,7 @@ path_first p reserved lines table afters words stage stages running ends readies
   staged = record {
     count = count;
     room = room;
+    none = none;
     each = λ i l. let none : i ≡ 0 = omega arith in rw (none, first 0 (omega (arith, count))) here;
     apart = λ i k l inside. let none : k ≡ 0 = omega arith in let too : i ≡ 0 = omega (arith, l, none) in rw (none, too) (omega arith);
     blank = λ i l. rw (first i l) (record {
@@ -603,6 +623,10 @@ path_first p reserved lines table afters words stage stages running ends readies
       last = start.from ∙ sym last_start_none;
     }
 
+-- what nothing is of is nothing of less
+pub none_more : (kinds lanes : ℕ) (running : List Running) → kinds ≤ lanes → AreNone kinds running → AreNone lanes running
+none_more kinds lanes running enough all k d l r past among = all k d l r (omega (arith, past, enough)) among
+
 -- there is a place for the list of one more, and its request is left
 pub record HasPlace (p : ProjectData) (a : Placed) (running : List Running) (s : Stage) (row : Row) (finish : ℕ) : Type 0 where
   pub order : s.begin ≤ s.end
@@ -623,7 +647,7 @@ has_place p placed a running stages row finish board was more inside own ends ab
       rising = rw same here.front.rising;
       few = rw same (λ r t l. omega (arith, front_most p placed (last_start placed) s.free (slice_range running s.begin s.end) here.front r t l, capacity_small p r board.project));
       beyond = rw same (λ lanes enough. left_none p placed (last_start placed) lanes s.free (slice_range running s.begin s.end) here.front enough);
-      room = rw same (λ some r l. front_enough p placed a.activity a.mode (last_start placed) s.free (slice_range running s.begin s.end) row.request board.project inside.activity inside.mode (omega (arith, some, ends)) here.front own.request a.start above fits r l);
+      room = rw same (λ _ r l. front_enough p placed a.activity a.mode (last_start placed) s.free (slice_range running s.begin s.end) row.request board.project inside.activity inside.mode here.front own.request a.start above fits r l);
     }
 
 zero_at : (w : ℕ) → get_or {A = ℕ} (0 ∷ 0 ∷ 0 ∷ 0 ∷ []) w 0 ≡ 0

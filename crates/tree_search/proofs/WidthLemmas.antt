@@ -12,13 +12,13 @@ use Rattle.tree_search.specs.declared.table.Row.{Row}
 use Rattle.tree_search.specs.Front.{IsFrontOf, left_at}
 use Rattle.tree_search.specs.Table.{IsLine}
 use Rattle.tree_search.specs.Width.{IsNone}
-use Rattle.tree_search.proofs.PlacedLemmas.{front_most}
+use Rattle.tree_search.proofs.PlacedLemmas.{asks_most, front_most}
 
 pub extra_none : (p : ProjectData) (j m lanes : ℕ) (row : Row) → IsProject p → j < size p → m < mode_count p j → IsLine p j m row → nonrenewables p ≤ lanes → IsNone lanes row.extra
 extra_none p j m lanes row project inside known own enough r past among = omega (arith, own.extra r among, consumption_past p j m r project inside known (omega (arith, past, enough)))
 
 pub request_none : (p : ProjectData) (j m lanes : ℕ) (row : Row) → IsProject p → j < size p → m < mode_count p j → IsLine p j m row → renewables p ≤ lanes → IsNone lanes row.request
-request_none p j m lanes row project inside known own enough r past among = omega (arith, own.request r among, request_past p j m r project inside known (omega (arith, past, enough)))
+request_none p j m lanes row project inside known own enough r past among = omega (arith, asks_most p j m row.request own.request r among, request_past p j m r project inside known (omega (arith, past, enough)))
 
 pub left_none : (p : ProjectData) (placed : List Placed) (from lanes : ℕ) (free : List ℕ) (running : List Running) → IsFrontOf p placed from free running → renewables p ≤ lanes → (r t : ℕ) → lanes ≤ r → r < 8 → left_at free running r t ≡ 0
 left_none p placed from lanes free running front enough r t past among = omega (arith, front_most p placed from free running front r t among, capacity_past p r (omega (arith, past, enough)))

@@ -1,13 +1,18 @@
 -- What is free from a time on: what is free then, and what the running activities give back.
-use Rattle.std.specs.Prelude.{◌≡◌, ℕ, ◌+◌, ◌<◌, ◌≤◌, ◌⊎◌, cond, nat_le, List, [], length, get_or, sum_by}
+use Rattle.std.specs.Prelude.{◌≡◌, ℕ, ◌+◌, ◌<◌, ◌≤◌, ◌⊎◌, cond, nat_le, All, List, [], length, get_or, sum_by}
 use Rattle.mrcpsp.specs.declared.limits.TheConstants.{MOST_RESOURCES}
-use Rattle.mrcpsp.specs.Project.{ProjectData, capacity, request}
+use Rattle.mrcpsp.specs.Project.{ProjectData, capacity, duration, request}
 use Rattle.mrcpsp.specs.Placed.{Placed, placed_use}
 use Rattle.tree_search.specs.declared.front.Running.{Running}
+use Rattle.tree_search.specs.Width.{IsNone}
 
 -- the default for a missing one
 abbrev pub no_running : Running
 no_running = record { request = []; finish = 0 }
+
+-- nothing of a resource behind the first lanes, in each of them
+abbrev pub AreNone : ℕ → List Running → Type 0
+AreNone lanes running = All (λ a. IsNone lanes a.request) running
 
 -- the finish of running activity k
 abbrev pub finish_at : List Running → ℕ → ℕ
@@ -44,3 +49,8 @@ pub record IsFrontOf (p : ProjectData) (placed : List Placed) (from : ℕ) (free
 -- what a mode asks for in each of its periods
 abbrev pub IsRequest : ProjectData → ℕ → ℕ → List ℕ → Type 0
 IsRequest p j m asked = (r : ℕ) → r < MOST_RESOURCES → get_or asked r 0 ≡ request p j m r
+
+-- a mode that takes no time asks for nothing, whatever its row in the file says
+pub record AsksFor (p : ProjectData) (j m : ℕ) (asked : List ℕ) : Type 0 where
+  pub some : 0 < duration p j m → IsRequest p j m asked
+  pub none : duration p j m ≡ 0 → IsNone 0 asked

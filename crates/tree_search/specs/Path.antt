@@ -10,7 +10,7 @@ use Rattle.mrcpsp.specs.Placed.{Placed, finish_of, is_eligible, is_placed, last_
 use Rattle.serial_sgs.specs.Board.{IsBoard, needed_of}
 use Rattle.serial_sgs.specs.Members.{has}
 use Rattle.serial_sgs.specs.Order.{AreReadied, HasAfter, HasBefore, IsLatest}
-use Rattle.tree_search.specs.Front.{IsFrontOf}
+use Rattle.tree_search.specs.Front.{AreNone, IsFrontOf}
 use Rattle.tree_search.specs.declared.front.Running.{Running}
 use Rattle.tree_search.specs.declared.path.Stage.{Stage}
 use Rattle.tree_search.specs.declared.table.Table.{Table}
@@ -53,6 +53,7 @@ pub record AreStages (p : ProjectData) (placed : List Placed) (running : List Ru
   pub each : (i : ℕ) → i ≤ length placed → IsStage p (take i placed) running (get_or stages i no_stage)
   pub apart : (i k : ℕ) → i ≤ k → k ≤ length placed → (get_or stages i no_stage).end ≤ (get_or stages k no_stage).end
   pub blank : (i : ℕ) → i < length stages → IsBlank p (get_or stages i no_stage)
+  pub none : AreNone (renewables p) running
 
 -- each of them was eligible when it was placed
 abbrev pub WereEligible : ProjectData → List Placed → Type 0
@@ -77,6 +78,10 @@ pub record IsPath (p : ProjectData) (placed : List Placed) (reserved : ℕ) (lin
 abbrev pub AreDone : List ℕ → List ℕ → Type 0
 AreDone before ends = (k : ℕ) → k < length before → get_or ends (get_or before k 0) 0 < NEVER
 
+-- each activity in `after` has a predecessor
+abbrev pub AreReached : List (List ℕ) → List ℕ → Type 0
+AreReached table after = (k : ℕ) → k < length after → 0 < length (get_or table (get_or after k 0) [])
+
 -- those in `after` whose predecessors are all placed are members now, ready at the latest of their
 -- finishes. All others stay as they were
 pub record HasEntered (after : List ℕ) (table : List (List ℕ)) (ends words readies now later : List ℕ) : Type 0 where
@@ -88,6 +93,18 @@ pub record HasEntered (after : List ℕ) (table : List (List ℕ)) (ends words r
 -- if mode m of activity j may be placed by its resources, then with its tail it takes `limit` or longer
 abbrev pub IsHopeless : ProjectData → List Placed → ℕ → ℕ → ℕ → Type 0
 IsHopeless p placed j m limit = is_allowed_mode p placed j m ≡ true → limit ≤ duration p j m + tail p j
+
+-- each mode m of activity j, from ≤ m < end, is hopeless
+abbrev pub AreHopeless : ProjectData → List Placed → ℕ → ℕ → ℕ → ℕ → Type 0
+AreHopeless p placed j limit from end = (m : ℕ) → from ≤ m → m < end → IsHopeless p placed j m limit
+
+-- the first mode of activity j, from ≤ mode < end, that may be placed by its resources, and behind
+-- hopeless ones alone
+pub record IsFirstHopeful (p : ProjectData) (placed : List Placed) (j limit from end mode : ℕ) : Type 0 where
+  pub above : from ≤ mode
+  pub inside : mode < end
+  pub hopeless : AreHopeless p placed j limit from mode
+  pub allowed : is_allowed_mode p placed j mode ≡ true
 
 -- no difference of what is left and what is taken, modulo 2^32, has the highest bit
 abbrev pub IsCovered : List ℕ → List ℕ → Type 0

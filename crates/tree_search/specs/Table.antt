@@ -2,9 +2,10 @@
 use Rattle.std.specs.Prelude.{◌≡◌, ℕ, ◌+◌, ◌<◌, true, false, List, [], length, get_or}
 use Rattle.mrcpsp.specs.declared.limits.TheConstants.{MOST_RESOURCES}
 use Rattle.mrcpsp.specs.Numbers.{sum_below}
-use Rattle.mrcpsp.specs.Project.{ProjectData, size, mode_count, duration, request, consumption}
+use Rattle.mrcpsp.specs.Project.{ProjectData, size, mode_count, duration, consumption}
 use Rattle.mrcpsp.specs.Values.{least, tail}
 use Rattle.mrcpsp.specs.Placed.{is_executable}
+use Rattle.tree_search.specs.Front.{AsksFor}
 use Rattle.tree_search.specs.declared.table.Row.{Row}
 use Rattle.tree_search.specs.declared.table.ModeRows.{ModeRows}
 use Rattle.tree_search.specs.declared.table.Table.{Table}
@@ -14,11 +15,12 @@ use Rattle.tree_search.specs.declared.table.TheConstants.{NEVER}
 abbrev pub no_row : Row
 no_row = record { extra = []; request = []; duration = 0; reach = 0 }
 
--- the row of mode m of activity j: its consumption beyond the activity's least one, its requests,
--- its duration, and that with the tail. A mode that is not executable reaches beyond all times
+-- the row of mode m of activity j: its consumption beyond the activity's least one, its requests, or
+-- nothing if it takes no time, its duration, and that with the tail. A mode that is not executable
+-- reaches beyond all times
 pub record IsLine (p : ProjectData) (j m : ℕ) (row : Row) : Type 0 where
   pub extra : (r : ℕ) → r < MOST_RESOURCES → get_or row.extra r 0 + least p j r ≡ consumption p j m r
-  pub request : (r : ℕ) → r < MOST_RESOURCES → get_or row.request r 0 ≡ request p j m r
+  pub request : AsksFor p j m row.request
   pub reach : is_executable p j m ≡ true → row.reach ≡ duration p j m + tail p j
   pub never : is_executable p j m ≡ false → row.reach ≡ NEVER
   pub duration : row.duration ≡ duration p j m

@@ -4,9 +4,9 @@
 ghost use Rattle.std.specs.Prelude.{◌≡◌, ℕ, ◌+◌, ◌-◌, ◌<◌, ◌≤◌, cond, nat_lt, drop, take, length, slice_index};
 ghost use Rattle.std.specs.List.{slice_range};
 ghost use Rattle.tree_search.specs.Width.{IsNone};
-ghost use Rattle.tree_search.specs.Front.{IsFirstRoom, IsRising, finish_at, left_at, returned};
+ghost use Rattle.tree_search.specs.Front.{AreNone, IsFirstRoom, IsRising, finish_at, left_at, returned};
 
-use crate::amounts::{add, fits, subtract};
+use crate::amounts::{add, copy_lanes, fits, subtract};
 use mrcpsp::MOST_RESOURCES;
 use serial_sgs::amounts::{Amounts, MOST_SUM};
 
@@ -15,6 +15,21 @@ use serial_sgs::amounts::{Amounts, MOST_SUM};
 pub(crate) struct Running {
     pub(crate) request: Amounts,
     pub(crate) finish: u32,
+}
+
+impl Running {
+    /// Overwrites all of it. What the lanes leave out is 0 in both.
+    #[inline(always)]
+    fn overwrite(&mut self, new: &Running, lanes: usize)
+        requires lanes { lanes ≤ MOST_RESOURCES }
+        requires none { IsNone lanes new.now.request }
+        requires beyond { IsNone lanes self.old.request }
+        ensures { self.new ≡ new.now }
+    {
+        let request = new.request;
+        copy_lanes(&mut self.request, &request, lanes);
+        self.finish = new.finish;
+    }
 }
 
 /// A `Span` is the places of a list of running activities: from `begin` on, before `end`.
@@ -84,7 +99,11 @@ fn put_till(
     running: &[Running],
     from: usize,
     bound: u32,
+    lanes: usize,
 ) -> (usize, usize)
+    requires lanes { lanes ≤ MOST_RESOURCES }
+    requires none { AreNone lanes running.now }
+    requires beyond { AreNone lanes later.old }
     requires inside { from ≤ length running.now }
     requires memory { filled + length running.now ≤ length later.old + from }
     requires rising { IsRising running.now }
@@ -103,11 +122,12 @@ fn put_till(
     ensures kept { (r t : ℕ) → returned (take result.1 later.new) r t + returned (drop result.0 running.now) r t
         ≡ returned (take filled later.old) r t + returned (drop from running.now) r t }
     ensures late { (k : ℕ) → result.0 ≤ k → k < length running.now → bound < finish_at running.now k }
+    ensures none { (kinds : ℕ) → AreNone kinds running.now → AreNone kinds later.old → AreNone kinds later.new }
 {
     let mut at = from;
     let mut end = filled;
     while at < running.len() && running[at].finish <= bound {
-        later[end] = running[at];
+        later[end].overwrite(&running[at], lanes);
         at += 1;
         end += 1;
     }
@@ -127,6 +147,8 @@ fn run_into(
 ) -> usize
     requires lanes { lanes ≤ MOST_RESOURCES }
     requires none { IsNone lanes new.request }
+    requires listed { AreNone lanes running.now }
+    requires blank { AreNone lanes later.old }
     requires beyond { (r t : ℕ) → lanes ≤ r → r < MOST_RESOURCES → left_at free.old running.now r t ≡ 0 }
     requires memory { length running.now + 1 ≤ length later.old }
     requires rising { IsRising running.now }
@@ -135,6 +157,8 @@ fn run_into(
         → slice_index new.request r ≤ left_at free.old running.now r start }
     ensures memory { length later.new ≡ length later.old }
     ensures count { result ≤ length running.now + 1 }
+    ensures none { (kinds : ℕ) → IsNone kinds new.request → AreNone kinds running.now → AreNone kinds later.old
+        → AreNone kinds later.new }
     ensures rising { IsRising (take result later.new) }
     ensures kept { (r t : ℕ) → r < MOST_RESOURCES → start ≤ t
         → left_at free.new (take result later.new) r t + cond (nat_lt t new.finish) (slice_index new.request r) 0
@@ -142,13 +166,13 @@ fn run_into(
 {
     let first = give_back(free, running, start, lanes);
     if new.finish <= start {
-        let (_, end) = put_till(later, 0, running, first, u32::MAX);
+        let (_, end) = put_till(later, 0, running, first, u32::MAX, lanes);
         return end;
     }
     subtract(free, &new.request, lanes);
-    let (middle, place) = put_till(later, 0, running, first, new.finish);
-    later[place] = new;
-    let (_, end) = put_till(later, place + 1, running, middle, u32::MAX);
+    let (middle, place) = put_till(later, 0, running, first, new.finish, lanes);
+    later[place].overwrite(&new, lanes);
+    let (_, end) = put_till(later, place + 1, running, middle, u32::MAX, lanes);
     end
 }
 
@@ -165,6 +189,7 @@ pub(crate) fn run_in(
 ) -> usize
     requires lanes { lanes ≤ MOST_RESOURCES }
     requires none { IsNone lanes new.request }
+    requires blank { AreNone lanes list.old }
     requires beyond { (r t : ℕ) → lanes ≤ r → r < MOST_RESOURCES
         → left_at free.old (slice_range (take span.end list.old) span.begin span.end) r t ≡ 0 }
     requires order { span.begin ≤ span.end }
@@ -176,6 +201,7 @@ pub(crate) fn run_in(
         → slice_index new.request r ≤ left_at free.old (slice_range (take span.end list.old) span.begin span.end) r start }
     ensures memory { length list.new ≡ length list.old }
     ensures same { take span.end list.new ≡ take span.end list.old }
+    ensures none { (kinds : ℕ) → IsNone kinds new.request → AreNone kinds list.old → AreNone kinds list.new }
     ensures above { span.end ≤ result }
     ensures count { result + span.begin ≤ span.end + span.end + 1 }
     ensures rising { IsRising (slice_range list.new span.end result) }

@@ -11,10 +11,11 @@ ghost use Rattle.serial_sgs.specs.Board.{needed_of};
 ghost use Rattle.serial_sgs.specs.Members.{has};
 ghost use Rattle.serial_sgs.specs.Order.{HasBefore, IsLatest};
 ghost use Rattle.serial_sgs.specs.Rows.{IsTable};
+ghost use Rattle.tree_search.specs.Front.{AreNone};
 ghost use Rattle.tree_search.specs.Table.{IsLines};
 ghost use Rattle.tree_search.specs.Width.{HasWidth, IsNone};
 ghost use Rattle.tree_search.specs.declared.width.Width.TheVariants.{Small};
-ghost use Rattle.tree_search.specs.Path.{AreDone, HasEntered, IsCovered, IsFirstStage, IsHopeless, IsTaken, triangle};
+ghost use Rattle.tree_search.specs.Path.{AreDone, AreHopeless, AreReached, HasEntered, IsCovered, IsFirstHopeful, IsFirstStage, IsTaken, triangle};
 
 use crate::amounts::{copy_lanes, is_covered, take_off};
 use crate::front::{Running, Span, earliest, run_in};
@@ -128,6 +129,19 @@ fn places_of_lists(size: usize) -> usize
     places
 }
 
+/// Memory for all lists of running activities.
+fn memory_of_lists(alloc: Global, size: usize) -> Result<Vec<Running>, AllocError>
+    requires { size ≤ 202 }
+    ensures count { IfOk result (λ running. length running.items ≡ triangle size) }
+    ensures none { IfOk result (λ running. AreNone 0 running.items) }
+{
+    let none = Running {
+        request: [0; MOST_RESOURCES],
+        finish: NEVER,
+    };
+    Ok(vec![in alloc; none; places_of_lists(size)]?)
+}
+
 /// Who may come first: the activities without predecessors.
 fn first_eligible(before: &[Sequence<u32>]) -> [u64; 4]
     requires { length before.now ≤ 256 }
@@ -199,30 +213,23 @@ fn is_hopeless(row: &Row, slack: &Amounts, limit: u32, lanes: usize) -> bool
     limit <= row.reach || !is_covered(&row.extra, slack, lanes)
 }
 
-/// Whether the last of the activities in `before` is not placed: the likeliest one.
-#[inline(always)]
-fn is_last_missing(before: &[u32], finishes: &[u32]) -> bool
-    requires { (k : ℕ) → k < length before.now → get_or before.now k 0 < length finishes.now }
-    ensures { IsTrue result → AreDone before.now finishes.now → ⊥ }
-{
-    let count = before.len();
-    count > 0 && finishes[before[count - 1] as usize] == NEVER
-}
-
-/// The latest finish of the activities in `before`, `NEVER` if one of them is not placed.
+/// The latest finish of the activities in `before`, `NEVER` if one of them is not placed. The last
+/// one is the likeliest not to be, and is looked at first.
 #[inline(always)]
 fn latest_done(before: &[u32], finishes: &[u32]) -> u32
-    requires { (k : ℕ) → k < length before.now → get_or before.now k 0 < length finishes.now }
+    requires some { 0 < length before.now }
+    requires named { (k : ℕ) → k < length before.now → get_or before.now k 0 < length finishes.now }
     ensures latest { result < NEVER → IsLatest before.now finishes.now result }
     ensures done { result < NEVER → AreDone before.now finishes.now }
     ensures undone { NEVER ≤ result → AreDone before.now finishes.now → ⊥ }
 {
-    if is_last_missing(before, finishes) {
+    let last = before.len() - 1;
+    let mut latest = finishes[before[last] as usize];
+    if latest == NEVER {
         return NEVER;
     }
-    let mut latest: u32 = 0;
-    for other in before {
-        let finish = finishes[*other as usize];
+    for place in 0..last {
+        let finish = finishes[before[place] as usize];
         if finish == NEVER {
             return NEVER;
         }
@@ -258,6 +265,7 @@ fn enlist(
     requires inside { All (λ s. s < length readies.old.items) after.now }
     requires few { length readies.old.items ≤ 256 }
     requires listed { length before.now ≡ length readies.old.items }
+    requires reached { AreReached before.now after.now }
     requires named { (j k : ℕ) → j < length before.now → k < length (get_or before.now j [])
         → get_or (get_or before.now j []) k 0 < length finishes.now }
     ensures { HasEntered after.now before.now finishes.now eligible.old readies.old.items eligible.new
@@ -292,12 +300,7 @@ impl Path {
         let placed = Vec::with_capacity(alloc, size)?;
         let after = successors(alloc, project)?;
         let stages = stages_of(alloc, stage, size + 1)?;
-        let request = stage.free;
-        let none = Running {
-            request,
-            finish: NEVER,
-        };
-        let running = vec![in alloc; none; places_of_lists(size)]?;
+        let running = memory_of_lists(alloc, size)?;
         let finishes = filled(alloc, NEVER, size)?;
         let readies = filled(alloc, 0, size)?;
         let project = project.clone_in(alloc)?;
@@ -378,7 +381,7 @@ impl Path {
     }
 
     /// The first of the modes from `from` on, before `end`, that is allowed and takes less than
-    /// `limit` with its tail. Returns `end` if there is none.
+    /// `limit` with its tail.
     #[inline(always)]
     pub(crate) fn first_hopeful(
         &self,
@@ -387,28 +390,26 @@ impl Path {
         end: usize,
         limit: u32,
         width: Width,
-    ) -> usize
+    ) -> Option<usize>
         requires width { HasWidth self.now.project width }
         requires activity { activity < size self.now.project }
         requires order { from < end }
         requires within { end ≤ mode_count self.now.project activity }
         requires eligible { IsTrue (is_eligible self.now.project self.now.placed activity) }
-        ensures above { from ≤ result }
-        ensures inside { result ≤ end }
-        ensures hopeless { (m : ℕ) → from ≤ m → m < result
-            → IsHopeless self.now.project self.now.placed activity m limit }
-        ensures allowed { result < end → is_allowed_mode self.now.project self.now.placed activity result ≡ true }
+        ensures { MatchOption result
+            (AreHopeless self.now.project self.now.placed activity limit from end)
+            (IsFirstHopeful self.now.project self.now.placed activity limit from end) }
     {
         let rows = self.table.modes(activity, from, end);
         let slack = self.stages[self.placed.len()].slack;
         let mut at = 0;
         loop {
             if !is_hopeless(&rows[at], &slack, limit, width.lanes()) {
-                return from + at;
+                return Some(from + at);
             }
             at += 1;
             if at == rows.len() {
-                return end;
+                return None;
             }
         }
     }
@@ -446,9 +447,6 @@ impl Path {
     {
         let ready = self.ready(activity);
         let row = self.table.row(activity, mode);
-        if row.duration == 0 {
-            return ready;
-        }
         let stage = &self.stages[self.placed.len()];
         earliest(
             &stage.free,

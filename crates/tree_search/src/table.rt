@@ -7,7 +7,7 @@ ghost use Rattle.serial_sgs.specs.Rows.{IsTable};
 ghost use Rattle.tree_search.specs.Table.{AreModes, AreSome, IsLine, IsLines, modes_before};
 
 use measures::Measures;
-use mrcpsp::Project;
+use mrcpsp::{MOST_RESOURCES, Project};
 use serial_sgs::amounts::Amounts;
 use serial_sgs::rows::Rows;
 use std::alloc::{AllocError, Global};
@@ -20,7 +20,7 @@ pub(crate) const NEVER: u32 = u32::MAX;
 pub(crate) struct Row {
     /// The consumption beyond the activity's least one.
     pub(crate) extra: Amounts,
-    /// The use in each period of the activity.
+    /// The use in each period of the activity, nothing if there is none.
     pub(crate) request: Amounts,
     /// In periods.
     pub(crate) duration: u32,
@@ -56,9 +56,14 @@ fn row_of(project: &Project, rows: &Rows, measures: &Measures, activity: usize, 
     } else {
         NEVER
     };
+    let request = if row.duration == 0 {
+        [0; MOST_RESOURCES]
+    } else {
+        row.request
+    };
     Row {
         extra: row.extra,
-        request: row.request,
+        request,
         duration: row.duration,
         reach,
     }

@@ -7,13 +7,21 @@ use Rattle.tree_search.proofs.path.enlist.Goals.{then-latest-lt-NEVER, else-late
 pub loop-other-init : goal.loop-other-init
 loop-other-init c = entered_none c.args.before.now c.args.finishes.now c.args.eligible.now c.args.readies.now.items
 
-pub latest_done-latest-requires : goal.latest_done-latest-requires
-latest_done-latest-requires c =
+pub latest_done-latest-requires-clause-named : goal.latest_done-latest-requires-clause-named
+latest_done-latest-requires-clause-named c =
     let i = c.loop-other.other-index in
     let s : ℕ = get_or c.args.after.now i 0 in
     let known : s < length c.args.before.now = omega (arith, c.requires.inside i 0 c.loop-other-test.true, c.requires.listed) in
     let list : c.as_slice.result.now ≡ get_or c.args.before.now s [] = c.as_slice.ensures ∙ c.index-before-activity.is ∙ get_or_default c.args.before.now s c.index-before-activity.result [] known in
     subst (λ (xs : List ℕ). (k : ℕ) → k < length xs → get_or xs k 0 < length c.args.finishes.now) (sym list) (λ k l. c.requires.named s k known l)
+
+pub latest_done-latest-requires-clause-some : goal.latest_done-latest-requires-clause-some
+latest_done-latest-requires-clause-some c =
+    let i = c.loop-other.other-index in
+    let s : ℕ = get_or c.args.after.now i 0 in
+    let known : s < length c.args.before.now = omega (arith, c.requires.inside i 0 c.loop-other-test.true, c.requires.listed) in
+    let list : c.as_slice.result.now ≡ get_or c.args.before.now s [] = c.as_slice.ensures ∙ c.index-before-activity.is ∙ get_or_default c.args.before.now s c.index-before-activity.result [] known in
+    rw list (c.requires.reached i c.loop-other-test.true)
 
 pub loop-other-preserved : goal.loop-other-preserved
 loop-other-preserved c =

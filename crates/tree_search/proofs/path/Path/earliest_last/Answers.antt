@@ -1,15 +1,14 @@
 use Rattle.std.proofs.Common.{◌≡◌, ℕ, ◌<◌, ◌≤◌, true, nat_le, get_or, length, arith, ap, ◌∙◌}
 use Rattle.std.proofs.lemmas.List.{get_or_default}
-use Rattle.mrcpsp.specs.Project.{size, renewables, mode_count, duration}
+use Rattle.mrcpsp.specs.Project.{size, renewables, mode_count}
 use Rattle.mrcpsp.specs.Placed.{are_ready, earliest, is_executable, last_start}
 use Rattle.mrcpsp.proofs.EarliestLemmas.{earliest-allowed, earliest-ge}
 use Rattle.mrcpsp.proofs.BoundLemmas.{earliest-le-latest}
 use Rattle.serial_sgs.proofs.BoardLemmas.{count-le-size}
 use Rattle.serial_sgs.proofs.RowLemmas.{capacity_small, request_small}
-use Rattle.serial_sgs.proofs.WalkLemmas.{at_once}
 use Rattle.tree_search.specs.Path.{no_stage}
 use Rattle.tree_search.proofs.PathLemmas.{stage_here, triangle_rises, triangle_small}
-use Rattle.tree_search.proofs.PlacedLemmas.{front_earliest, front_enough, front_most}
+use Rattle.tree_search.proofs.PlacedLemmas.{asks_most, front_earliest, front_enough, front_most}
 use Rattle.tree_search.specs.Width.{HasWidth}
 use Rattle.tree_search.proofs.WidthLemmas.{left_none, request_none}
 use Rattle.tree_search.proofs.path.Path.earliest_last.Goals as goal
@@ -18,30 +17,6 @@ pub row-row-requires : goal.row-row-requires
 row-row-requires c =
     let b = c.self.inside in
     (b.project, c.self.invariant.tabled, rw (← c.self.view_is) at c.requires.activity, rw (← c.self.view_is) at c.requires.mode, c.self.invariant.board.project)
-
--- what takes no time starts as soon as it is ready
-pub returns-then-row-eq0-clause-exact : goal.returns-then-row-eq0-clause-exact
-returns-then-row-eq0-clause-exact c =
-    let b = c.self.inside in
-    let p = b.project in
-    let placed = b.placed.items in
-    let j = c.args.activity in
-    let m = c.args.mode in
-    let known : j < size p = rw (← c.self.view_is) at c.requires.activity in
-    let moded : m < mode_count p j = rw (← c.self.view_is) at c.requires.mode in
-    let can : is_executable p j m ≡ true = rw (← c.self.view_is) at c.requires.executable in
-    let row = c.row-row.ensures p c.self.invariant.tabled known moded in
-    let from : ℕ = last_start placed in
-    let ready : ℕ = c.ready-ready.result in
-    let above : from ≤ ready = rw (← c.self.view_is) at c.ready-ready.ensures.above in
-    let exact : (t : ℕ) → from ≤ t → are_ready p placed j t ≡ nat_le ready t = rw (← c.self.view_is) at c.ready-ready.ensures.exact in
-    rw (← c.self.view_is) (at_once p placed j m from ready can above exact (omega (arith, c.if-row-eq0.true, row.duration)))
-
-pub returns-then-row-eq0-clause-allowed : goal.returns-then-row-eq0-clause-allowed
-returns-then-row-eq0-clause-allowed c = rw (returns-then-row-eq0-clause-exact c) (earliest-allowed c.args.self.now.project c.args.self.now.placed c.args.activity c.args.mode (last_start c.args.self.now.placed) c.requires.executable)
-
-pub returns-then-row-eq0-clause-within : goal.returns-then-row-eq0-clause-within
-returns-then-row-eq0-clause-within c = rw (returns-then-row-eq0-clause-exact c) (earliest-le-latest c.args.self.now.project c.args.self.now.placed c.args.activity c.args.mode (last_start c.args.self.now.placed) c.requires.executable)
 
 pub earliest-requires : goal.earliest-requires
 earliest-requires c =
@@ -62,7 +37,6 @@ earliest-requires c =
     let front = here.front in
     let from : ℕ = last_start placed in
     let e : ℕ = earliest p placed j m from in
-    let some : 0 < duration p j m = omega (arith, c.if-row-eq0.false, row.duration) in
     let wide : HasWidth p c.args.width = rw (← c.self.view_is) at c.requires.width in
     let enough : renewables p ≤ c.lanes.result = omega (arith, c.lanes.ensures.exact, wide.renewable) in
     rw c.deref.ensures.value (record {
@@ -70,12 +44,12 @@ earliest-requires c =
       none = request_none p j m c.lanes.result c.row-row.result.now was.board.project known moded row enough;
       beyond = left_none p placed from c.lanes.result c.index-stage.result.now.free _ front enough;
       rising = front.rising;
-      small = λ r among. omega (arith, row.request r among, request_small p j m r was.board.project known moded);
+      small = λ r among. omega (arith, asks_most p j m c.row-row.result.now.request row.request r among, request_small p j m r was.board.project known moded);
       few = λ r t among. omega (arith, front_most p placed from c.index-stage.result.now.free _ front r t among, capacity_small p r was.board.project);
-      enough = (e, front_enough p placed j m from c.index-stage.result.now.free _ c.row-row.result.now.request was.board.project known moded some front row.request e (earliest-ge p placed j m from) (earliest-allowed p placed j m from can));
+      enough = (e, front_enough p placed j m from c.index-stage.result.now.free _ c.row-row.result.now.request was.board.project known moded front row.request e (earliest-ge p placed j m from) (earliest-allowed p placed j m from can));
     })
 
--- else the first room is the earliest start
+-- the first room is the earliest start
 pub returns-clause-exact : goal.returns-clause-exact
 returns-clause-exact c =
     let b = c.self.inside in
@@ -96,8 +70,7 @@ returns-clause-exact c =
     let ready : ℕ = c.ready-ready.result in
     let above : from ≤ ready = rw (← c.self.view_is) at c.ready-ready.ensures.above in
     let exact : (t : ℕ) → from ≤ t → are_ready p placed j t ≡ nat_le ready t = rw (← c.self.view_is) at c.ready-ready.ensures.exact in
-    let some : 0 < duration p j m = omega (arith, c.if-row-eq0.false, row.duration) in
-    rw (← c.self.view_is) (front_earliest p placed j m from ready c.earliest.result c.index-stage.result.now.free _ c.row-row.result.now.request was.board.project known moded some here.front row.request can above exact (rw c.deref.ensures.value at c.earliest.ensures))
+    rw (← c.self.view_is) (front_earliest p placed j m from ready c.earliest.result c.index-stage.result.now.free _ c.row-row.result.now.request was.board.project known moded here.front row.request can above exact (rw c.deref.ensures.value at c.earliest.ensures))
 
 pub returns-clause-allowed : goal.returns-clause-allowed
 returns-clause-allowed c = rw (returns-clause-exact c) (earliest-allowed c.args.self.now.project c.args.self.now.placed c.args.activity c.args.mode (last_start c.args.self.now.placed) c.requires.executable)

@@ -48,8 +48,8 @@ loop-rows-preserved c =
           (cases_lt m (c.args.from + at));
     }
 
-pub returns-then-not-is_hopeless-clause-allowed : goal.returns-then-not-is_hopeless-clause-allowed
-returns-then-not-is_hopeless-clause-allowed c short =
+pub returns-then-not-is_hopeless : goal.returns-then-not-is_hopeless
+returns-then-not-is_hopeless c =
     let b = c.self.inside in
     let p = b.project in
     let placed = b.placed.items in
@@ -64,10 +64,15 @@ returns-then-not-is_hopeless-clause-allowed c short =
     let here = rw (← stage) at (stage_here p placed b.running.items b.stages.items was.staged) in
     let rows = c.modes-rows.ensures p was.tabled known (omega (arith, c.requires.order)) within in
     let at = c.loop-rows.at in
-    rw (← c.self.view_is) (covered_at p placed j (c.args.from + at) c.index.result.now.slack c.modes-rows.result.now at _ c.args.limit was.board known (omega (arith, within, short)) (eligible-unplaced p placed j may) here.slack c.loop-rows.invariant.inside (rows.each at c.loop-rows.invariant.inside) (omega (arith, c.ranges.limit.fits)) (c.is_hopeless.ensures.short c.if-not-is_hopeless.true) (c.is_hopeless.ensures.covered c.if-not-is_hopeless.true))
+    record {
+      above = omega arith;
+      inside = omega (arith, rows.count, c.loop-rows.invariant.inside);
+      hopeless = c.loop-rows.invariant.hopeless;
+      allowed = rw (← c.self.view_is) (covered_at p placed j (c.args.from + at) c.index.result.now.slack c.modes-rows.result.now at _ c.args.limit was.board known (omega (arith, within, rows.count, c.loop-rows.invariant.inside)) (eligible-unplaced p placed j may) here.slack c.loop-rows.invariant.inside (rows.each at c.loop-rows.invariant.inside) (omega (arith, c.ranges.limit.fits)) (c.is_hopeless.ensures.short c.if-not-is_hopeless.true) (c.is_hopeless.ensures.covered c.if-not-is_hopeless.true));
+    }
 
-pub returns-then-at-rows-clause-hopeless : goal.returns-then-at-rows-clause-hopeless
-returns-then-at-rows-clause-hopeless c m above below =
+pub returns-then-at-rows : goal.returns-then-at-rows
+returns-then-at-rows c m above below =
     let b = c.self.inside in
     let p = b.project in
     let placed = b.placed.items in

@@ -8,7 +8,7 @@ use Rattle.serial_sgs.specs.Board.{BoardData, IsInside}
 use Rattle.serial_sgs.proofs.BoardLemmas.{count-lt-size, duration_small}
 use Rattle.tree_search.specs.declared.path.Stage.{Stage}
 use Rattle.tree_search.specs.Path.{HasEntered, IsBlank, no_stage}
-use Rattle.tree_search.proofs.PathLemmas.{IsPlacing, blank_as, blank_push, entered_as, has_place, path_push, stage_here}
+use Rattle.tree_search.proofs.PathLemmas.{IsPlacing, blank_as, blank_push, entered_as, has_place, none_more, path_push, reached_in, stage_here}
 use Rattle.tree_search.specs.Width.{HasWidth}
 use Rattle.tree_search.proofs.WidthLemmas.{extra_none, request_none}
 use Rattle.tree_search.proofs.path.Path.place.Goals as goal
@@ -37,6 +37,13 @@ enlist-requires-clause-inside c =
 
 pub enlist-requires-clause-few : goal.enlist-requires-clause-few
 enlist-requires-clause-few c = omega (arith, c.self.invariant.readied.count, c.self.invariant.board.project.few)
+
+pub enlist-requires-clause-reached : goal.enlist-requires-clause-reached
+enlist-requires-clause-reached c =
+    let b = c.self.inside in
+    let known : c.args.activity < size b.project = rw (← c.self.view_is) at c.requires.activity in
+    let list : c.as_slice.result.now ≡ get_or b.after.items c.args.activity [] = c.as_slice.ensures ∙ c.index.ensures ∙ get_or_default b.after.items c.args.activity c.index.result.now [] (omega (arith, c.self.invariant.after.count, known)) in
+    rw (list, c.deref.ensures.value) (reached_in b.project b.before.items b.after.items c.args.activity c.self.invariant.before c.self.invariant.after known)
 
 pub enlist-requires-clause-named : goal.enlist-requires-clause-named
 enlist-requires-clause-named c =
@@ -68,6 +75,7 @@ run_in-end-requires c =
     rw c.deref_mut.ensures.value (record {
       lanes = c.lanes-lanes.ensures.few;
       none = request_none p j m c.lanes-lanes.result c.row-row.result.now was.board.project known in_mode row enough;
+      blank = none_more (renewables p) c.lanes-lanes.result b.running.items enough was.staged.none;
       beyond = it.beyond c.lanes-lanes.result enough;
       order = it.order;
       memory = it.memory;
@@ -131,6 +139,7 @@ invariant_of-self c =
       rising = rw wrote.end c.run_in-end.ensures.rising;
       left = rw (wrote.free, wrote.end) (rw c.deref_mut.ensures.value at c.run_in-end.ensures.kept);
       blank = blank_as p made new wrote.slack wrote.free wrote.eligible blank;
+      none = (rw c.deref_mut.ensures.value at c.run_in-end.ensures.none) (renewables p) (request_none p j m (renewables p) c.row-row.result.now was.board.project known in_mode row (omega arith)) was.staged.none;
     } in
     let whole : take b.running.len (c.run_in-end.new.list ++ drop (length c.run_in-end.new.list) b.running.items) ≡ c.run_in-end.new.list =
     take-append-le b.running.len c.run_in-end.new.list (drop (length c.run_in-end.new.list) b.running.items) (omega (arith, steps.long, b.running.ok.0)) ∙ take_all b.running.len c.run_in-end.new.list (omega (arith, steps.long, b.running.ok.0)) in
