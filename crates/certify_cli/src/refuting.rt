@@ -51,11 +51,7 @@ fn end_fault<R: Env + Eprint>(
     end_command(rt, Paths::of(path), Err(fault), &watches)
 }
 
-fn why_refused(
-    alloc: Global,
-    file: &[u8],
-    fault: CommandFault<CertifyFault>,
-) -> Option<String> {
+fn why_refused(alloc: Global, file: &[u8], fault: CommandFault<CertifyFault>) -> Option<String> {
     match fault {
         CommandFault::Refused(fault) => why_uncertified(alloc, file, &[], fault),
         _ => None,
