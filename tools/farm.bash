@@ -49,7 +49,7 @@ _farm() {
         return
         ;;
     esac
-    local commands="check solve verify draw show compare bench prove replay serve config clauses certify bound infeasible"
+    local commands="check solve verify draw show compare bench prove replay serve config clauses refute certify bound infeasible"
     if [ "$COMP_CWORD" = 1 ]; then
         words="$commands help --help --version"
     elif [[ $word == -* ]]; then
@@ -63,6 +63,7 @@ _farm() {
         replay) words="--config --strict --help" ;;
         serve) words="--config --port --sessions --help" ;;
         bound) words="--steps --help" ;;
+        refute) words="--conflicts --memory --help" ;;
         *) words=--help ;;
         esac
     elif [ "${COMP_WORDS[1]}" = help ]; then

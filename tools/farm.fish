@@ -1,5 +1,5 @@
 # Completion of farm's words in fish.
-set -l commands check solve verify draw show compare bench prove replay serve config clauses certify bound infeasible
+set -l commands check solve verify draw show compare bench prove replay serve config clauses refute certify bound infeasible
 
 function __farm_searches
     set -l word (commandline -ct)
@@ -37,8 +37,8 @@ complete -c farm -n "__fish_seen_subcommand_from bench" -l report -r -d 'A page 
 complete -c farm -n "__fish_seen_subcommand_from bench" -l join -r -d 'Rows to put side by side'
 complete -c farm -n "__fish_seen_subcommand_from bench" -l total -x -d 'The most seconds of all files'
 complete -c farm -n "__fish_seen_subcommand_from bench prove" -l seconds -x -d 'The most seconds'
-complete -c farm -n "__fish_seen_subcommand_from prove" -l memory -x -d 'The most megabytes of each solver'
-complete -c farm -n "__fish_seen_subcommand_from prove" -l conflicts -x -d 'The most conflicts of a worker'
+complete -c farm -n "__fish_seen_subcommand_from prove refute" -l memory -x -d 'The most megabytes of clauses'
+complete -c farm -n "__fish_seen_subcommand_from prove refute" -l conflicts -x -d 'The most conflicts of a search'
 complete -c farm -n "__fish_seen_subcommand_from prove" -l quiet -d 'Tell nothing while it runs'
 complete -c farm -n "__fish_seen_subcommand_from prove" -l from -r -d 'A schedule to begin with'
 complete -c farm -n "__fish_seen_subcommand_from prove" -l keep -r -d 'A folder for the proof'

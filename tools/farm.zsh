@@ -24,6 +24,7 @@ _farm() {
         serve:'answer requests over connections'
         config:'print what a configuration means'
         clauses:'write the clauses of a project and a bound'
+        refute:'write a proof that no schedule is within a limit'
         certify:'check a schedule and a proof'
         bound:'find a lower bound, or check a proof of one'
         infeasible:'check a proof that no schedule is feasible'
@@ -65,6 +66,7 @@ _farm() {
             '--progress[tell each better schedule and bound]' '--quiet[tell nothing]' '--from[a schedule to begin with]:schedule:_files' \
             '--keep[keep the proof in a folder]:folder:_files -/' '--solver[the solver]:solver:(cadical kissat)' '--help[help]' '1:file:_files -g "*.mm"'
         ;;
+    refute) _arguments '--conflicts[the most conflicts]:conflicts:' '--memory[megabytes]:megabytes:' '--help[help]' '1:file:_files -g "*.mm"' '2:periods:' ;;
     bound) _arguments '--steps[the most steps for each bound]:steps:' '--help[help]' '1:file:_files -g "*.mm"' '2:periods:' '3:proof:_files' ;;
     replay) _arguments '--config[the configuration]:file:_files -g "*.json"' '--strict[end with 1 if a request is refused]' '--help[help]' '1:script:_files' ;;
     serve) _arguments '--config[the configuration]:file:_files -g "*.json"' '--port[the port, or 0]:port:' '--sessions[connections, 1 to 64]:sessions:' '--help[help]' ;;

@@ -1,5 +1,5 @@
-# How `prove` is run, for ./farm and for what tools/install installs: by the program, which ends with its best on a signal, or by the script that has a solver
-# that is installed prove it once more; how much memory it may take; and whether words ask for help. `program` is the path of farm.
+# How `prove` is run, for ./farm and for what tools/install installs: by the program, which ends with its best on a signal, or by a script that keeps what others
+# can check, with the program's own proof or one of an installed solver; how much memory it may take; and whether words ask for help. `program` is the path of farm.
 
 # Whether the words ask for help.
 asks_for_help() {
@@ -18,7 +18,17 @@ asks_for_help() {
 asks_for_solver() {
     for word in "$@"; do
         case $word in
-        --solver | --solver=* | --keep | --keep=*) return ;;
+        --solver | --solver=*) return ;;
+        esac
+    done
+    return 1
+}
+
+# Whether the words of `prove` ask that what others can check is kept.
+asks_to_keep() {
+    for word in "$@"; do
+        case $word in
+        --keep | --keep=*) return ;;
         esac
     done
     return 1
@@ -109,9 +119,18 @@ export_free_memory() {
     [ -z "$free" ] || export FARM_MEMORY="${FARM_MEMORY-$free}"
 }
 
+# Waits until a process ends, whatever signals come. Sets `status`.
+wait_for() {
+    while :; do
+        wait "$1"
+        status=$?
+        kill -0 "$1" 2>/dev/null || break
+    done
+}
+
 # Runs the program until it ends, with a pipe as its standard input that ends on Ctrl-C, SIGTERM and SIGHUP: then it prints the best that it has. The pipe ends
-# with this shell too.
-launch() {
+# with this shell too. Sets `status`, and `stopped` if such a signal came.
+run_stoppable() {
     stopped=
     trap 'stopped=yes; exec 9>&-' INT TERM HUP
     folder=$(mktemp -d) && mkfifo "$folder/stop" && exec 9<>"$folder/stop" 8<"$folder/stop" || exit 1
@@ -122,10 +141,11 @@ launch() {
     ) &
     child=$!
     [ -z "$stopped" ] || exec 9>&-
-    while :; do
-        wait "$child"
-        status=$?
-        kill -0 "$child" 2>/dev/null || break
-    done
+    wait_for "$child"
+}
+
+# As run_stoppable, and ends with the program's status.
+launch() {
+    run_stoppable "$@"
     exit "$status"
 }

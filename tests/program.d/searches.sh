@@ -159,8 +159,8 @@ fi
 grep -o '^  [a-z]* ' "$work/line" | tr -d ' ' | tr '\n' ' ' >"$work/out"
 : >"$work/err"
 status=0
-says "the commands that help lists" 0 "solve verify draw show compare prove certify bound infeasible clauses check replay serve config help bench " ""
-for word in solve verify draw show compare prove certify bound infeasible clauses check replay serve config; do
+says "the commands that help lists" 0 "solve verify draw show compare prove certify bound infeasible clauses refute check replay serve config help bench " ""
+for word in solve verify draw show compare prove certify bound infeasible clauses refute check replay serve config; do
     "$farm" help "$word" >"$work/line" 2>"$work/err" </dev/null
     "$farm" "$word" --help >"$work/out" 2>>"$work/err" </dev/null
     status=$?

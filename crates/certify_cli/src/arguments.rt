@@ -1,9 +1,21 @@
 //! The words of a command line.
 use clap::builder::ValueParser;
 use clap::{Arg, ArgMatches, Command};
+use explain::{LEAST_MEMORY, MOST_CONFLICTS, MOST_MEMORY};
 use std::alloc::{AllocError, Global};
 
 const MOST_STEPS: u64 = 1_000_000;
+
+/// The words of `refute`.
+#[derive(Clone, Copy, Debug, PartialEq, Eq)]
+pub(crate) struct Refuting<'a> {
+    pub(crate) file: &'a str,
+    /// The digits of a number of periods, or `none`.
+    pub(crate) limit: &'a str,
+    pub(crate) conflicts: &'a str,
+    /// Megabytes.
+    pub(crate) memory: &'a str,
+}
 
 /// A `CertificateTask` is what the words of a command line ask for. A path `-` is standard input.
 #[derive(Clone, Copy, Debug, PartialEq, Eq)]
@@ -91,14 +103,50 @@ fn bound_command<'a>(alloc: Global) -> Result<Command<'a>, AllocError> {
         .arg(steps)
 }
 
-/// `command` with the subcommands `certify`, `bound`, `infeasible` and `clauses`. Fails for want of
-/// memory.
+fn refute_command<'a>(alloc: Global) -> Result<Command<'a>, AllocError> {
+    let conflicts = Arg::new(alloc, "conflicts")
+        .long("conflicts")
+        .value_name("C")
+        .help("The most conflicts of the search")
+        .value_parser(ValueParser::unsigned(1, MOST_CONFLICTS))
+        .default_value("1000000000000");
+    let memory = Arg::new(alloc, "memory")
+        .long("memory")
+        .value_name("M")
+        .help("The most megabytes of clauses")
+        .value_parser(ValueParser::unsigned(LEAST_MEMORY, MOST_MEMORY))
+        .default_value("2000");
+    Command::new(alloc, "refute")
+        .about("Writes a DRAT proof that no schedule is within a limit")
+        .override_usage("farm refute [--conflicts C] [--memory M] <FILE> <LIMIT>")
+        .after_help(REFUTE_HELP)
+        .arg(needed(alloc, "FILE", "A PSPLIB multi-mode file"))?
+        .arg(needed(alloc, "LIMIT", "Periods, or none: no modes fit the stocks"))?
+        .arg(conflicts)?
+        .arg(memory)
+}
+
+/// `command` with the subcommands `certify`, `bound`, `infeasible`, `clauses` and `refute`. Fails for
+/// want of memory.
 pub fn with_commands<'a>(alloc: Global, command: Command<'a>) -> Result<Command<'a>, AllocError> {
     command
         .subcommand(certify_command(alloc)?)?
         .subcommand(bound_command(alloc)?)?
         .subcommand(infeasible_command(alloc)?)?
-        .subcommand(clauses_command(alloc)?)
+        .subcommand(clauses_command(alloc)?)?
+        .subcommand(refute_command(alloc)?)
+}
+
+pub(crate) fn refuting_of<'a>(matches: &ArgMatches<'a>) -> Option<Refuting<'a>> {
+    match matches.subcommand() {
+        Some(("refute", chosen)) => Some(Refuting {
+            file: chosen.get_str("FILE")?,
+            limit: chosen.get_str("LIMIT")?,
+            conflicts: chosen.get_str("conflicts")?,
+            memory: chosen.get_str("memory")?,
+        }),
+        _ => None,
+    }
 }
 
 fn steps_of(chosen: &ArgMatches<'_>) -> u32 {
@@ -130,3 +178,20 @@ pub(crate) fn task_of<'a>(matches: &ArgMatches<'a>) -> Option<CertificateTask<'a
         _ => None,
     }
 }
+
+const REFUTE_HELP: &str = "\
+The program's solver refutes the clauses that farm clauses FILE LIMIT writes. A line of the proof is a
+clause that it has learned, or behind d one that it has forgotten; the last line is 0. Each step is
+checked when it is made. certify, bound and infeasible check the proof again, as any DRAT checker does.
+
+  status  means
+  0       the proof is whole: no feasible schedule takes at most LIMIT periods
+  3       nothing is proved: a line on standard error tells whether the clauses can all be true, or
+          whether the conflicts or the megabytes were not enough
+  1       a fault of the file, the limit or the system
+  2       wrong words
+
+Example:
+
+  $ farm refute examples/j30_2.mm 26 >proof
+  $ farm bound examples/j30_2.mm 27 proof";

@@ -1,6 +1,7 @@
 //! Clauses in DIMACS form: `p cnf VARIABLES CLAUSES`, and each clause as numbers ended by 0. Lines
 //! that begin with `c` explain the clauses and the variables: `starts J T`, activity J starts at T
 //! or before, and `mode J M`, it has mode M.
+use clause_search::StepLog;
 use itoa::Buffer;
 use schedule_clauses::{CapacityRow, Fact, ScheduleFormula, SectionKind};
 use std::io::{self, Write};
@@ -89,6 +90,19 @@ fn write_clause<W: Write>(writer: &mut W, digits: &mut Buffer, clause: &[u32]) -
         writer.write_all(b" ")?;
     }
     writer.write_all(b"0\n")
+}
+
+/// Writes steps as DRAT text: the clauses that were learned, and behind `d` those that were
+/// forgotten.
+pub(crate) fn write_steps<W: Write>(writer: &mut W, log: &StepLog) -> io::Result<()> {
+    let mut digits = Buffer::new();
+    for number in 0..log.len() {
+        if log.is_forgotten(number) {
+            writer.write_all(b"d ")?;
+        }
+        write_clause(writer, &mut digits, log.clause(number))?;
+    }
+    Ok(())
 }
 
 pub(crate) fn write_formula<W: Write>(writer: &mut W, formula: &ScheduleFormula) -> io::Result<()> {

@@ -1,5 +1,5 @@
 //! The commands on files: each ends with the status 0, or 1 and its fault on standard error.
-ghost use Rattle.std.specs.Prelude.{◌≡◌, ◌≤◌, IfSome};
+ghost use Rattle.std.specs.Prelude.{◌≡◌, ◌≤◌, IfErr, IfSome};
 ghost use Rattle.std.specs.Process.{exit_status};
 
 use crate::arguments::{CertificateTask, task_of};
@@ -18,8 +18,8 @@ use std::process::ExitCode;
 use std::rt::Runtime;
 use watched_io::explains;
 
-/// Runs the command of `matches`, or returns `None` if it is none of this crate. The status is 0, or
-/// 1 for any fault.
+/// Runs the command of `matches`, or returns `None` if it is `refute` or none of this crate. The
+/// status is 0, or 1 for any fault.
 pub fn run_command<R: Runtime + AllocGlobal>(rt: &R, matches: &ArgMatches<'_>) -> Option<ExitCode>
     ensures { IfSome result (λ status. exit_status status ≤ 1) }
 {
@@ -57,6 +57,23 @@ fn end_unbounded<R: Env + Eprint>(rt: &R, bound: &str, others: &str) -> ExitCode
         let _ = eprintln!(rt; "farm: why: the bound is a whole number, 0 to {most}{others}");
     }
     ExitCode::FAILURE
+}
+
+/// The number of periods that `word` writes; no number for the word `none`. On an error, the status,
+/// the fault is on standard error.
+pub(crate) fn bound_or_none<R: Env + Eprint>(rt: &R, word: &str) -> Result<Option<u32>, ExitCode>
+    ensures { IfErr result (λ status. exit_status status ≡ 1) }
+{
+    match word.parse::<u32>() {
+        Ok(number) => Ok(Some(number)),
+        Err(_) => {
+            if word == "none" {
+                Ok(None)
+            } else {
+                Err(end_unbounded(rt, word, ", or none"))
+            }
+        }
+    }
 }
 
 /// Runs `command` on these inputs. Without the path of a proof the proof is empty.
@@ -106,12 +123,9 @@ fn run_bound<R: Runtime + AllocGlobal>(
 fn run_clauses<R: Runtime + AllocGlobal>(rt: &R, file: &str, bound: &str) -> ExitCode
     ensures { exit_status result ≤ 1 }
 {
-    let bound = match bound.parse::<u32>() {
-        Ok(number) => Some(number),
-        Err(_) if bound == "none" => None,
-        Err(_) => {
-            return end_unbounded(rt, bound, ", or none");
-        }
+    let bound = match bound_or_none(rt, bound) {
+        Ok(bound) => bound,
+        Err(status) => return status,
     };
     let Some(project) = read_path(rt, file) else {
         return ExitCode::FAILURE;

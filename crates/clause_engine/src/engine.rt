@@ -6,6 +6,7 @@ use crate::averages::Average;
 use crate::exchange::Exchange;
 use crate::extension::Extension;
 use crate::stable::Stable;
+use crate::step_log::{StepLog, note_learned};
 use clause_kernel::{Formula, Kernel};
 use clause_store::arena::{Arena, GONE, HEAD, LEARNED, NO_CLAUSE, clause_at};
 use clause_store::queue::{NO_VARIABLE, Queue};
@@ -66,6 +67,8 @@ pub struct Engine {
     /// Decisions are those of `stable`.
     pub is_stable: bool,
     pub exchange: Exchange,
+    /// What the kernel learned and forgot since it was taken out; none unless it is asked for.
+    pub log: Option<StepLog>,
     pub variables: u32,
 }
 
@@ -97,6 +100,7 @@ impl Engine {
             stable: Stable::new(alloc, variables)?,
             is_stable: false,
             exchange: Exchange::new(alloc),
+            log: None,
             variables,
         })
     }
@@ -151,7 +155,10 @@ impl Engine {
         hints: &[u32],
     ) -> Result<u32, AllocError> {
         match kernel.learn(clause, hints)? {
-            Some(number) => Ok(number),
+            Some(number) => {
+                note_learned(&mut self.log, clause)?;
+                Ok(number)
+            }
             None => {
                 self.refused = self.refused.saturating_add(1);
                 Ok(NO_CLAUSE)
@@ -164,11 +171,21 @@ impl Engine {
         self.refused > 0 || kernel.is_refuted()
     }
 
+    /// Has the kernel forget the clause with this number.
+    pub fn forget<F: Formula>(&mut self, kernel: &mut Kernel<F>, number: u32) {
+        if let Some(log) = &mut self.log {
+            // (a clause that is not told as forgotten does no harm)
+            let _ = log.note(kernel.clause(number), true);
+        }
+        kernel.forget(number);
+    }
+
     pub fn drop_clause<F: Formula>(&mut self, kernel: &mut Kernel<F>, clause: u32) {
         self.arena.set_flag(clause, GONE);
         self.arena
             .waste(self.arena.size(clause).saturating_add(HEAD));
-        kernel.forget(self.arena.number(clause));
+        let number = self.arena.number(clause);
+        self.forget(kernel, number);
     }
 
     /// Gives the clauses up if the arena may grow beyond `words`. It never may: its limit is the
@@ -229,6 +246,7 @@ impl Engine {
             self.refused = self.refused.saturating_add(1);
             return Ok(());
         };
+        note_learned(&mut self.log, &self.analysis.clause)?;
         self.backtrack(level)?;
         let first = self.analysis.clause.first().copied().unwrap_or(0);
         if self.analysis.clause.len() < 2 {
@@ -240,7 +258,7 @@ impl Engine {
             .arena
             .push(&self.analysis.clause, LEARNED, glue, number)?;
         if clause == NO_CLAUSE {
-            kernel.forget(number);
+            self.forget(kernel, number);
             self.is_crowded = true;
             return Ok(());
         }
@@ -354,7 +372,8 @@ impl Engine {
             self.refused = self.refused.saturating_add(1);
             return Ok(());
         };
-        kernel.forget(number);
+        note_learned(&mut self.log, self.arena.literals(clause))?;
+        self.forget(kernel, number);
         self.arena.set_number(clause, shorter);
         if self.arena.size(clause) > 1 {
             self.clauses.push(clause)?;

@@ -131,7 +131,7 @@ impl Engine {
         }
         let place = self.arena.push(clause, LEARNED, message.glue, number)?;
         if place == NO_CLAUSE {
-            kernel.forget(number);
+            self.forget(kernel, number);
             return Ok(());
         }
         self.learned.push(place)?;

@@ -10,3 +10,4 @@ pub mod extension;
 mod reduction;
 mod root;
 pub mod stable;
+pub mod step_log;

@@ -12,4 +12,5 @@ mod simplifier;
 mod subsumption;
 
 pub use clause_engine::exchange::Message;
+pub use clause_engine::step_log::StepLog;
 pub use search::{Search, SearchAnswer, SearchLimits};

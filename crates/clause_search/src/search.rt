@@ -5,11 +5,13 @@ use crate::simplifier::simplify;
 use clause_engine::engine::{Engine, Progress};
 use clause_engine::exchange::Message;
 use clause_engine::stable::set_each;
+use clause_engine::step_log::StepLog;
 use clause_kernel::{ClauseList, Formula, Kernel};
 use clause_store::arena::{NO_CLAUSE, short};
 use clause_store::trail::{TRUE, Trail, filled};
 use std::alloc::{AllocError, Global};
 use std::marker::Model;
+use std::mem;
 
 /// An answer is what a run of a search came to.
 #[derive(Clone, Copy, PartialEq, Eq, Debug)]
@@ -225,6 +227,26 @@ impl Search {
         self.engine.keep_within(self.limits.words);
         self.is_whole = self.is_whole && taken.is_ok();
         taken
+    }
+
+    /// Logs from now on what the kernel learns and forgets. To be called before the first run. What
+    /// `take` receives is not in the log.
+    pub fn keep_log(&mut self)
+        ensures { self.new ≡ self.old }
+    {
+        let alloc = self.engine.alloc;
+        self.engine.log = Some(StepLog::new(alloc));
+    }
+
+    /// The steps since the last call, or since `keep_log`; none without a log.
+    pub fn take_log(&mut self) -> Option<StepLog>
+        ensures { self.new ≡ self.old }
+    {
+        let alloc = self.engine.alloc;
+        match &mut self.engine.log {
+            Some(log) => Some(mem::replace(log, StepLog::new(alloc))),
+            None => None,
+        }
     }
 
     /// The conflicts counted so far.

@@ -77,7 +77,7 @@ impl Simplifier {
         }
         let (one, other) = (engine.arena.number(clause), engine.arena.number(hit.clause));
         let number = engine.derive(kernel, &self.clause, &[one, other])?;
-        kernel.forget(other);
+        engine.forget(kernel, other);
         engine.arena.set_number(hit.clause, number);
         self.occurrences.strike(hit.flip, hit.clause);
         self.shorten(engine, kernel, hit.clause, hit.flip)

@@ -25,7 +25,7 @@ pub const MOST_MEMORY: u64 = 100_000_000;
 pub const MOST_CONFLICTS: u64 = 1_000_000_000_000;
 
 /// All commands, also those of scripts.
-const COMMANDS: [&str; 16] = [
+const COMMANDS: [&str; 17] = [
     "check",
     "solve",
     "verify",
@@ -41,6 +41,7 @@ const COMMANDS: [&str; 16] = [
     "certify",
     "bound",
     "infeasible",
+    "refute",
     "help",
 ];
 

@@ -83,6 +83,8 @@ fn run_chosen<
         status
     } else if let Some(status) = certify_cli::run_command(rt, matches) {
         status
+    } else if let Some(status) = certify_cli::run_refute(rt, matches) {
+        status
     } else if let Some(status) = config_cli::run_command(rt, matches) {
         status
     } else {
@@ -91,7 +93,8 @@ fn run_chosen<
 }
 
 /// Runs the command of `words`, the first of which is the program's name. The status is 0, or 3 if
-/// `prove` leaves a gap, or 2 for help and for a refused command line, or 1 for any fault.
+/// `prove` leaves a gap or `refute` a limit open, or 2 for help and for a refused command line, or 1
+/// for any fault.
 fn run_words<
     R: Runtime
         + AllocGlobal
