@@ -62,8 +62,9 @@ impl StepLog {
 
     fn push(&mut self, clause: &[u32], is_forgotten: bool) -> Result<(), AllocError>
         ensures pushed { IfOk result (λ _. self.new ≡ record {
-            clauses = self.old.clauses ++ clause.now ∷ [];
-            forgotten = self.old.forgotten ++ is_forgotten ∷ [] }) }
+          clauses = self.old.clauses ++ clause.now ∷ [];
+          forgotten = self.old.forgotten ++ is_forgotten ∷ [];
+        }) }
         ensures no_memory { OnErr result (self.new ≡ self.old) }
     {
         self.forgotten.reserve(1)?;
