@@ -1,10 +1,12 @@
 """Edits: small texts that change a crate, each a wrong body of a function or another change that the prover has to refuse."""
+import functools
 import os
 import re
 
 from copies import FN, copyables
 
 BODY = re.compile(r"(?m)\{$")
+TYPE = re.compile(r"\b(?:struct|enum|trait) (\w+)|(?m:^\s*impl\b.* for (?:\w+::)*(\w+))")
 ITEM = re.compile(r"\b(fn|impl|struct|enum|const|trait|mod|use|ensures|requires)\s")
 # The folders of a crate's edits: those that the project is known by, and all others.
 NAMED, OTHERS = "must-fail", "wrong"
@@ -72,6 +74,9 @@ class Edit:
     def stray(self, crate):
         """Returns what the edit changes beside the body that its line `fn:` names, or None. So it cannot be the refusal of another's edit."""
         own, function = self.fn.split("::"), self.function(crate)
+        for name in own[1:-1]:
+            if name[0].isupper() and not name.startswith(types_in(crate.folder)):
+                return f"there is no type of {self.fn} in the crate"
         for file, old, new in self.parts:
             text = function.text if function and file == function.file else text_of(crate, file)
             if file.startswith("proofs/"):
@@ -86,6 +91,17 @@ class Edit:
             if ITEM.search(old[same:]) or ITEM.search(new[same:]):
                 return f"'{old[:60]}' changes an item, and not a body alone"
         return None
+
+
+@functools.cache
+def types_in(folder):
+    """Returns the names of types and traits that a crate declares, or has traits for. A check spells an `impl` by its type's name, then its trait's."""
+    found = set()
+    for root, _, names in os.walk(f"{folder}/src"):
+        for name in names:
+            with open(f"{root}/{name}", encoding="utf-8") as it:
+                found |= {it for match in TYPE.findall(it.read()) for it in match if it}
+    return tuple(found)
 
 
 def text_of(crate, file):
