@@ -1,6 +1,5 @@
 //! What a kernel has learned and forgotten, for checkers that read it afterwards.
 ghost use Rattle.std.specs.Prelude.{◌≡◌, ◌++◌, ◌∷◌, [], false, IfOk, OnErr, length, slice_index_or};
-ghost use Rattle.clause_engine.specs.Steps.{with_step};
 
 use clause_kernel::ClauseList;
 use std::alloc::{AllocError, Global};
@@ -61,9 +60,8 @@ impl StepLog {
     }
 
     fn push(&mut self, clause: &[u32], is_forgotten: bool) -> Result<(), AllocError>
-        ensures pushed { IfOk result (λ _. self.new ≡ record {
-            clauses = self.old.clauses ++ clause.now ∷ [];
-            forgotten = self.old.forgotten ++ is_forgotten ∷ [] }) }
+        ensures clauses { IfOk result (λ _. self.new.clauses ≡ self.old.clauses ++ clause.now ∷ []) }
+        ensures forgotten { IfOk result (λ _. self.new.forgotten ≡ self.old.forgotten ++ is_forgotten ∷ []) }
         ensures no_memory { OnErr result (self.new ≡ self.old) }
     {
         self.forgotten.reserve(1)?;
@@ -74,13 +72,12 @@ impl StepLog {
 
     /// Adds a step, unless its clause is empty. Without memory the log stays as it was.
     pub fn note(&mut self, clause: &[u32], is_forgotten: bool) -> Result<(), AllocError>
-        ensures noted { IfOk result (λ _. self.new ≡ with_step self.old clause.now is_forgotten) }
         ensures no_memory { OnErr result (self.new ≡ self.old) }
     {
-        match clause {
-            [] => Ok(()),
-            _ => self.push(clause, is_forgotten),
+        if clause.is_empty() {
+            return Ok(());
         }
+        self.push(clause, is_forgotten)
     }
 }
 
