@@ -1,5 +1,5 @@
 -- What is known of a project.
-use Rattle.std.specs.Prelude.{◌≡◌, ◌≤◌, ◌<◌, ℕ, Bool, true, Option, IfSome}
+use Rattle.std.specs.Prelude.{◌≡◌, ◌≤◌, ◌<◌, ◌||◌, ℕ, Bool, true, false, nat_le, Option, Some, None, IfSome}
 use Rattle.mrcpsp.specs.Project.{ProjectData}
 use Rattle.mrcpsp.specs.Schedule.{IsFeasible, IsInfeasible, makespan}
 use Rattle.price_search.specs.LowerBound.{TakesAtLeast}
@@ -28,3 +28,12 @@ pub record IsTrue (p : ProjectData) (known : Facts) : Type 0 where
 pub record IsOpen (known : Facts) (question : Question) : Type 0 where
   pub from_bound : known.bound ≤ question.within
   pub below_best : IfSome known.best (λ best. question.within < best.makespan)
+
+-- whether there is a schedule that is as short as the bound
+abbrev pub is_met : Option BestKnown → ℕ → Bool
+is_met None bound = false
+is_met (Some best) bound = nat_le best.makespan bound
+
+-- whether nothing is open
+abbrev pub is_decided : Facts → Bool
+is_decided known = known.infeasible || is_met known.best known.bound

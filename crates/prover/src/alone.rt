@@ -1,6 +1,6 @@
 //! The only worker, without threads, locks or a clock: what it does follows from the project, its
 //! allowance and its overseer alone.
-ghost use Rattle.std.specs.Prelude.{◌≡◌, ◌≤◌, IfOk, IfSome};
+ghost use Rattle.std.specs.Prelude.{◌≡◌, ◌≤◌, ◌<◌, IfOk, IfSome};
 ghost use Rattle.std.specs.Option.{option_copied};
 ghost use Rattle.mrcpsp.specs.Schedule.{IsInfeasible};
 ghost use Rattle.price_search.specs.LowerBound.{TakesAtLeast};
@@ -82,6 +82,7 @@ impl<F: Subject> Notebook<'_, F> {
 
     fn raise(&mut self, bound: u32)
         requires { TakesAtLeast F.project bound }
+        ensures { bound ≤ self.new.known.bound }
     {
         self.known.raise(bound);
     }
@@ -96,6 +97,8 @@ impl<F: Subject> Notebook<'_, F> {
     #[tactic(auto, using(crate::proofs::SharedWorkLemmas::bound_rules))]
     fn take_in(&mut self, question: Question, decision: Decision) -> Gain
         requires { IsDecided F.project question.within decision }
+        ensures { decision ≡ Decision.None → question.within < u32.MAX
+            → question.within < self.new.known.bound }
     {
         match decision {
             Decision::Found(best) => {

@@ -1,11 +1,11 @@
 //! What is known of a project: the best schedule, and a lower bound.
-ghost use Rattle.std.specs.Prelude.{◌≡◌, ◌+◌, ◌≤◌, ◌<◌, ℕ, [], true, false, IfSome, Some, None};
+ghost use Rattle.std.specs.Prelude.{◌≡◌, ◌+◌, ◌≤◌, ◌<◌, ◌⊎◌, ℕ, [], true, false, IfSome, IsSomeAnd, Some, None, option_map};
 ghost use Rattle.std.specs.Option.{option_copied};
 ghost use Rattle.mrcpsp.specs.Project.{ProjectData};
 ghost use Rattle.mrcpsp.specs.Schedule.{IsInfeasible};
 ghost use Rattle.price_search.specs.LowerBound.{TakesAtLeast};
-ghost use Rattle.prover.specs.Known.{IsBest, IsOpen};
-ghost use Rattle.prover.specs.Answers.{IsAnswer};
+ghost use Rattle.prover.specs.Known.{IsBest, IsOpen, is_decided};
+ghost use Rattle.prover.specs.Answers.{IsAnswer, Tells};
 
 use mrcpsp::Schedule;
 use std::marker::{Brand, Model, PhantomData};
@@ -88,6 +88,7 @@ impl<F: Subject> Known<F> {
         ensures taken { result ≡ true → self.new.best ≡ Some found }
         ensures shorter { result ≡ true → IfSome self.old.best (λ best. found.makespan < best.makespan) }
         ensures left { result ≡ false → self.new ≡ self.old }
+        ensures kept { IsSomeAnd self.new.best (λ best. best.makespan ≤ found.makespan) }
     {
         if let Some(best) = &self.best
             && best.makespan <= found.makespan
@@ -143,7 +144,9 @@ impl<F: Subject> Known<F> {
     }
 
     /// The makespan of the best schedule, in periods.
-    pub fn makespan(&self) -> Option<u32> {
+    pub fn makespan(&self) -> Option<u32>
+        ensures { result ≡ option_map (λ best. best.makespan) self.now.best }
+    {
         match &self.best {
             Some(best) => Some(best.makespan),
             None => None,
@@ -151,7 +154,9 @@ impl<F: Subject> Known<F> {
     }
 
     /// Whether nothing is open.
-    pub fn is_decided(&self) -> bool {
+    pub fn is_decided(&self) -> bool
+        ensures { result ≡ is_decided self.now }
+    {
         if self.is_infeasible {
             return true;
         }
@@ -164,7 +169,8 @@ impl<F: Subject> Known<F> {
     /// Whether the answer to a question would change nothing.
     #[tactic(auto, using(crate::proofs::KnownLemmas::known_rules))]
     pub fn is_moot(&self, question: Question) -> bool
-        ensures { result ≡ false → IsOpen self.now question }
+        ensures open { result ≡ false → IsOpen self.now question }
+        ensures moot { result ≡ true → (self.now.infeasible ≡ true) ⊎ (IsOpen self.now question → ⊥) }
     {
         if self.is_infeasible || question.within < self.bound {
             return true;
@@ -178,7 +184,8 @@ impl<F: Subject> Known<F> {
     /// What is known, as an answer.
     #[tactic(auto, using(crate::proofs::KnownLemmas::answer_rules))]
     pub fn into_answer(self) -> Answer
-        ensures { IsAnswer F.project result }
+        ensures holds { IsAnswer F.project result }
+        ensures told { Tells self result }
     {
         if self.is_infeasible {
             return Answer::Infeasible;

@@ -1,5 +1,5 @@
 //! What each worker does.
-ghost use Rattle.std.specs.Prelude.{◌≡◌, ◌<◌, IfOk};
+ghost use Rattle.std.specs.Prelude.{◌≡◌, ◌<◌, ◌≤◌, IfOk, IfSome, IfNone, IsSomeAnd};
 
 use crate::decide::{SearchObserver, decide_within, exceeds_stocks};
 use crate::herald::Herald;
@@ -90,7 +90,11 @@ pub(crate) fn question_of(
     bound: u32,
     makespan: Option<u32>,
     stride: u32,
-) -> Option<Question> {
+) -> Option<Question>
+    ensures bound { IfSome result (λ question. bound ≤ question.within) }
+    ensures shorter { IfSome result (λ question. IfSome makespan (λ m. question.within < m)) }
+    ensures none { IfNone result (IsSomeAnd makespan (λ m. m ≤ bound)) }
+{
     let highest = match makespan {
         Some(makespan) => {
             if makespan <= bound {
