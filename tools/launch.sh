@@ -126,6 +126,11 @@ wait_for() {
         status=$?
         kill -0 "$1" 2>/dev/null || break
     done
+    [ "$status" -gt 128 ] || return 0
+    # (of a signal that came as the process ended; the process's own status is still to be had, unless that was it)
+    wait "$1" 2>/dev/null
+    set -- "$?"
+    [ "$1" = 127 ] || status=$1
 }
 
 # Runs the program until it ends, with a pipe as its standard input that ends on Ctrl-C, SIGTERM and SIGHUP: then it prints the best that it has. The pipe ends
