@@ -3,6 +3,7 @@ ghost use Rattle.std.specs.Prelude.{◌≡◌, IfOk, Some, length};
 ghost use Rattle.std.specs.Io.Buffered.{reader_buffer};
 ghost use Rattle.farm_replay.specs.Reader.{script_rest};
 
+use memchr::{memchr, memchr_iter};
 use std::alloc::Global;
 use std::io;
 use std::io::{BufRead, BufReader, Read};
@@ -55,15 +56,15 @@ impl Lines {
         let Some((last, front)) = bytes.split_last() else {
             return;
         };
-        let mut ends: u64 = 0;
-        for byte in bytes {
-            ends = ends.wrapping_add(u64::from(*byte == b'\n'));
+        if self.last == b'\n' {
+            self.is_marked = bytes[0] == b'@';
         }
-        self.ended = self.ended.saturating_add(ends);
-        match front.iter().rposition(|byte| *byte == b'\n') {
-            Some(end) => self.is_marked = bytes[end + 1] == b'@',
-            None if self.last == b'\n' => self.is_marked = bytes[0] == b'@',
-            None => {}
+        for end in memchr_iter(b'\n', front) {
+            self.ended = self.ended.saturating_add(1);
+            self.is_marked = matches!(bytes.get(end.saturating_add(1)), Some(b'@'));
+        }
+        if *last == b'\n' {
+            self.ended = self.ended.saturating_add(1);
         }
         self.last = *last;
     }
@@ -122,7 +123,7 @@ impl<R: Read> Script<R> {
     /// Whether the next request was read ahead: a whole line with a word, which opens no text.
     pub(crate) fn is_at_hand(&self) -> bool {
         let ahead = self.input.buffer();
-        let Some(end) = ahead.iter().position(|byte| *byte == b'\n') else {
+        let Some(end) = memchr(b'\n', ahead) else {
             return false;
         };
         let line = &ahead[..end];

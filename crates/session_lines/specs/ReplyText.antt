@@ -3,7 +3,6 @@ use Rattle.std.specs.Prelude.{ℕ, ◌+◌, List, [], ◌∷◌, ◌++◌, Optio
 use Rattle.psplib_mm.specs.FaultText.{fault_text}
 use Rattle.psplib_mm.specs.declared.fault.MmFault.{MmFault}
 use Rattle.psplib_mm.specs.declared.fault.MmFault.TheVariants as fault
-use Rattle.strategy.specs.declared.verdict.Verdict.{Verdict}
 use Rattle.strategy.specs.VerdictText.{verdict_text}
 use Rattle.mrcpsp.specs.Schedule.{ScheduleData}
 use Rattle.tenant_book.specs.Book.{BookData}

@@ -9,6 +9,7 @@ ghost use Rattle.session_lines.specs.Taken.{Extends, TakesPiece, TakesIf, IsFron
 use crate::text::LONGEST;
 use crate::words::is_blank;
 use arrayvec::ArrayVec;
+use memchr::memchr;
 use std::io::BufRead;
 use watched_io::{Watch, fill};
 
@@ -86,7 +87,7 @@ pub fn feed_place(bytes: &[u8]) -> Option<usize>
     ensures place { result ≡ position is_line_feed bytes.now }
     ensures within { IfSome result (λ place. place < length bytes.now) }
 {
-    bytes.iter().position(|byte| *byte == b'\n')
+    memchr(b'\n', bytes)
 }
 
 fn take_piece<R: BufRead>(
