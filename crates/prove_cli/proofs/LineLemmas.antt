@@ -1,8 +1,8 @@
 -- The words of a schedule begin with a blank.
-use Rattle.std.proofs.Common.{◌≡◌, ◌⊎◌, ℕ, ◌+◌, List, [], ◌∷◌, ◌++◌, drop, codes, decimal, refl, sym, ◌∙◌, ap, inl, inr, ⊎_elim}
+use Rattle.std.proofs.Common.{◌≡◌, ℕ, List, [], ◌∷◌, drop, refl, sym, ap, inl, inr, ⊎_elim}
 use Rattle.mrcpsp.specs.Schedule.{ScheduleData}
-use Rattle.schedule_files.specs.ScheduleText.{place_text, places_text, schedule_text}
-use Rattle.prove_cli.specs.Proved.{schedule_line, IsLedByBlank}
+use Rattle.schedule_files.specs.ScheduleText.{places_text, schedule_text}
+use Rattle.prove_cli.specs.Proved.{IsLedByBlank}
 
 led-places : (j : ℕ) (modes starts : List ℕ) → IsLedByBlank (places_text j modes starts)
 led-places j [] starts = inl refl

@@ -1,5 +1,5 @@
 -- How `prove` ends.
-use Rattle.std.specs.Prelude.{◌≡◌, ℕ, Bool, List, ⊤, Option, Result, Ok, Err, IfSome, take}
+use Rattle.std.specs.Prelude.{ℕ, Bool, List, ⊤, Option, Result, Ok, Err, IfSome, take}
 use Rattle.psplib_mm.specs.Gives.{Fails}
 use Rattle.psplib_mm.specs.Reading.{reading}
 use Rattle.file_commands.specs.Counts.{CommandCounts, AreKept}
@@ -10,6 +10,7 @@ use Rattle.prove_cli.specs.Proved.{IsProved}
 use Rattle.prove_cli.specs.declared.fault.ProveFault.{ProveFault}
 use Rattle.prove_cli.specs.declared.fault.ProveFault.TheVariants as why
 use Rattle.prove_cli.specs.declared.proof_run.ProofEnd.{ProofEnd}
+use Rattle.prove_cli.specs.declared.proof_run.ProofEnd.TheVariants as end
 
 -- the file is at fault, or there was no memory
 abbrev pub IsOfFile : ProveFault → Option (List ℕ) → Type 0
@@ -24,3 +25,8 @@ IsUnproved fault from seen file before after = IsStopOf file_alone (λ why. IsUn
 abbrev pub IsProveOf : Bool → Result ProofEnd (CommandFault ProveFault) → CommandCounts → CommandCounts → Option (List ℕ) → Option (List ℕ) → Option (List ℕ) → Type 0
 IsProveOf is_json (Ok ended) from seen file before after = AreKept from seen × IfSome file (λ bytes. IsProved is_json ended (take MOST_TEXT bytes) before after)
 IsProveOf is_json (Err fault) from seen file before after = IsUnproved fault from seen file before after
+
+-- the status of an end
+abbrev pub end_status : ProofEnd → ℕ
+end_status end.Decided = 0
+end_status end.Gap = 3

@@ -8,9 +8,12 @@ use Rattle.schedule_files.specs.ScheduleText.{schedule_text}
 use Rattle.schedule_json.specs.ScheduleJson.{number_json, schedule_json}
 use Rattle.prover.specs.Answers.{IsAnswer}
 use Rattle.prover.specs.declared.known.Answer.{Answer}
+use Rattle.prover.specs.declared.known.BestKnown.{BestKnown}
 use Rattle.prover.specs.declared.known.Answer.TheVariants.{Optimal, Gap, AtLeast, Infeasible}
 use Rattle.prove_cli.specs.declared.cost.Cost.{Cost}
 use Rattle.prove_cli.specs.declared.proof_run.ProofEnd.{ProofEnd}
+use Rattle.prove_cli.specs.declared.reporter.Style.{Style}
+use Rattle.prove_cli.specs.declared.reporter.Style.TheVariants.{Silent, Lines, Json}
 use Rattle.prove_cli.specs.declared.proof_run.ProofEnd.TheVariants as end
 
 -- ---- as lines
@@ -60,6 +63,14 @@ answer_json (Optimal best) cost = object_json (codes "optimal") (Some best.makes
 answer_json (Gap best bound) cost = object_json (codes "gap") (Some best.makespan) (Some bound) (Some best.schedule) cost
 answer_json (AtLeast bound) cost = object_json (codes "open") None (Some bound) None cost
 answer_json Infeasible cost = object_json (codes "infeasible") None None None cost
+
+-- ---- while workers work
+
+-- what is told of a better schedule and a bound, if they are to be told
+abbrev pub better_text : Style → BestKnown → ℕ → Cost → Option (List ℕ)
+better_text Silent best bound cost = None
+better_text Lines best bound cost = Some (better_line best.makespan best.schedule)
+better_text Json best bound cost = Some (answer_json (Gap best bound) cost)
 
 -- ---- the end of a run
 

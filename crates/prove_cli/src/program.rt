@@ -1,6 +1,7 @@
 //! The command on files, with an exit status.
-ghost use Rattle.std.specs.Prelude.{◌≤◌, IfErr, IfSome};
+ghost use Rattle.std.specs.Prelude.{◌≡◌, ◌≤◌, IfErr, IfSome};
 ghost use Rattle.std.specs.Process.{exit_status};
+ghost use Rattle.prove_cli.specs.Command.{end_status};
 
 use crate::arguments::{Proving, proving_of};
 use crate::proof_run::{ProofEnd, ProveOptions, prove_read};
@@ -48,6 +49,15 @@ pub fn run_command<
     match proving_of(matches) {
         Some(proving) => Some(run(rt, proving)),
         None => None,
+    }
+}
+
+fn status_of(ended: ProofEnd) -> ExitCode
+    ensures { exit_status result ≡ end_status ended }
+{
+    match ended {
+        ProofEnd::Decided => ExitCode::SUCCESS,
+        ProofEnd::Gap => ExitCode::from(GAP),
     }
 }
 
@@ -173,8 +183,7 @@ fn run<
     };
     let mut watches = CommandWatches::new();
     match prove_read(rt, alloc, file, &asked, &mut io::writer(rt), &mut watches) {
-        Ok(ProofEnd::Decided) => ExitCode::SUCCESS,
-        Ok(ProofEnd::Gap) => ExitCode::from(GAP),
+        Ok(ended) => status_of(ended),
         Err(fault) => end_command(rt, Paths::of(proving.file), Err(fault), &mut watches),
     }
 }

@@ -1,13 +1,15 @@
 //! What is reported while workers work: better schedules on standard output, and progress on
 //! standard error.
+ghost use Rattle.std.specs.Prelude.{◌≡◌, IfOk, option_map, string_bytes};
 ghost use Rattle.price_search.specs.LowerBound.{TakesAtLeast};
 ghost use Rattle.prover.specs.Known.{IsBest};
+ghost use Rattle.prove_cli.specs.Proved.{better_text};
 
-use crate::cost::cost_since;
+use crate::cost::{Cost, cost_since};
 use crate::output::{tell_better, tell_gap_json};
 use mrcpsp::Project;
 use prover::{BestKnown, Herald};
-use std::alloc::Global;
+use std::alloc::{AllocError, Global};
 use std::io::{Eprint, Print};
 use std::time::{Clock, Instant};
 
@@ -59,21 +61,35 @@ impl<'a, R: Clock + Eprint + Print> Reporter<'a, R> {
     }
 }
 
+/// What is told of a better schedule and a bound. An error is want of memory.
+fn better_text(
+    alloc: Global,
+    style: Style,
+    _project: &Project,
+    best: &BestKnown,
+    bound: u32,
+    cost: Cost,
+) -> Result<Option<String>, AllocError>
+    requires best { IsBest _project.now best.now }
+    requires bound { TakesAtLeast _project.now bound }
+    ensures { IfOk result (λ told. option_map string_bytes told ≡ better_text style best.now bound cost) }
+{
+    match style {
+        Style::Silent => Ok(None),
+        Style::Lines => Ok(Some(tell_better(alloc, best)?)),
+        Style::Json => Ok(Some(tell_gap_json(alloc, best, bound, cost)?)),
+    }
+}
+
 impl<R: Clock + Eprint + Print> Herald for Reporter<'_, R> {
     fn better(&self, _project: &Project, best: &BestKnown, bound: u32)
         requires best { IsBest _project.now best.now }
         requires bound { TakesAtLeast _project.now bound }
     {
         self.progress("makespan", best.makespan);
-        let told = match self.style {
-            Style::Silent => return,
-            Style::Lines => tell_better(self.alloc, best),
-            Style::Json => {
-                let cost = cost_since(self.rt, self.begun, self.jobs, None);
-                tell_gap_json(self.alloc, best, bound, cost)
-            }
-        };
-        if let Ok(text) = told {
+        let cost = cost_since(self.rt, self.begun, self.jobs, None);
+        let told = better_text(self.alloc, self.style, _project, best, bound, cost);
+        if let Ok(Some(text)) = told {
             let _ = print!(self.rt; "{text}");
         }
     }
