@@ -34,12 +34,13 @@ asks_to_keep() {
     return 1
 }
 
-# Whether a word is `-` or names an input that need not end, as a file or a schedule: the standard input, a pipe, a terminal. A signal ends that read.
+# Whether a word is `-` or names an input that need not end, as a file or a schedule: the standard input, a pipe, a terminal. A signal ends that read. So it is
+# where the words themselves have the program end with its input.
 reads_input() {
     for word in "$@"; do
         word=${word#--from=}
         case $word in
-        - | /dev/stdin | /dev/fd/* | /proc/*/fd/*) return ;;
+        - | --until-input-ends | /dev/stdin | /dev/fd/* | /proc/*/fd/*) return ;;
         esac
         [ ! -p "$word" ] && [ ! -c "$word" ] || return 0
     done
@@ -133,16 +134,22 @@ wait_for() {
     [ "$1" = 127 ] || status=$1
 }
 
-# Runs the program until it ends, with a pipe as its standard input that ends on Ctrl-C, SIGTERM and SIGHUP: then it prints the best that it has. The pipe ends
-# with this shell too. Sets `status`, and `stopped` if such a signal came.
+# Makes a folder for temporary files, and prints its path. Fails if none can be had.
+make_room() {
+    mktemp -d 2>/dev/null || TMPDIR=/tmp mktemp -d 2>/dev/null || TMPDIR=/var/tmp mktemp -d 2>/dev/null
+}
+
+# Runs `prove` until it ends, with a pipe as its standard input that ends on Ctrl-C, SIGTERM and SIGHUP: then it prints the best that it has. The pipe ends
+# with this shell too. Sets `status`, and `stopped` if such a signal came. Without a folder for the pipe it is run as it is, in place of this shell.
 run_stoppable() {
     stopped=
     trap 'stopped=yes; exec 9>&-' INT TERM HUP
-    folder=$(mktemp -d) && mkfifo "$folder/stop" && exec 9<>"$folder/stop" 8<"$folder/stop" || exit 1
+    folder=$(make_room) && mkfifo "$folder/stop" && exec 9<>"$folder/stop" 8<"$folder/stop" || exec "$program" "$@"
     rm -r "$folder"
+    shift
     (
         trap '' INT TERM HUP
-        exec "$program" "$@" --until-input-ends <&8 8<&- 9>&-
+        exec "$program" prove --until-input-ends "$@" <&8 8<&- 9>&-
     ) &
     child=$!
     [ -z "$stopped" ] || exec 9>&-
