@@ -44,6 +44,8 @@ pub(crate) enum CertificateTask<'a> {
     },
 }
 
+const FILE_HELP: &str = "A PSPLIB multi-mode file, or - for standard input";
+
 fn needed<'a>(alloc: Global, name: &'a str, help: &'a str) -> Arg<'a> {
     Arg::new(alloc, name).help(help).required(true)
 }
@@ -52,7 +54,7 @@ fn clauses_command<'a>(alloc: Global) -> Result<Command<'a>, AllocError> {
     Command::new(alloc, "clauses")
         .about("Writes the clauses of a project and a bound in DIMACS form")
         .override_usage("farm clauses <FILE> <BOUND>")
-        .arg(needed(alloc, "FILE", "A PSPLIB multi-mode file"))?
+        .arg(needed(alloc, "FILE", FILE_HELP))?
         .arg(needed(alloc, "BOUND", "Periods, or none: modes and stocks alone"))
 }
 
@@ -60,7 +62,7 @@ fn certify_command<'a>(alloc: Global) -> Result<Command<'a>, AllocError> {
     Command::new(alloc, "certify")
         .about("Checks a schedule and a proof that none is shorter")
         .override_usage("farm certify <FILE> <SCHEDULE> [PROOF]")
-        .arg(needed(alloc, "FILE", "A PSPLIB multi-mode file"))?
+        .arg(needed(alloc, "FILE", FILE_HELP))?
         .arg(needed(
             alloc,
             "SCHEDULE",
@@ -75,7 +77,7 @@ fn infeasible_command<'a>(alloc: Global) -> Result<Command<'a>, AllocError> {
     Command::new(alloc, "infeasible")
         .about("Shows that no schedule is feasible, by a proof or by prices")
         .override_usage("farm infeasible <FILE> [PROOF]")
-        .arg(needed(alloc, "FILE", "A PSPLIB multi-mode file"))?
+        .arg(needed(alloc, "FILE", FILE_HELP))?
         .arg(Arg::new(alloc, "PROOF").help(
             "A DRAT proof of the clauses without a bound; none if prices decide",
         ))
@@ -93,7 +95,7 @@ fn bound_command<'a>(alloc: Global) -> Result<Command<'a>, AllocError> {
     Command::new(alloc, "bound")
         .about("Tells how many periods each schedule takes at least, or checks a proof of a bound")
         .override_usage("farm bound [--steps N] <FILE> [BOUND] [PROOF]")
-        .arg(needed(alloc, "FILE", "A PSPLIB multi-mode file"))?
+        .arg(needed(alloc, "FILE", FILE_HELP))?
         .arg(Arg::new(alloc, "BOUND").help(
             "Periods that each schedule takes at least; without it, the best bound that prices show",
         ))?
@@ -120,7 +122,7 @@ fn refute_command<'a>(alloc: Global) -> Result<Command<'a>, AllocError> {
         .about("Writes a DRAT proof that no schedule is within a limit")
         .override_usage("farm refute [--conflicts C] [--memory M] <FILE> <LIMIT>")
         .after_help(REFUTE_HELP)
-        .arg(needed(alloc, "FILE", "A PSPLIB multi-mode file"))?
+        .arg(needed(alloc, "FILE", FILE_HELP))?
         .arg(needed(alloc, "LIMIT", "Periods, or none: no modes fit the stocks"))?
         .arg(conflicts)?
         .arg(memory)

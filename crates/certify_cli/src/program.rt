@@ -8,8 +8,8 @@ use crate::commands::{Certify, CertifyBound, CertifyInfeasible, FindBound, MOST_
 use crate::reasons::why_uncertified;
 use clap::ArgMatches;
 use file_commands::{
-    CommandFault, CommandWatches, FileCommand, Paths, end_command, end_no_memory, open_sources,
-    read_path, run_sources,
+    CommandFault, CommandWatches, FileCommand, Paths, end_command, end_no_memory, is_input_twice,
+    open_sources, read_path, refuse_same, run_sources,
 };
 use std::env::Env;
 use std::io;
@@ -19,9 +19,9 @@ use std::rt::Runtime;
 use watched_io::explains;
 
 /// Runs the command of `matches`, or returns `None` if it is `refute` or none of this crate. The
-/// status is 0, or 1 for any fault.
+/// status is 0, or 1 for any fault, or 2 if two inputs are standard input.
 pub fn run_command<R: Runtime + AllocGlobal>(rt: &R, matches: &ArgMatches<'_>) -> Option<ExitCode>
-    ensures { IfSome result (λ status. exit_status status ≤ 1) }
+    ensures { IfSome result (λ status. exit_status status ≤ 2) }
 {
     match task_of(matches) {
         Some(CertificateTask::Clauses { file, bound }) => Some(run_clauses(rt, file, bound)),
@@ -31,9 +31,13 @@ pub fn run_command<R: Runtime + AllocGlobal>(rt: &R, matches: &ArgMatches<'_>) -
                 schedule,
                 proof,
             },
-        ) => Some(run_proof(rt, file, Some(schedule), proof, Certify)),
+        ) => {
+            let text = Some(schedule);
+            let other = proof;
+            Some(run_proof(rt, Paths { file, text, other }, Certify))
+        }
         Some(CertificateTask::Infeasible { file, proof }) => {
-            Some(run_proof(rt, file, None, proof, CertifyInfeasible))
+            Some(run_proof(rt, proved_by(file, proof), CertifyInfeasible))
         }
         Some(
             CertificateTask::Bound {
@@ -76,21 +80,30 @@ pub(crate) fn bound_or_none<R: Env + Eprint>(rt: &R, word: &str) -> Result<Optio
     }
 }
 
-/// Runs `command` on these inputs. Without the path of a proof the proof is empty.
+fn proved_by<'a>(file: &'a str, proof: Option<&'a str>) -> Paths<'a> {
+    Paths {
+        file,
+        text: None,
+        other: proof,
+    }
+}
+
+/// Runs `command` on the inputs at `paths`, the last of which is a proof. Without its path the proof
+/// is empty.
 fn run_proof<R: Runtime + AllocGlobal, C: FileCommand>(
     rt: &R,
-    file: &str,
-    text: Option<&str>,
-    proof: Option<&str>,
+    paths: Paths<'_>,
     command: C,
 ) -> ExitCode
-    ensures { exit_status result ≤ 1 }
+    ensures { exit_status result ≤ 2 }
 {
-    let paths = Paths {
-        file,
-        text,
-        other: proof,
-    };
+    if is_input_twice(&[
+        paths.file,
+        paths.text.unwrap_or(""),
+        paths.other.unwrap_or(""),
+    ]) {
+        return refuse_same(rt);
+    }
     let Some(mut sources) = open_sources(rt, paths) else {
         return ExitCode::FAILURE;
     };
@@ -108,15 +121,15 @@ fn run_bound<R: Runtime + AllocGlobal>(
     proof: Option<&str>,
     steps: u32,
 ) -> ExitCode
-    ensures { exit_status result ≤ 1 }
+    ensures { exit_status result ≤ 2 }
 {
     let Some(bound) = bound else {
-        return run_proof(rt, file, None, None, FindBound { steps });
+        return run_proof(rt, Paths::of(file), FindBound { steps });
     };
     let Ok(periods) = bound.parse::<u32>() else {
         return end_unbounded(rt, bound, "");
     };
-    run_proof(rt, file, None, proof, CertifyBound { periods })
+    run_proof(rt, proved_by(file, proof), CertifyBound { periods })
 }
 
 /// Prints the clauses of `file` and `bound`, a number of periods or `none`.

@@ -63,7 +63,7 @@ fn with_limits<'a>(alloc: Global, command: Command<'a>) -> Result<Command<'a>, A
         alloc,
         "memory",
         "M",
-        "The most megabytes of clauses of all workers",
+        "The most megabytes of clauses of all workers; ./farm gives half of what is free",
         ValueParser::unsigned(LEAST_MEMORY, MOST_MEMORY),
     )
     .default_value("2000");
@@ -154,13 +154,16 @@ each activity.
   2       the usage on standard error              wrong words
 
 Local search looks for schedules. Prices of resources and a solver of clauses raise the bound; the
-solver's steps are checked one by one when it makes them. With --jobs 1 and without --seconds the
-output depends on the file and the options alone. Standard error has a line for each better schedule
-and bound.
+solver's steps are checked one by one when it makes them. With --jobs 1 and --memory, and without
+--seconds, the output depends on the file and the options alone. Standard error has a line for each
+better schedule and bound.
 
 --json prints one object: verdict (optimal, infeasible, gap or open), makespan, bound, schedule,
 seconds, jobs and conflicts. With --improvements each better schedule is printed as a line of its own,
 with the verdict 'open', or as an object with the verdict 'gap'.
+
+./farm and an installation have two options more: --keep FOLDER keeps what others can check, and
+--solver NAME asks an installed solver (farm prove --keep FOLDER --help, --solver NAME --help).
 
 Examples:
 
